@@ -1,0 +1,1 @@
+// Theory alone: what several crates cite is in specs/.

@@ -1,0 +1,41 @@
+-- A `match` on a number as a table of keys and values, in the source's order. Assumes nothing.
+use mathlib.Core.Path.{_≡_, refl}
+use mathlib.Core.Bool.{cond}
+use mathlib.Core.List.{List, [], _∷_}
+use Prim.Native.Nat.{ℕ}
+use lib.Dec.{eqb}
+use borrow.Author.Tests.{ne-eqb}
+
+infix 80 _▸_
+pub record Arm (A : Type 0) : Type 0 where
+  pub key : ℕ
+  pub val : A
+
+abbrev pub _▸_ : {A : Type 0} → ℕ → A → Arm A
+_▸_ k v = record { key = k; val = v }
+
+-- the value of the first arm that has x, else d
+abbrev pub lookup : {A : Type 0} → List (Arm A) → ℕ → A → A
+lookup [] x d = d
+lookup (a ∷ more) x d = cond (eqb x (a .key)) (a .val) (lookup more x d)
+
+-- no arm has x, as a match says it: one fact after the other, the last one outermost
+abbrev pub NoneAfter : {A : Type 0} → Type 0 → List (Arm A) → ℕ → Type 0
+NoneAfter P [] x = P
+NoneAfter P (a ∷ more) x = NoneAfter (P × (x ≡ a .key → ⊥)) more x
+
+abbrev pub None : {A : Type 0} → List (Arm A) → ℕ → Type 0
+None arms x = NoneAfter (Unit {0}) arms x
+
+first : {A : Type 0} (P : Type 0) (arms : List (Arm A)) (x : ℕ) → NoneAfter P arms x → P
+first P [] x h = h
+first P (a ∷ more) x h = first (P × (x ≡ a .key → ⊥)) more x h .0
+
+none-after : {A : Type 0} (P : Type 0) (arms : List (Arm A)) (x : ℕ) (d : A) → NoneAfter P arms x → lookup arms x d ≡ d
+none-after P [] x d h = refl
+none-after P (a ∷ more) x d h =
+    rw (ne-eqb x (a .key) (first (P × (x ≡ a .key → ⊥)) more x h .1)) (none-after (P × (x ≡ a .key → ⊥)) more x d h)
+
+-- where no arm has x, the default is found
+pub lookup-none : {A : Type 0} (arms : List (Arm A)) (x : ℕ) (d : A) → None arms x → lookup arms x d ≡ d
+lookup-none arms x d h = none-after (Unit {0}) arms x d h

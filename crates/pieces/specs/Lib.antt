@@ -1,0 +1,3 @@
+pub mod Grammar
+pub mod Kinds
+pub mod Cut

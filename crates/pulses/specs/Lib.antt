@@ -1,0 +1,4 @@
+pub mod Play
+pub mod Steps
+pub mod Joined
+pub mod Demand

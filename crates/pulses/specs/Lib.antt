@@ -2,3 +2,8 @@ pub mod Play
 pub mod Steps
 pub mod Joined
 pub mod Demand
+pub mod Lead
+pub mod Runs
+pub mod Source
+pub mod Ahead
+pub mod Agreement

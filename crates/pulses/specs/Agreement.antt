@@ -1,19 +1,18 @@
 -- THE GENERAL LAW: the source's play agrees with the measured player on the count and the sum dropped; demand 3's clause is its case of sum 0. Assumes nothing.
 use mathlib.Core.Path.{_≡_, refl, sym, ap, ap₂, subst, _∙_}
-use mathlib.Core.Bool.{Bool, true, false}
+use mathlib.Core.Bool.{Bool, false}
 use mathlib.Core.Logic.{_⊎_, inl, ⊎-elim}
-use mathlib.Core.List.{List, [], _∷_, _++_}
+use mathlib.Core.List.{List, [], _∷_}
 use Prim.Native.Nat.{ℕ, suc, _+_, _-_, _≤_, _<_}
-use native.Mathlib.Nat.{eq-zero-or-pos, add-zero}
+use native.Mathlib.Nat.{eq-zero-or-pos}
 use native.Mathlib.Omega.{arith}
 use lib.Dec.{ltb}
 use lib.ListN.{length}
 use borrow.Author.Tests.{lt-ltb, le-ltb}
 use Rattle.laws.specs.Order.{lt-or-ge}
-use Rattle.laws.specs.Rules.{_⇒_, _∣_}
 use Rattle.pulses.specs.Play.{Entry, pulse, endless, rest, over, shown, status, answer, counted, calls}
 use Rattle.pulses.specs.Steps.{rest-nil, rest-stop, rest-ways}
-use Rattle.pulses.specs.Source.{Outcome, isEnded, sourced, reached, sumDropped, source, dropped, sources, whole, heard, lasting, Below, Behind, Short, After, Agrees}
+use Rattle.pulses.specs.Source.{Outcome, isEnded, sourced, reached, sumDropped, source, dropped, sources, whole, heard, lasting, Below, Behind, Short, Agrees}
 use Rattle.pulses.specs.Ahead.{drops, drops-here, drops-past, runsAhead, ahead-here, ahead-past, source-turns}
 
 short-none : {t d : ℕ} → (0 < t → d < t) → t ≤ d → t ≡ 0
@@ -144,4 +143,4 @@ module _ {A : Type 0} where
       let z = none-dropped es n (s .0) in
       let k : n + dropped es n ≡ n = omega arith in
       let w = whole-short (source es n .place) ns (short-source es n ns (s .1)) in
-      same-agree (sources-heard es n ns ∙ ap₂ (λ (x : ℕ) (xs : List ℕ). heard (calls es x xs)) k w)
+      subst (Agrees (sources es n ns)) (ap₂ (λ (x : ℕ) (xs : List ℕ). heard (calls es x xs)) k w) (agrees-calls es n ns)

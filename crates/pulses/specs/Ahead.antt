@@ -1,18 +1,17 @@
 -- How far the source's play runs ahead: its outcome is the measured one for the count and the sum it drops. Assumes nothing.
 use mathlib.Core.Path.{_≡_, refl, sym, ap, ap₂, _∙_}
-use mathlib.Core.Bool.{Bool, true, false}
-use mathlib.Core.Logic.{_⊎_, inl, ⊎-elim}
-use mathlib.Core.List.{List, [], _∷_, _++_}
+use mathlib.Core.Logic.{_⊎_, ⊎-elim}
+use mathlib.Core.List.{List, [], _∷_}
 use Prim.Native.Nat.{ℕ, zero, suc, _+_, _-_, _≤_, _<_}
 use native.Mathlib.Nat.{eq-zero-or-pos, zero-add}
 use native.Mathlib.Omega.{arith}
-use lib.Dec.{ltb, eqb}
+use lib.Dec.{ltb}
 use lib.ListN.{length}
 use borrow.Author.Tests.{lt-ltb, le-ltb, eq-eqb, ne-eqb}
 use Rattle.laws.specs.Order.{lt-or-ge}
 use Rattle.laws.specs.Rules.{_⇒_, _∣_}
-use Rattle.pulses.specs.Play.{Level, Entry, pulse, endless, rest, over, time, Finite}
-use Rattle.pulses.specs.Steps.{rest-nil, rest-stop, rest-zero, rest-here, rest-past, over-zero, over-pulse}
+use Rattle.pulses.specs.Play.{Level, Entry, pulse, endless, rest, over}
+use Rattle.pulses.specs.Steps.{rest-zero, rest-here, rest-past, over-zero, over-pulse}
 use Rattle.pulses.specs.Source.{Turned, turned, after, turn, turns, sourced}
 
 module _ {A : Type 0} where

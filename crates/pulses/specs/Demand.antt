@@ -8,7 +8,7 @@ use native.Mathlib.Omega.{arith}
 use lib.ListN.{length}
 use borrow.Author.Tests.{lt-ltb, le-ltb}
 use Rattle.laws.specs.Order.{lt-or-ge}
-use Rattle.pulses.specs.Play.{Level, Entry, pulse, endless, Status, standing, ended, Answer, made, rest, over, shown, status, answer, counted, calls, time, final, outcome, Finite, sum, Positive, Spent, AtSum, Demanded, Meets}
+use Rattle.pulses.specs.Play.{Entry, pulse, endless, Status, standing, ended, Answer, made, rest, over, shown, status, answer, counted, calls, time, final, outcome, Finite, sum, Positive, Spent, AtSum, Demanded, Meets}
 use Rattle.pulses.specs.Steps.{rest-nil, rest-stop, rest-zero, rest-here, rest-past, rest-ways, over-zero, over-rest, time-pulse, length-rest, rest-cut, over-cut}
 use Rattle.pulses.specs.Joined.{time-append, rest-after}
 
@@ -224,3 +224,8 @@ module _ {A : Type 0} where
           (λ k. d .at-sum (omega arith) .1 ∙ ap shown placed ∙ sym (at-status es N g))
           (lt-or-ge N (time es)))
           (lt-or-ge (time es) N)
+
+  -- and so one way to answer calls
+  pub meets-one : (run : List (Entry A) → ℕ → List ℕ → Answer A) → Meets run
+      → (es : List (Entry A)) (n : ℕ) (ns : List ℕ) → 0 < n → Positive ns → run es n ns ≡ calls es n ns
+  meets-one run m es n ns p h = demanded-one es (n + sum ns) (run es n ns) (omega arith) (m es n ns p h) ∙ sym (any-cut es n ns h)

@@ -35,7 +35,7 @@ module _ {A : Type 0} where
   over-ended rs u = ⊎-elim (λ p. rw (lt-ltb 0 u p)) (λ g. rw (le-ltb 0 u g) (never rs)) (lt-or-ge 0 u)
 
   abbrev ended-at : List (Entry A) → Bool → Outcome A
-  ended-at rs b = record { place = rs; over = b }
+  ended-at rs b = record { place = rs; done = b }
 
   -- the places are even the same
   pub source-heard : (es : List (Entry A)) (n : ℕ) → source es n ≡ heard (answer es (n + dropped es n))
@@ -54,7 +54,7 @@ module _ {A : Type 0} where
   unfolding lasting
   same-agree {x} {y} e =
       record {
-        ends = ap (λ (o : Outcome A). o .over) e;
+        ends = ap (λ (o : Outcome A). o .done) e;
         left = ap (λ (o : Outcome A). lasting (o .place)) e;
         heads = inl (record { gone = []; none = refl; split = ap (λ (o : Outcome A). o .place) e });
       }

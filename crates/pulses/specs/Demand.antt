@@ -8,7 +8,7 @@ use native.Mathlib.Omega.{arith}
 use lib.ListN.{length}
 use borrow.Author.Tests.{lt-ltb, le-ltb}
 use Rattle.laws.specs.Order.{lt-or-ge}
-use Rattle.pulses.specs.Play.{Entry, pulse, endless, Status, standing, ended, Answer, made, rest, over, shown, status, answer, counted, calls, time, final, outcome, Finite, sum, Positive, Spent, AtSum, Demanded, Meets}
+use Rattle.pulses.specs.Play.{Entry, pulse, endless, Status, standing, ended, Answer, made, rest, over, shown, status, answer, counted, calls, time, final, comesTo, Finite, sum, Positive, Spent, AtSum, Demanded, Meets}
 use Rattle.pulses.specs.Steps.{rest-nil, rest-stop, rest-zero, rest-here, rest-past, rest-ways, over-zero, over-rest, time-pulse, length-rest, rest-cut, over-cut}
 use Rattle.pulses.specs.Joined.{time-append, rest-after}
 
@@ -134,21 +134,21 @@ module _ {A : Type 0} where
   above-place (endless a v ∷ es) n h = rest-stop a v es n
   above-place (pulse a v t ∷ es) n h = rest-past a v t es n (omega arith) (omega arith) ∙ above-place es (n - t) (omega arith)
 
-  above-status : (es : List (Entry A)) (n : ℕ) → time es < n → status (rest es n) (over es n) ≡ outcome es
-  unfolding time over outcome status shown
+  above-status : (es : List (Entry A)) (n : ℕ) → time es < n → status (rest es n) (over es n) ≡ comesTo es
+  unfolding time over comesTo status shown
   above-status [] n h = rw (rest-nil, lt-ltb 0 n h)
   above-status (endless a v ∷ es) n h = rw rest-stop
   above-status (pulse a v t ∷ es) n h =
       ap (λ (r : List (Entry A)). status r (over es (n - t))) (rest-past a v t es n (omega arith) (omega arith))
       ∙ above-status es (n - t) (omega arith)
 
-  final-stays : (es : List (Entry A)) (m : ℕ) → 0 < m → answer (final es) m ≡ made (final es) (outcome es) 0
-  unfolding final answer outcome rest over status shown
+  final-stays : (es : List (Entry A)) (m : ℕ) → 0 < m → answer (final es) m ≡ made (final es) (comesTo es) 0
+  unfolding final answer comesTo rest over status shown
   final-stays [] m h = rw (lt-ltb 0 m h)
   final-stays (endless a v ∷ es) m h = ap (made (endless a v ∷ es) _) (omega arith)
   final-stays (pulse a v t ∷ es) m h = final-stays es m h
 
-  stays-at : (es : List (Entry A)) (m : ℕ) → 0 < m → (rs : List (Entry A)) (s : Status) → rs ≡ final es → s ≡ outcome es → answer rs m ≡ made rs s 0
+  stays-at : (es : List (Entry A)) (m : ℕ) → 0 < m → (rs : List (Entry A)) (s : Status) → rs ≡ final es → s ≡ comesTo es → answer rs m ≡ made rs s 0
   stays-at es m h rs s e f =
       ap (λ (x : List (Entry A)). answer x m) e
       ∙ final-stays es m h

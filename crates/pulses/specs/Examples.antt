@@ -24,7 +24,7 @@ first-99 : answer sole 99 ≡ made (pulse 1 low 1 ∷ pulse 2 high 100 ∷ halve
 unfolding answer rest over status shown
 first-99 = refl
 
-source-99 : source sole 99 ≡ record { place = pulse 1 low 1 ∷ pulse 2 high 100 ∷ halves; over = false }
+source-99 : source sole 99 ≡ record { place = pulse 1 low 1 ∷ pulse 2 high 100 ∷ halves; done = false }
 unfolding sourced reached turns turn after
 source-99 = refl
 
@@ -33,7 +33,7 @@ first-100 : answer sole 100 ≡ made (pulse 2 high 100 ∷ halves) standing 2
 unfolding answer rest over status shown
 first-100 = refl
 
-source-100 : source sole 100 ≡ record { place = []; over = true }
+source-100 : source sole 100 ≡ record { place = []; done = true }
 unfolding sourced reached turns turn after
 source-100 = refl
 
@@ -84,11 +84,11 @@ none-at-stop = refl
 abbrev pauses : List (Entry ℕ)
 pauses = pulse 0 low 0 ∷ pulse 1 low 3500 ∷ pulse 2 low 0 ∷ pulse 3 low 7000 ∷ []
 
-none-left : sources pauses 1 (3499 ∷ []) ≡ record { place = pulse 2 low 0 ∷ pulse 3 low 7000 ∷ []; over = false }
+none-left : sources pauses 1 (3499 ∷ []) ≡ record { place = pulse 2 low 0 ∷ pulse 3 low 7000 ∷ []; done = false }
 unfolding sources sourced reached turns turn after
 none-left = refl
 
-drops-last : sources pauses 1 (3499 ∷ 7000 ∷ []) ≡ record { place = []; over = true }
+drops-last : sources pauses 1 (3499 ∷ 7000 ∷ []) ≡ record { place = []; done = true }
 unfolding sources sourced reached turns turn after
 drops-last = refl
 

@@ -83,10 +83,10 @@ module _ {A : Type 0} where
   final (pulse a v t ∷ es) = final es
 
   -- what a list comes to: stopped at its first endless entry, or ended
-  unfoldable pub outcome : List (Entry A) → Status
-  outcome [] = ended
-  outcome (endless a v ∷ es) = stopped
-  outcome (pulse a v t ∷ es) = outcome es
+  unfoldable pub comesTo : List (Entry A) → Status
+  comesTo [] = ended
+  comesTo (endless a v ∷ es) = stopped
+  comesTo (pulse a v t ∷ es) = comesTo es
 
   -- no entry is endless
   unfoldable pub Finite : List (Entry A) → Type 0
@@ -138,7 +138,7 @@ pub record Demanded {A : Type 0} (es : List (Entry A)) (N : ℕ) (r : Answer A) 
   -- at the sum, at whatever follows the last pulse with length, and it tells what that is
   pub at-sum : N ≡ time es → AtSum es (r .place) × (r .tells ≡ shown (r .place))
   -- above, stopped or ended; and it stays so
-  pub above : time es < N → (r .place ≡ final es) × (r .tells ≡ outcome es)
+  pub above : time es < N → (r .place ≡ final es) × (r .tells ≡ comesTo es)
   pub stays : time es < N → (m : ℕ) → 0 < m → answer (r .place) m ≡ made (r .place) (r .tells) 0
   -- entries passed and entries left are those there were
   pub counts : r .passed + length (r .place) ≡ length es

@@ -16,7 +16,7 @@ pub data Turned (A : Type 0) : Type 0 where
 -- a player's outcome: what is left to play, and whether it has ended
 pub record Outcome (A : Type 0) : Type 0 where
   pub place : List (Entry A)
-  pub over : Bool
+  pub done : Bool
 
 abbrev pub isEnded : Status → Bool
 isEnded standing = false
@@ -46,7 +46,7 @@ module _ {A : Type 0} where
 
   -- past the last entry with T-states left is the end
   unfoldable pub reached : Turned A → Outcome A
-  reached (turned es d s) = record { place = es; over = ltb 0 d }
+  reached (turned es d s) = record { place = es; done = ltb 0 d }
 
   unfoldable pub sumDropped : Turned A → ℕ
   sumDropped (turned es d s) = s
@@ -70,7 +70,7 @@ module _ {A : Type 0} where
 
   -- the measured player's outcome
   unfoldable pub heard : Answer A → Outcome A
-  heard r = record { place = r .place; over = isEnded (r .tells) }
+  heard r = record { place = r .place; done = isEnded (r .tells) }
 
   -- the entries with length that are left, an endless one included, with their T-states
   unfoldable pub lasting : List (Entry A) → List (Entry A)
@@ -104,6 +104,6 @@ pub record After {A : Type 0} (xs ys : List (Entry A)) : Type 0 where
 -- AGREEMENT: both have ended or neither has, the same entries with length are left with the same T-states,
 -- and the heads differ by entries of no length only
 pub record Agrees {A : Type 0} (x y : Outcome A) : Type 0 where
-  pub ends : x .over ≡ y .over
+  pub ends : x .done ≡ y .done
   pub left : lasting (x .place) ≡ lasting (y .place)
   pub heads : After (x .place) (y .place) ⊎ After (y .place) (x .place)

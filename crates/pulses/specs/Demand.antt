@@ -142,18 +142,6 @@ module _ {A : Type 0} where
       ap (λ (r : List (Entry A)). status r (over es (n - t))) (rest-past a v t es n (omega arith) (omega arith))
       ∙ above-status es (n - t) (omega arith)
 
-  final-stays : (es : List (Entry A)) (m : ℕ) → 0 < m → answer (final es) m ≡ made (final es) (comesTo es) 0
-  unfolding final answer comesTo rest over status shown
-  final-stays [] m h = rw (lt-ltb 0 m h)
-  final-stays (endless a v ∷ es) m h = ap (made (endless a v ∷ es) _) (omega arith)
-  final-stays (pulse a v t ∷ es) m h = final-stays es m h
-
-  stays-at : (es : List (Entry A)) (m : ℕ) → 0 < m → (rs : List (Entry A)) (s : Status) → rs ≡ final es → s ≡ comesTo es → answer rs m ≡ made rs s 0
-  stays-at es m h rs s e f =
-      ap (λ (x : List (Entry A)). answer x m) e
-      ∙ final-stays es m h
-      ∙ ap₂ (λ (x : List (Entry A)) (y : Status). made x y 0) (sym e) (sym f)
-
   one-call : (es : List (Entry A)) (N : ℕ) → 0 < N → Demanded es N (answer es N)
   unfolding answer
   one-call es N q =
@@ -163,7 +151,6 @@ module _ {A : Type 0} where
         below = λ h. below-status es N h;
         at-sum = λ e. (at-last-by es N q e, at-status es N (omega arith));
         above = λ h. (above-place es N h, above-status es N h);
-        stays = λ h m p. stays-at es m p _ _ (above-place es N h) (above-status es N h);
         counts = omega (arith, length-rest es N);
       }
 
@@ -229,3 +216,19 @@ module _ {A : Type 0} where
   pub meets-one : (run : List (Entry A) → ℕ → List ℕ → Answer A) → Meets run
       → (es : List (Entry A)) (n : ℕ) (ns : List ℕ) → 0 < n → Positive ns → run es n ns ≡ calls es n ns
   meets-one run m es n ns p h = demanded-one es (n + sum ns) (run es n ns) (omega arith) (m es n ns p h) ∙ sym (any-cut es n ns h)
+
+  -- above the sum no further call alters the answer
+  pub stays : (run : List (Entry A) → ℕ → List ℕ → Answer A) → Meets run
+      → (es : List (Entry A)) (n : ℕ) (ns : List ℕ) → time es < n → Positive ns → run es n ns ≡ run es n []
+  unfolding Positive answer
+  stays run m es n ns l h =
+      meets-one run m es n ns (omega arith) h
+      ∙ any-cut es n ns h
+      ∙ settled (n + sum ns) (omega arith)
+      ∙ sym (any-cut es n [] tt ∙ settled (n + sum []) (omega arith))
+      ∙ sym (meets-one run m es n [] (omega arith) tt)
+    where
+      settled : (k : ℕ) → time es < k → answer es k ≡ made (final es) (comesTo es) (length es - length (final es))
+      settled k g =
+          ap (λ (r : List (Entry A)). made r (status (rest es k) (over es k)) (length es - length r)) (above-place es k g)
+          ∙ ap (λ (s : Status). made (final es) s (length es - length (final es))) (above-status es k g)

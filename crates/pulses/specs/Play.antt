@@ -94,6 +94,7 @@ module _ {A : Type 0} where
   Finite (endless a v ∷ es) = ⊥
   Finite (pulse a v t ∷ es) = Finite es
 
+-- N, where it is cut into these calls
 unfoldable pub sum : List ℕ → ℕ
 sum [] = 0
 sum (n ∷ ns) = n + sum ns
@@ -137,9 +138,8 @@ pub record Demanded {A : Type 0} (es : List (Entry A)) (N : ℕ) (r : Answer A) 
   pub below : N < time es → r .tells ≡ standing
   -- at the sum, at whatever follows the last pulse with length, and it tells what that is
   pub at-sum : N ≡ time es → AtSum es (r .place) × (r .tells ≡ shown (r .place))
-  -- above, stopped or ended; and it stays so
+  -- above, stopped or ended; whatever N is above it, so it stays so (`stays` in Demand)
   pub above : time es < N → (r .place ≡ final es) × (r .tells ≡ comesTo es)
-  pub stays : time es < N → (m : ℕ) → 0 < m → answer (r .place) m ≡ made (r .place) (r .tells) 0
   -- entries passed and entries left are those there were
   pub counts : r .passed + length (r .place) ≡ length es
 

@@ -30,6 +30,7 @@ module _ {A : Type 0} where
   after (endless a v ∷ es) d s = turned (endless a v ∷ es) 0 s
   after (pulse a v u ∷ es) d s = ltb d u ⇒ turned (pulse a v (u - d) ∷ es) 0 s ∣ turned (pulse a v 0 ∷ es) d (s + u)
 
+  -- (behind a pause the Rust looks at no entry in that turn; a start has 0 T-states, so the list's turn leaves the same)
   unfoldable pub turn : List (Entry A) → ℕ → ℕ → Turned A
   turn [] d s = turned [] d s
   turn (endless a v ∷ es) d s = turned (endless a v ∷ es) 0 s

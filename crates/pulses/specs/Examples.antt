@@ -1,12 +1,14 @@
 -- Worked examples, each by computation alone; labels are numbers. Assumes nothing.
 use mathlib.Core.Path.{_≡_, refl}
 use mathlib.Core.Bool.{true, false}
+use mathlib.Core.Logic.{inl}
 use mathlib.Core.List.{List, [], _∷_}
 use Prim.Native.Nat.{ℕ, _%_}
+use native.Mathlib.Omega.{arith}
 use lib.Dec.{eqb}
 use Rattle.pulses.specs.Play.{Entry, pulse, endless, low, high, standing, stopped, ended, made, rest, over, shown, status, answer, counted, calls, time}
 use Rattle.pulses.specs.Runs.{run}
-use Rattle.pulses.specs.Source.{after, turn, turns, sourced, reached, sumDropped, source, dropped, sources, whole}
+use Rattle.pulses.specs.Source.{after, turn, turns, sourced, reached, sumDropped, source, dropped, sources, whole, heard, lasting, Agrees}
 
 -- a sole 12 of 100 and 4: its start, two cycles, no pause
 abbrev halves : List (Entry ℕ)
@@ -40,6 +42,14 @@ source-100 = refl
 dropped-100 : dropped sole 100 ≡ 400
 unfolding sourced sumDropped turns turn after
 dropped-100 = refl
+
+-- so at 100, which is not below the durations, the two do not agree
+apart-100 : Agrees (source sole 100) (heard (answer sole 100)) → ⊥
+unfolding sourced reached turns turn after heard answer rest over status shown
+apart-100 g =
+    let e : true ≡ false = g .ends in
+    let z : _≡_ {A = ℕ} 0 1 = cc in
+    omega arith
 
 -- the sum spends the last half and leaves the pause of no length; one more ends, all entries passed
 at-400 : answer sole 400 ≡ made (pulse 5 low 0 ∷ []) standing 5
@@ -79,6 +89,11 @@ at-stop = refl
 none-at-stop : answer stop 0 ≡ made stop stopped 0
 unfolding answer rest over status shown
 none-at-stop = refl
+
+-- heads that differ by an entry of no length agree
+agree-none : Agrees (record { place = pulse 2 low 0 ∷ stop; done = false }) (record { place = stop; done = false })
+unfolding lasting
+agree-none = record { ends = refl; left = refl; heads = inl (record { gone = pulse 2 low 0 ∷ []; none = refl; split = refl }) }
 
 -- two pauses, the source's calls of 1, 3,499 and 7,000: with none left it stands at the next start; the last call drops the second pause
 abbrev pauses : List (Entry ℕ)

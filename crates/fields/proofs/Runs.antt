@@ -1,17 +1,17 @@
 -- Runs of equal steps: where each step moves by g bytes or stops, n of them are a product, or the first that stops. Assumes nothing.
 use Prim.Native.Nat.{ℕ, zero, suc, _+_, _*_, _-_, _/_, _≤_, _<_}
 use mathlib.Core.List.{List}
-use mathlib.Core.Path.{_≡_, refl, sym, ap, _∙_, subst}
+use mathlib.Core.Path.{_≡_, refl, ap, _∙_}
 use mathlib.Core.Logic.{⊎-elim}
 use native.Mathlib.Omega.{arith}
 use native.Mathlib.Nat.{zero-mul, mul-zero, suc-mul, mul-le-mul-right, div-mul-le-self, div-add-mod', mod-lt, not-suc-le-zero}
 use lib.ListN.{length}
 use borrow.Author.Tests.{le-leb, lt-leb}
-use Rattle.laws.specs.Numbers.{le-or-lt}
+use Rattle.laws.specs.Numbers.{lt-or-ge}
 use Rattle.fields.specs.declared.Cursor.{Cursor}
 use Rattle.fields.specs.declared.Cursor.the-variants.{At, Short}
 use Rattle.fields.specs.declared.Read.{Read}
-use Rattle.fields.specs.Field.{fieldAt}
+use Rattle.fields.specs.Field.{numberAt, fieldAt}
 use Rattle.fields.specs.Run.{times, eachAt, groupsAt, Wholes}
 
 -- a cursor that came up short
@@ -91,17 +91,20 @@ wholes-some l p n g h k j =
     record { few = j; there = λ _. h; fits = a; most = λ _. omega arith }
 
 module _ (s : List ℕ) where
-  pub field-moves : (w p : ℕ) → p + w ≤ length s → fieldAt s (At p) w .cursor ≡ At (p + w)
+  -- a field that is there, and one that is not
+  pub field-there : (w p : ℕ) → p + w ≤ length s → fieldAt s (At p) w ≡ record { value = numberAt s p w; cursor = At (p + w) }
   unfolding fieldAt
-  field-moves w p h = rw (le-leb (p + w) (length s) h)
+  field-there w p h = rw (le-leb (p + w) (length s) h)
 
-  pub field-stops : (w p : ℕ) → length s < p + w → fieldAt s (At p) w .cursor ≡ Short p w
+  pub field-short : (w p : ℕ) → length s < p + w → fieldAt s (At p) w ≡ record { value = 0; cursor = Short p w }
   unfolding fieldAt
-  field-stops w p h = rw (lt-leb (p + w) (length s) h)
+  field-short w p h = rw (lt-leb (p + w) (length s) h)
 
-  pub field-stopped : (w : ℕ) {c : Cursor} → Stopped c → fieldAt s c w .cursor ≡ c
-  unfolding fieldAt
-  field-stopped w stopped = refl
+  field-moves : (w p : ℕ) → p + w ≤ length s → fieldAt s (At p) w .cursor ≡ At (p + w)
+  field-moves w p h = rw (field-there w p h)
+
+  field-stops : (w p : ℕ) → length s < p + w → fieldAt s (At p) w .cursor ≡ Short p w
+  field-stops w p h = rw (field-short w p h)
 
   each-moves : (k w p : ℕ) → p + k * w ≤ length s → eachAt s (At p) k w ≡ At (p + k * w)
   unfolding eachAt
@@ -118,9 +121,9 @@ module _ (s : List ℕ) where
   each-stops (suc k) w p h l =
       let m = suc-mul k w in
       ⊎-elim
-      (λ (a : p + w ≤ length s). rw (field-moves w p a) (each-stops k w (p + w) a (omega arith)))
       (λ (a : length s < p + w). rw (field-stops w p a, times-stopped (λ c. fieldAt s c w .cursor) k (stopped {p = p} {w = w})) stopped)
-      (le-or-lt (p + w) (length s))
+      (λ (a : p + w ≤ length s). rw (field-moves w p a) (each-stops k w (p + w) a (omega arith)))
+      (lt-or-ge (length s) (p + w))
 
   -- a group is a step of its own
   group-moves : (h k w p : ℕ) → p + (h + k * w) ≤ length s → eachAt s (fieldAt s (At p) h .cursor) k w ≡ At (p + (h + k * w))
@@ -131,9 +134,9 @@ module _ (s : List ℕ) where
   group-stops : (h k w p : ℕ) → length s < p + (h + k * w) → Stopped (eachAt s (fieldAt s (At p) h .cursor) k w)
   group-stops h k w p l =
       ⊎-elim
-      (λ (a : p + h ≤ length s). rw (field-moves h p a) (each-stops k w (p + h) a (omega arith)))
       (λ (a : length s < p + h). rw (field-stops h p a, each-stopped k w (stopped {p = p} {w = h})) stopped)
-      (le-or-lt (p + h) (length s))
+      (λ (a : p + h ≤ length s). rw (field-moves h p a) (each-stops k w (p + h) a (omega arith)))
+      (lt-or-ge (length s) (p + h))
 
   -- the answers of `each`
   pub each-short : {n w p q : ℕ} → Wholes (length s) p n w q → q < n → eachAt s (At p) n w ≡ Short (p + q * w) w

@@ -4,16 +4,16 @@ use mathlib.Core.Path.{_≡_, refl, sym}
 use mathlib.Core.Bool.{Bool, true, false}
 use mathlib.Core.Logic.{_⊎_, inl, inr}
 use native.Mathlib.Omega.{arith}
-use lib.Dec.{leb}
-use borrow.Author.Tests.{le-leb, lt-leb, leb-true, leb-false}
+use lib.Dec.{ltb, leb}
+use borrow.Author.Tests.{ltb-true, ltb-false, le-leb, lt-leb, leb-true, leb-false}
 
--- of two numbers one is at most the other, or above it
-pub le-or-lt : (a b : ℕ) → (a ≤ b) ⊎ (b < a)
-le-or-lt a b = by-cases (leb a b) refl
+-- of two numbers, the one is below the other or not
+pub lt-or-ge : (a b : ℕ) → (a < b) ⊎ (b ≤ a)
+lt-or-ge a b = by-cases (ltb a b) refl
   where
-    by-cases : (t : Bool) → leb a b ≡ t → (a ≤ b) ⊎ (b < a)
-    by-cases true e = inl (leb-true a b e)
-    by-cases false e = inr (leb-false a b e)
+    by-cases : (t : Bool) → ltb a b ≡ t → (a < b) ⊎ (b ≤ a)
+    by-cases true e = inl (ltb-true a b e)
+    by-cases false e = inr (ltb-false a b e)
 
 -- the test of room by a difference is the test by a sum
 pub leb-sub : (p n m : ℕ) → p ≤ m → leb n (m - p) ≡ leb (p + n) m

@@ -1,7 +1,7 @@
 -- What holds of every layout: it moves forward and stays inside the tape, and a piece that ends at or before k is read alike
 -- from the first k bytes alone. Each part of a layout has one law; a kind's law is its layout told once more. Assumes nothing.
 use Prim.Native.Nat.{ℕ, zero, suc, _+_, _≤_, _<_}
-use mathlib.Core.Path.{_≡_, refl, sym, ap, _∙_}
+use mathlib.Core.Path.{_≡_, refl}
 use mathlib.Core.Bool.{Bool, true, false}
 use mathlib.Core.List.{List}
 use mathlib.Core.Logic.{⊎-elim}
@@ -9,8 +9,7 @@ use native.Mathlib.Omega.{arith}
 use lib.ListN.{length, getD, take, length-take}
 use lib.Seq.{getD-take, take-take}
 use lib.Dec.{leb}
-use borrow.Author.Tests.{le-leb, lt-leb}
-use Rattle.laws.specs.Numbers.{le-or-lt}
+use Rattle.laws.specs.Numbers.{lt-or-ge}
 use Rattle.laws.specs.Rules.{_⇒_, _∣_}
 use Rattle.fields.specs.declared.Cursor.{Cursor}
 use Rattle.fields.specs.declared.Cursor.the-variants.{At}
@@ -18,6 +17,7 @@ use Rattle.fields.specs.declared.Cursor.the-variants as cursor
 use Rattle.fields.specs.declared.Read.{Read}
 use Rattle.fields.specs.Field.{leAt, numberAt, fieldAt, placeOf}
 use Rattle.fields.specs.Run.{times, eachAt, groupsAt}
+use Rattle.fields.proofs.Runs.{field-there, field-short}
 use Rattle.pieces.specs.declared.Piece.{Piece}
 use Rattle.pieces.specs.declared.Body.{Body}
 use Rattle.pieces.specs.declared.Body.the-variants.{Whole, Unknown, Short, Overflow}
@@ -64,22 +64,13 @@ number-own : (s : List ℕ) (k p w : ℕ) → p + w ≤ k → numberAt (take k s
 unfolding numberAt
 number-own s k p w h = rw (le-own s k p w h)
 
--- a field that is there, and one that is not
-field-there : (s : List ℕ) (p w : ℕ) → p + w ≤ length s → fieldAt s (At p) w ≡ record { value = numberAt s p w; cursor = At (p + w) }
-unfolding fieldAt
-field-there s p w h = rw (le-leb (p + w) (length s) h)
-
-field-short : (s : List ℕ) (p w : ℕ) → length s < p + w → fieldAt s (At p) w ≡ record { value = 0; cursor = cursor.Short p w }
-unfolding fieldAt
-field-short s p w h = rw (lt-leb (p + w) (length s) h)
-
 -- a field from p on stands from any place up to its end on
 field-past : (s : List ℕ) (a p w : ℕ) → a ≤ p + w → In a (length s) (fieldAt s (At p) w .cursor)
 field-past s a p w h =
     ⊎-elim
-    (λ (t : p + w ≤ length s). rw (field-there s p w t) (stands h t))
-    (λ (t : length s < p + w). rw (field-short s p w t) stuck)
-    (le-or-lt (p + w) (length s))
+    (λ (t : length s < p + w). rw (field-short s w p t) stuck)
+    (λ (t : p + w ≤ length s). rw (field-there s w p t) (stands h t))
+    (lt-or-ge (length s) (p + w))
 
 field-forward : (w : ℕ) (s : List ℕ) (a : ℕ) (c : Cursor) → In a (length s) c → In a (length s) (fieldAt s c w .cursor)
 field-forward w s a (At p) (stands h t) = field-past s a p w (omega arith)
@@ -88,15 +79,15 @@ field-forward w s a (cursor.Short p v) stuck = unfold fieldAt in stuck
 field-own : (w : ℕ) (s : List ℕ) (k p : ℕ) → p ≤ k → OwnRead (length s) k (fieldAt s (At p) w) (fieldAt (take k s) (At p) w)
 field-own w s k p h =
     ⊎-elim
+    (λ (t : k < p + w). beyond (field-past s (k + 1) p w (omega arith)))
     (λ (t : p + w ≤ k).
     ⊎-elim
+    (λ (u : length s < p + w). beyond (rw (field-short s w p u) stuck))
     (λ (u : p + w ≤ length s).
     let v : p + w ≤ length (take k s) = rw length-take (omega arith) in
-    rw (field-there s p w u, field-there (take k s) p w v, number-own s k p w t) (same t))
-    (λ (u : length s < p + w). beyond (rw (field-short s p w u) stuck))
-    (le-or-lt (p + w) (length s)))
-    (λ (t : k < p + w). beyond (field-past s (k + 1) p w (omega arith)))
-    (le-or-lt (p + w) k)
+    rw (field-there s w p u, field-there (take k s) w p v, number-own s k p w t) (same t))
+    (lt-or-ge (length s) (p + w)))
+    (lt-or-ge k (p + w))
 
 -- a field as a move, a move after another, and a move n times
 place-own : {l k : ℕ} {x y : Read} → OwnRead l k x y → OwnPlace l k (x .cursor) (y .cursor)

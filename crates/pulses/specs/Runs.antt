@@ -1,0 +1,59 @@
+-- A run of items, each a list of pulses with their own labels, levels and lengths: cycles, odd pulses, bits, bytes. Assumes nothing.
+use mathlib.Core.Path.{_≡_, sym, ap, ap₂, _∙_}
+use mathlib.Core.List.{List, [], _++_, append-assoc}
+use Prim.Native.Nat.{ℕ, zero, suc, _+_, _-_, _*_, _≤_, _<_}
+use native.Mathlib.Nat.{suc-mul, zero-mul}
+use native.Mathlib.Omega.{arith}
+use lib.ListN.{length, length-append}
+use Rattle.pulses.specs.Play.{Entry, time, Finite}
+use Rattle.pulses.specs.Joined.{time-append, finite-append}
+use Rattle.pulses.specs.Lead.{Leads, lead-here, lead-on, lead-by, lead-run}
+
+module _ {A : Type 0} (item : ℕ → List (Entry A)) where
+  -- m items, from item p on
+  unfoldable pub run : ℕ → ℕ → List (Entry A)
+  run p zero = []
+  run p (suc m) = item p ++ run (p + 1) m
+
+  pub run-split : (p k m : ℕ) → run p (k + m) ≡ run p k ++ run (p + k) m
+  unfolding run
+  run-split p zero m =
+      let z : zero + m ≡ m = omega arith in
+      let q : p ≡ p + 0 = omega arith in
+      ap₂ run q z
+  run-split p (suc k) m =
+      let z : suc k + m ≡ suc (k + m) = omega arith in
+      let q : p + 1 + k ≡ p + suc k = omega arith in
+      ap (run p) z
+      ∙ ap (λ (r : List (Entry A)). item p ++ r) (run-split (p + 1) k m ∙ ap (λ (x : ℕ). run (p + 1) k ++ run x m) q)
+      ∙ sym (append-assoc (item p) (run (p + 1) k) (run (p + suc k) m))
+
+  -- items of c pulses each
+  pub run-length : (c p m : ℕ) → ((i : ℕ) → p ≤ i → i < p + m → length (item i) ≡ c) → length (run p m) ≡ m * c
+  unfolding run
+  run-length c p zero h = sym (zero-mul c)
+  run-length c p (suc m) h =
+      omega (arith, length-append (item p) (run (p + 1) m), h p (omega arith) (omega arith), run-length c (p + 1) m (λ i l g. h i (omega arith) (omega arith)), suc-mul m c)
+
+  module _ (finite : (i : ℕ) → Finite (item i)) where
+    pub run-finite : (p m : ℕ) → Finite (run p m)
+    unfolding run Finite
+    run-finite p zero = tt
+    run-finite p (suc m) = finite-append (item p) (run (p + 1) m) (finite p) (run-finite (p + 1) m)
+
+    -- items of c T-states each: the time by one product
+    pub run-time : (c p m : ℕ) → ((i : ℕ) → p ≤ i → i < p + m → time (item i) ≡ c) → time (run p m) ≡ m * c
+    unfolding run time
+    run-time c p zero h = sym (zero-mul c)
+    run-time c p (suc m) h =
+        omega (arith, time-append (item p) (run (p + 1) m) (finite p), h p (omega arith) (omega arith), run-time c (p + 1) m (λ i l g. h i (omega arith) (omega arith)), suc-mul m c)
+
+    -- THE JUMP: k items of k + m, whatever follows the run
+    pub lead-items : (p k m : ℕ) (ys : List (Entry A)) (n j : ℕ) → time (run p k) < n
+        → Leads (run p (k + m) ++ ys) n j (run (p + k) m ++ ys) (n - time (run p k)) (j + length (run p k))
+    lead-items p k m ys n j h =
+        lead-on
+        (lead-by
+        (ap (λ (r : List (Entry A)). r ++ ys) (run-split p k m) ∙ append-assoc (run p k) (run (p + k) m) ys)
+        (lead-here (run p (k + m) ++ ys) n j))
+        (lead-run (run p k) (run (p + k) m ++ ys) n j (run-finite p k) h)

@@ -1,7 +1,7 @@
 -- Runs of equal steps: where each step moves by g bytes or stops, n of them are a product, or the first that stops. Assumes nothing.
 use Prim.Native.Nat.{ℕ, zero, suc, _+_, _*_, _-_, _/_, _≤_, _<_}
 use mathlib.Core.List.{List}
-use mathlib.Core.Path.{_≡_, refl, ap, _∙_}
+use mathlib.Core.Path.{_≡_, refl, sym, ap, _∙_}
 use mathlib.Core.Logic.{⊎-elim}
 use native.Mathlib.Omega.{arith}
 use native.Mathlib.Nat.{zero-mul, mul-zero, suc-mul, mul-le-mul-right, div-mul-le-self, div-add-mod', mod-lt, not-suc-le-zero}
@@ -17,6 +17,10 @@ use Rattle.fields.specs.Run.{times, eachAt, groupsAt, Wholes}
 -- a cursor that came up short
 pub data Stopped : Cursor → Type 0 where
   stopped : {p w : ℕ} → Stopped (Short p w)
+
+-- it stands nowhere
+told : {p w e : ℕ} → Short p w ≡ At e → ⊥
+told h = let z : _≡_ {A = ℕ} 0 1 = cc in omega arith
 
 pub times-stopped : (f : Cursor → Cursor) (n : ℕ) {c : Cursor} → Stopped c → times f n c ≡ c
 unfolding times
@@ -105,6 +109,16 @@ module _ (s : List ℕ) where
 
   field-stops : (w p : ℕ) → length s < p + w → fieldAt s (At p) w .cursor ≡ Short p w
   field-stops w p h = rw (field-short w p h)
+
+  -- the place past a field is inside the tape
+  pub field-inside : (c : Cursor) (w : ℕ) {e : ℕ} → fieldAt s c w .cursor ≡ At e → e ≤ length s
+  unfolding fieldAt
+  field-inside (At p) w {e} h =
+      ⊎-elim
+      (λ (a : length s < p + w). let z : _≡_ {A = Cursor} (Short p w) (At e) = sym (field-stops w p a) ∙ h in absurd (told z))
+      (λ (a : p + w ≤ length s). let z : _≡_ {A = Cursor} (At (p + w)) (At e) = sym (field-moves w p a) ∙ h in let i : p + w ≡ e = cc in omega arith)
+      (lt-or-ge (length s) (p + w))
+  field-inside (Short p v) w h = absurd (told h)
 
   each-moves : (k w p : ℕ) → p + k * w ≤ length s → eachAt s (At p) k w ≡ At (p + k * w)
   unfolding eachAt

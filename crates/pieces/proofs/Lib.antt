@@ -1,1 +1,2 @@
 pub mod Layouts
+mod Turns

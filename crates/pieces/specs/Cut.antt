@@ -14,8 +14,8 @@ use Rattle.pieces.specs.declared.Taken.{Taken}
 use Rattle.pieces.specs.declared.Taken.the-variants as taken
 use Rattle.pieces.specs.declared.TakenTap.{TakenTap}
 use Rattle.pieces.specs.declared.TakenTap.the-variants as tap
-use Rattle.pieces.specs.declared.Head.{Head}
-use Rattle.pieces.specs.declared.Head.the-variants as head
+use Rattle.pieces.specs.declared.Heading.{Heading}
+use Rattle.pieces.specs.declared.Heading.the-variants as head
 use Rattle.pieces.specs.declared.Span.{Span}
 use Rattle.pieces.specs.Grammar.{readAt, countedAt}
 use Rattle.pieces.specs.Kinds.{kindOf}
@@ -30,7 +30,7 @@ startsAt s p [] = true
 startsAt s p (x ∷ xs) = eqb (getD s p 0) x && startsAt s (p + 1) xs
 
 -- 10 bytes, one field: the signature, major, minor
-unfoldable pub headAt : List ℕ → Head
+unfoldable pub headAt : List ℕ → Heading
 headAt s =
     leb 10 (length s) ⇒ (startsAt s 0 signature ⇒ head.Version (getD s 8 0) (getD s 9 0) ∣ head.BadSignature)
     ∣ head.Short 0 10

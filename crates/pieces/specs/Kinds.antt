@@ -2,6 +2,7 @@
 use Prim.Native.Nat.{ℕ, _+_, _*_, _-_, _/_}
 use mathlib.Core.List.{List, [], _∷_}
 use Rattle.laws.specs.Arms.{Arm, _▸_, lookup}
+use Rattle.pieces.specs.declared.GeneralizedData.{GeneralizedData}
 use Rattle.pieces.specs.declared.Piece.the-variants.{Standard, Turbo, Tone, Pulses, Pure, Generalized, Pause, GroupStart, GroupEnd, LoopStart, LoopEnd, Stop48, Text, Message, Archive, Hardware, Custom, Glue}
 use Rattle.pieces.specs.Grammar.{Layout, number, counted, here, pass, within, fitting, whole, unknown, bytes, fields, groups, texts, bitsOf, orFull, heldIf}
 
@@ -35,6 +36,9 @@ kind14 =
 -- 19: length 4 (of what follows), pause ms 2, TOTP 4, NPP 1, ASP 1, TOTD 4, NPD 1, ASD 1, then the tables:
 -- only if TOTP > 0, ASP symbols of a flag 1 and NPP pulses 2, TOTP entries of symbol 1 and repetitions 2;
 -- only if TOTD > 0, ASD symbols of a flag 1 and NPD pulses 2, ceil(NB × TOTD / 8) bytes, NB the bits of ASD - 1
+unfoldable pub stream19 : ℕ → GeneralizedData → Layout
+stream19 bits general = fitting bits (pass (fields (general .size) 1) (whole (Generalized general)))
+
 unfoldable pub kind19 : ℕ → Layout
 kind19 full =
     number 4 λ length. number 2 λ pause.
@@ -47,11 +51,8 @@ kind19 full =
     here λ pilot. pass (groups (heldIf totp asp) 1 npp 2) (
     here λ entries. pass (groups totp 1 1 2) (
     here λ symbols. pass (groups (heldIf totd asd) 1 npd 2) (
-    fitting (nb * totd) (
-    here λ from. pass (fields size 1) (
-    whole
-    (Generalized
-    (record { pause = pause; totp = totp; npp = npp; asp = asp; pilot = pilot; entries = entries; totd = totd; npd = npd; asd = asd; nb = nb; symbols = symbols; from = from; size = size })))))))
+    here λ from. stream19 (nb * totd)
+    (record { pause = pause; totp = totp; npp = npp; asp = asp; pilot = pilot; entries = entries; totd = totd; npd = npd; asd = asd; nb = nb; symbols = symbols; from = from; size = size }))))
 
 -- 20: ms 2
 unfoldable pub kind20 : Layout
@@ -86,8 +87,11 @@ unfoldable pub kind31 : Layout
 kind31 = number 1 λ seconds. counted 1 λ from size. whole (Message seconds from size)
 
 -- 32: length 2 (of what follows), number 1, then id 1, length 1, text each
+unfoldable pub info32 : Layout
+info32 = number 1 λ count. here λ from. pass (texts count) (whole (Archive count from))
+
 unfoldable pub kind32 : Layout
-kind32 = number 2 λ length. within length (number 1 λ count. here λ from. pass (texts count) (whole (Archive count from)))
+kind32 = number 2 λ length. within length info32
 
 -- 33: number 1, then type 1, id 1, info 1 each
 unfoldable pub kind33 : Layout

@@ -1,3 +1,4 @@
 pub mod Grammar
 pub mod Kinds
 pub mod Cut
+pub mod Steps

@@ -31,7 +31,7 @@ pub data In (a b : ℕ) : Cursor → Type 0 where
 -- a piece that ends from a to b, or none
 pub data Ends (a b : ℕ) : Body → Type 0 where
   ends : {piece : Piece} {p : ℕ} → a ≤ p → p ≤ b → Ends a b (Whole piece p)
-  none : Ends a b Unknown
+  none : {described : Bool} → Ends a b (Unknown described)
   short : {p w : ℕ} → Ends a b (Short p w)
   wide : {p : ℕ} → Ends a b (Overflow p)
 
@@ -149,7 +149,7 @@ whole-forward piece a b (cursor.Short p w) stuck = short
 sealed-forward : (a b end : ℕ) → a ≤ end → end ≤ b → (x : Body) → Ends a b (sealed end x)
 unfolding sealed
 sealed-forward a b end h t (Whole piece p) = ends h t
-sealed-forward a b end h t Unknown = none
+sealed-forward a b end h t (Unknown described) = none
 sealed-forward a b end h t (Short p w) = short
 sealed-forward a b end h t (Overflow p) = wide
 
@@ -179,7 +179,7 @@ forward (within n inner) s a c h =
     enclosed-forward (λ end. readAt inner (take end s) c) a (length s) (fieldAt s c n .cursor) (field-forward n s a c h)
 forward (fitting bits rest) s a c h = fitting-forward bits a (length s) c (readAt rest s c) (forward rest s a c h)
 forward (whole piece) s a c h = whole-forward piece a (length s) c h
-forward unknown s a c h = none
+forward (unknown described) s a c h = none
 
 -- the rest of a layout after a move
 module _ (s : List ℕ) (k : ℕ) where
@@ -227,4 +227,4 @@ own (pass part rest) s k p h = after s k rest (own rest s k) (pass-moves part .o
 own (within n inner) s k p h = after-body s k inner p (place-own (field-own n s k p h))
 own (fitting bits rest) s k p h = after-bits s k bits p (own rest s k p h)
 own (whole piece) s k p h = same
-own unknown s k p h = same
+own (unknown described) s k p h = same

@@ -38,7 +38,7 @@ headAt s =
 -- a body under the kind and the place of its piece
 abbrev pub named : ℕ → ℕ → Body → Taken
 named kind at (body.Whole piece next) = taken.Whole kind at next piece
-named kind at body.Unknown = taken.Unknown kind
+named kind at (body.Unknown described) = taken.Unknown kind described
 named kind at (body.Short p w) = taken.Short kind p w
 named kind at (body.Overflow p) = taken.Overflow kind p
 

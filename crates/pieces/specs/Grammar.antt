@@ -1,6 +1,7 @@
 -- What a layout is made of, and how one is read: `readAt` hands what a part holds, and the cursor past it, to the rest.
 -- A cursor that came up short stays, so a layout ends at its last part or at the first field that is not there. Assumes nothing.
 use Prim.Native.Nat.{ℕ, zero, suc, _+_, _/_}
+use mathlib.Core.Bool.{Bool}
 use mathlib.Core.List.{List}
 use lib.ListN.{take}
 use lib.Dec.{leb, eqb}
@@ -37,7 +38,8 @@ pub data Layout : Type 0 where
   fitting : ℕ → Layout → Layout
   -- the piece, which ends where the cursor stands
   whole : Piece → Layout
-  unknown : Layout
+  -- no row of ours, though the format may describe the kind
+  unknown : Bool → Layout
 
 unfoldable pub countedAt : List ℕ → Cursor → ℕ → Span
 countedAt s c w =
@@ -60,7 +62,7 @@ wholeAt piece (cursor.Short p w) = Short p w
 -- what a body's parts gave, in a body that ends at `end`
 unfoldable pub sealed : ℕ → Body → Body
 sealed end (Whole piece p) = Whole piece end
-sealed end Unknown = Unknown
+sealed end (Unknown described) = Unknown described
 sealed end (Short p w) = Short p w
 sealed end (Overflow p) = Overflow p
 
@@ -80,7 +82,7 @@ readAt (pass part rest) s c = readAt rest s (passAt part s c)
 readAt (within n inner) s c = enclosed (λ end. readAt inner (take end s) c) (fieldAt s c n .cursor)
 readAt (fitting bits rest) s c = fittingAt bits c (readAt rest s c)
 readAt (whole piece) s c = wholeAt piece c
-readAt unknown s c = Unknown
+readAt (unknown described) s c = Unknown described
 
 -- the binary digits of n, f of them at the most; a number of 32 bits has no more than 32
 unfoldable pub digits : ℕ → ℕ → ℕ

@@ -1,6 +1,8 @@
 -- The layout of each kind, as docs/FORMAT.md has it, row by row. Numbers are little-endian. Assumes nothing.
 use Prim.Native.Nat.{ℕ, _+_, _*_, _-_, _/_}
+use mathlib.Core.Bool.{Bool, true, _&&_, _||_}
 use mathlib.Core.List.{List, [], _∷_}
+use lib.Dec.{leb}
 use Rattle.laws.specs.Arms.{Arm, _▸_, lookup}
 use Rattle.pieces.specs.declared.GeneralizedData.{GeneralizedData}
 use Rattle.pieces.specs.declared.Piece.the-variants.{Standard, Turbo, Tone, Pulses, Pure, Generalized, Pause, GroupStart, GroupEnd, LoopStart, LoopEnd, Stop48, Text, Message, Archive, Hardware, Custom, Glue}
@@ -105,13 +107,20 @@ kind35 = here λ id. pass (bytes 16) (counted 4 λ from size. whole (Custom id f
 unfoldable pub kind5A : Layout
 kind5A = pass (bytes 9) (whole Glue)
 
--- the rows of the format that document 01 names
+-- a kind that the format describes and document 01 does not name
+abbrev pub unread : Layout
+unread = unknown true
+
+abbrev pub between : ℕ → ℕ → ℕ → Bool
+between a b k = leb a k && leb k b
+
+-- the rows that document 01 names, and those of the other kinds that TZX 1.20 or an edition before it describes
 unfoldable pub kinds : ℕ → List (Arm Layout)
 kinds full =
     0x10 ▸ kind10 ∷ 0x11 ▸ kind11 ∷ 0x12 ▸ kind12 ∷ 0x13 ▸ kind13 ∷ 0x14 ▸ kind14 ∷ 0x19 ▸ kind19 full ∷
-    0x20 ▸ kind20 ∷ 0x21 ▸ kind21 ∷ 0x22 ▸ kind22 ∷ 0x24 ▸ kind24 ∷ 0x25 ▸ kind25 ∷ 0x2A ▸ kind2A ∷
-    0x30 ▸ kind30 ∷ 0x31 ▸ kind31 ∷ 0x32 ▸ kind32 ∷ 0x33 ▸ kind33 ∷ 0x35 ▸ kind35 ∷ 0x5A ▸ kind5A ∷ []
+    0x20 ▸ kind20 ∷ 0x21 ▸ kind21 ∷ 0x22 ▸ kind22 ∷ 0x23 ▸ unread ∷ 0x24 ▸ kind24 ∷ 0x25 ▸ kind25 ∷ 0x2A ▸ kind2A ∷ 0x2B ▸ unread ∷
+    0x30 ▸ kind30 ∷ 0x31 ▸ kind31 ∷ 0x32 ▸ kind32 ∷ 0x33 ▸ kind33 ∷ 0x34 ▸ unread ∷ 0x35 ▸ kind35 ∷ 0x40 ▸ unread ∷ 0x5A ▸ kind5A ∷ []
 
--- every kind from 0 to 255 has its row: any other kind is unknown
+-- every kind from 0 to 255 has its row: 15 to 18 and 26 to 28 are described too, and any other kind is not
 unfoldable pub kindOf : ℕ → ℕ → Layout
-kindOf full kind = lookup (kinds full) kind unknown
+kindOf full kind = lookup (kinds full) kind (unknown (between 0x15 0x18 kind || between 0x26 0x28 kind))

@@ -68,11 +68,11 @@ pub enum Piece {
     Glue,
 }
 
-// What stands after a kind byte: a whole piece and the place past it, a kind without a row, the first field that came
-// up short, or a 19 whose data bits pass 32 bits, at the place of its data bytes.
+// What stands after a kind byte: a whole piece and the place past it; a kind without a row here, and whether the format
+// describes it all the same; the first field that came up short; or a 19 whose data bits pass 32 bits, at the place of its data bytes.
 pub enum Body {
     Whole(Piece, u64),
-    Unknown,
+    Unknown(bool),
     Short(u64, u64),
     Overflow(u64),
 }
@@ -81,7 +81,7 @@ pub enum Body {
 pub enum Taken {
     End,
     Whole { kind: u8, at: u64, next: u64, piece: Piece },
-    Unknown { kind: u8 },
+    Unknown { kind: u8, described: bool },
     Short { kind: u8, place: u64, width: u64 },
     Overflow { kind: u8, place: u64 },
 }
@@ -480,7 +480,7 @@ fn sealed(end: u64, inner: Body) -> Body
 {
     match inner {
         Body::Whole(piece, _) => Body::Whole(piece, end),
-        Body::Unknown => Body::Unknown,
+        Body::Unknown(described) => Body::Unknown(described),
         Body::Short(at, width) => Body::Short(at, width),
         Body::Overflow(at) => Body::Overflow(at),
     }
@@ -537,27 +537,31 @@ fn body_of(tape: &[u8], kind: u8, c: Cursor, full: u32) -> Body
     ensures { λ r. ⌜ r ≡ readAt (kindOf full kind) (now (tape .entry)) c ⌝ }
 {
     match kind {
-        0x00..=0x0F => Body::Unknown,
         0x10 => standard(tape, c),
         0x11 => turbo(tape, c),
         0x12 => tone(tape, c),
         0x13 => pulses(tape, c),
         0x14 => pure(tape, c),
-        0x15..=0x18 => Body::Unknown,
+        0x15..=0x18 => Body::Unknown(true),
         0x19 => general(tape, c, full),
         0x20 => pause(tape, c),
         0x21 => group_start(tape, c),
         0x22 => whole(Piece::GroupEnd, c),
+        0x23 => Body::Unknown(true),
         0x24 => loop_start(tape, c),
         0x25 => whole(Piece::LoopEnd, c),
+        0x26..=0x28 => Body::Unknown(true),
         0x2A => stop48(tape, c),
+        0x2B => Body::Unknown(true),
         0x30 => text(tape, c),
         0x31 => message(tape, c),
         0x32 => archive(tape, c),
         0x33 => hardware(tape, c),
+        0x34 => Body::Unknown(true),
         0x35 => custom(tape, c),
+        0x40 => Body::Unknown(true),
         0x5A => whole(Piece::Glue, pass(tape, c, 9)),
-        _ => Body::Unknown,
+        _ => Body::Unknown(false),
     }
 }
 
@@ -572,7 +576,7 @@ fn named(kind: u8, at: u64, body: Body) -> Taken
             next,
             piece,
         },
-        Body::Unknown => Taken::Unknown { kind },
+        Body::Unknown(described) => Taken::Unknown { kind, described },
         Body::Short(place, width) => Taken::Short { kind, place, width },
         Body::Overflow(place) => Taken::Overflow { kind, place },
     }

@@ -1,6 +1,3 @@
-use Rattle.laws.specs.Arms.{lookup-none}
-use Rattle.pieces.specs.Grammar.{readAt, passAt, unknown}
-use Rattle.pieces.specs.Kinds.{kind22, kind25, kind5A, kinds, kindOf}
 use borrow.Author.Needs.{needs}
 use Rattle.pieces.proofs.body_of.Statement.{statement}
 use Rattle.pieces.proofs.body_of.Tie as tie
@@ -24,39 +21,39 @@ use Rattle.pieces.proofs.tone.Reads as tone-reads
 use Rattle.pieces.proofs.turbo.Reads as turbo-reads
 use Rattle.pieces.proofs.whole.Reads as whole-reads
 
--- src/lib.rt:541:17
+-- src/lib.rt:540:17
 standard-requires : tie.Need-standard-requires
 standard-requires c κs = search needs
 
--- src/lib.rt:542:17
+-- src/lib.rt:541:17
 turbo-requires : tie.Need-turbo-requires
 turbo-requires c κs = search needs
 
--- src/lib.rt:543:17
+-- src/lib.rt:542:17
 tone-requires : tie.Need-tone-requires
 tone-requires c κs = search needs
 
--- src/lib.rt:544:17
+-- src/lib.rt:543:17
 pulses-requires : tie.Need-pulses-requires
 pulses-requires c κs = search needs
 
--- src/lib.rt:545:17
+-- src/lib.rt:544:17
 pure-requires : tie.Need-pure-requires
 pure-requires c κs = search needs
 
--- src/lib.rt:547:17
+-- src/lib.rt:546:17
 general-requires : tie.Need-general-requires
 general-requires c κs = search needs
 
--- src/lib.rt:548:17
+-- src/lib.rt:547:17
 pause-requires : tie.Need-pause-requires
 pause-requires c κs = search needs
 
--- src/lib.rt:549:17
+-- src/lib.rt:548:17
 group-start-requires : tie.Need-group-start-requires
 group-start-requires c κs = search needs
 
--- src/lib.rt:550:17
+-- src/lib.rt:549:17
 whole-requires : tie.Need-whole-requires
 whole-requires c κs = search needs
 
@@ -68,163 +65,145 @@ loop-start-requires c κs = search needs
 whole-requires-2 : tie.Need-whole-requires-2
 whole-requires-2 c κs = search needs
 
--- src/lib.rt:553:17
+-- src/lib.rt:554:17
 stop48-requires : tie.Need-stop48-requires
 stop48-requires c κs = search needs
 
--- src/lib.rt:554:17
+-- src/lib.rt:556:17
 text-requires : tie.Need-text-requires
 text-requires c κs = search needs
 
--- src/lib.rt:555:17
+-- src/lib.rt:557:17
 message-requires : tie.Need-message-requires
 message-requires c κs = search needs
 
--- src/lib.rt:556:17
+-- src/lib.rt:558:17
 archive-requires : tie.Need-archive-requires
 archive-requires c κs = search needs
 
--- src/lib.rt:557:17
+-- src/lib.rt:559:17
 hardware-requires : tie.Need-hardware-requires
 hardware-requires c κs = search needs
 
--- src/lib.rt:558:17
+-- src/lib.rt:561:17
 custom-requires : tie.Need-custom-requires
 custom-requires c κs = search needs
 
--- src/lib.rt:559:36
+-- src/lib.rt:563:36
 pass-requires : tie.Need-pass-requires
 pass-requires c κs = search needs
 
--- src/lib.rt:559:17
+-- src/lib.rt:563:17
 whole-requires-3 : tie.Need-whole-requires-3
 whole-requires-3 c κs = search needs
 
 -- src/lib.rt:536:1
 returns : tie.Need-returns
-unfolding kindOf kinds
-returns c =
-    rw (c .standard .ensures, c .before .match .keys1)
+returns c = ?
 
 -- src/lib.rt:536:1
 returns-2 : tie.Need-returns-2
-unfolding kindOf kinds
-returns-2 c =
-    rw (c .turbo .ensures, c .before .match .keys2)
+returns-2 c = ?
 
 -- src/lib.rt:536:1
 returns-3 : tie.Need-returns-3
-unfolding kindOf kinds
-returns-3 c =
-    rw (c .tone .ensures, c .before .match .keys3)
+returns-3 c = ?
 
 -- src/lib.rt:536:1
 returns-4 : tie.Need-returns-4
-unfolding kindOf kinds
-returns-4 c =
-    rw (c .pulses .ensures, c .before .match .keys4)
+returns-4 c = ?
 
 -- src/lib.rt:536:1
 returns-5 : tie.Need-returns-5
-unfolding kindOf kinds
-returns-5 c =
-    rw (c .pure .ensures, c .before .match .keys5)
+returns-5 c = ?
 
 -- src/lib.rt:536:1
 returns-6 : tie.Need-returns-6
-unfolding kindOf kinds
-returns-6 c =
-    rw (c .general .ensures, c .before .match .keys6)
+returns-6 c = ?
 
 -- src/lib.rt:536:1
 returns-7 : tie.Need-returns-7
-unfolding kindOf kinds
-returns-7 c =
-    rw (c .pause .ensures, c .before .match .keys7)
+returns-7 c = ?
 
 -- src/lib.rt:536:1
 returns-8 : tie.Need-returns-8
-unfolding kindOf kinds
-returns-8 c =
-    rw (c .group-start .ensures, c .before .match .keys8)
+returns-8 c = ?
 
 -- src/lib.rt:536:1
 returns-9 : tie.Need-returns-9
-unfolding kindOf kinds readAt kind22
-returns-9 c =
-    rw (c .whole .ensures, c .before .match .keys9)
+returns-9 c = ?
 
 -- src/lib.rt:536:1
 returns-10 : tie.Need-returns-10
-unfolding kindOf kinds
-returns-10 c =
-    rw (c .loop-start .ensures, c .before .match .keys10)
+returns-10 c = ?
 
 -- src/lib.rt:536:1
 returns-11 : tie.Need-returns-11
-unfolding kindOf kinds readAt kind25
-returns-11 c =
-    rw (c .whole2 .ensures, c .before .match .keys11)
+returns-11 c = ?
 
 -- src/lib.rt:536:1
 returns-12 : tie.Need-returns-12
-unfolding kindOf kinds
-returns-12 c =
-    rw (c .stop48 .ensures, c .before .match .keys12)
+returns-12 c = ?
 
 -- src/lib.rt:536:1
 returns-13 : tie.Need-returns-13
-unfolding kindOf kinds
-returns-13 c =
-    rw (c .text .ensures, c .before .match .keys13)
+returns-13 c = ?
 
 -- src/lib.rt:536:1
 returns-14 : tie.Need-returns-14
-unfolding kindOf kinds
-returns-14 c =
-    rw (c .message .ensures, c .before .match .keys14)
+returns-14 c = ?
 
 -- src/lib.rt:536:1
 returns-15 : tie.Need-returns-15
-unfolding kindOf kinds
-returns-15 c =
-    rw (c .archive .ensures, c .before .match .keys15)
+returns-15 c = ?
 
 -- src/lib.rt:536:1
 returns-16 : tie.Need-returns-16
-unfolding kindOf kinds
-returns-16 c =
-    rw (c .hardware .ensures, c .before .match .keys16)
+returns-16 c = ?
 
 -- src/lib.rt:536:1
 returns-17 : tie.Need-returns-17
-unfolding kindOf kinds
-returns-17 c =
-    rw (c .custom .ensures, c .before .match .keys17)
+returns-17 c = ?
 
 -- src/lib.rt:536:1
 returns-18 : tie.Need-returns-18
-unfolding kindOf kinds readAt kind5A passAt
-returns-18 c =
-    rw (c .whole3 .ensures, c .before .pass .ensures, c .before .before .match .keys18)
+returns-18 c = ?
 
 -- src/lib.rt:536:1
 returns-19 : tie.Need-returns-19
-unfolding kindOf kinds readAt
-returns-19 c =
-    rw (lookup-none (kinds (c .before .before .before .args .full)) _ unknown (c .before .match .rest))
+returns-19 c = ?
 
 -- src/lib.rt:536:1
 returns-20 : tie.Need-returns-20
-unfolding kindOf kinds readAt
-returns-20 c =
-    rw (lookup-none (kinds (c .before .before .before .before .args .full)) _ unknown (c .before .before .match .rest))
+returns-20 c = ?
 
 -- src/lib.rt:536:1
 returns-21 : tie.Need-returns-21
-unfolding kindOf kinds readAt
-returns-21 c =
-    rw (lookup-none (kinds (c .before .before .before .before .args .full)) _ unknown (c .before .before .match .rest))
+returns-21 c = ?
+
+-- src/lib.rt:536:1
+returns-22 : tie.Need-returns-22
+returns-22 c = ?
+
+-- src/lib.rt:536:1
+returns-23 : tie.Need-returns-23
+returns-23 c = ?
+
+-- src/lib.rt:536:1
+returns-24 : tie.Need-returns-24
+returns-24 c = ?
+
+-- src/lib.rt:536:1
+returns-25 : tie.Need-returns-25
+returns-25 c = ?
+
+-- src/lib.rt:536:1
+returns-26 : tie.Need-returns-26
+returns-26 c = ?
+
+-- src/lib.rt:536:1
+returns-27 : tie.Need-returns-27
+returns-27 c = ?
 
 pub body-of-spec : {M : Type 1} → statement M
 body-of-spec =
@@ -269,4 +248,10 @@ body-of-spec =
     returns-18
     returns-19
     returns-20
-    returns-21)
+    returns-21
+    returns-22
+    returns-23
+    returns-24
+    returns-25
+    returns-26
+    returns-27)

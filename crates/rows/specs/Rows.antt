@@ -1,9 +1,9 @@
 -- The words of a tone row and of a block row, in order, and back again. Assumes nothing.
 use Prim.Native.Nat.{ℕ}
-use mathlib.Core.Path.{_≡_, refl}
+use mathlib.Core.Path.{refl}
 use mathlib.Core.List.{List, [], _∷_}
-use lib.ListN.{length, getD}
-use Rattle.rows.specs.Table.{Codec, words-all}
+use lib.ListN.{getD}
+use Rattle.rows.specs.Table.{Codec}
 use Rattle.rows.specs.declared.Tone.{Tone}
 use Rattle.rows.specs.declared.Block.{Block}
 
@@ -23,10 +23,6 @@ decodeTone w = record { num = getD w 0 0; len1 = getD w 1 0; len2 = getD w 2 0 }
 abbrev pub tone : Codec Tone
 tone = record { width = 3; enc = encodeTone; dec = decodeTone; sized = λ r. refl; back = λ r. refl }
 
--- any three words are a tone's
-pub tone-whole : (w : List ℕ) → length w ≡ 3 → encodeTone (decodeTone w) ≡ w
-tone-whole w e = words-all 3 w e
-
 abbrev pub encodeBlock : Block → List ℕ
 encodeBlock r =
     r .tone ∷ r .tones ∷ r .start ∷ r .size ∷ r .zero ∷ r .one ∷ r .last ∷ r .pause ∷ r .endless ∷ r .selectable ∷ r .named ∷ r .text ∷ r .chars ∷ []
@@ -37,7 +33,3 @@ decodeBlock w =
 
 abbrev pub block : Codec Block
 block = record { width = 13; enc = encodeBlock; dec = decodeBlock; sized = λ r. refl; back = λ r. refl }
-
--- any thirteen words are a block's
-pub block-whole : (w : List ℕ) → length w ≡ 13 → encodeBlock (decodeBlock w) ≡ w
-block-whole w e = words-all 13 w e

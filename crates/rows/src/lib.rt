@@ -1,13 +1,12 @@
 // Tone rows and block rows in lent words: README.md says what each word is.
 ghost use mathlib.Core.Path.{_≡_};
-ghost use mathlib.Core.Bool.{cond};
-ghost use Prim.Native.Nat.{_+_, _*_, _/_, _≤_, min};
+ghost use Prim.Native.Nat.{_+_, _*_, _≤_};
 ghost use lib.ListN.{length, replicate};
-ghost use lib.Dec.{ltb, leb};
+ghost use lib.Dec.{ltb};
 ghost use lib.Seq.{paste};
 ghost use Rattle.rows.specs.Table.{get, put, appended, capacityOf};
 ghost use Rattle.rows.specs.Rows.{block, decodeBlock, tone, decodeTone, blockMost, toneMost};
-ghost use Rattle.rows.specs.Well.{wellTone, wellTones, inside, wellBlock};
+ghost use Rattle.rows.specs.Well.{inside, wellTone, wellTones, wellRanges, wellPause, wellLast, wellNumbers, wellCases, wellBlock};
 
 // One run of equal cycles; the Rust's `Tone`.
 pub struct Tone {
@@ -186,14 +185,20 @@ pub fn append_block(t: &mut [u64], n: usize, r: Block) -> bool
 fn ranges(from: u64, n: u64, most: u64) -> bool
     ensures { λ b. ⌜ b ≡ inside from n most ⌝ }
 {
-    if from <= most { n <= most - from } else { false }
+    from <= most && n <= most - from
 }
 
 // Whether a tone is well formed.
 pub fn tone_well(r: Tone) -> bool
     ensures { λ b. ⌜ b ≡ wellTone r ⌝ }
 {
-    r.num <= 65535 && r.len1 <= 65535 && r.len2 <= 65535
+    if 65535 < r.num {
+        return false;
+    }
+    if 65535 < r.len1 {
+        return false;
+    }
+    r.len2 <= 65535
 }
 
 // Whether n tone rows from row `from` on are well formed; its callers know the rows to be lent.
@@ -217,9 +222,56 @@ fn tones_well(tones: &[u64], from: u64, n: u64) -> bool
 fn ranges_well(tape: u64, tones: &[u64], r: Block) -> bool
     ensures { λ b. ⌜ b ≡ wellRanges tape (now (tones .entry)) r ⌝ }
 {
-    ranges(r.tone, r.tones, tone_capacity(tones) as u64)
-        && ranges(r.start, r.size, tape)
-        && ranges(r.text, r.chars, tape)
+    if !ranges(r.tone, r.tones, tone_capacity(tones) as u64) {
+        return false;
+    }
+    if !ranges(r.start, r.size, tape) {
+        return false;
+    }
+    ranges(r.text, r.chars, tape)
+}
+
+// Whether a block's pause is endless or within its limit.
+fn pause_well(r: Block) -> bool
+    ensures { λ b. ⌜ b ≡ wellPause r ⌝ }
+{
+    r.endless == 1 || r.pause <= 229372500
+}
+
+// Whether a block's last bits are within their limit, which only data has.
+fn last_well(r: Block) -> bool
+    ensures { λ b. ⌜ b ≡ wellLast r ⌝ }
+{
+    r.size == 0 || r.last <= 8
+}
+
+// Whether a block's numbers are within their limits.
+fn numbers_well(r: Block) -> bool
+    ensures { λ b. ⌜ b ≡ wellNumbers r ⌝ }
+{
+    if 65535 < r.zero {
+        return false;
+    }
+    if 65535 < r.one {
+        return false;
+    }
+    if !pause_well(r) {
+        return false;
+    }
+    last_well(r)
+}
+
+// Whether a block's flags are 0 or 1 and its case number a named one.
+fn cases_well(r: Block) -> bool
+    ensures { λ b. ⌜ b ≡ wellCases r ⌝ }
+{
+    if 1 < r.endless {
+        return false;
+    }
+    if 1 < r.selectable {
+        return false;
+    }
+    r.named <= 4
 }
 
 // Whether a block's row is well formed, with its tone rows, over a tape of `tape` bytes.

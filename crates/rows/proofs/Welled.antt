@@ -18,7 +18,7 @@ first true b e = refl
 first false b e = e
 
 -- the tone range is inside the tone table
-pub tones-lent : (tape : ℕ) (tones : List ℕ) (r : Block) → wellRanges tape tones r ≡ true → (r .tone + r .tones) * 3 ≤ length tones
+pub tones-lent : (tape : ℕ) (tones : List ℕ) (r : Block) → wellRanges tape tones r ≡ true → (r .tone + r .tones) * tone .width ≤ length tones
 unfolding wellRanges
 tones-lent tape tones r e =
     let h = first (inside (r .tone) (r .tones) (capacityOf tone toneMost tones)) (inside (r .start) (r .size) tape && inside (r .text) (r .chars) tape) e in

@@ -32,6 +32,11 @@ pub struct Block {
     pub chars: u64,
 }
 
+// The words of a tone row and of a block row.
+const TONE_WORDS: usize = 3;
+
+const BLOCK_WORDS: usize = 13;
+
 // Every lent word becomes zero.
 pub fn blank(t: &mut [u64])
     ensures { λ _. ⌜ now (t .exit) ≡ replicate (length (now (t .entry))) 0 ⌝ }
@@ -59,13 +64,13 @@ fn copy_in(dst: &mut [u64], at: usize, src: &[u64])
 pub fn tone_capacity(t: &[u64]) -> usize
     ensures { λ r. ⌜ r ≡ capacityOf tone toneMost (now (t .entry)) ⌝ }
 {
-    let n = t.len() / 3;
+    let n = t.len() / TONE_WORDS;
     if n < 65536 { n } else { 65536 }
 }
 
 // The tone of three words; for the reads below.
 fn tone_of(s: &[u64]) -> Tone
-    requires { ⌜ 3 ≤ length (now s) ⌝ }
+    requires { ⌜ tone .width ≤ length (now s) ⌝ }
     ensures { λ r. ⌜ r ≡ decodeTone (now (s .entry)) ⌝ }
 {
     Tone {
@@ -77,20 +82,20 @@ fn tone_of(s: &[u64]) -> Tone
 
 // Tone row i, which its callers know to be lent.
 pub fn tone_at(t: &[u64], i: usize) -> Tone
-    requires { ⌜ i * 3 + 3 ≤ length (now t) ⌝ }
+    requires { ⌜ i * tone .width + tone .width ≤ length (now t) ⌝ }
     ensures { λ r. ⌜ r ≡ get tone (now (t .entry)) i ⌝ }
 {
-    let b = i * 3;
-    tone_of(&t[b..b + 3])
+    let b = i * TONE_WORDS;
+    tone_of(&t[b..b + TONE_WORDS])
 }
 
 // Tone row i replaced; its callers know the row to be lent.
 pub fn put_tone(t: &mut [u64], i: usize, r: Tone)
-    requires { ⌜ i * 3 + 3 ≤ length (now t) ⌝ }
+    requires { ⌜ i * tone .width + tone .width ≤ length (now t) ⌝ }
     ensures { λ _. ⌜ now (t .exit) ≡ put tone (now (t .entry)) i r ⌝ }
 {
     let w = [r.num, r.len1, r.len2];
-    copy_in(t, i * 3, &w);
+    copy_in(t, i * TONE_WORDS, &w);
 }
 
 // The tone as row n where n is below the capacity: true; else nothing.
@@ -110,13 +115,13 @@ pub fn append_tone(t: &mut [u64], n: usize, r: Tone) -> bool
 pub fn block_capacity(t: &[u64]) -> usize
     ensures { λ r. ⌜ r ≡ capacityOf block blockMost (now (t .entry)) ⌝ }
 {
-    let n = t.len() / 13;
+    let n = t.len() / BLOCK_WORDS;
     if n < 4096 { n } else { 4096 }
 }
 
 // The block of thirteen words; for the reads below.
 fn block_of(s: &[u64]) -> Block
-    requires { ⌜ 13 ≤ length (now s) ⌝ }
+    requires { ⌜ block .width ≤ length (now s) ⌝ }
     ensures { λ r. ⌜ r ≡ decodeBlock (now (s .entry)) ⌝ }
 {
     Block {
@@ -138,16 +143,16 @@ fn block_of(s: &[u64]) -> Block
 
 // Block row i, which its callers know to be lent.
 pub fn block_at(t: &[u64], i: usize) -> Block
-    requires { ⌜ i * 13 + 13 ≤ length (now t) ⌝ }
+    requires { ⌜ i * block .width + block .width ≤ length (now t) ⌝ }
     ensures { λ r. ⌜ r ≡ get block (now (t .entry)) i ⌝ }
 {
-    let b = i * 13;
-    block_of(&t[b..b + 13])
+    let b = i * BLOCK_WORDS;
+    block_of(&t[b..b + BLOCK_WORDS])
 }
 
 // Block row i replaced; its callers know the row to be lent.
 pub fn put_block(t: &mut [u64], i: usize, r: Block)
-    requires { ⌜ i * 13 + 13 ≤ length (now t) ⌝ }
+    requires { ⌜ i * block .width + block .width ≤ length (now t) ⌝ }
     ensures { λ _. ⌜ now (t .exit) ≡ put block (now (t .entry)) i r ⌝ }
 {
     let w = [
@@ -165,7 +170,7 @@ pub fn put_block(t: &mut [u64], i: usize, r: Block)
         r.text,
         r.chars,
     ];
-    copy_in(t, i * 13, &w);
+    copy_in(t, i * BLOCK_WORDS, &w);
 }
 
 // The block as row n where n is below the capacity: true; else nothing.
@@ -203,7 +208,7 @@ pub fn tone_well(r: Tone) -> bool
 
 // Whether n tone rows from row `from` on are well formed; its callers know the rows to be lent.
 fn tones_well(tones: &[u64], from: u64, n: u64) -> bool
-    requires { ⌜ (from + n) * 3 ≤ length (now tones) ⌝ }
+    requires { ⌜ (from + n) * tone .width ≤ length (now tones) ⌝ }
     ensures { λ b. ⌜ b ≡ wellTones (now (tones .entry)) from n ⌝ }
 {
     let mut i = from as usize;

@@ -4,7 +4,7 @@ use native.Mathlib.Nat.{add-sub-cancel-left}
 use mathlib.Core.Path.{ap, _∙_}
 use lib.ListN.{take, drop}
 use borrow.Author.Needs.{needs}
-use Rattle.rows.specs.Rows.{decodeBlock}
+use Rattle.rows.specs.Rows.{block, decodeBlock}
 use Rattle.rows.proofs.block_at.Statement.{statement}
 use Rattle.rows.proofs.block_at.Tie as tie
 
@@ -31,8 +31,9 @@ block-of-requires c κs = search needs
 
 returns : tie.Need-returns
 returns c =
+    let W = block .width in
     let a = c .before .before .before .args in
-    c .block-of .ensures ∙ ap (λ (k : ℕ). decodeBlock (take k (drop (a .i * 13) (a .t .now)))) (add-sub-cancel-left (a .i * 13) 13)
+    c .block-of .ensures ∙ ap (λ (k : ℕ). decodeBlock (take k (drop (a .i * W) (a .t .now)))) (add-sub-cancel-left (a .i * W) W)
 
 pub block-at-spec : {M : Type 1} → statement M
 block-at-spec =

@@ -4,7 +4,7 @@ use native.Mathlib.Nat.{add-sub-cancel-left}
 use mathlib.Core.Path.{ap, _∙_}
 use lib.ListN.{take, drop}
 use borrow.Author.Needs.{needs}
-use Rattle.rows.specs.Rows.{decodeTone}
+use Rattle.rows.specs.Rows.{tone, decodeTone}
 use Rattle.rows.proofs.tone_at.Statement.{statement}
 use Rattle.rows.proofs.tone_at.Tie as tie
 
@@ -31,8 +31,9 @@ tone-of-requires c κs = search needs
 
 returns : tie.Need-returns
 returns c =
+    let W = tone .width in
     let a = c .before .before .before .args in
-    c .tone-of .ensures ∙ ap (λ (k : ℕ). decodeTone (take k (drop (a .i * 3) (a .t .now)))) (add-sub-cancel-left (a .i * 3) 3)
+    c .tone-of .ensures ∙ ap (λ (k : ℕ). decodeTone (take k (drop (a .i * W) (a .t .now)))) (add-sub-cancel-left (a .i * W) W)
 
 pub tone-at-spec : {M : Type 1} → statement M
 tone-at-spec =

@@ -35,7 +35,7 @@ unfolding wellTone
 tones-judged = refl
 
 -- a blank row is well formed over an empty tape and an empty table
-blank-well : wellBlock 0 [] (decodeBlock (zeros 13)) ≡ true
+blank-well : wellBlock 0 [] (decodeBlock (zeros (block .width))) ≡ true
 unfolding wellBlock wellRanges wellNumbers wellCases wellTones
 blank-well = refl
 

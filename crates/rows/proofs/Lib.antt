@@ -1,5 +1,5 @@
 pub mod Clauses
 pub mod Examples
 pub mod Tables
-pub mod Welled
+pub mod WellLaws
 pub mod Whole

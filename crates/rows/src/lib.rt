@@ -68,7 +68,7 @@ pub fn tone_capacity(t: &[u64]) -> usize
     if n < 65536 { n } else { 65536 }
 }
 
-// The tone of three words; for the reads below.
+// The tone of a row's words; for the reads below.
 fn tone_of(s: &[u64]) -> Tone
     requires { ⌜ tone .width ≤ length (now s) ⌝ }
     ensures { λ r. ⌜ r ≡ decodeTone (now (s .entry)) ⌝ }
@@ -119,7 +119,7 @@ pub fn block_capacity(t: &[u64]) -> usize
     if n < 4096 { n } else { 4096 }
 }
 
-// The block of thirteen words; for the reads below.
+// The block of a row's words; for the reads below.
 fn block_of(s: &[u64]) -> Block
     requires { ⌜ block .width ≤ length (now s) ⌝ }
     ensures { λ r. ⌜ r ≡ decodeBlock (now (s .entry)) ⌝ }

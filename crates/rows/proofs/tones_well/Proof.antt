@@ -5,7 +5,7 @@ use mathlib.Core.Path.{_≡_, refl, ap, _∙_}
 use borrow.Author.Needs.{needs}
 use Rattle.rows.specs.Well.{wellTone, wellTones}
 use Rattle.rows.proofs.Clauses.{failed, passed}
-use Rattle.rows.proofs.Welled.{tones-turn}
+use Rattle.rows.proofs.WellLaws.{tones-turn}
 use Rattle.rows.proofs.tones_well.Statement.{statement}
 use Rattle.rows.proofs.tones_well.Tie as tie
 

@@ -1,4 +1,4 @@
--- What a well-formed block and its tone rows give, one clause at a time. Assumes nothing.
+-- What the code needs of the definitions of Well: the tone rows of a well-formed block are lent, and one turn over them. Assumes nothing.
 use Prim.Native.Nat.{ℕ, zero, suc, _+_, _*_, _-_, _≤_, _<_}
 use native.Mathlib.Omega.{arith}
 use native.Mathlib.Nat.{not-suc-le-zero}

@@ -1,0 +1,5 @@
+pub mod Clauses
+pub mod Examples
+pub mod Tables
+pub mod WellLaws
+pub mod Whole

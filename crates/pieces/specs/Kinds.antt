@@ -1,9 +1,8 @@
 -- The layout of each kind, as docs/FORMAT.md has it, row by row. Numbers are little-endian. Assumes nothing.
 use Prim.Native.Nat.{ℕ, _+_, _*_, _-_, _/_}
-use mathlib.Core.Bool.{Bool, true, _&&_, _||_}
+use mathlib.Core.Bool.{true, _||_}
 use mathlib.Core.List.{List, [], _∷_}
-use lib.Dec.{leb}
-use Rattle.laws.specs.Arms.{Arm, _▸_, lookup}
+use Rattle.laws.specs.Arms.{Arm, _▸_, lookup, between}
 use Rattle.pieces.specs.declared.GeneralizedData.{GeneralizedData}
 use Rattle.pieces.specs.declared.Piece.the-variants.{Standard, Turbo, Tone, Pulses, Pure, Generalized, Pause, GroupStart, GroupEnd, LoopStart, LoopEnd, Stop48, Text, Message, Archive, Hardware, Custom, Glue}
 use Rattle.pieces.specs.Grammar.{Layout, number, counted, here, pass, within, fitting, whole, unknown, bytes, fields, groups, texts, bitsOf, orFull, heldIf}
@@ -110,9 +109,6 @@ kind5A = pass (bytes 9) (whole Glue)
 -- a kind that the format describes and document 01 does not name
 abbrev pub unread : Layout
 unread = unknown true
-
-abbrev pub between : ℕ → ℕ → ℕ → Bool
-between a b k = leb a k && leb k b
 
 -- the rows that document 01 names, and those of the other kinds that TZX 1.20 or an edition before it describes
 unfoldable pub kinds : ℕ → List (Arm Layout)

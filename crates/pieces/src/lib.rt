@@ -48,23 +48,66 @@ pub struct GeneralizedData {
 
 // One piece: its numbers as they are, and the places of what it holds.
 pub enum Piece {
-    Standard { pause: u32, from: u64, size: u32 },
+    Standard {
+        pause: u32,
+        from: u64,
+        size: u32,
+    },
     Turbo(TurboData),
-    Tone { half: u32, count: u32 },
-    Pulses { count: u32, from: u64 },
-    Pure { zero: u32, one: u32, last: u32, pause: u32, from: u64, size: u32 },
+    Tone {
+        half: u32,
+        count: u32,
+    },
+    Pulses {
+        count: u32,
+        from: u64,
+    },
+    Pure {
+        zero: u32,
+        one: u32,
+        last: u32,
+        pause: u32,
+        from: u64,
+        size: u32,
+    },
     Generalized(GeneralizedData),
-    Pause { ms: u32 },
-    GroupStart { from: u64, size: u32 },
+    Pause {
+        ms: u32,
+    },
+    GroupStart {
+        from: u64,
+        size: u32,
+    },
     GroupEnd,
-    LoopStart { times: u32 },
+    LoopStart {
+        times: u32,
+    },
     LoopEnd,
-    Stop48 { length: u32 },
-    Text { from: u64, size: u32 },
-    Message { seconds: u32, from: u64, size: u32 },
-    Archive { count: u32, from: u64 },
-    Hardware { count: u32, from: u64 },
-    Custom { id: u64, from: u64, size: u32 },
+    Stop48 {
+        length: u32,
+    },
+    Text {
+        from: u64,
+        size: u32,
+    },
+    Message {
+        seconds: u32,
+        from: u64,
+        size: u32,
+    },
+    Archive {
+        count: u32,
+        from: u64,
+    },
+    Hardware {
+        count: u32,
+        from: u64,
+    },
+    Custom {
+        id: u64,
+        from: u64,
+        size: u32,
+    },
     Glue,
 }
 
@@ -80,10 +123,25 @@ pub enum Body {
 // What stands at a place of a TZX.
 pub enum Taken {
     End,
-    Whole { kind: u8, at: u64, next: u64, piece: Piece },
-    Unknown { kind: u8, described: bool },
-    Short { kind: u8, place: u64, width: u64 },
-    Overflow { kind: u8, place: u64 },
+    Whole {
+        kind: u8,
+        at: u64,
+        next: u64,
+        piece: Piece,
+    },
+    Unknown {
+        kind: u8,
+        described: bool,
+    },
+    Short {
+        kind: u8,
+        place: u64,
+        width: u64,
+    },
+    Overflow {
+        kind: u8,
+        place: u64,
+    },
 }
 
 // What stands at a place of a TAP.
@@ -316,10 +374,7 @@ fn stream(tape: &[u8], c: Cursor, bits: u64, general: GeneralizedData) -> Body
     match c {
         Cursor::At(from) => {
             if bits <= 4294967295 {
-                whole(
-                    Piece::Generalized(general),
-                    each(tape, c, general.size, 1),
-                )
+                whole(Piece::Generalized(general), each(tape, c, general.size, 1))
             } else {
                 Body::Overflow(from)
             }
@@ -638,7 +693,10 @@ pub fn head(tape: &[u8]) -> Heading
     ensures { λ r. ⌜ r ≡ headAt (now (tape .entry)) ⌝ }
 {
     if tape.len() < 10 {
-        return Heading::Short { place: 0, width: 10 };
+        return Heading::Short {
+            place: 0,
+            width: 10,
+        };
     }
     if signed(tape) {
         Heading::Version {

@@ -1,36 +1,27 @@
+-- `cut` meets its contract. Assumes nothing.
 use Rattle.pieces.specs.Cut.{cutAt}
 use borrow.Author.Tests.{le-leb, lt-leb}
 use borrow.Author.Needs.{needs}
 use Rattle.pieces.proofs.cut.Statement.{statement}
 use Rattle.pieces.proofs.cut.Tie as tie
-use Rattle.pieces.proofs.cut.Reads as reads
-use Rattle.pieces.proofs.cut.Lts as lts
-use Rattle.pieces.proofs.body_of.Reads as body-of-reads
-use Rattle.pieces.proofs.named.Reads as named-reads
 
--- src/lib.rt:586:9
 returns : tie.Need-returns
 unfolding cutAt
 returns c =
     rw (le-leb _ _ (c .if1 .taken))
 
--- src/lib.rt:588:16
 shared-slice-read-kind : tie.Need-shared-slice-read-kind
 shared-slice-read-kind c = search needs
 
--- src/lib.rt:589:52
 add-t6 : tie.Need-add-t6
 add-t6 c = search needs
 
--- src/lib.rt:589:21
 body-of-requires : tie.Need-body-of-requires
 body-of-requires c κs = search needs
 
--- src/lib.rt:589:5
 named-requires : tie.Need-named-requires
 named-requires c κs = search needs
 
--- src/lib.rt:582:1
 returns-2 : tie.Need-returns-2
 unfolding cutAt
 returns-2 c =

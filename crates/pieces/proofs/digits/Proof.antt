@@ -1,13 +1,12 @@
+-- `digits` meets its contract. Assumes nothing.
 use Rattle.pieces.proofs.Turns.{digits-zero, digits-more}
 use Rattle.pieces.specs.Grammar.{digits}
 use borrow.Author.Needs.{needs}
 use native.Mathlib.Omega.{arith}
-use mathlib.Core.Path.{_≡_, refl, sym, _∙_}
+use mathlib.Core.Path.{_≡_, sym, _∙_}
 use Prim.Native.Nat.{_≤_, _+_, _-_}
 use Rattle.pieces.proofs.digits.Statement.{statement}
 use Rattle.pieces.proofs.digits.Tie as tie
-use Rattle.pieces.proofs.digits.Reads as reads
-use Rattle.pieces.proofs.digits.Lts as lts
 
 abbrev Inv-loop : tie.InvT-loop
 Inv-loop n left₀ k₀ left k = (k ≤ 32) × (k + digits (32 - k) left ≡ digits 32 n)
@@ -15,30 +14,24 @@ Inv-loop n left₀ k₀ left k = (k ≤ 32) × (k + digits (32 - k) left ≡ dig
 abbrev μ-loop : tie.MeasureT-loop
 μ-loop n left₀ k₀ left k = 32 - k
 
--- src/lib.rt:295:5
 loop-holds : tie.Need-loop-holds Inv-loop μ-loop
 loop-holds c =
     (omega arith, omega arith)
 
--- src/lib.rt:297:13
 returns : tie.Need-returns Inv-loop μ-loop
 returns c =
     let e = rw (c .if1 .taken, digits-zero) at (c .before .before .loop .inv .1) in omega (arith, e)
 
--- src/lib.rt:300:9
 add-k : tie.Need-add-k Inv-loop μ-loop
 add-k c = search needs
 
--- src/lib.rt:295:5
 loop-less : tie.Need-loop-less Inv-loop μ-loop
 loop-less c = search needs
 
--- src/lib.rt:295:5
 loop-again : tie.Need-loop-again Inv-loop μ-loop
 loop-again c =
     (omega arith, sym (digits-more (c .before .before .loop .k) (c .before .before .loop .left) (c .before .loop-test .taken) (c .if1 .left)) ∙ c .before .before .loop .inv .1)
 
--- src/lib.rt:290:1
 returns-2 : tie.Need-returns-2 Inv-loop μ-loop
 unfolding digits
 returns-2 c =

@@ -1,38 +1,30 @@
+-- `head` meets its contract. Assumes nothing.
 use Rattle.pieces.specs.Cut.{headAt}
 use borrow.Author.Tests.{le-leb, lt-leb}
 use mathlib.Core.Path.{sym, _∙_}
 use borrow.Author.Needs.{needs}
 use Rattle.pieces.proofs.head.Statement.{statement}
 use Rattle.pieces.proofs.head.Tie as tie
-use Rattle.pieces.proofs.head.Reads as reads
-use Rattle.pieces.proofs.head.Lts as lts
-use Rattle.pieces.proofs.signed.Reads as signed-reads
 
--- src/lib.rt:637:9
 returns : tie.Need-returns
 unfolding headAt
 returns c =
     rw (lt-leb _ _ (c .if1 .taken))
 
--- src/lib.rt:639:8
 signed-requires : tie.Need-signed-requires
 signed-requires c κs = search needs
 
--- src/lib.rt:641:20
 shared-slice-read-t7 : tie.Need-shared-slice-read-t7
 shared-slice-read-t7 c = search needs
 
--- src/lib.rt:642:20
 shared-slice-read-t9 : tie.Need-shared-slice-read-t9
 shared-slice-read-t9 c = search needs
 
--- src/lib.rt:633:1
 returns-2 : tie.Need-returns-2
 unfolding headAt
 returns-2 c =
     rw (le-leb _ _ (c .before .before .before .before .if1 .left), sym (c .before .before .before .signed .ensures) ∙ c .before .before .if2 .taken)
 
--- src/lib.rt:633:1
 returns-3 : tie.Need-returns-3
 unfolding headAt
 returns-3 c =

@@ -1,17 +1,14 @@
+-- `held_if` meets its contract. Assumes nothing.
 use borrow.Author.Tests.{eq-eqb, ne-eqb}
 use Rattle.pieces.specs.Grammar.{heldIf}
 use Rattle.pieces.proofs.held_if.Statement.{statement}
 use Rattle.pieces.proofs.held_if.Tie as tie
-use Rattle.pieces.proofs.held_if.Reads as reads
-use Rattle.pieces.proofs.held_if.Lts as lts
 
--- src/lib.rt:283:1
 returns : tie.Need-returns
 unfolding heldIf
 returns c =
     rw (eq-eqb _ _ (c .if1 .taken))
 
--- src/lib.rt:283:1
 returns-2 : tie.Need-returns-2
 unfolding heldIf
 returns-2 c =

@@ -1,40 +1,40 @@
+-- `named` meets its contract. Assumes nothing.
+use Rattle.pieces.specs.Cut.{named}
 use borrow.Author.Needs.{needs}
 use Rattle.pieces.proofs.named.Statement.{statement}
 use Rattle.pieces.proofs.named.Tie as tie
-use Rattle.pieces.proofs.named.Reads as reads
-use Rattle.pieces.proofs.named.Lts as lts
 
--- src/lib.rt:573:21
 enum-known-body : tie.Need-enum-known-body
 enum-known-body c = search needs
 
--- src/lib.rt:579:23
 enum-known-body-2 : tie.Need-enum-known-body-2
 enum-known-body-2 c = search needs
 
--- src/lib.rt:580:21
 enum-known-body-3 : tie.Need-enum-known-body-3
 enum-known-body-3 c = search needs
 
--- src/lib.rt:581:24
 enum-known-body-4 : tie.Need-enum-known-body-4
 enum-known-body-4 c = search needs
 
--- src/lib.rt:569:1
 returns : tie.Need-returns
-returns c = ?
+unfolding named
+returns c =
+    rw (c .before .body .given .1)
 
--- src/lib.rt:569:1
 returns-2 : tie.Need-returns-2
-returns-2 c = ?
+unfolding named
+returns-2 c =
+    rw (c .before .body2 .given .1)
 
--- src/lib.rt:569:1
 returns-3 : tie.Need-returns-3
-returns-3 c = ?
+unfolding named
+returns-3 c =
+    rw (c .before .body3 .given .1)
 
--- src/lib.rt:569:1
 returns-4 : tie.Need-returns-4
-returns-4 c = ?
+unfolding named
+returns-4 c =
+    rw (c .before .body4 .given .1)
 
 pub named-spec : {M : Type 1} → statement M
 named-spec =

@@ -1,17 +1,14 @@
+-- `or_full` meets its contract. Assumes nothing.
 use borrow.Author.Tests.{eq-eqb, ne-eqb}
 use Rattle.pieces.specs.Grammar.{orFull}
 use Rattle.pieces.proofs.or_full.Statement.{statement}
 use Rattle.pieces.proofs.or_full.Tie as tie
-use Rattle.pieces.proofs.or_full.Reads as reads
-use Rattle.pieces.proofs.or_full.Lts as lts
 
--- src/lib.rt:276:1
 returns : tie.Need-returns
 unfolding orFull
 returns c =
     rw (eq-eqb _ _ (c .if1 .taken))
 
--- src/lib.rt:276:1
 returns-2 : tie.Need-returns-2
 unfolding orFull
 returns-2 c =

@@ -1,22 +1,16 @@
+-- `pause` meets its contract. Assumes nothing.
 use Rattle.pieces.specs.Grammar.{readAt, passAt}
 use Rattle.pieces.specs.Kinds.{kind20}
 use borrow.Author.Needs.{needs}
 use Rattle.pieces.proofs.pause.Statement.{statement}
 use Rattle.pieces.proofs.pause.Tie as tie
-use Rattle.pieces.proofs.pause.Reads as reads
-use Rattle.pieces.proofs.pause.Lts as lts
-use Rattle.fields.proofs.field.Reads as field-reads
-use Rattle.pieces.proofs.whole.Reads as whole-reads
 
--- src/lib.rt:363:9
 field-requires : tie.Need-field-requires
 field-requires c κs = search needs
 
--- src/lib.rt:365:5
 whole-requires : tie.Need-whole-requires
 whole-requires c κs = search needs
 
--- src/lib.rt:360:1
 returns : tie.Need-returns
 unfolding kind20 readAt passAt
 returns c =

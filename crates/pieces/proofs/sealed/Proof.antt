@@ -1,40 +1,40 @@
+-- `sealed` meets its contract. Assumes nothing.
+use Rattle.pieces.specs.Grammar.{sealed}
 use borrow.Author.Needs.{needs}
 use Rattle.pieces.proofs.sealed.Statement.{statement}
 use Rattle.pieces.proofs.sealed.Tie as tie
-use Rattle.pieces.proofs.sealed.Reads as reads
-use Rattle.pieces.proofs.sealed.Lts as lts
 
--- src/lib.rt:482:21
 enum-known-inner : tie.Need-enum-known-inner
 enum-known-inner c = search needs
 
--- src/lib.rt:483:23
 enum-known-inner-2 : tie.Need-enum-known-inner-2
 enum-known-inner-2 c = search needs
 
--- src/lib.rt:484:21
 enum-known-inner-3 : tie.Need-enum-known-inner-3
 enum-known-inner-3 c = search needs
 
--- src/lib.rt:485:24
 enum-known-inner-4 : tie.Need-enum-known-inner-4
 enum-known-inner-4 c = search needs
 
--- src/lib.rt:478:1
 returns : tie.Need-returns
-returns c = ?
+unfolding sealed
+returns c =
+    rw (c .before .inner .given .1)
 
--- src/lib.rt:478:1
 returns-2 : tie.Need-returns-2
-returns-2 c = ?
+unfolding sealed
+returns-2 c =
+    rw (c .before .inner2 .given .1)
 
--- src/lib.rt:478:1
 returns-3 : tie.Need-returns-3
-returns-3 c = ?
+unfolding sealed
+returns-3 c =
+    rw (c .before .inner3 .given .1)
 
--- src/lib.rt:478:1
 returns-4 : tie.Need-returns-4
-returns-4 c = ?
+unfolding sealed
+returns-4 c =
+    rw (c .before .inner4 .given .1)
 
 pub sealed-spec : {M : Type 1} → statement M
 sealed-spec =

@@ -1,3 +1,4 @@
+-- `signed` meets its contract. Assumes nothing.
 use borrow.Author.Tests.{eq-eqb, ne-eqb}
 use Rattle.pieces.proofs.Turns.{starts-more}
 use Rattle.pieces.specs.Cut.{startsAt, signature}
@@ -5,11 +6,9 @@ use lib.ListN.{drop}
 use borrow.Author.Needs.{needs}
 use native.Mathlib.Omega.{arith}
 use mathlib.Core.Path.{_≡_, refl, sym, _∙_}
-use Prim.Native.Nat.{_≤_, _+_, _-_}
+use Prim.Native.Nat.{_≤_, _-_}
 use Rattle.pieces.proofs.signed.Statement.{statement}
 use Rattle.pieces.proofs.signed.Tie as tie
-use Rattle.pieces.proofs.signed.Reads as reads
-use Rattle.pieces.proofs.signed.Lts as lts
 
 abbrev Inv-loop : tie.InvT-loop
 Inv-loop tape i₀ i = (i ≤ 8) × (startsAt tape i (drop i signature) ≡ startsAt tape 0 signature)
@@ -17,38 +16,30 @@ Inv-loop tape i₀ i = (i ≤ 8) × (startsAt tape i (drop i signature) ≡ star
 abbrev μ-loop : tie.MeasureT-loop
 μ-loop tape i₀ i = 8 - i
 
--- src/lib.rt:616:5
 loop-holds : tie.Need-loop-holds Inv-loop μ-loop
 loop-holds c =
     (omega arith, refl)
 
--- src/lib.rt:617:12
 shared-slice-read-if1 : tie.Need-shared-slice-read-if1 Inv-loop μ-loop
 shared-slice-read-if1 c = search needs
 
--- src/lib.rt:617:23
 array-read-if1 : tie.Need-array-read-if1 Inv-loop μ-loop
 array-read-if1 c = search needs
 
--- src/lib.rt:618:13
 returns : tie.Need-returns Inv-loop μ-loop
 returns c =
     sym (sym (c .before .before .before .loop .inv .1) ∙ starts-more (c .before .before .before .before .args .tape .now) signature (c .before .before .before .loop .i) (c .before .before .loop-test .taken) ∙ rw (ne-eqb _ _ (c .if1 .taken)))
 
--- src/lib.rt:620:9
 add-i : tie.Need-add-i Inv-loop μ-loop
 add-i c = search needs
 
--- src/lib.rt:616:5
 loop-less : tie.Need-loop-less Inv-loop μ-loop
 loop-less c = search needs
 
--- src/lib.rt:616:5
 loop-again : tie.Need-loop-again Inv-loop μ-loop
 loop-again c =
     (omega arith, sym (starts-more (c .before .before .before .before .args .tape .now) signature (c .before .before .before .loop .i) (c .before .before .loop-test .taken) ∙ rw (eq-eqb _ _ (c .if1 .left))) ∙ c .before .before .before .loop .inv .1)
 
--- src/lib.rt:611:1
 returns-2 : tie.Need-returns-2 Inv-loop μ-loop
 unfolding startsAt
 returns-2 c =

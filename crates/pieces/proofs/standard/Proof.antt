@@ -1,27 +1,19 @@
+-- `standard` meets its contract. Assumes nothing.
 use Rattle.pieces.specs.Grammar.{readAt, passAt}
 use Rattle.pieces.specs.Kinds.{kind10}
 use borrow.Author.Needs.{needs}
 use Rattle.pieces.proofs.standard.Statement.{statement}
 use Rattle.pieces.proofs.standard.Tie as tie
-use Rattle.pieces.proofs.standard.Reads as reads
-use Rattle.pieces.proofs.standard.Lts as lts
-use Rattle.fields.proofs.field.Reads as field-reads
-use Rattle.pieces.proofs.counted.Reads as counted-reads
-use Rattle.pieces.proofs.whole.Reads as whole-reads
 
--- src/lib.rt:138:9
 field-requires : tie.Need-field-requires
 field-requires c κs = search needs
 
--- src/lib.rt:140:9
 counted-requires : tie.Need-counted-requires
 counted-requires c κs = search needs
 
--- src/lib.rt:142:5
 whole-requires : tie.Need-whole-requires
 whole-requires c κs = search needs
 
--- src/lib.rt:135:1
 returns : tie.Need-returns
 unfolding kind10 readAt passAt
 returns c =

@@ -1,45 +1,34 @@
+-- `stream` meets its contract. Assumes nothing.
 use Rattle.fields.proofs.Runs.{each-stopped, stopped}
 use Rattle.pieces.specs.Kinds.{stream19}
 use Rattle.pieces.specs.Grammar.{readAt, passAt, wholeAt, fittingAt}
 use borrow.Author.Tests.{le-leb, lt-leb}
-use mathlib.Core.Path.{sym}
 use borrow.Author.Needs.{needs}
 use Rattle.pieces.proofs.stream.Statement.{statement}
 use Rattle.pieces.proofs.stream.Tie as tie
-use Rattle.pieces.proofs.stream.Reads as reads
-use Rattle.pieces.proofs.stream.Lts as lts
-use Rattle.fields.proofs.each.Reads as each-reads
-use Rattle.pieces.proofs.whole.Reads as whole-reads
 
--- src/lib.rt:310:20
 enum-known-c : tie.Need-enum-known-c
 enum-known-c c = search needs
 
--- src/lib.rt:314:21
 each-requires : tie.Need-each-requires
 each-requires c κs = search needs
 
--- src/lib.rt:312:17
 whole-requires : tie.Need-whole-requires
 whole-requires c κs = search needs
 
--- src/lib.rt:320:23
 enum-known-c-2 : tie.Need-enum-known-c-2
 enum-known-c-2 c = search needs
 
--- src/lib.rt:306:1
 returns : tie.Need-returns
 unfolding stream19 readAt passAt fittingAt
 returns c =
     rw (c .whole .ensures, c .before .each .ensures, c .before .before .before .before .c .given .1, le-leb _ _ (c .before .before .if1 .taken))
 
--- src/lib.rt:306:1
 returns-2 : tie.Need-returns-2
 unfolding stream19 readAt passAt fittingAt
 returns-2 c =
     rw (c .before .before .c .given .1, lt-leb _ _ (c .if1 .left))
 
--- src/lib.rt:306:1
 returns-3 : tie.Need-returns-3
 unfolding stream19 readAt passAt fittingAt wholeAt
 returns-3 c =

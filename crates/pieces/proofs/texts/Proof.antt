@@ -1,3 +1,4 @@
+-- `texts` meets its contract. Assumes nothing.
 use Rattle.fields.specs.Run.{times}
 use Rattle.pieces.proofs.Turns.{texts-more}
 use Rattle.pieces.specs.Grammar.{textsAt}
@@ -6,10 +7,6 @@ use native.Mathlib.Omega.{arith}
 use mathlib.Core.Path.{_≡_, refl, sym, _∙_}
 use Rattle.pieces.proofs.texts.Statement.{statement}
 use Rattle.pieces.proofs.texts.Tie as tie
-use Rattle.pieces.proofs.texts.Reads as reads
-use Rattle.pieces.proofs.texts.Lts as lts
-use Rattle.fields.proofs.field.Reads as field-reads
-use Rattle.pieces.proofs.counted.Reads as counted-reads
 
 abbrev Inv-loop : tie.InvT-loop
 Inv-loop tape n at₀ left₀ at left = textsAt tape at left ≡ textsAt tape at₀ left₀
@@ -17,33 +14,26 @@ Inv-loop tape n at₀ left₀ at left = textsAt tape at left ≡ textsAt tape at
 abbrev μ-loop : tie.MeasureT-loop
 μ-loop tape n at₀ left₀ at left = left
 
--- src/lib.rt:445:5
 loop-holds : tie.Need-loop-holds Inv-loop μ-loop
 loop-holds c =
     refl
 
--- src/lib.rt:446:13
 field-requires : tie.Need-field-requires Inv-loop μ-loop
 field-requires c κs = search needs
 
--- src/lib.rt:448:13
 counted-requires : tie.Need-counted-requires Inv-loop μ-loop
 counted-requires c κs = search needs
 
--- src/lib.rt:450:9
 sub-left : tie.Need-sub-left Inv-loop μ-loop
 sub-left c = search needs
 
--- src/lib.rt:445:5
 loop-less : tie.Need-loop-less Inv-loop μ-loop
 loop-less c = search needs
 
--- src/lib.rt:445:5
 loop-again : tie.Need-loop-again Inv-loop μ-loop
 loop-again c =
     rw (c .counted .ensures, c .before .field .ensures) (sym (texts-more (c .before .before .before .before .before .args .tape .now) (c .before .before .before .loop .at) (c .before .before .before .loop .left) (c .before .before .loop-test .taken))) ∙ c .before .before .before .loop .inv
 
--- src/lib.rt:440:1
 returns : tie.Need-returns Inv-loop μ-loop
 unfolding textsAt times
 returns c =

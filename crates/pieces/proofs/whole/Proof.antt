@@ -1,25 +1,20 @@
+-- `whole` meets its contract. Assumes nothing.
 use Rattle.pieces.specs.Grammar.{wholeAt}
 use borrow.Author.Needs.{needs}
 use Rattle.pieces.proofs.whole.Statement.{statement}
 use Rattle.pieces.proofs.whole.Tie as tie
-use Rattle.pieces.proofs.whole.Reads as reads
-use Rattle.pieces.proofs.whole.Lts as lts
 
--- src/lib.rt:129:20
 enum-known-c : tie.Need-enum-known-c
 enum-known-c c = search needs
 
--- src/lib.rt:130:23
 enum-known-c-2 : tie.Need-enum-known-c-2
 enum-known-c-2 c = search needs
 
--- src/lib.rt:125:1
 returns : tie.Need-returns
 unfolding wholeAt
 returns c =
     rw (c .before .c .given .1)
 
--- src/lib.rt:125:1
 returns-2 : tie.Need-returns-2
 unfolding wholeAt
 returns-2 c =

@@ -41,11 +41,11 @@ pub data Own (l k : ℕ) : Body → Body → Type 0 where
   beyond : {x y : Body} → Ends (k + 1) l x → Own l k x y
 
 -- two reads of which the first, where it ends at or before k, is the second
-data OwnRead (l k : ℕ) : Read → Read → Type 0 where
+pub data OwnRead (l k : ℕ) : Read → Read → Type 0 where
   same : {v p : ℕ} → p ≤ k → OwnRead l k (record { value = v; cursor = At p }) (record { value = v; cursor = At p })
   beyond : {x y : Read} → In (k + 1) l (x .cursor) → OwnRead l k x y
 
-data OwnPlace (l k : ℕ) : Cursor → Cursor → Type 0 where
+pub data OwnPlace (l k : ℕ) : Cursor → Cursor → Type 0 where
   same : {p : ℕ} → p ≤ k → OwnPlace l k (At p) (At p)
   beyond : {x y : Cursor} → In (k + 1) l x → OwnPlace l k x y
 
@@ -65,18 +65,18 @@ unfolding numberAt
 number-own s k p w h = rw (le-own s k p w h)
 
 -- a field from p on stands from any place up to its end on
-field-past : (s : List ℕ) (a p w : ℕ) → a ≤ p + w → In a (length s) (fieldAt s (At p) w .cursor)
+pub field-past : (s : List ℕ) (a p w : ℕ) → a ≤ p + w → In a (length s) (fieldAt s (At p) w .cursor)
 field-past s a p w h =
     ⊎-elim
     (λ (t : length s < p + w). rw (field-short s w p t) stuck)
     (λ (t : p + w ≤ length s). rw (field-there s w p t) (stands h t))
     (lt-or-ge (length s) (p + w))
 
-field-forward : (w : ℕ) (s : List ℕ) (a : ℕ) (c : Cursor) → In a (length s) c → In a (length s) (fieldAt s c w .cursor)
+pub field-forward : (w : ℕ) (s : List ℕ) (a : ℕ) (c : Cursor) → In a (length s) c → In a (length s) (fieldAt s c w .cursor)
 field-forward w s a (At p) (stands h t) = field-past s a p w (omega arith)
 field-forward w s a (cursor.Short p v) stuck = unfold fieldAt in stuck
 
-field-own : (w : ℕ) (s : List ℕ) (k p : ℕ) → p ≤ k → OwnRead (length s) k (fieldAt s (At p) w) (fieldAt (take k s) (At p) w)
+pub field-own : (w : ℕ) (s : List ℕ) (k p : ℕ) → p ≤ k → OwnRead (length s) k (fieldAt s (At p) w) (fieldAt (take k s) (At p) w)
 field-own w s k p h =
     ⊎-elim
     (λ (t : k < p + w). beyond (field-past s (k + 1) p w (omega arith)))
@@ -90,7 +90,7 @@ field-own w s k p h =
     (lt-or-ge k (p + w))
 
 -- a field as a move, a move after another, and a move n times
-place-own : {l k : ℕ} {x y : Read} → OwnRead l k x y → OwnPlace l k (x .cursor) (y .cursor)
+pub place-own : {l k : ℕ} {x y : Read} → OwnRead l k x y → OwnPlace l k (x .cursor) (y .cursor)
 place-own (same h) = same h
 place-own (beyond h) = beyond h
 

@@ -1,2 +1,4 @@
 pub mod Layouts
+pub mod Cutting
+pub mod CuttingTap
 mod Turns

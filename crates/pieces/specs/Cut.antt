@@ -36,7 +36,7 @@ headAt s =
     ∣ head.Short 0 10
 
 -- a body under the kind and the place of its piece
-abbrev pub named : ℕ → ℕ → Body → Taken
+unfoldable pub named : ℕ → ℕ → Body → Taken
 named kind at (body.Whole piece next) = taken.Whole kind at next piece
 named kind at (body.Unknown described) = taken.Unknown kind described
 named kind at (body.Short p w) = taken.Short kind p w
@@ -49,7 +49,7 @@ cutAt s at full =
     ∣ named (getD s at 0) at (readAt (kindOf full (getD s at 0)) s (At (at + 1)))
 
 -- the block at a place of a TAP: length 2, data; zero or one byte left ends the list
-abbrev pub blockOf : Span → Cursor → TakenTap
+unfoldable pub blockOf : Span → Cursor → TakenTap
 blockOf data′ (At next) = tap.Block (data′ .from) (data′ .size) next
 blockOf data′ (cursor.Short p w) = tap.Short p w
 

@@ -2,3 +2,4 @@ pub mod Layouts
 pub mod Cutting
 pub mod CuttingTap
 mod Turns
+pub mod Examples

@@ -1,2 +1,4 @@
 pub mod Examples
 pub mod Readings
+pub mod Runs
+pub mod Bounds

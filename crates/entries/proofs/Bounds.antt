@@ -1,5 +1,5 @@
 -- A WELL-FORMED BLOCK LASTS LESS THAN 2 ^ 50 T-STATES, and so do its parts. Assumes nothing.
-use Prim.Native.Nat.{ℕ, _+_, _*_, _^_, _≤_, _<_, max}
+use Prim.Native.Nat.{ℕ, _+_, _-_, _*_, _^_, _≤_, _<_, max}
 use native.Mathlib.Nat.{mul-le-mul, le-trans}
 use native.Mathlib.Omega.{arith}
 use native.Mathlib.Decide.{ℕ-discrete}
@@ -54,7 +54,25 @@ bits-most r pos e l =
       | no z ↦ rw (ne-eqb (pos + 1) (r .size) z) (omega arith)
     ]
 
-byte-most-time : (b : ℕ) (r : Block) (pos v : ℕ) → wellNumbers r ≡ true → pos < r .size → time (byteOf b r pos v) ≤ 1048560
+pub bits-some : (r : Block) (pos : ℕ) → 0 < bitsAt r pos
+unfolding bitsAt
+bits-some r pos =
+    elim (ℕ-discrete (pos + 1) (r .size)) [
+      | yes z ↦ rw (eq-eqb (pos + 1) (r .size) z) (omega arith)
+      | no z ↦ rw (ne-eqb (pos + 1) (r .size) z) (omega arith)
+    ]
+
+-- k ones among n bits
+pub ones-most : (r : Block) (k n : ℕ) → wellNumbers r ≡ true → k ≤ n → n ≤ 8 → (k * r .one ≤ 524280) × ((n - k) * r .zero ≤ 524280)
+ones-most r k n e h l =
+    let w = numbers-most r e in
+    let i : k ≤ 8 = omega arith in
+    let o : n - k ≤ 8 = omega arith in
+    let a : k * r .one ≤ 8 * 65535 = mul-le-mul i (w .one) in
+    let b : (n - k) * r .zero ≤ 8 * 65535 = mul-le-mul o (w .zero) in
+    (omega arith, omega arith)
+
+pub byte-most-time : (b : ℕ) (r : Block) (pos v : ℕ) → wellNumbers r ≡ true → pos < r .size → time (byteOf b r pos v) ≤ 1048560
 unfolding byteOf
 byte-most-time b r pos v e l =
     let m : time (run (bitEntries b r pos v) 0 (bitsAt r pos)) ≤ bitsAt r pos * 131070 =

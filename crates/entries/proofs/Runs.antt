@@ -10,13 +10,14 @@ use mathlib.Core.List.{List, [], _∷_, _++_}
 use lib.Count.{ones, ones-step, ones-le}
 use lib.Pow.{shr-shr, shr-lt}
 use lib.ListN.{length}
-use Rattle.pulses.specs.Play.{Entry, time, Finite}
+use Rattle.pulses.specs.Play.{time, comesTo, Finite}
 use Rattle.pulses.specs.Steps.{time-pulse}
-use Rattle.pulses.specs.Joined.{time-append, finite-append}
-use Rattle.pulses.specs.Runs.{run, run-length, run-finite, run-time, run-time-last, run-time-most}
+use Rattle.pulses.specs.Joined.{time-append, finite-append, comes-append}
+use Rattle.pulses.specs.Runs.{run, run-length, run-finite, run-time, run-time-next, run-time-most}
 use Rattle.rows.specs.declared.Tone.{Tone}
 use Rattle.rows.specs.declared.Block.{Block}
-use Rattle.entries.specs.Entries.{Spot, startOf, cyclesOf, cycleOf, toneOf, rowOf, tonesOf, bitsAt, bitOf, halfOf, bitEntries, byteOf, byteEntries, dataOf, soundOf}
+use Rattle.entries.specs.declared.Duration.the-variants.{T, Endless}
+use Rattle.entries.specs.Entries.{entryOf, cyclesOf, cycleOf, toneOf, rowOf, tonesOf, bitsAt, bitOf, halfOf, bitEntries, byteOf, byteEntries, dataOf, pauseOf, soundOf, entriesOf, lastsOf}
 
 module _ (b i : ℕ) (t : Tone) where
   pub cycle-finite : (p : ℕ) → Finite (cycleOf b i t p)
@@ -71,7 +72,7 @@ module _ (b : ℕ) (r : Block) (pos v : ℕ) where
   bit-time k = omega arith
 
   -- the first n bits of a byte are those left when the others are shifted out
-  few-ones : v < 256 → (n : ℕ) → n ≤ 8 → ones (v / 2 ^ (8 - n)) ≤ n
+  pub few-ones : v < 256 → (n : ℕ) → n ≤ 8 → ones (v / 2 ^ (8 - n)) ≤ n
   few-ones small n h =
       let e : n + (8 - n) ≡ 8 = omega arith in
       ones-le n (v / 2 ^ (8 - n)) (shr-lt n (8 - n) (rw e small))
@@ -89,14 +90,13 @@ module _ (b : ℕ) (r : Block) (pos v : ℕ) where
   pub bits-time : v < 256 → (n : ℕ) → n ≤ 8 → time (run (bitEntries b r pos v) 0 n) ≡ bitsTime r (ones (v / 2 ^ (8 - n))) n
   bits-time small zero h =
       let k : ones (v / 2 ^ (8 - 0)) ≡ 0 = omega (arith, few-ones small 0 h) in
-      no-bits ∙ rw (k, zero-mul, zero-mul)
+      no-bits ∙ rw k (omega (arith, zero-mul (r .one), zero-mul (r .zero)))
   bits-time small (suc n) h =
       let item = bitEntries b r pos v in
       let k = ones (v / 2 ^ (8 - n)) in
-      let z : 0 + n ≡ n = omega arith in
       rw (← add-one n)
-      (run-time-last item bit-finite 0 n
-      ∙ ap₂ (λ (x y : ℕ). x + time (item y)) (bits-time small n (omega arith)) z
+      (run-time-next item bit-finite n
+      ∙ ap (λ (x : ℕ). x + time (item n)) (bits-time small n (omega arith))
       ∙ ap (λ (x : ℕ). bitsTime r k n + x) (bit-time n)
       ∙ more-bits r k n (bitOf v n) (few-ones small n (omega arith)) (mod-lt (v / 2 ^ (7 - n)) (omega arith))
       ∙ ap (λ (x : ℕ). bitsTime r x (n + 1)) (sym (next-ones n (omega arith))))
@@ -128,3 +128,14 @@ module _ (tape tones : List ℕ) (b : ℕ) (r : Block) where
       time-pulse _ _ 0 (tonesOf tones b r ++ dataOf tape b r)
       ∙ zero-add _
       ∙ time-append (tonesOf tones b r) (dataOf tape b r) (tones-finite tones b r)
+
+  -- with the pause: the sum, or endless
+  pub lasts-stop : r .endless ≡ 1 → lastsOf (entriesOf tape tones b r) ≡ Endless
+  unfolding lastsOf entriesOf pauseOf entryOf comesTo
+  lasts-stop e = rw (eq-eqb (r .endless) 1 e, comes-append (soundOf tape tones b r) _ sound-finite)
+
+  pub lasts-pause : (r .endless ≡ 1 → ⊥) → lastsOf (entriesOf tape tones b r) ≡ T (time (soundOf tape tones b r) + r .pause)
+  unfolding lastsOf entriesOf pauseOf entryOf comesTo time
+  lasts-pause e =
+      let s = soundOf tape tones b r in
+      rw (ne-eqb (r .endless) 1 e, comes-append s _ sound-finite, time-append s _ sound-finite, add-zero)

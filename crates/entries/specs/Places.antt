@@ -16,11 +16,11 @@ use Rattle.entries.specs.declared.Duration.the-variants.{T, Endless}
 use Rattle.entries.specs.Entries.{Spot, spot, entryOf, cyclesOf, cycleOf, toneAt, rowOf, bitsAt, bitOf, halfOf, bitEntries, byteAt, byteEntries, pauseOf, pauseEntry, entriesOf}
 
 -- the level of a source row's entry: the last half of a cycle or of a bit is high, everything else low
-unfoldable pub mic : Phase → Level
-mic Start = low
-mic (Tones i p last-half) = last-half
-mic (Data pos k last-half) = last-half
-mic Pause = low
+unfoldable pub levelOf : Phase → Level
+levelOf Start = low
+levelOf (Tones i p last-half) = last-half
+levelOf (Data pos k last-half) = last-half
+levelOf Pause = low
 
 -- the length of either half of a cycle
 abbrev pub cycleHalf : Tone → Bool → ℕ

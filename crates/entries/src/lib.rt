@@ -1,4 +1,18 @@
 // What a block's entries are, and their times, each a step a tone row and a data byte.
+use rows::Block;
+use rows::Tone;
+use rows::tone_at;
+ghost use mathlib.Core.Path.{_≡_};
+ghost use mathlib.Core.Bool.{true};
+ghost use Prim.Native.Nat.{ℕ, _+_, _<_, _≤_, max};
+ghost use lib.ListN.{length};
+ghost use Rattle.pulses.specs.Play.{time};
+ghost use Rattle.pulses.specs.Runs.{run};
+ghost use Rattle.rows.specs.Table.{capacityOf};
+ghost use Rattle.rows.specs.Rows.{tone, toneMost};
+ghost use Rattle.rows.specs.Well.{wellTone, wellTones, wellNumbers, wellBlock};
+ghost use Rattle.entries.specs.Entries.{toneOf, tonesOf, bitsAt, bitEntries, dataOf, pauseOf, soundOf, entriesOf, lastsOf};
+ghost use Rattle.entries.specs.Places.{levelOf};
 
 // Where an entry stands in its block; the Rust's `TapePhase`.
 pub enum Phase {
@@ -12,4 +26,109 @@ pub enum Phase {
 pub enum Duration {
     T(u64),
     Endless,
+}
+
+// A count of cycles or bits, 0 as one.
+fn at_least_one(n: u64) -> u64
+    ensures { λ r. ⌜ r ≡ max 1 n ⌝ }
+{
+    if n == 0 { 1 } else { n }
+}
+
+// T-states of a tone row, which its callers know to be well formed.
+pub fn tone_time(t: Tone) -> u64
+    requires { ⌜ wellTone t ≡ true ⌝ }
+    ensures { λ r. ⌜ ((b i : ℕ) → r ≡ time (toneOf b i t)) ⌝ }
+{
+    at_least_one(t.num) * (t.len1 + t.len2)
+}
+
+// T-states of a block's tone rows, which its callers know to be lent and well formed.
+pub fn tones_time(tones: &[u64], r: Block) -> u64
+    requires { ⌜ r .tone + r .tones ≤ capacityOf tone toneMost (now tones) ⌝ }
+    requires { ⌜ wellTones (now tones) (r .tone) (r .tones) ≡ true ⌝ }
+    ensures { λ t. ⌜ ((b : ℕ) → t ≡ time (tonesOf (now (tones .entry)) b r)) ⌝ }
+{
+    let mut sum = 0;
+    let mut i = 0;
+    while i < r.tones {
+        sum += tone_time(tone_at(tones, (r.tone + i) as usize));
+        i += 1;
+    }
+    sum
+}
+
+// The bits of a block's data byte at pos.
+fn bits_at(r: Block, pos: u64) -> u64
+    requires { ⌜ pos < r .size ⌝ }
+    ensures { λ n. ⌜ n ≡ bitsAt r pos ⌝ }
+{
+    if pos + 1 == r.size { at_least_one(r.last) } else { 8 }
+}
+
+// T-states of the first n bits of a byte, which its callers know to be 1 to 8 in a row whose numbers are well formed.
+fn bits_time(v: u8, n: u64, r: Block) -> u64
+    requires { ⌜ (0 < n) × (n ≤ 8) ⌝ }
+    requires { ⌜ wellNumbers r ≡ true ⌝ }
+    ensures { λ t. ⌜ ((b pos : ℕ) → t ≡ time (run (bitEntries b r pos v) 0 n)) ⌝ }
+{
+    let ones = u8::count_ones(v >> (8 - n)) as u64;
+    2 * (ones * r.one + (n - ones) * r.zero)
+}
+
+// T-states of a block's data, which its callers know to lie in a tape within the limit, in a row whose numbers are well formed.
+pub fn data_time(tape: &[u8], r: Block) -> u64
+    requires { ⌜ (r .start + r .size ≤ length (now tape)) × (length (now tape) ≤ 1048576) ⌝ }
+    requires { ⌜ wellNumbers r ≡ true ⌝ }
+    ensures { λ t. ⌜ ((b : ℕ) → t ≡ time (dataOf (now (tape .entry)) b r)) ⌝ }
+{
+    let mut sum = 0;
+    let mut pos = 0;
+    while pos < r.size {
+        let at = (r.start + pos) as usize;
+        sum += bits_time(tape[at], bits_at(r, pos), r);
+        pos += 1;
+    }
+    sum
+}
+
+// T-states of a block without its pause; its callers know the row to be well formed over a tape within the limit.
+pub fn sound_time(tape: &[u8], tones: &[u64], r: Block) -> u64
+    requires { ⌜ wellBlock (length (now tape)) (now tones) r ≡ true ⌝ }
+    requires { ⌜ length (now tape) ≤ 1048576 ⌝ }
+    ensures { λ t. ⌜ ((b : ℕ) → t ≡ time (soundOf (now (tape .entry)) (now (tones .entry)) b r)) ⌝ }
+{
+    tones_time(tones, r) + data_time(tape, r)
+}
+
+// A block's pause, endless for a stop.
+pub fn pause_of(r: Block) -> Duration
+    ensures { λ d. ⌜ d ≡ pauseOf r ⌝ }
+{
+    if r.endless == 1 { Duration::Endless } else { Duration::T(r.pause) }
+}
+
+// T-states of a block with its pause, or that it never ends; its callers know the row to be well formed over a tape within the limit.
+pub fn block_time(tape: &[u8], tones: &[u64], r: Block) -> Duration
+    requires { ⌜ wellBlock (length (now tape)) (now tones) r ≡ true ⌝ }
+    requires { ⌜ length (now tape) ≤ 1048576 ⌝ }
+    ensures { λ d. ⌜ ((b : ℕ) → d ≡ lastsOf (entriesOf (now (tape .entry)) (now (tones .entry)) b r)) ⌝ }
+{
+    if r.endless == 1 {
+        Duration::Endless
+    } else {
+        Duration::T(sound_time(tape, tones, r) + r.pause)
+    }
+}
+
+// The level of a source row's entry.
+pub fn mic(f: Phase) -> bool
+    ensures { λ v. ⌜ v ≡ levelOf f ⌝ }
+{
+    match f {
+        Phase::Start => false,
+        Phase::Tones { last_half, .. } => last_half,
+        Phase::Data { last_half, .. } => last_half,
+        Phase::Pause => false,
+    }
 }

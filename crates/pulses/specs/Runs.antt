@@ -58,12 +58,13 @@ module _ {A : Type 0} (item : ℕ → List (Entry A)) where
         omega (arith, time-append (item p) (run (p + 1) m) (finite p), h p (omega arith) (omega arith), run-time c (p + 1) m (λ i l g. h i (omega arith) (omega arith)), suc-mul m c)
 
     -- one item more
-    pub run-time-last : (p m : ℕ) → time (run p (m + 1)) ≡ time (run p m) + time (item (p + m))
+    pub run-time-next : (m : ℕ) → time (run 0 (m + 1)) ≡ time (run 0 m) + time (item m)
     unfolding run
-    run-time-last p m =
-        ap time (run-split p m 1)
-        ∙ time-append (run p m) (item (p + m) ++ []) (run-finite p m)
-        ∙ ap (λ (r : List (Entry A)). time (run p m) + time r) (append-nil (item (p + m)))
+    run-time-next m =
+        let z : 0 + m ≡ m = omega arith in
+        ap time (run-split 0 m 1)
+        ∙ time-append (run 0 m) (item (0 + m) ++ []) (run-finite 0 m)
+        ∙ ap (λ (r : List (Entry A)). time (run 0 m) + time r) (append-nil (item (0 + m)) ∙ ap item z)
 
     -- items of at most c T-states each
     pub run-time-most : (c p m : ℕ) → ((i : ℕ) → p ≤ i → i < p + m → time (item i) ≤ c) → time (run p m) ≤ m * c

@@ -1,0 +1,86 @@
+use Rattle.entries.proofs.Bounds.{ones-most}
+use Rattle.entries.proofs.Runs.{few-ones, bits-time}
+use lib.Count.{ones}
+use Prim.Native.Nat.{_-_, _/_, _^_}
+use mathlib.Core.Path.{_≡_, refl, sym, ap, _∙_}
+use native.Mathlib.Omega.{arith}
+use borrow.Author.Needs.{needs}
+use Rattle.entries.proofs.bits_time.Statement.{statement}
+use Rattle.entries.proofs.bits_time.Tie as tie
+use Rattle.entries.proofs.bits_time.Reads as reads
+use Rattle.entries.proofs.bits_time.Lts as lts
+
+-- src/lib.rt:75:37
+sub-ones : tie.Need-sub-ones
+sub-ones c = search needs
+
+-- src/lib.rt:75:37
+cast-ones : tie.Need-cast-ones
+cast-ones c = search needs
+
+-- src/lib.rt:75:31
+shr-ones : tie.Need-shr-ones
+shr-ones c = search needs
+
+-- src/lib.rt:75:16
+cast-ones-2 : tie.Need-cast-ones-2
+cast-ones-2 c =
+    let s = c in
+    omega (arith, few-ones 0 (s .args .r) 0 (s .args .v) (s .fits .v .fits) (s .args .n) (s .pre .0 .1))
+
+-- src/lib.rt:76:10
+mul-result : tie.Need-mul-result
+mul-result c =
+    let s = c .before in
+    let k = ones (s .args .v / 2 ^ (8 - s .args .n)) in
+    omega (arith, ones-most (s .args .r) k (s .args .n) (s .pre .1) (few-ones 0 (s .args .r) 0 (s .args .v) (s .fits .v .fits) (s .args .n) (s .pre .0 .1)) (s .pre .0 .1) .0)
+
+-- src/lib.rt:76:26
+sub-result : tie.Need-sub-result
+sub-result c =
+    let s = c .before in
+    few-ones 0 (s .args .r) 0 (s .args .v) (s .fits .v .fits) (s .args .n) (s .pre .0 .1)
+
+-- src/lib.rt:76:25
+mul-result-2 : tie.Need-mul-result-2
+mul-result-2 c =
+    let s = c .before .before in
+    let k = ones (s .args .v / 2 ^ (8 - s .args .n)) in
+    omega (arith, ones-most (s .args .r) k (s .args .n) (s .pre .1) (few-ones 0 (s .args .r) 0 (s .args .v) (s .fits .v .fits) (s .args .n) (s .pre .0 .1)) (s .pre .0 .1) .1)
+
+-- src/lib.rt:76:10
+add-result : tie.Need-add-result
+add-result c =
+    let s = c .before .before in
+    let k = ones (s .args .v / 2 ^ (8 - s .args .n)) in
+    let m = ones-most (s .args .r) k (s .args .n) (s .pre .1) (few-ones 0 (s .args .r) 0 (s .args .v) (s .fits .v .fits) (s .args .n) (s .pre .0 .1)) (s .pre .0 .1) in
+    omega arith
+
+-- src/lib.rt:76:5
+mul-result-3 : tie.Need-mul-result-3
+mul-result-3 c =
+    let s = c .before .before in
+    let k = ones (s .args .v / 2 ^ (8 - s .args .n)) in
+    let m = ones-most (s .args .r) k (s .args .n) (s .pre .1) (few-ones 0 (s .args .r) 0 (s .args .v) (s .fits .v .fits) (s .args .n) (s .pre .0 .1)) (s .pre .0 .1) in
+    omega arith
+
+-- src/lib.rt:70:1
+returns : tie.Need-returns
+returns c =
+    let s = c .before .before in
+    λ b pos. sym (bits-time b (s .args .r) pos (s .args .v) (s .fits .v .fits) (s .args .n) (s .pre .0 .1))
+
+pub bits-time-spec : {M : Type 1} → statement M
+bits-time-spec =
+    tie.close
+    (tie.spec
+    sub-ones
+    cast-ones
+    shr-ones
+    cast-ones-2
+    mul-result
+    sub-result
+    mul-result-2
+    add-result
+    mul-result-3
+    returns)

@@ -2,18 +2,18 @@
 use Prim.Native.Nat.{ℕ}
 use mathlib.Core.Path.{_≡_, refl}
 use mathlib.Core.Bool.{Bool, true, false}
-use mathlib.Core.List.{List, [], _∷_, map}
-use Rattle.pulses.specs.Play.{low, high, Entry, pulse, endless}
+use mathlib.Core.List.{List, [], _∷_, _++_, map}
+use Rattle.pulses.specs.Play.{low, high, pulse, endless}
 use Rattle.pulses.specs.Runs.{run}
-use Rattle.rows.specs.Table.{get}
-use Rattle.rows.specs.Rows.{decodeTone, block, decodeBlock}
+use Rattle.rows.specs.Table.{zeros}
+use Rattle.rows.specs.Rows.{decodeTone, decodeBlock}
 use Rattle.rows.specs.declared.Block.{Block}
 use Rattle.entries.specs.declared.Phase.{Phase}
 use Rattle.entries.specs.declared.Phase.the-variants.{Start, Tones, Data, Pause}
 use Rattle.entries.specs.declared.Duration.{Duration}
 use Rattle.entries.specs.declared.Duration.the-variants.{T, Endless}
 use Rattle.entries.specs.Entries.{spot, entryOf, cyclesOf, toneOf, tonesOf, bitsAt, halfOf, byteOf, dataOf, pauseOf, soundOf, entriesOf}
-use Rattle.entries.specs.Places.{hasEntry, lengthAt, remains, valid, listFrom, fromPause, fromByte, fromBit, fromTone, fromCycle, leftAt}
+use Rattle.entries.specs.Places.{Tape, hasEntry, lengthAt, remains, valid, listFrom, fromPause, fromByte, fromBit, fromTone, fromCycle, leftAt}
 
 -- tone row 2 of block 5: a count of 0 is one cycle; and three cycles, the first half of each of no length
 count-none : toneOf 5 2 (decodeTone (0 ∷ 30 ∷ 40 ∷ [])) ≡ pulse (spot 5 (Tones 2 0 false)) low 30 ∷ pulse (spot 5 (Tones 2 0 true)) high 40 ∷ []
@@ -60,14 +60,14 @@ unfolding byteOf bitsAt halfOf run
 byte-eight = refl
 
 -- one byte of data with 1 bit, behind a tone row and before a pause: its whole list, byte 80 at place 1 of the tape
-abbrev small : Block
-small = decodeBlock (1 ∷ 1 ∷ 1 ∷ 1 ∷ 10 ∷ 20 ∷ 1 ∷ 3500 ∷ 0 ∷ 0 ∷ 0 ∷ 0 ∷ 0 ∷ [])
+abbrev small : List ℕ
+small = 1 ∷ 1 ∷ 1 ∷ 1 ∷ 10 ∷ 20 ∷ 1 ∷ 3500 ∷ 0 ∷ 0 ∷ 0 ∷ 0 ∷ 0 ∷ []
 
 abbrev tones : List ℕ
 tones = 9 ∷ 9 ∷ 9 ∷ 1 ∷ 667 ∷ 735 ∷ []
 
 small-entries :
-    entriesOf (7 ∷ 0x80 ∷ []) tones 3 small
+    entriesOf (7 ∷ 0x80 ∷ []) tones 3 (decodeBlock small)
     ≡ pulse (spot 3 Start) low 0
     ∷ pulse (spot 3 (Tones 0 0 false)) low 667 ∷ pulse (spot 3 (Tones 0 0 true)) high 735
     ∷ pulse (spot 3 (Data 0 0 false)) low 20 ∷ pulse (spot 3 (Data 0 0 true)) high 20
@@ -76,16 +76,19 @@ unfolding entriesOf soundOf tonesOf toneOf cyclesOf dataOf byteOf bitsAt halfOf 
 small-entries = refl
 
 -- a stop: its start, and a pause that never ends, whatever its word
-stop-entries : entriesOf [] [] 2 (decodeBlock (0 ∷ 0 ∷ 0 ∷ 0 ∷ 0 ∷ 0 ∷ 0 ∷ 77 ∷ 1 ∷ 1 ∷ 1 ∷ 0 ∷ 0 ∷ [])) ≡ pulse (spot 2 Start) low 0 ∷ endless (spot 2 Pause) low ∷ []
+abbrev stop : List ℕ
+stop = 0 ∷ 0 ∷ 0 ∷ 0 ∷ 0 ∷ 0 ∷ 0 ∷ 77 ∷ 1 ∷ 1 ∷ 1 ∷ 0 ∷ 0 ∷ []
+
+stop-entries : entriesOf [] [] 2 (decodeBlock stop) ≡ pulse (spot 2 Start) low 0 ∷ endless (spot 2 Pause) low ∷ []
 unfolding entriesOf soundOf tonesOf dataOf pauseOf entryOf run
 stop-entries = refl
 
 -- a tape of that block and that stop, and what is left to play from some positions
-abbrev blocks : List ℕ
-blocks = 1 ∷ 1 ∷ 1 ∷ 1 ∷ 10 ∷ 20 ∷ 1 ∷ 3500 ∷ 0 ∷ 0 ∷ 0 ∷ 0 ∷ 0 ∷ 0 ∷ 0 ∷ 0 ∷ 0 ∷ 0 ∷ 0 ∷ 0 ∷ 77 ∷ 1 ∷ 1 ∷ 1 ∷ 0 ∷ 0 ∷ []
+abbrev small-tape : Tape
+small-tape = record { bytes = 7 ∷ 0x80 ∷ []; tones = tones; blocks = small ++ stop; count = 2 }
 
 left-tone :
-    leftAt (7 ∷ 0x80 ∷ []) tones blocks 2 0 (Tones 0 0 false) (T 5)
+    leftAt small-tape 0 (Tones 0 0 false) (T 5)
     ≡ pulse (spot 0 (Tones 0 0 false)) low 5 ∷ pulse (spot 0 (Tones 0 0 true)) high 735
     ∷ pulse (spot 0 (Data 0 0 false)) low 20 ∷ pulse (spot 0 (Data 0 0 true)) high 20
     ∷ pulse (spot 0 Pause) low 3500 ∷ pulse (spot 1 Start) low 0 ∷ endless (spot 1 Pause) low ∷ []
@@ -93,12 +96,12 @@ unfolding leftAt fromCycle fromTone fromByte fromPause listFrom entriesOf soundO
 left-tone = refl
 
 left-bit :
-    leftAt (7 ∷ 0x80 ∷ []) tones blocks 2 0 (Data 0 0 true) (T 20)
+    leftAt small-tape 0 (Data 0 0 true) (T 20)
     ≡ pulse (spot 0 (Data 0 0 true)) high 20 ∷ pulse (spot 0 Pause) low 3500 ∷ pulse (spot 1 Start) low 0 ∷ endless (spot 1 Pause) low ∷ []
 unfolding leftAt fromBit fromByte fromPause listFrom entriesOf soundOf tonesOf dataOf bitsAt pauseOf entryOf run
 left-bit = refl
 
-left-past : leftAt (7 ∷ 0x80 ∷ []) tones blocks 2 9 Start (T 0) ≡ []
+left-past : leftAt small-tape 9 Start (T 0) ≡ []
 unfolding leftAt listFrom run
 left-past = refl
 
@@ -136,13 +139,13 @@ positions =
     []
 
 abbrev judged : ℕ × (Phase × Duration) → Bool
-judged q = valid (7 ∷ 0x80 ∷ []) tones 2 (q .0) (get block blocks (q .0)) (q .1 .0) (q .1 .1)
+judged q = valid small-tape (q .0) (q .1 .0) (q .1 .1)
 
 positions-judged : map (λ e. judged (e .0)) positions ≡ map (λ e. e .1) positions
 unfolding valid hasEntry lengthAt remains cyclesOf bitsAt halfOf pauseOf
 positions-judged = refl
 
 -- an entry of no length has 0 left
-none-left : valid [] (0 ∷ 0 ∷ 0 ∷ []) 1 0 (decodeBlock (0 ∷ 1 ∷ 0 ∷ 0 ∷ 0 ∷ 0 ∷ 0 ∷ 0 ∷ 0 ∷ 0 ∷ 0 ∷ 0 ∷ 0 ∷ [])) (Tones 0 0 true) (T 0) ≡ true
+none-left : valid (record { bytes = []; tones = zeros 3; blocks = 0 ∷ 1 ∷ zeros 11; count = 1 }) 0 (Tones 0 0 true) (T 0) ≡ true
 unfolding valid hasEntry lengthAt remains cyclesOf
 none-left = refl

@@ -2,3 +2,4 @@ pub mod Examples
 pub mod Readings
 pub mod Runs
 pub mod Bounds
+pub mod Follows

@@ -1,9 +1,9 @@
 -- The tape's list from a block on, what is left to play from a position, and which positions are valid. Definitions alone; assumes nothing.
 use Prim.Native.Nat.{ℕ, _+_, _-_, min}
 use mathlib.Core.Bool.{Bool, true, false, _&&_, _||_}
-use mathlib.Core.List.{List, _∷_, _++_}
+use mathlib.Core.List.{List, [], _∷_, _++_}
 use lib.Dec.{ltb, leb, eqb}
-use Rattle.pulses.specs.Play.{Level, low, high, Entry, pulse}
+use Rattle.pulses.specs.Play.{Level, low, high, Entry, pulse, endless}
 use Rattle.pulses.specs.Runs.{run}
 use Rattle.rows.specs.Table.{get}
 use Rattle.rows.specs.Rows.{block}
@@ -107,3 +107,14 @@ isNone Endless = false
 -- A VALID POSITION: a start at any block number with 0 left, or an entry of a block below the count with what of its length may be left
 unfoldable pub valid : Tape → ℕ → Phase → Duration → Bool
 valid w b f left = (isStart f && isNone left) || (ltb b (w .count) && (hasEntry w b f && remains left (lengthAt w b f)))
+
+-- the position at the head of what is left to play; the count's start where nothing is left
+unfoldable pub headOf : Tape → List (Entry Spot) → Spot
+headOf w [] = spot (w .count) Start
+headOf w (pulse a v t ∷ es) = a
+headOf w (endless a v ∷ es) = a
+
+unfoldable pub leftOf : List (Entry Spot) → Duration
+leftOf [] = T 0
+leftOf (pulse a v t ∷ es) = T t
+leftOf (endless a v ∷ es) = Endless

@@ -1,0 +1,95 @@
+-- What a valid position is, as facts, and back. Assumes nothing.
+use Prim.Native.Nat.{ℕ, _≤_, _<_, min}
+use native.Mathlib.Nat.{eq-zero-or-pos}
+use native.Mathlib.Omega.{arith}
+use borrow.Author.Tests.{leb-true, le-leb, ltb-true, lt-ltb, ne-eqb}
+use mathlib.Core.Path.{_≡_, refl, ap}
+use mathlib.Core.Bool.{Bool, true, false, _&&_, _||_}
+use mathlib.Core.Logic.{⊎-elim}
+use lib.Dec.{leb, ltb, eqb}
+use Rattle.laws.specs.Clauses.{first, second, other}
+use Rattle.entries.specs.declared.Phase.{Phase}
+use Rattle.entries.specs.declared.Phase.the-variants.{Start, Tones, Data, Pause}
+use Rattle.entries.specs.declared.Duration.{Duration}
+use Rattle.entries.specs.declared.Duration.the-variants.{T, Endless}
+use Rattle.entries.specs.Entries.{cyclesOf, bitsAt}
+use Rattle.entries.specs.Places.{Tape, blockIn, toneIn, hasEntry, lengthAt, remains, isStart, isNone, valid}
+
+-- what may be left of t T-states
+pub remains-within : (n t : ℕ) → min 1 t ≤ n → n ≤ t → remains (T n) (T t) ≡ true
+unfolding remains
+remains-within n t p q = rw (le-leb (min 1 t) n p, le-leb n t q)
+
+pub within-remains : (n t : ℕ) → remains (T n) (T t) ≡ true → (min 1 t ≤ n) × (n ≤ t)
+unfolding remains
+within-remains n t e = (leb-true _ _ (first (leb (min 1 t) n) (leb n t) e), leb-true _ _ (second (leb (min 1 t) n) (leb n t) e))
+
+pub remains-full : (d : Duration) → remains d d ≡ true
+unfolding remains
+remains-full (T t) = rw (le-leb (min 1 t) t (omega arith), le-leb t t (omega arith))
+remains-full Endless = refl
+
+pub remains-less : (n u : ℕ) (d : Duration) → 0 < u → u ≤ n → remains (T n) d ≡ true → remains (T u) d ≡ true
+unfolding remains
+remains-less n u (T t) p h e = let k = within-remains n t e in remains-within u t (omega arith) (omega arith)
+remains-less n u Endless p h e = cc
+
+-- a block's entries of tones and of data
+pub tone-entry : (w : Tape) (b i p : ℕ) (h : Bool) → hasEntry w b (Tones i p h) ≡ true → (i < blockIn w b .tones) × (p < cyclesOf (toneIn w b i))
+unfolding hasEntry
+tone-entry w b i p h e =
+    (ltb-true _ _ (first (ltb i (blockIn w b .tones)) (ltb p (cyclesOf (toneIn w b i))) e), ltb-true _ _ (second (ltb i (blockIn w b .tones)) (ltb p (cyclesOf (toneIn w b i))) e))
+
+pub has-tone : (w : Tape) (b i p : ℕ) (h : Bool) → i < blockIn w b .tones → p < cyclesOf (toneIn w b i) → hasEntry w b (Tones i p h) ≡ true
+unfolding hasEntry
+has-tone w b i p h k l = rw (lt-ltb i (blockIn w b .tones) k, lt-ltb p (cyclesOf (toneIn w b i)) l)
+
+pub data-entry : (w : Tape) (b pos k : ℕ) (h : Bool) → hasEntry w b (Data pos k h) ≡ true → (pos < blockIn w b .size) × (k < bitsAt (blockIn w b) pos)
+unfolding hasEntry
+data-entry w b pos k h e =
+    (ltb-true _ _ (first (ltb pos (blockIn w b .size)) (ltb k (bitsAt (blockIn w b) pos)) e), ltb-true _ _ (second (ltb pos (blockIn w b .size)) (ltb k (bitsAt (blockIn w b) pos)) e))
+
+pub has-data : (w : Tape) (b pos k : ℕ) (h : Bool) → pos < blockIn w b .size → k < bitsAt (blockIn w b) pos → hasEntry w b (Data pos k h) ≡ true
+unfolding hasEntry
+has-data w b pos k h l g = rw (lt-ltb pos (blockIn w b .size) l, lt-ltb k (bitsAt (blockIn w b) pos) g)
+
+-- an entry of a block below the count
+pub record Stands (w : Tape) (b : ℕ) (f : Phase) (left : Duration) : Type 0 where
+  pub below : b < w .count
+  pub entry : hasEntry w b f ≡ true
+  pub some : remains left (lengthAt w b f) ≡ true
+
+pub stands-valid : (w : Tape) (b : ℕ) (f : Phase) (left : Duration) → Stands w b f left → valid w b f left ≡ true
+unfolding valid
+stands-valid w b f left s = rw (lt-ltb b (w .count) (s .below), s .entry, s .some) (by-true (isStart f && isNone left))
+  where
+    by-true : (a : Bool) → (a || true) ≡ true
+    by-true true = refl
+    by-true false = refl
+
+pub valid-stands : (w : Tape) (b : ℕ) (f : Phase) (left : Duration) → isStart f ≡ false → valid w b f left ≡ true → Stands w b f left
+unfolding valid
+valid-stands w b f left s e =
+    let n : (isStart f && isNone left) ≡ false = rw s in
+    let t = hasEntry w b f && remains left (lengthAt w b f) in
+    let x = other (isStart f && isNone left) (ltb b (w .count) && t) e n in
+    let y = second (ltb b (w .count)) t x in
+    record {
+      below = ltb-true _ _ (first (ltb b (w .count)) t x);
+      entry = first (hasEntry w b f) (remains left (lengthAt w b f)) y;
+      some = second (hasEntry w b f) (remains left (lengthAt w b f)) y;
+    }
+
+pub start-valid : (w : Tape) (b : ℕ) → valid w b Start (T 0) ≡ true
+unfolding valid
+start-valid w b = refl
+
+pub valid-start : (w : Tape) (b : ℕ) (left : Duration) → valid w b Start left ≡ true → left ≡ T 0
+unfolding valid hasEntry lengthAt remains
+valid-start w b (T n) e =
+    ⊎-elim (λ z. ap T z)
+    (λ p.
+    let x = other (eqb n 0) (ltb b (w .count) && (leb (min 1 0) n && leb n 0)) e (ne-eqb n 0 (λ z. omega arith)) in
+    absurd (omega (arith, within-remains n 0 (second (ltb b (w .count)) (leb (min 1 0) n && leb n 0) x))))
+    (eq-zero-or-pos n)
+valid-start w b Endless e = let x : false ≡ true = second (ltb b (w .count)) false e in cc

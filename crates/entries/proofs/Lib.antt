@@ -5,3 +5,5 @@ pub mod Bounds
 pub mod Follows
 pub mod Valid
 pub mod Tails
+pub mod Levels
+pub mod Parts

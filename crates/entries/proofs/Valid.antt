@@ -93,3 +93,11 @@ valid-start w b (T n) e =
     absurd (omega (arith, within-remains n 0 (second (ltb b (w .count)) (leb (min 1 0) n && leb n 0) x))))
     (eq-zero-or-pos n)
 valid-start w b Endless e = let x : false ≡ true = second (ltb b (w .count)) false e in cc
+
+-- below the count a start, too, is an entry of its block
+pub below-stands : (w : Tape) (b : ℕ) (f : Phase) (left : Duration) → b < w .count → valid w b f left ≡ true → Stands w b f left
+unfolding hasEntry lengthAt
+below-stands w b Start left h e = record { below = h; entry = refl; some = rw (valid-start w b left e) (remains-full (T 0)) }
+below-stands w b (Tones i p l) left h e = valid-stands w b (Tones i p l) left refl e
+below-stands w b (Data pos k l) left h e = valid-stands w b (Data pos k l) left refl e
+below-stands w b Pause left h e = valid-stands w b Pause left refl e

@@ -12,7 +12,7 @@ use Rattle.entries.specs.declared.Phase.the-variants.{Start, Tones, Data
 use Rattle.entries.specs.declared.Duration.{Duration}
 use Rattle.entries.specs.declared.Duration.the-variants.{T}
 use Rattle.entries.specs.Entries.{Spot, spot, entryOf, startOf, cyclesOf, cycleOf, rowOf, bitsAt, bitEntries, byteEntries}
-use Rattle.entries.specs.Places.{Tape, blockIn, toneIn, byteIn, listFrom, fromPause, fromByte, fromBit, fromTone, fromCycle, leftAt, lengthAt, levelOf, valid}
+use Rattle.entries.specs.Places.{Tape, blockIn, toneIn, byteIn, listFrom, fromPause, fromByte, fromBit, fromTone, fromCycle, leftAt, lengthAt, levelOf, valid, lengthIn}
 use Rattle.entries.proofs.Runs.{cycle-finite, bit-finite, row-finite, bytes-finite}
 use Rattle.entries.proofs.Follows.{list-in, tone-in, tone-out, tone-reach, cycle-in, cycle-reach, byte-in, byte-out, byte-reach, bit-in, bit-reach}
 use Rattle.entries.proofs.Valid.{tone-entry, data-entry, Stands, stands-valid, valid-start, below-stands}
@@ -26,7 +26,7 @@ pub record Into (es ys : List (Entry Spot)) : Type 0 where
 -- a position's entry in the list from its block on, and what is left there
 pub record Part (w : Tape) (b : ℕ) (f : Phase) (left : Duration) : Type 0 where
   pub next : List (Entry Spot)
-  pub entry : Into (listFrom w b) (entryOf (spot b f) (levelOf f) (lengthAt w b f) ∷ next)
+  pub entry : Into (listFrom w b) (entryOf (spot b f) (levelOf f) (lengthIn w b f) ∷ next)
   pub rest : leftAt w b f left ≡ entryOf (spot b f) (levelOf f) left ∷ next
 
 into-by : {es xs ys : List (Entry Spot)} → xs ≡ ys → Into es xs → Into es ys

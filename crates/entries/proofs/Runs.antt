@@ -54,6 +54,18 @@ module _ (r : Block) where
       rw (e, z) (omega (arith, suc-mul k (r .one)))
   more-bits k n (suc (suc d)) h l = absurd (omega arith)
 
+-- the first n bits of a byte are those left when the others are shifted out
+pub few-ones : (v n : ℕ) → v < 256 → n ≤ 8 → ones (v / 2 ^ (8 - n)) ≤ n
+few-ones v n small h =
+    let e : n + (8 - n) ≡ 8 = omega arith in
+    ones-le n (v / 2 ^ (8 - n)) (shr-lt n (8 - n) (rw e small))
+
+next-ones : (v n : ℕ) → n < 8 → ones (v / 2 ^ (8 - (n + 1))) ≡ bitOf v n + ones (v / 2 ^ (8 - n))
+next-ones v n h =
+    let w : 8 - (n + 1) ≡ 7 - n = omega arith in
+    let e : 7 - n + 1 ≡ 8 - n = omega arith in
+    rw w (ones-step (v / 2 ^ (7 - n)) ∙ ap (λ (x : ℕ). bitOf v n + ones x) (shr-shr v (7 - n) 1 ∙ ap (λ (x : ℕ). v / 2 ^ x) e))
+
 module _ (b : ℕ) (r : Block) (pos v : ℕ) where
   pub bit-finite : (k : ℕ) → Finite (bitEntries b r pos v k)
   unfolding Finite
@@ -71,25 +83,14 @@ module _ (b : ℕ) (r : Block) (pos v : ℕ) where
   unfolding time
   bit-time k = omega arith
 
-  -- the first n bits of a byte are those left when the others are shifted out
-  pub few-ones : v < 256 → (n : ℕ) → n ≤ 8 → ones (v / 2 ^ (8 - n)) ≤ n
-  few-ones small n h =
-      let e : n + (8 - n) ≡ 8 = omega arith in
-      ones-le n (v / 2 ^ (8 - n)) (shr-lt n (8 - n) (rw e small))
-
-  next-ones : (n : ℕ) → n < 8 → ones (v / 2 ^ (8 - (n + 1))) ≡ bitOf v n + ones (v / 2 ^ (8 - n))
-  next-ones n h =
-      let w : 8 - (n + 1) ≡ 7 - n = omega arith in
-      let e : 7 - n + 1 ≡ 8 - n = omega arith in
-      rw w (ones-step (v / 2 ^ (7 - n)) ∙ ap (λ (x : ℕ). bitOf v n + ones x) (shr-shr v (7 - n) 1 ∙ ap (λ (x : ℕ). v / 2 ^ x) e))
-
   no-bits : time (run (bitEntries b r pos v) 0 0) ≡ 0
   unfolding run time
   no-bits = refl
 
+  -- the time of a byte's first n bits: its ones among them, counted
   pub bits-time : v < 256 → (n : ℕ) → n ≤ 8 → time (run (bitEntries b r pos v) 0 n) ≡ bitsTime r (ones (v / 2 ^ (8 - n))) n
   bits-time small zero h =
-      let k : ones (v / 2 ^ (8 - 0)) ≡ 0 = omega (arith, few-ones small 0 h) in
+      let k : ones (v / 2 ^ (8 - 0)) ≡ 0 = omega (arith, few-ones v 0 small h) in
       no-bits ∙ rw k (omega (arith, zero-mul (r .one), zero-mul (r .zero)))
   bits-time small (suc n) h =
       let item = bitEntries b r pos v in
@@ -98,8 +99,8 @@ module _ (b : ℕ) (r : Block) (pos v : ℕ) where
       (run-time-next item bit-finite n
       ∙ ap (λ (x : ℕ). x + time (item n)) (bits-time small n (omega arith))
       ∙ ap (λ (x : ℕ). bitsTime r k n + x) (bit-time n)
-      ∙ more-bits r k n (bitOf v n) (few-ones small n (omega arith)) (mod-lt (v / 2 ^ (7 - n)) (omega arith))
-      ∙ ap (λ (x : ℕ). bitsTime r x (n + 1)) (sym (next-ones n (omega arith))))
+      ∙ more-bits r k n (bitOf v n) (few-ones v n small (omega arith)) (mod-lt (v / 2 ^ (7 - n)) (omega arith))
+      ∙ ap (λ (x : ℕ). bitsTime r x (n + 1)) (sym (next-ones v n (omega arith))))
 
 module _ (tones : List ℕ) (b : ℕ) (r : Block) where
   pub row-finite : (i : ℕ) → Finite (rowOf tones b r i)

@@ -13,7 +13,7 @@ use Rattle.entries.specs.declared.Phase.the-variants.{Start, Tones, Data
 use Rattle.entries.specs.declared.Duration.{Duration}
 use Rattle.entries.specs.declared.Duration.the-variants.{T, Endless}
 use Rattle.entries.specs.Entries.{Spot, spot, entryOf, cyclesOf, bitsAt, halfOf, bitOf, pauseOf}
-use Rattle.entries.specs.Places.{Tape, blockIn, toneIn, byteIn, listFrom, fromPause, fromByte, fromBit, fromTone, fromCycle, leftAt, hasEntry, lengthAt, isStart, valid, headOf, leftOf}
+use Rattle.entries.specs.Places.{Tape, blockIn, toneIn, byteIn, listFrom, fromPause, fromByte, fromBit, fromTone, fromCycle, leftAt, hasEntry, lengthAt, isStart, valid, headOf, leftOf, lengthIn}
 use Rattle.entries.proofs.Bounds.{bits-some}
 use Rattle.entries.proofs.Follows.{list-in, list-out, tone-in, tone-out, cycle-in, cycle-out, byte-in, byte-out, bit-in, bit-out}
 use Rattle.entries.proofs.Valid.{remains-full, remains-less, tone-entry, has-tone, data-entry, has-data, Stands, stands-valid, valid-stands, start-valid, valid-start}
@@ -150,7 +150,7 @@ module _ (w : Tape) where
   unfolding headOf leftOf
   less-entry b f v t u es n e d p h =
       let a = valid-stands w b f (T t) n d in
-      record { ahead = shorter b f v t u es n e; stands = stands-valid w b f (T u) (record { below = a .below; entry = a .entry; some = remains-less t u (lengthAt w b f) p h (a .some) }) }
+      record { ahead = shorter b f v t u es n e; stands = stands-valid w b f (T u) (record { below = a .below; entry = a .entry; some = remains-less t u (lengthIn w b f) p h (a .some) }) }
 
   less-of : (b : ℕ) (f : Phase) (v : Level) (t u : ℕ) (es : List (Entry Spot))
       → leftAt w b f (T t) ≡ pulse (spot b f) v t ∷ es → valid w b f (T t) ≡ true → 0 < u → u ≤ t → Tail w (pulse (spot b f) v u ∷ es)

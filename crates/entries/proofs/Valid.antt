@@ -13,7 +13,7 @@ use Rattle.entries.specs.declared.Phase.the-variants.{Start, Tones, Data
 use Rattle.entries.specs.declared.Duration.{Duration}
 use Rattle.entries.specs.declared.Duration.the-variants.{T, Endless}
 use Rattle.entries.specs.Entries.{cyclesOf, bitsAt}
-use Rattle.entries.specs.Places.{Tape, blockIn, toneIn, hasEntry, lengthAt, remains, isStart, isNone, valid}
+use Rattle.entries.specs.Places.{Tape, blockIn, toneIn, hasEntry, lengthAt, remains, isStart, isNone, valid, hasIn, lengthIn}
 
 -- what may be left of t T-states
 pub remains-within : (n t : ℕ) → min 1 t ≤ n → n ≤ t → remains (T n) (T t) ≡ true
@@ -35,29 +35,29 @@ remains-less n u (T t) p h e = let k = within-remains n t e in remains-within u 
 remains-less n u Endless p h e = cc
 
 -- a block's entries of tones and of data
-pub tone-entry : (w : Tape) (b i p : ℕ) (h : Bool) → hasEntry w b (Tones i p h) ≡ true → (i < blockIn w b .tones) × (p < cyclesOf (toneIn w b i))
+pub tone-entry : (w : Tape) (b i p : ℕ) (h : Bool) → hasIn w b (Tones i p h) ≡ true → (i < blockIn w b .tones) × (p < cyclesOf (toneIn w b i))
 unfolding hasEntry
 tone-entry w b i p h e =
     (ltb-true _ _ (first (ltb i (blockIn w b .tones)) (ltb p (cyclesOf (toneIn w b i))) e), ltb-true _ _ (second (ltb i (blockIn w b .tones)) (ltb p (cyclesOf (toneIn w b i))) e))
 
-pub has-tone : (w : Tape) (b i p : ℕ) (h : Bool) → i < blockIn w b .tones → p < cyclesOf (toneIn w b i) → hasEntry w b (Tones i p h) ≡ true
+pub has-tone : (w : Tape) (b i p : ℕ) (h : Bool) → i < blockIn w b .tones → p < cyclesOf (toneIn w b i) → hasIn w b (Tones i p h) ≡ true
 unfolding hasEntry
 has-tone w b i p h k l = rw (lt-ltb i (blockIn w b .tones) k, lt-ltb p (cyclesOf (toneIn w b i)) l)
 
-pub data-entry : (w : Tape) (b pos k : ℕ) (h : Bool) → hasEntry w b (Data pos k h) ≡ true → (pos < blockIn w b .size) × (k < bitsAt (blockIn w b) pos)
+pub data-entry : (w : Tape) (b pos k : ℕ) (h : Bool) → hasIn w b (Data pos k h) ≡ true → (pos < blockIn w b .size) × (k < bitsAt (blockIn w b) pos)
 unfolding hasEntry
 data-entry w b pos k h e =
     (ltb-true _ _ (first (ltb pos (blockIn w b .size)) (ltb k (bitsAt (blockIn w b) pos)) e), ltb-true _ _ (second (ltb pos (blockIn w b .size)) (ltb k (bitsAt (blockIn w b) pos)) e))
 
-pub has-data : (w : Tape) (b pos k : ℕ) (h : Bool) → pos < blockIn w b .size → k < bitsAt (blockIn w b) pos → hasEntry w b (Data pos k h) ≡ true
+pub has-data : (w : Tape) (b pos k : ℕ) (h : Bool) → pos < blockIn w b .size → k < bitsAt (blockIn w b) pos → hasIn w b (Data pos k h) ≡ true
 unfolding hasEntry
 has-data w b pos k h l g = rw (lt-ltb pos (blockIn w b .size) l, lt-ltb k (bitsAt (blockIn w b) pos) g)
 
 -- an entry of a block below the count
 pub record Stands (w : Tape) (b : ℕ) (f : Phase) (left : Duration) : Type 0 where
   pub below : b < w .count
-  pub entry : hasEntry w b f ≡ true
-  pub some : remains left (lengthAt w b f) ≡ true
+  pub entry : hasIn w b f ≡ true
+  pub some : remains left (lengthIn w b f) ≡ true
 
 pub stands-valid : (w : Tape) (b : ℕ) (f : Phase) (left : Duration) → Stands w b f left → valid w b f left ≡ true
 unfolding valid
@@ -71,13 +71,13 @@ pub valid-stands : (w : Tape) (b : ℕ) (f : Phase) (left : Duration) → isStar
 unfolding valid
 valid-stands w b f left s e =
     let n : (isStart f && isNone left) ≡ false = rw s in
-    let t = hasEntry w b f && remains left (lengthAt w b f) in
+    let t = hasIn w b f && remains left (lengthIn w b f) in
     let x = other (isStart f && isNone left) (ltb b (w .count) && t) e n in
     let y = second (ltb b (w .count)) t x in
     record {
       below = ltb-true _ _ (first (ltb b (w .count)) t x);
-      entry = first (hasEntry w b f) (remains left (lengthAt w b f)) y;
-      some = second (hasEntry w b f) (remains left (lengthAt w b f)) y;
+      entry = first (hasIn w b f) (remains left (lengthIn w b f)) y;
+      some = second (hasIn w b f) (remains left (lengthIn w b f)) y;
     }
 
 pub start-valid : (w : Tape) (b : ℕ) → valid w b Start (T 0) ≡ true

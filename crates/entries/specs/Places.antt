@@ -65,20 +65,20 @@ leftAt w b (Data pos k false) left =
 leftAt w b (Data pos k true) left = entryOf (spot b (Data pos k true)) high left ∷ fromBit w b pos (k + 1)
 leftAt w b Pause left = entryOf (spot b Pause) low left ∷ listFrom w (b + 1)
 
--- whether block b has an entry of this phase
-unfoldable pub hasEntry : Tape → ℕ → Phase → Bool
-hasEntry w b Start = true
-hasEntry w b (Tones i p last-half) = ltb i (blockIn w b .tones) && ltb p (cyclesOf (toneIn w b i))
-hasEntry w b (Data pos k last-half) = ltb pos (blockIn w b .size) && ltb k (bitsAt (blockIn w b) pos)
-hasEntry w b Pause = true
+-- whether a block has an entry of this phase
+unfoldable pub hasEntry : List ℕ → Block → Phase → Bool
+hasEntry tones r Start = true
+hasEntry tones r (Tones i p last-half) = ltb i (r .tones) && ltb p (cyclesOf (toneAt tones r i))
+hasEntry tones r (Data pos k last-half) = ltb pos (r .size) && ltb k (bitsAt r pos)
+hasEntry tones r Pause = true
 
 -- that entry's length
-unfoldable pub lengthAt : Tape → ℕ → Phase → Duration
-lengthAt w b Start = T 0
-lengthAt w b (Tones i p false) = T (toneIn w b i .len1)
-lengthAt w b (Tones i p true) = T (toneIn w b i .len2)
-lengthAt w b (Data pos k last-half) = T (halfOf (blockIn w b) (bitOf (byteIn w b pos) k))
-lengthAt w b Pause = pauseOf (blockIn w b)
+unfoldable pub lengthAt : List ℕ → List ℕ → Block → Phase → Duration
+lengthAt tape tones r Start = T 0
+lengthAt tape tones r (Tones i p false) = T (toneAt tones r i .len1)
+lengthAt tape tones r (Tones i p true) = T (toneAt tones r i .len2)
+lengthAt tape tones r (Data pos k last-half) = T (halfOf r (bitOf (byteAt tape r pos) k))
+lengthAt tape tones r Pause = pauseOf r
 
 -- its level: the last half of a cycle or of a bit is high, everything else low
 unfoldable pub levelOf : Phase → Level
@@ -104,9 +104,16 @@ abbrev pub isNone : Duration → Bool
 isNone (T n) = eqb n 0
 isNone Endless = false
 
+-- block b's entry of this phase: whether there is one, and its length
+abbrev pub hasIn : Tape → ℕ → Phase → Bool
+hasIn w b f = hasEntry (w .tones) (blockIn w b) f
+
+abbrev pub lengthIn : Tape → ℕ → Phase → Duration
+lengthIn w b f = lengthAt (w .bytes) (w .tones) (blockIn w b) f
+
 -- A VALID POSITION: a start at any block number with 0 left, or an entry of a block below the count with what of its length may be left
 unfoldable pub valid : Tape → ℕ → Phase → Duration → Bool
-valid w b f left = (isStart f && isNone left) || (ltb b (w .count) && (hasEntry w b f && remains left (lengthAt w b f)))
+valid w b f left = (isStart f && isNone left) || (ltb b (w .count) && (hasIn w b f && remains left (lengthIn w b f)))
 
 -- the position at the head of what is left to play; the count's start where nothing is left
 unfoldable pub headOf : Tape → List (Entry Spot) → Spot

@@ -1,5 +1,5 @@
-use Rattle.entries.proofs.Bounds.{ones-most}
-use Rattle.entries.proofs.Runs.{few-ones, bits-time}
+use Rattle.entries.proofs.Bounds.{few}
+use Rattle.entries.proofs.Runs.{bits-time}
 use lib.Count.{ones}
 use Prim.Native.Nat.{_-_, _/_, _^_}
 use mathlib.Core.Path.{_≡_, refl, sym, ap, _∙_}
@@ -26,42 +26,42 @@ shr-ones c = search needs
 cast-ones-2 : tie.Need-cast-ones-2
 cast-ones-2 c =
     let s = c in
-    omega (arith, few-ones 0 (s .args .r) 0 (s .args .v) (s .fits .v .fits) (s .args .n) (s .pre .0 .1))
+    let f = few (s .args .r) (s .args .v) (s .args .n) (s .pre .1) (s .fits .v .fits) (s .pre .0 .1) in
+    omega arith
 
 -- src/lib.rt:76:10
 mul-result : tie.Need-mul-result
 mul-result c =
     let s = c .before in
-    let k = ones (s .args .v / 2 ^ (8 - s .args .n)) in
-    omega (arith, ones-most (s .args .r) k (s .args .n) (s .pre .1) (few-ones 0 (s .args .r) 0 (s .args .v) (s .fits .v .fits) (s .args .n) (s .pre .0 .1)) (s .pre .0 .1) .0)
+    let f = few (s .args .r) (s .args .v) (s .args .n) (s .pre .1) (s .fits .v .fits) (s .pre .0 .1) in
+    omega arith
 
 -- src/lib.rt:76:26
 sub-result : tie.Need-sub-result
 sub-result c =
     let s = c .before in
-    few-ones 0 (s .args .r) 0 (s .args .v) (s .fits .v .fits) (s .args .n) (s .pre .0 .1)
+    let f = few (s .args .r) (s .args .v) (s .args .n) (s .pre .1) (s .fits .v .fits) (s .pre .0 .1) in
+    omega arith
 
 -- src/lib.rt:76:25
 mul-result-2 : tie.Need-mul-result-2
 mul-result-2 c =
     let s = c .before .before in
-    let k = ones (s .args .v / 2 ^ (8 - s .args .n)) in
-    omega (arith, ones-most (s .args .r) k (s .args .n) (s .pre .1) (few-ones 0 (s .args .r) 0 (s .args .v) (s .fits .v .fits) (s .args .n) (s .pre .0 .1)) (s .pre .0 .1) .1)
+    let f = few (s .args .r) (s .args .v) (s .args .n) (s .pre .1) (s .fits .v .fits) (s .pre .0 .1) in
+    omega arith
 
 -- src/lib.rt:76:10
 add-result : tie.Need-add-result
 add-result c =
     let s = c .before .before in
-    let k = ones (s .args .v / 2 ^ (8 - s .args .n)) in
-    let m = ones-most (s .args .r) k (s .args .n) (s .pre .1) (few-ones 0 (s .args .r) 0 (s .args .v) (s .fits .v .fits) (s .args .n) (s .pre .0 .1)) (s .pre .0 .1) in
+    let f = few (s .args .r) (s .args .v) (s .args .n) (s .pre .1) (s .fits .v .fits) (s .pre .0 .1) in
     omega arith
 
 -- src/lib.rt:76:5
 mul-result-3 : tie.Need-mul-result-3
 mul-result-3 c =
     let s = c .before .before in
-    let k = ones (s .args .v / 2 ^ (8 - s .args .n)) in
-    let m = ones-most (s .args .r) k (s .args .n) (s .pre .1) (few-ones 0 (s .args .r) 0 (s .args .v) (s .fits .v .fits) (s .args .n) (s .pre .0 .1)) (s .pre .0 .1) in
+    let f = few (s .args .r) (s .args .v) (s .args .n) (s .pre .1) (s .fits .v .fits) (s .pre .0 .1) in
     omega arith
 
 -- src/lib.rt:70:1

@@ -1,23 +1,21 @@
 -- A WELL-FORMED BLOCK LASTS LESS THAN 2 ^ 50 T-STATES, and so do its parts. Assumes nothing.
-use Prim.Native.Nat.{ℕ, _+_, _-_, _*_, _/_, _^_, _≤_, _<_, max}
-use native.Mathlib.Nat.{mul-le-mul, le-trans}
+use Prim.Native.Nat.{ℕ, _+_, _-_, _*_, _/_, _^_, _≤_, _<_}
+use native.Mathlib.Nat.{mul-le-mul}
 use native.Mathlib.Omega.{arith}
 use lib.Count.{ones}
 use native.Mathlib.Decide.{ℕ-discrete}
 use borrow.Author.Tests.{eq-eqb, ne-eqb}
 use mathlib.Core.Path.{_≡_}
-use mathlib.Core.Bool.{Bool, true, false}
-use mathlib.Core.List.{List, [], _∷_, _++_}
-use Rattle.laws.specs.Rules.{_⇒_, _∣_}
+use mathlib.Core.Bool.{true}
+use mathlib.Core.List.{List, [], _∷_}
 use Rattle.pulses.specs.Play.{time}
 use Rattle.pulses.specs.Joined.{time-append}
 use Rattle.pulses.specs.Runs.{run, run-time-most}
 use Rattle.rows.specs.declared.Tone.{Tone}
 use Rattle.rows.specs.declared.Block.{Block}
-use Rattle.rows.specs.Table.{get, capacityOf}
-use Rattle.rows.specs.Rows.{tone, toneMost}
+use Rattle.rows.specs.Rows.{tone}
 use Rattle.rows.specs.Well.{wellTone, wellTones, wellNumbers, wellBlock}
-use Rattle.rows.proofs.WellLaws.{Clauses, block-clauses, Inside, ranges-inside, Numbers, numbers-most, Halves, tone-most, tones-each}
+use Rattle.rows.proofs.WellLaws.{block-clauses, ranges-inside, numbers-most, tone-most, tones-each}
 use Rattle.entries.specs.Entries.{entryOf, cyclesOf, toneOf, rowOf, tonesOf, bitsAt, bitOf, halfOf, bitEntries, byteOf, byteEntries, dataOf, pauseOf, pauseEntry, soundOf, entriesOf}
 use Rattle.entries.proofs.Runs.{few-ones, tone-time, bit-finite, bit-time, row-finite, bytes-finite, sound-finite, sound-time}
 

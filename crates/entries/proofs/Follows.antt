@@ -4,7 +4,7 @@ use native.Mathlib.Nat.{sub-zero}
 use native.Mathlib.Omega.{arith}
 use mathlib.Core.Path.{_≡_, sym, ap, ap₂, _∙_}
 use mathlib.Core.List.{List, [], _∷_, _++_, append-assoc}
-use Rattle.pulses.specs.Play.{low, high, Entry, pulse}
+use Rattle.pulses.specs.Play.{Entry}
 use Rattle.pulses.specs.Runs.{run, run-split, run-next, run-none}
 use Rattle.entries.specs.Entries.{Spot, startOf, cyclesOf, cycleOf, toneOf, rowOf, tonesOf, bitsAt, bitEntries, byteOf, byteEntries, dataOf, pauseEntry, soundOf, entriesOf}
 use Rattle.entries.specs.Places.{Tape, blockIn, toneIn, byteIn, listFrom, fromPause, fromByte, fromBit, fromTone, fromCycle}

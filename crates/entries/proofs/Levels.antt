@@ -1,9 +1,9 @@
 -- EVERY ENTRY of a source row has its phase's level, and so has each that is left to play. Assumes nothing.
 use Prim.Native.Nat.{ℕ, zero, suc, _+_, _-_, _<_}
 use mathlib.Core.Path.{_≡_, refl, subst}
-use mathlib.Core.Bool.{true, false}
+use mathlib.Core.Bool.{true}
 use mathlib.Core.List.{List, [], _∷_, _++_}
-use Rattle.pulses.specs.Play.{Level, Entry, pulse, endless, rest}
+use Rattle.pulses.specs.Play.{Entry, pulse, endless, rest}
 use Rattle.pulses.specs.Steps.{rest-nil, rest-stop, rest-ways}
 use Rattle.pulses.specs.Runs.{run}
 use Rattle.rows.specs.declared.Tone.{Tone}
@@ -64,11 +64,12 @@ levels-byte tape b r pos = let v = byteAt tape r pos in levels-run (bitEntries b
 pub levels-block : (tape tones : List ℕ) (b : ℕ) (r : Block) → Levels (entriesOf tape tones b r)
 unfolding entriesOf soundOf tonesOf dataOf levelOf Levels
 levels-block tape tones b r =
-    levels-append (soundOf tape tones b r) _
-    (refl,
-    levels-append (tonesOf tones b r) (dataOf tape b r)
-    (levels-run (rowOf tones b r) (levels-row tones b r) 0 (r .tones))
-    (levels-run (byteEntries tape b r) (levels-byte tape b r) 0 (r .size)))
+    levels-append (soundOf tape tones b r) _ (
+      refl,
+      levels-append (tonesOf tones b r) (dataOf tape b r)
+          (levels-run (rowOf tones b r) (levels-row tones b r) 0 (r .tones))
+          (levels-run (byteEntries tape b r) (levels-byte tape b r) 0 (r .size)),
+    )
     (levels-entry b Pause (pauseOf r) [] tt)
 
 module _ (w : Tape) where

@@ -4,15 +4,15 @@ use native.Mathlib.Omega.{arith}
 use mathlib.Core.Path.{_≡_, refl, sym, ap, _∙_}
 use mathlib.Core.Bool.{true, false}
 use mathlib.Core.List.{List, [], _∷_, _++_, append-assoc}
-use Rattle.pulses.specs.Play.{Entry, pulse, Finite}
+use Rattle.pulses.specs.Play.{Level, Entry, pulse, Finite}
 use Rattle.pulses.specs.Joined.{finite-append}
 use Rattle.pulses.specs.Runs.{run, run-finite}
 use Rattle.entries.specs.declared.Phase.{Phase}
 use Rattle.entries.specs.declared.Phase.the-variants.{Start, Tones, Data, Pause}
 use Rattle.entries.specs.declared.Duration.{Duration}
-use Rattle.entries.specs.declared.Duration.the-variants.{T}
+use Rattle.entries.specs.declared.Duration.the-variants.{T, Endless}
 use Rattle.entries.specs.Entries.{Spot, spot, entryOf, startOf, cyclesOf, cycleOf, rowOf, bitsAt, bitEntries, byteEntries}
-use Rattle.entries.specs.Places.{Tape, blockIn, toneIn, byteIn, listFrom, fromPause, fromByte, fromBit, fromTone, fromCycle, leftAt, lengthAt, levelOf, valid, lengthIn}
+use Rattle.entries.specs.Places.{Tape, blockIn, toneIn, byteIn, listFrom, fromPause, fromByte, fromBit, fromTone, fromCycle, leftAt, lengthAt, levelOf, valid, headOf, leftOf, lengthIn}
 use Rattle.entries.proofs.Runs.{cycle-finite, bit-finite, row-finite, bytes-finite}
 use Rattle.entries.proofs.Follows.{list-in, tone-in, tone-out, tone-reach, cycle-in, cycle-reach, byte-in, byte-out, byte-reach, bit-in, bit-reach}
 use Rattle.entries.proofs.Valid.{tone-entry, data-entry, Stands, stands-valid, valid-start, below-stands}
@@ -76,19 +76,28 @@ module _ (w : Tape) (b : ℕ) (h : b < w .count) where
       let z = valid-start w b left (stands-valid w b Start left s) in
       record { next = fromTone w b 0; entry = into-start; rest = list-in w b h ∙ ap (λ (d : Duration). entryOf (spot b Start) false d ∷ fromTone w b 0) (sym z) }
   left-of (Tones i p false) left s =
-      let k = tone-entry w b i p false (s .entry) in
+      let k = tone-entry (w .tones) (blockIn w b) i p false (s .entry) in
       record { next = _; entry = into-by (cycle-in w b i p (k .1)) (into-cycle i p (k .0) (omega arith)); rest = refl }
   left-of (Tones i p true) left s =
-      let k = tone-entry w b i p true (s .entry) in
+      let k = tone-entry (w .tones) (blockIn w b) i p true (s .entry) in
       record { next = _; entry = into-past (pulse (spot b (Tones i p false)) false (toneIn w b i .len1) ∷ []) _ tt (into-by (cycle-in w b i p (k .1)) (into-cycle i p (k .0) (omega arith))); rest = refl }
   left-of (Data pos k false) left s =
-      let l = data-entry w b pos k false (s .entry) in
+      let l = data-entry (w .tones) (blockIn w b) pos k false (s .entry) in
       record { next = _; entry = into-by (bit-in w b pos k (l .1)) (into-bit pos k (l .0) (omega arith)); rest = refl }
   left-of (Data pos k true) left s =
-      let l = data-entry w b pos k true (s .entry) in
+      let l = data-entry (w .tones) (blockIn w b) pos k true (s .entry) in
       record { next = _; entry = into-past (pulse (spot b (Data pos k false)) false _ ∷ []) _ tt (into-by (bit-in w b pos k (l .1)) (into-bit pos k (l .0) (omega arith))); rest = refl }
   left-of Pause left s = record { next = listFrom w (b + 1); entry = into-pause; rest = refl }
 
   -- THE PART of the list that a valid position leaves
   pub left-part : (f : Phase) (left : Duration) → valid w b f left ≡ true → Part w b f left
   left-part f left e = left-of f left (below-stands w b f left h e)
+
+  head-of : (f : Phase) (v : Level) (left : Duration) (es : List (Entry Spot)) → (headOf w (entryOf (spot b f) v left ∷ es) ≡ spot b f) × (leftOf (entryOf (spot b f) v left ∷ es) ≡ left)
+  unfolding headOf leftOf entryOf
+  head-of f v (T t) es = (refl, refl)
+  head-of f v Endless es = (refl, refl)
+
+  -- the position at its head is that position
+  pub left-head : (f : Phase) (left : Duration) → valid w b f left ≡ true → (headOf w (leftAt w b f left) ≡ spot b f) × (leftOf (leftAt w b f left) ≡ left)
+  left-head f left e = let x = left-part f left e in rw (x .rest) (head-of f (levelOf f) left (x .next))

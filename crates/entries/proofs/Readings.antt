@@ -1,14 +1,14 @@
 -- THE P READINGS of document 01 that are about times and about the players' places, one table and one theorem each, by computation. Assumes nothing.
 use Prim.Native.Nat.{ℕ}
 use mathlib.Core.Path.{_≡_, refl}
-use mathlib.Core.Bool.{Bool, true, false}
+use mathlib.Core.Bool.{true, false}
 use mathlib.Core.List.{List, [], _∷_, map}
 use Rattle.pulses.specs.Play.{low, high, Entry, pulse, rest, over, shown, status, answer, time, comesTo}
 use Rattle.pulses.specs.Source.{Outcome, heard, source, sourced, reached, turns, turn, after}
 use Rattle.pulses.specs.Runs.{run}
 use Rattle.rows.specs.Table.{zeros}
 use Rattle.rows.specs.Rows.{decodeBlock}
-use Rattle.entries.specs.declared.Phase.the-variants.{Start, Tones, Pause}
+use Rattle.entries.specs.declared.Phase.the-variants.{Tones, Pause}
 use Rattle.entries.specs.declared.Duration.{Duration}
 use Rattle.entries.specs.declared.Duration.the-variants.{T}
 use Rattle.entries.specs.Entries.{Spot, spot, entryOf, cyclesOf, toneOf, tonesOf, bitsAt, halfOf, byteOf, dataOf, pauseOf, soundOf, entriesOf, lastsOf}

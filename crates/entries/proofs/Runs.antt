@@ -1,19 +1,18 @@
 -- A tone row, a data byte, tones, data and sound as runs: no endless entry, how many entries, and their time. Assumes nothing.
-use Prim.Native.Nat.{ℕ, zero, suc, _+_, _-_, _*_, _/_, _%_, _^_, _≤_, _<_, max}
-use native.Mathlib.Nat.{suc-mul, zero-mul, add-zero, zero-add, mod-lt, mul-le-mul}
+use Prim.Native.Nat.{ℕ, zero, suc, _+_, _-_, _*_, _/_, _^_, _≤_, _<_}
+use native.Mathlib.Nat.{suc-mul, zero-mul, add-zero, zero-add, mod-lt}
 use native.Mathlib.Numerals.{add-one}
 use native.Mathlib.Omega.{arith}
 use borrow.Author.Tests.{eq-eqb, ne-eqb}
-use mathlib.Core.Path.{_≡_, refl, sym, ap, ap₂, _∙_}
-use mathlib.Core.Logic.{_⊎_, ⊎-elim}
-use mathlib.Core.List.{List, [], _∷_, _++_}
+use mathlib.Core.Path.{_≡_, refl, sym, ap, _∙_}
+use mathlib.Core.List.{List, _++_}
 use lib.Count.{ones, ones-step, ones-le}
 use lib.Pow.{shr-shr, shr-lt}
 use lib.ListN.{length}
 use Rattle.pulses.specs.Play.{time, comesTo, Finite}
 use Rattle.pulses.specs.Steps.{time-pulse}
 use Rattle.pulses.specs.Joined.{time-append, finite-append, comes-append}
-use Rattle.pulses.specs.Runs.{run, run-length, run-finite, run-time, run-time-next, run-time-most}
+use Rattle.pulses.specs.Runs.{run, run-length, run-finite, run-time, run-time-next}
 use Rattle.rows.specs.declared.Tone.{Tone}
 use Rattle.rows.specs.declared.Block.{Block}
 use Rattle.entries.specs.declared.Duration.the-variants.{T, Endless}

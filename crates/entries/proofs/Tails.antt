@@ -1,10 +1,10 @@
 -- WHERE A HEAD CAN STAND: what a valid position leaves to play is what is left at its own head, and playing leads to such places only. Assumes nothing.
 use Prim.Native.Nat.{ℕ, _+_, _-_, _≤_, _<_}
 use native.Mathlib.Omega.{arith}
-use mathlib.Core.Path.{_≡_, refl, sym, ap, subst, _∙_}
-use mathlib.Core.Bool.{Bool, true, false}
+use mathlib.Core.Path.{_≡_, refl, sym, subst}
+use mathlib.Core.Bool.{true, false}
 use mathlib.Core.Logic.{⊎-elim}
-use mathlib.Core.List.{List, [], _∷_, _++_}
+use mathlib.Core.List.{List, [], _∷_}
 use Rattle.laws.specs.Numbers.{lt-or-ge}
 use Rattle.pulses.specs.Play.{Level, low, high, Entry, pulse, endless, rest}
 use Rattle.pulses.specs.Steps.{rest-nil, rest-stop, rest-ways}
@@ -16,7 +16,7 @@ use Rattle.entries.specs.Entries.{Spot, spot, entryOf, cyclesOf, bitsAt,
 use Rattle.entries.specs.Places.{Tape, blockIn, toneIn, byteIn, listFrom, fromPause, fromByte, fromBit, fromTone, fromCycle, leftAt, hasEntry, lengthAt, isStart, valid, headOf, leftOf, lengthIn}
 use Rattle.entries.proofs.Bounds.{bits-some}
 use Rattle.entries.proofs.Follows.{list-in, list-out, tone-in, tone-out, cycle-in, cycle-out, byte-in, byte-out, bit-in, bit-out}
-use Rattle.entries.proofs.Valid.{remains-full, remains-less, tone-entry, has-tone, data-entry, has-data, Stands, stands-valid, valid-stands, start-valid, valid-start}
+use Rattle.entries.proofs.Valid.{remains-full, remains-less, tone-entry, has-tone, data-entry, has-data, stands-valid, valid-stands, start-valid, valid-start}
 
 -- es is what is left to play from the position at its head, and that position is valid
 pub record Tail (w : Tape) (es : List (Entry Spot)) : Type 0 where
@@ -61,16 +61,18 @@ module _ (w : Tape) where
     tail-cycle-half : (i p : ℕ) → i < blockIn w b .tones → p < cyclesOf (toneIn w b i)
         → Tail w (leftAt w b (Tones i p false) (T (toneIn w b i .len1))) × Tail w (leftAt w b (Tones i p true) (T (toneIn w b i .len2)))
     unfolding leftAt lengthAt
-    tail-cycle-half i p l g =
-        (tail-at b (Tones i p false) low _ _ refl (stands-valid w b (Tones i p false) _ (record { below = h; entry = has-tone w b i p false l g; some = remains-full (T _) })),
-        tail-at b (Tones i p true) high _ _ refl (stands-valid w b (Tones i p true) _ (record { below = h; entry = has-tone w b i p true l g; some = remains-full (T _) })))
+    tail-cycle-half i p l g = (
+      tail-at b (Tones i p false) low _ _ refl (stands-valid w b (Tones i p false) _ (record { below = h; entry = has-tone (w .tones) (blockIn w b) i p false l g; some = remains-full (T _) })),
+      tail-at b (Tones i p true) high _ _ refl (stands-valid w b (Tones i p true) _ (record { below = h; entry = has-tone (w .tones) (blockIn w b) i p true l g; some = remains-full (T _) })),
+    )
 
     tail-bit-half : (pos k : ℕ) → pos < blockIn w b .size → k < bitsAt (blockIn w b) pos
         → Tail w (leftAt w b (Data pos k false) (T (halfOf (blockIn w b) (bitOf (byteIn w b pos) k)))) × Tail w (leftAt w b (Data pos k true) (T (halfOf (blockIn w b) (bitOf (byteIn w b pos) k))))
     unfolding leftAt lengthAt
-    tail-bit-half pos k l g =
-        (tail-at b (Data pos k false) low _ _ refl (stands-valid w b (Data pos k false) _ (record { below = h; entry = has-data w b pos k false l g; some = remains-full (T _) })),
-        tail-at b (Data pos k true) high _ _ refl (stands-valid w b (Data pos k true) _ (record { below = h; entry = has-data w b pos k true l g; some = remains-full (T _) })))
+    tail-bit-half pos k l g = (
+      tail-at b (Data pos k false) low _ _ refl (stands-valid w b (Data pos k false) _ (record { below = h; entry = has-data (w .tones) (blockIn w b) pos k false l g; some = remains-full (T _) })),
+      tail-at b (Data pos k true) high _ _ refl (stands-valid w b (Data pos k true) _ (record { below = h; entry = has-data (w .tones) (blockIn w b) pos k true l g; some = remains-full (T _) })),
+    )
 
     tail-bit-in : (pos k : ℕ) → pos < blockIn w b .size → k < bitsAt (blockIn w b) pos → Tail w (fromBit w b pos k)
     unfolding leftAt entryOf
@@ -112,22 +114,22 @@ module _ (w : Tape) where
       (lt-or-ge b (w .count))
   next-of b (Tones i p false) v t es e s =
       let a = valid-stands w b (Tones i p false) (T t) refl s in
-      let k = tone-entry w b i p false (a .entry) in
+      let k = tone-entry (w .tones) (blockIn w b) i p false (a .entry) in
       let y : es ≡ pulse (spot b (Tones i p true)) high (toneIn w b i .len2) ∷ fromCycle w b i (p + 1) = cc in
       tail-by y (tail-cycle-half b (a .below) i p (k .0) (k .1) .1)
   next-of b (Tones i p true) v t es e s =
       let a = valid-stands w b (Tones i p true) (T t) refl s in
       let y : es ≡ fromCycle w b i (p + 1) = cc in
-      tail-by y (tail-cycle b (a .below) i (p + 1) (tone-entry w b i p true (a .entry) .0))
+      tail-by y (tail-cycle b (a .below) i (p + 1) (tone-entry (w .tones) (blockIn w b) i p true (a .entry) .0))
   next-of b (Data pos k false) v t es e s =
       let a = valid-stands w b (Data pos k false) (T t) refl s in
-      let l = data-entry w b pos k false (a .entry) in
+      let l = data-entry (w .tones) (blockIn w b) pos k false (a .entry) in
       let y : es ≡ pulse (spot b (Data pos k true)) high (halfOf (blockIn w b) (bitOf (byteIn w b pos) k)) ∷ fromBit w b pos (k + 1) = cc in
       tail-by y (tail-bit-half b (a .below) pos k (l .0) (l .1) .1)
   next-of b (Data pos k true) v t es e s =
       let a = valid-stands w b (Data pos k true) (T t) refl s in
       let y : es ≡ fromBit w b pos (k + 1) = cc in
-      tail-by y (tail-bit b (a .below) pos (k + 1) (data-entry w b pos k true (a .entry) .0))
+      tail-by y (tail-bit b (a .below) pos (k + 1) (data-entry (w .tones) (blockIn w b) pos k true (a .entry) .0))
   next-of b Pause v t es e s = let y : es ≡ listFrom w (b + 1) = cc in tail-by y (tail-list (b + 1))
 
   pub tail-next : (a : Spot) (v : Level) (t : ℕ) (es : List (Entry Spot)) → Tail w (pulse a v t ∷ es) → Tail w es

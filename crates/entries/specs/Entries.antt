@@ -1,11 +1,11 @@
 -- A block's entries, from its row, in document 01's words. Definitions alone; assumes nothing.
 use Prim.Native.Nat.{ℕ, _+_, _-_, _/_, _%_, _^_, max}
-use mathlib.Core.Bool.{Bool, true, false}
+use mathlib.Core.Bool.{true, false}
 use mathlib.Core.List.{List, [], _∷_, _++_}
 use lib.Dec.{eqb}
 use lib.ListN.{getD}
 use Rattle.laws.specs.Rules.{_⇒_, _∣_}
-use Rattle.pulses.specs.Play.{Level, low, high, Entry, pulse, endless, Status, time, comesTo}
+use Rattle.pulses.specs.Play.{Level, low, high, Entry, pulse, endless, time, comesTo}
 use Rattle.pulses.specs.Source.{isEnded}
 use Rattle.pulses.specs.Runs.{run}
 use Rattle.rows.specs.Table.{get}

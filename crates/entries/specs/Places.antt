@@ -72,11 +72,14 @@ hasEntry tones r (Tones i p last-half) = ltb i (r .tones) && ltb p (cyclesOf (to
 hasEntry tones r (Data pos k last-half) = ltb pos (r .size) && ltb k (bitsAt r pos)
 hasEntry tones r Pause = true
 
+abbrev pub cycleHalf : Tone → Bool → ℕ
+cycleHalf t false = t .len1
+cycleHalf t true = t .len2
+
 -- that entry's length
 unfoldable pub lengthAt : List ℕ → List ℕ → Block → Phase → Duration
 lengthAt tape tones r Start = T 0
-lengthAt tape tones r (Tones i p false) = T (toneAt tones r i .len1)
-lengthAt tape tones r (Tones i p true) = T (toneAt tones r i .len2)
+lengthAt tape tones r (Tones i p last-half) = T (cycleHalf (toneAt tones r i) last-half)
 lengthAt tape tones r (Data pos k last-half) = T (halfOf r (bitOf (byteAt tape r pos) k))
 lengthAt tape tones r Pause = pauseOf r
 

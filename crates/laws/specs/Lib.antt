@@ -1,4 +1,4 @@
 pub mod Rules
 pub mod Arms
 pub mod Numbers
-pub mod Clauses
+pub mod Tests

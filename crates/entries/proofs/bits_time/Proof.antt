@@ -1,70 +1,57 @@
+-- `bits_time` meets its contract. Assumes nothing.
 use Rattle.entries.proofs.Bounds.{few}
 use Rattle.entries.proofs.Runs.{bits-time}
-use lib.Count.{ones}
-use Prim.Native.Nat.{_-_, _/_, _^_}
-use mathlib.Core.Path.{_≡_, refl, sym, ap, _∙_}
+use mathlib.Core.Path.{sym}
 use native.Mathlib.Omega.{arith}
 use borrow.Author.Needs.{needs}
 use Rattle.entries.proofs.bits_time.Statement.{statement}
 use Rattle.entries.proofs.bits_time.Tie as tie
-use Rattle.entries.proofs.bits_time.Reads as reads
-use Rattle.entries.proofs.bits_time.Lts as lts
 
--- src/lib.rt:75:37
 sub-ones : tie.Need-sub-ones
 sub-ones c = search needs
 
--- src/lib.rt:75:37
 cast-ones : tie.Need-cast-ones
 cast-ones c = search needs
 
--- src/lib.rt:75:31
 shr-ones : tie.Need-shr-ones
 shr-ones c = search needs
 
--- src/lib.rt:75:16
 cast-ones-2 : tie.Need-cast-ones-2
 cast-ones-2 c =
     let s = c in
     let f = few (s .args .r) (s .args .v) (s .args .n) (s .pre .1) (s .fits .v .fits) (s .pre .0 .1) in
     omega arith
 
--- src/lib.rt:76:10
 mul-result : tie.Need-mul-result
 mul-result c =
     let s = c .before in
     let f = few (s .args .r) (s .args .v) (s .args .n) (s .pre .1) (s .fits .v .fits) (s .pre .0 .1) in
     omega arith
 
--- src/lib.rt:76:26
 sub-result : tie.Need-sub-result
 sub-result c =
     let s = c .before in
     let f = few (s .args .r) (s .args .v) (s .args .n) (s .pre .1) (s .fits .v .fits) (s .pre .0 .1) in
     omega arith
 
--- src/lib.rt:76:25
 mul-result-2 : tie.Need-mul-result-2
 mul-result-2 c =
     let s = c .before .before in
     let f = few (s .args .r) (s .args .v) (s .args .n) (s .pre .1) (s .fits .v .fits) (s .pre .0 .1) in
     omega arith
 
--- src/lib.rt:76:10
 add-result : tie.Need-add-result
 add-result c =
     let s = c .before .before in
     let f = few (s .args .r) (s .args .v) (s .args .n) (s .pre .1) (s .fits .v .fits) (s .pre .0 .1) in
     omega arith
 
--- src/lib.rt:76:5
 mul-result-3 : tie.Need-mul-result-3
 mul-result-3 c =
     let s = c .before .before in
     let f = few (s .args .r) (s .args .v) (s .args .n) (s .pre .1) (s .fits .v .fits) (s .pre .0 .1) in
     omega arith
 
--- src/lib.rt:70:1
 returns : tie.Need-returns
 returns c =
     let s = c .before .before in

@@ -1,23 +1,19 @@
+-- `block_time` meets its contract. Assumes nothing.
 use Rattle.entries.proofs.Bounds.{sound-below}
 use Rattle.entries.proofs.Runs.{lasts-stop, lasts-pause}
 use Rattle.entries.specs.declared.Duration.the-variants.{T}
 use Rattle.rows.proofs.WellLaws.{block-clauses, numbers-most}
 use lib.ListN.{length}
 use Prim.Native.Nat.{ℕ, _+_}
-use mathlib.Core.Path.{_≡_, refl, sym, ap, ap₂, _∙_}
+use mathlib.Core.Path.{sym, ap, _∙_}
 use native.Mathlib.Omega.{arith}
 use borrow.Author.Needs.{needs}
 use Rattle.entries.proofs.block_time.Statement.{statement}
 use Rattle.entries.proofs.block_time.Tie as tie
-use Rattle.entries.proofs.block_time.Reads as reads
-use Rattle.entries.proofs.block_time.Lts as lts
-use Rattle.entries.proofs.sound_time.Reads as sound-time-reads
 
--- src/lib.rt:120:21
 sound-time-requires : tie.Need-sound-time-requires
 sound-time-requires c κs = search needs
 
--- src/lib.rt:120:21
 add-t7 : tie.Need-add-t7
 add-t7 c =
     let s = c .before .before .before .before .before .before in
@@ -27,13 +23,11 @@ add-t7 c =
     let w = numbers-most r (block-clauses (length t) n r (s .pre .0) .numbers) in
     omega (arith, w .pause (c .before .before .if1 .left), c .before .sound-time .ensures 0, sound-below (length t) t n 0 r (s .pre .0) (s .pre .1))
 
--- src/lib.rt:112:1
 returns : tie.Need-returns
 returns c =
     let s = c .before .before .before .before in
     λ b. sym (lasts-stop (s .args .tape .now) (s .args .tones .now) b (s .args .r) (c .if1 .taken))
 
--- src/lib.rt:112:1
 returns-2 : tie.Need-returns-2
 returns-2 c =
     let s = c .before .before .before .before .before .before in

@@ -1,46 +1,36 @@
+-- `mic` meets its contract. Assumes nothing.
 use Rattle.entries.specs.Places.{levelOf}
-use mathlib.Core.Path.{_≡_, refl, sym, ap, _∙_}
 use borrow.Author.Needs.{needs}
 use Rattle.entries.proofs.mic.Statement.{statement}
 use Rattle.entries.proofs.mic.Tie as tie
-use Rattle.entries.proofs.mic.Reads as reads
-use Rattle.entries.proofs.mic.Lts as lts
 
--- src/lib.rt:129:25
 enum-told : tie.Need-enum-told
 enum-told c = search needs
 
--- src/lib.rt:130:24
 enum-known-f : tie.Need-enum-known-f
 enum-known-f c = search needs
 
--- src/lib.rt:131:23
 enum-known-f-2 : tie.Need-enum-known-f-2
 enum-known-f-2 c = search needs
 
--- src/lib.rt:132:25
 enum-told-2 : tie.Need-enum-told-2
 enum-told-2 c = search needs
 
--- src/lib.rt:125:1
 returns : tie.Need-returns
 unfolding levelOf
 returns c =
     rw (c .enum-told .given .1)
 
--- src/lib.rt:125:1
 returns-2 : tie.Need-returns-2
 unfolding levelOf
 returns-2 c =
     rw (c .before .f .given .1)
 
--- src/lib.rt:125:1
 returns-3 : tie.Need-returns-3
 unfolding levelOf
 returns-3 c =
     rw (c .before .f2 .given .1)
 
--- src/lib.rt:125:1
 returns-4 : tie.Need-returns-4
 unfolding levelOf
 returns-4 c =

@@ -1,18 +1,14 @@
+-- `pause_of` meets its contract. Assumes nothing.
 use Rattle.entries.specs.Entries.{pauseOf}
 use borrow.Author.Tests.{eq-eqb, ne-eqb}
-use mathlib.Core.Path.{_≡_, refl, sym, ap, _∙_}
 use Rattle.entries.proofs.pause_of.Statement.{statement}
 use Rattle.entries.proofs.pause_of.Tie as tie
-use Rattle.entries.proofs.pause_of.Reads as reads
-use Rattle.entries.proofs.pause_of.Lts as lts
 
--- src/lib.rt:105:1
 returns : tie.Need-returns
 unfolding pauseOf
 returns c =
     rw (eq-eqb _ _ (c .if1 .taken))
 
--- src/lib.rt:105:1
 returns-2 : tie.Need-returns-2
 unfolding pauseOf
 returns-2 c =

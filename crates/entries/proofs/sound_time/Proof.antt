@@ -1,32 +1,26 @@
+-- `sound_time` meets its contract. Assumes nothing.
 use Rattle.entries.proofs.Bounds.{sound-below}
 use Rattle.entries.proofs.Runs.{sound-time}
 use Rattle.rows.proofs.WellLaws.{block-clauses, ranges-inside}
 use lib.ListN.{length}
 use Prim.Native.Nat.{ℕ, _+_}
-use mathlib.Core.Path.{_≡_, refl, sym, ap, ap₂, _∙_}
+use mathlib.Core.Path.{sym, ap₂, _∙_}
 use native.Mathlib.Omega.{arith}
 use Rattle.entries.proofs.sound_time.Statement.{statement}
 use Rattle.entries.proofs.sound_time.Tie as tie
-use Rattle.entries.proofs.sound_time.Reads as reads
-use Rattle.entries.proofs.sound_time.Lts as lts
-use Rattle.entries.proofs.data_time.Reads as data-time-reads
-use Rattle.entries.proofs.tones_time.Reads as tones-time-reads
 
--- src/lib.rt:101:5
 tones-time-requires : tie.Need-tones-time-requires
 tones-time-requires c κs =
     let s = c .before .before in
     let w = block-clauses (length (s .args .tape .now)) (s .args .tones .now) (s .args .r) (s .pre .0) in
     (ranges-inside (length (s .args .tape .now)) (s .args .tones .now) (s .args .r) (w .ranges) .rows, w .rows)
 
--- src/lib.rt:101:28
 data-time-requires : tie.Need-data-time-requires
 data-time-requires c κs =
     let s = c .before .before .before in
     let w = block-clauses (length (s .args .tape .now)) (s .args .tones .now) (s .args .r) (s .pre .0) in
     ((ranges-inside (length (s .args .tape .now)) (s .args .tones .now) (s .args .r) (w .ranges) .bytes, s .pre .1), w .numbers)
 
--- src/lib.rt:101:5
 add-result : tie.Need-add-result
 add-result c =
     let s = c .before .before .before .before in
@@ -35,7 +29,6 @@ add-result c =
     let r = s .args .r in
     omega (arith, c .before .tones-time .ensures 0, c .data-time .ensures 0, sound-time t n 0 r, sound-below (length t) t n 0 r (s .pre .0) (s .pre .1))
 
--- src/lib.rt:96:1
 returns : tie.Need-returns
 returns c =
     let s = c .before .before .before .before in

@@ -1,5 +1,5 @@
 -- A WELL-FORMED BLOCK LASTS LESS THAN 2 ^ 50 T-STATES, and so do its parts. Assumes nothing.
-use Prim.Native.Nat.{ℕ, _+_, _-_, _*_, _/_, _^_, _≤_, _<_}
+use Prim.Native.Nat.{ℕ, _+_, _-_, _*_, _/_, _^_, _≤_, _<_, max}
 use native.Mathlib.Nat.{mul-le-mul}
 use native.Mathlib.Omega.{arith}
 use lib.Count.{ones}
@@ -43,23 +43,22 @@ half-most r d e =
       | no z ↦ rw (ne-eqb d 0 z) (h .one)
     ]
 
-pub bits-most : (r : Block) (pos : ℕ) → wellNumbers r ≡ true → pos < r .size → bitsAt r pos ≤ 8
+-- what holds of the last byte's bits and of 8 holds of a byte's bits
+bits-ways : (P : ℕ → Type 0) (r : Block) (pos : ℕ) → P (max 1 (r .last)) → P 8 → P (bitsAt r pos)
 unfolding bitsAt
-bits-most r pos e l =
-    let h = numbers-most r e in
-    let k : r .last ≤ 8 = h .last (omega arith) in
+bits-ways P r pos p q =
     elim (ℕ-discrete (pos + 1) (r .size)) [
-      | yes z ↦ rw (eq-eqb (pos + 1) (r .size) z) (omega arith)
-      | no z ↦ rw (ne-eqb (pos + 1) (r .size) z) (omega arith)
+      | yes z ↦ rw (eq-eqb (pos + 1) (r .size) z) p
+      | no z ↦ rw (ne-eqb (pos + 1) (r .size) z) q
     ]
 
+pub bits-most : (r : Block) (pos : ℕ) → wellNumbers r ≡ true → pos < r .size → bitsAt r pos ≤ 8
+bits-most r pos e l =
+    let k : r .last ≤ 8 = numbers-most r e .last (omega arith) in
+    bits-ways (λ n. n ≤ 8) r pos (omega arith) (omega arith)
+
 pub bits-some : (r : Block) (pos : ℕ) → 0 < bitsAt r pos
-unfolding bitsAt
-bits-some r pos =
-    elim (ℕ-discrete (pos + 1) (r .size)) [
-      | yes z ↦ rw (eq-eqb (pos + 1) (r .size) z) (omega arith)
-      | no z ↦ rw (ne-eqb (pos + 1) (r .size) z) (omega arith)
-    ]
+bits-some r pos = bits-ways (λ n. 0 < n) r pos (omega arith) (omega arith)
 
 -- the ones among a byte's first n bits, and what they and the zeros last
 pub record Few (r : Block) (k n : ℕ) : Type 0 where

@@ -6,4 +6,5 @@ pub mod Follows
 pub mod Valid
 pub mod Tails
 pub mod Levels
+pub mod Loading
 pub mod Parts

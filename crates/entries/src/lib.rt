@@ -12,7 +12,7 @@ ghost use Rattle.pulses.specs.Runs.{run};
 ghost use Rattle.rows.specs.Table.{capacityOf};
 ghost use Rattle.rows.specs.Rows.{tone, toneMost};
 ghost use Rattle.rows.specs.Well.{wellTone, wellTones, wellNumbers, wellBlock};
-ghost use Rattle.entries.specs.Entries.{cyclesOf, toneOf, toneAt, tonesOf, bitsAt, bitOf, halfOf, bitEntries, dataOf, pauseOf, soundOf, entriesOf, lastsOf};
+ghost use Rattle.entries.specs.Entries.{cyclesOf, toneOf, toneAt, tonesOf, bitsAt, bitOf, halfOf, bitEntries, byteEntries, dataOf, pauseOf, soundOf, entriesOf, lastsOf};
 ghost use Rattle.entries.specs.Places.{cycleHalf, hasEntry, lengthAt, remains, levelOf};
 
 // Where an entry stands in its block; the Rust's `TapePhase`.
@@ -104,6 +104,16 @@ fn bits_time(v: u8, n: u64, r: Block) -> u64
     2 * (ones * r.one + (n - ones) * r.zero)
 }
 
+// T-states of a block's data byte at pos, which its callers know to lie in the tape, in a row whose numbers are well formed.
+pub fn byte_time(tape: &[u8], r: Block, pos: u64) -> u64
+    requires { ⌜ (r .start + r .size ≤ length (now tape)) × (pos < r .size) ⌝ }
+    requires { ⌜ wellNumbers r ≡ true ⌝ }
+    ensures { λ t. ⌜ ((b : ℕ) → t ≡ time (byteEntries (now (tape .entry)) b r pos)) ⌝ }
+{
+    let at = (r.start + pos) as usize;
+    bits_time(tape[at], bits_at(r, pos), r)
+}
+
 // T-states of a block's data, which its callers know to lie in a tape within the limit, in a row whose numbers are well formed.
 pub fn data_time(tape: &[u8], r: Block) -> u64
     requires { ⌜ (r .start + r .size ≤ length (now tape)) × (length (now tape) ≤ 1048576) ⌝ }
@@ -113,8 +123,7 @@ pub fn data_time(tape: &[u8], r: Block) -> u64
     let mut sum = 0;
     let mut pos = 0;
     while pos < r.size {
-        let at = (r.start + pos) as usize;
-        sum += bits_time(tape[at], bits_at(r, pos), r);
+        sum += byte_time(tape, r, pos);
         pos += 1;
     }
     sum

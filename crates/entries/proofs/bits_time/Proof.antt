@@ -1,9 +1,9 @@
--- `bits_time` meets its contract. Assumes nothing.
+-- `bits_time` meets its contract: the ones among the bits counted are those of the list. Assumes nothing.
+use native.Mathlib.Omega.{arith}
+use mathlib.Core.Path.{sym}
+use borrow.Author.Needs.{needs}
 use Rattle.entries.proofs.Bounds.{few}
 use Rattle.entries.proofs.Runs.{bits-time}
-use mathlib.Core.Path.{sym}
-use native.Mathlib.Omega.{arith}
-use borrow.Author.Needs.{needs}
 use Rattle.entries.proofs.bits_time.Statement.{statement}
 use Rattle.entries.proofs.bits_time.Tie as tie
 

@@ -1,13 +1,13 @@
--- `block_time` meets its contract. Assumes nothing.
+-- `block_time` meets its contract: a stop lasts for ever, another block its sound and its pause. Assumes nothing.
+use Prim.Native.Nat.{ℕ, _+_}
+use native.Mathlib.Omega.{arith}
+use mathlib.Core.Path.{sym, ap, _∙_}
+use lib.ListN.{length}
+use borrow.Author.Needs.{needs}
+use Rattle.rows.proofs.WellLaws.{block-clauses, numbers-most}
+use Rattle.entries.specs.declared.Duration.the-variants.{T}
 use Rattle.entries.proofs.Bounds.{sound-below}
 use Rattle.entries.proofs.Runs.{lasts-stop, lasts-pause}
-use Rattle.entries.specs.declared.Duration.the-variants.{T}
-use Rattle.rows.proofs.WellLaws.{block-clauses, numbers-most}
-use lib.ListN.{length}
-use Prim.Native.Nat.{ℕ, _+_}
-use mathlib.Core.Path.{sym, ap, _∙_}
-use native.Mathlib.Omega.{arith}
-use borrow.Author.Needs.{needs}
 use Rattle.entries.proofs.block_time.Statement.{statement}
 use Rattle.entries.proofs.block_time.Tie as tie
 

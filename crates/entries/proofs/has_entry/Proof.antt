@@ -1,7 +1,7 @@
 -- `has_entry` meets its contract. Assumes nothing.
-use Rattle.entries.specs.Places.{hasEntry}
-use borrow.Author.Tests.{lt-ltb, le-ltb}
 use borrow.Author.Needs.{needs}
+use borrow.Author.Tests.{lt-ltb, le-ltb}
+use Rattle.entries.specs.Places.{hasEntry}
 use Rattle.entries.proofs.has_entry.Statement.{statement}
 use Rattle.entries.proofs.has_entry.Tie as tie
 
@@ -28,8 +28,7 @@ enum-told-2 c = search needs
 
 returns : tie.Need-returns
 unfolding hasEntry
-returns c =
-    rw (c .enum-told .given .1)
+returns c = rw (c .enum-told .given .1)
 
 returns-2 : tie.Need-returns-2
 unfolding hasEntry
@@ -38,23 +37,19 @@ returns-2 c =
 
 returns-3 : tie.Need-returns-3
 unfolding hasEntry
-returns-3 c =
-    rw (c .before .before .before .f .given .1, le-ltb _ _ (c .if1 .left))
+returns-3 c = rw (c .before .before .before .f .given .1, le-ltb _ _ (c .if1 .left))
 
 returns-4 : tie.Need-returns-4
 unfolding hasEntry
-returns-4 c =
-    rw (c .before .before .before .before .f2 .given .1, lt-ltb _ _ (c .before .if2 .taken), c .bits-at .ensures)
+returns-4 c = rw (c .before .before .before .before .f2 .given .1, lt-ltb _ _ (c .before .if2 .taken), c .bits-at .ensures)
 
 returns-5 : tie.Need-returns-5
 unfolding hasEntry
-returns-5 c =
-    rw (c .before .before .before .f2 .given .1, le-ltb _ _ (c .if2 .left))
+returns-5 c = rw (c .before .before .before .f2 .given .1, le-ltb _ _ (c .if2 .left))
 
 returns-6 : tie.Need-returns-6
 unfolding hasEntry
-returns-6 c =
-    rw (c .enum-told2 .given .1)
+returns-6 c = rw (c .enum-told2 .given .1)
 
 pub has-entry-spec : {M : Type 1} → statement M
 has-entry-spec =

@@ -1,9 +1,9 @@
 -- `length_at` meets its contract. Assumes nothing.
-use Rattle.entries.proofs.Valid.{at-row, at-bit}
-use Rattle.entries.specs.Places.{lengthAt}
-use lib.ListN.{length}
 use native.Mathlib.Omega.{arith}
+use lib.ListN.{length}
 use borrow.Author.Needs.{needs}
+use Rattle.entries.specs.Places.{lengthAt}
+use Rattle.entries.proofs.Valid.{at-row, at-bit}
 use Rattle.entries.proofs.length_at.Statement.{statement}
 use Rattle.entries.proofs.length_at.Tie as tie
 
@@ -51,23 +51,19 @@ pause-of-requires c κs = search needs
 
 returns : tie.Need-returns
 unfolding lengthAt
-returns c =
-    rw (c .enum-told .given .1)
+returns c = rw (c .enum-told .given .1)
 
 returns-2 : tie.Need-returns-2
 unfolding lengthAt
-returns-2 c =
-    rw (c .before .before .before .f .given .1, c .cycle-half .ensures, c .before .row-tone .ensures)
+returns-2 c = rw (c .before .before .before .f .given .1, c .cycle-half .ensures, c .before .row-tone .ensures)
 
 returns-3 : tie.Need-returns-3
 unfolding lengthAt
-returns-3 c =
-    rw (c .before .before .before .before .f2 .given .1, c .half-of .ensures)
+returns-3 c = rw (c .before .before .before .before .f2 .given .1, c .half-of .ensures)
 
 returns-4 : tie.Need-returns-4
 unfolding lengthAt
-returns-4 c =
-    rw (c .before .enum-told2 .given .1) (c .pause-of .ensures)
+returns-4 c = rw (c .before .enum-told2 .given .1) (c .pause-of .ensures)
 
 pub length-at-spec : {M : Type 1} → statement M
 length-at-spec =

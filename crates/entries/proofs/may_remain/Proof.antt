@@ -1,6 +1,6 @@
 -- `may_remain` meets its contract. Assumes nothing.
-use Rattle.entries.specs.Places.{remains}
 use borrow.Author.Needs.{needs}
+use Rattle.entries.specs.Places.{remains}
 use Rattle.entries.proofs.may_remain.Statement.{statement}
 use Rattle.entries.proofs.may_remain.Tie as tie
 
@@ -27,23 +27,19 @@ enum-told-4 c = search needs
 
 returns : tie.Need-returns
 unfolding remains
-returns c =
-    rw (c .before .before .before .before .before .left .given .1, c .before .before .length .given .1) (c .within .ensures)
+returns c = rw (c .before .before .before .before .before .left .given .1, c .before .before .length .given .1) (c .within .ensures)
 
 returns-2 : tie.Need-returns-2
 unfolding remains
-returns-2 c =
-    rw (c .before .before .before .left .given .1, c .enum-told .given .1)
+returns-2 c = rw (c .before .before .before .left .given .1, c .enum-told .given .1)
 
 returns-3 : tie.Need-returns-3
 unfolding remains
-returns-3 c =
-    rw (c .before .before .enum-told2 .given .1, c .enum-told3 .given .1)
+returns-3 c = rw (c .before .before .enum-told2 .given .1, c .enum-told3 .given .1)
 
 returns-4 : tie.Need-returns-4
 unfolding remains
-returns-4 c =
-    rw (c .before .before .enum-told2 .given .1, c .enum-told4 .given .1)
+returns-4 c = rw (c .before .before .enum-told2 .given .1, c .enum-told4 .given .1)
 
 pub may-remain-spec : {M : Type 1} → statement M
 may-remain-spec =

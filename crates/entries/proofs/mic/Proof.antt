@@ -1,6 +1,6 @@
 -- `mic` meets its contract. Assumes nothing.
-use Rattle.entries.specs.Places.{levelOf}
 use borrow.Author.Needs.{needs}
+use Rattle.entries.specs.Places.{levelOf}
 use Rattle.entries.proofs.mic.Statement.{statement}
 use Rattle.entries.proofs.mic.Tie as tie
 
@@ -18,23 +18,19 @@ enum-told-2 c = search needs
 
 returns : tie.Need-returns
 unfolding levelOf
-returns c =
-    rw (c .enum-told .given .1)
+returns c = rw (c .enum-told .given .1)
 
 returns-2 : tie.Need-returns-2
 unfolding levelOf
-returns-2 c =
-    rw (c .before .f .given .1)
+returns-2 c = rw (c .before .f .given .1)
 
 returns-3 : tie.Need-returns-3
 unfolding levelOf
-returns-3 c =
-    rw (c .before .f2 .given .1)
+returns-3 c = rw (c .before .f2 .given .1)
 
 returns-4 : tie.Need-returns-4
 unfolding levelOf
-returns-4 c =
-    rw (c .enum-told2 .given .1)
+returns-4 c = rw (c .enum-told2 .given .1)
 
 pub mic-spec : {M : Type 1} → statement M
 mic-spec =

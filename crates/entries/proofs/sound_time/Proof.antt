@@ -1,11 +1,11 @@
--- `sound_time` meets its contract. Assumes nothing.
+-- `sound_time` meets its contract: the tones' time and the data's. Assumes nothing.
+use Prim.Native.Nat.{ℕ, _+_}
+use native.Mathlib.Omega.{arith}
+use mathlib.Core.Path.{sym, ap₂, _∙_}
+use lib.ListN.{length}
+use Rattle.rows.proofs.WellLaws.{block-clauses, ranges-inside}
 use Rattle.entries.proofs.Bounds.{sound-below}
 use Rattle.entries.proofs.Runs.{sound-time}
-use Rattle.rows.proofs.WellLaws.{block-clauses, ranges-inside}
-use lib.ListN.{length}
-use Prim.Native.Nat.{ℕ, _+_}
-use mathlib.Core.Path.{sym, ap₂, _∙_}
-use native.Mathlib.Omega.{arith}
 use Rattle.entries.proofs.sound_time.Statement.{statement}
 use Rattle.entries.proofs.sound_time.Tie as tie
 

@@ -1,13 +1,13 @@
--- `tone_time` meets its contract. Assumes nothing.
+-- `tone_time` meets its contract: as many cycles of equal time. Assumes nothing.
+use Prim.Native.Nat.{_+_, _*_}
+use native.Mathlib.Omega.{arith}
+use mathlib.Core.Path.{_≡_, sym}
+use borrow.Author.Needs.{needs}
+use Rattle.pulses.specs.Play.{time}
+use Rattle.rows.proofs.WellLaws.{tone-most}
 use Rattle.entries.specs.Entries.{toneOf}
 use Rattle.entries.proofs.Bounds.{tone-most-time}
 use Rattle.entries.proofs.Runs.{tone-time}
-use Rattle.rows.proofs.WellLaws.{tone-most}
-use Rattle.pulses.specs.Play.{time}
-use Prim.Native.Nat.{_+_, _*_}
-use mathlib.Core.Path.{_≡_, sym}
-use native.Mathlib.Omega.{arith}
-use borrow.Author.Needs.{needs}
 use Rattle.entries.proofs.tone_time.Statement.{statement}
 use Rattle.entries.proofs.tone_time.Tie as tie
 

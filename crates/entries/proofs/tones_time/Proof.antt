@@ -1,15 +1,15 @@
--- `tones_time` meets its contract. Assumes nothing.
+-- `tones_time` meets its contract: the sum is the time of the rows passed. Assumes nothing.
+use Prim.Native.Nat.{ℕ, _-_, _≤_}
+use native.Mathlib.Omega.{arith}
+use mathlib.Core.Bool.{true}
+use mathlib.Core.Path.{_≡_, refl, ap, _∙_}
+use Rattle.pulses.specs.Play.{time}
+use Rattle.pulses.specs.Runs.{run, run-time-next}
+use Rattle.rows.proofs.WellLaws.{tones-each}
+use Rattle.rows.specs.Well.{wellTone}
 use Rattle.entries.specs.Entries.{toneOf, rowOf, tonesOf}
 use Rattle.entries.proofs.Bounds.{tone-most-time, rows-most-time}
 use Rattle.entries.proofs.Runs.{row-finite}
-use Rattle.rows.specs.Well.{wellTone}
-use Rattle.rows.proofs.WellLaws.{tones-each}
-use Rattle.pulses.specs.Runs.{run, run-time-next}
-use Rattle.pulses.specs.Play.{time}
-use mathlib.Core.Bool.{true}
-use Prim.Native.Nat.{ℕ, _-_, _≤_}
-use mathlib.Core.Path.{_≡_, refl, ap, _∙_}
-use native.Mathlib.Omega.{arith}
 use Rattle.entries.proofs.tones_time.Statement.{statement}
 use Rattle.entries.proofs.tones_time.Tie as tie
 
@@ -18,8 +18,7 @@ Inv-loop tones r sum₀ i₀ sum i =
     (i ≤ r .tones) × ((b : ℕ) → sum ≡ time (run (rowOf tones b r) 0 i))
 
 abbrev μ-loop : tie.MeasureT-loop
-μ-loop tones r sum₀ i₀ sum i =
-    r .tones - i
+μ-loop tones r sum₀ i₀ sum i = r .tones - i
 
 loop-holds : tie.Need-loop-holds Inv-loop μ-loop
 unfolding run time
@@ -48,12 +47,10 @@ add-sum c =
     omega (arith, l .loop .inv .1 0, rows-most-time t 0 r (l .loop .i) (a .pre .1) (l .loop .inv .0), c .tone-time .ensures 0 0, tone-most-time 0 0 (c .before .row-tone .result) w)
 
 add-i : tie.Need-add-i Inv-loop μ-loop
-add-i c =
-    omega arith
+add-i c = omega arith
 
 loop-less : tie.Need-loop-less Inv-loop μ-loop
-loop-less c =
-    omega arith
+loop-less c = omega arith
 
 loop-again : tie.Need-loop-again Inv-loop μ-loop
 loop-again c =

@@ -1,14 +1,13 @@
 -- `within` meets its contract. Assumes nothing.
-use Rattle.entries.proofs.Valid.{none-within}
 use Prim.Native.Nat.{min}
-use borrow.Author.Tests.{le-leb}
 use native.Mathlib.Omega.{arith}
+use borrow.Author.Tests.{le-leb}
+use Rattle.entries.proofs.Valid.{none-within}
 use Rattle.entries.proofs.within.Statement.{statement}
 use Rattle.entries.proofs.within.Tie as tie
 
 returns : tie.Need-returns
-returns c =
-    rw (c .if1 .taken) (none-within (c .before .args .t))
+returns c = rw (c .if1 .taken) (none-within (c .before .args .t))
 
 returns-2 : tie.Need-returns-2
 returns-2 c =

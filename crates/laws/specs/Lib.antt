@@ -1,3 +1,4 @@
 pub mod Rules
 pub mod Arms
 pub mod Numbers
+pub mod Tests

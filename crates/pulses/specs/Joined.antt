@@ -1,9 +1,9 @@
 -- THE COMPOSITION: a run of finite entries before a list holds the head or is passed whole. Assumes nothing.
-use mathlib.Core.Path.{_≡_, sym, ap, _∙_}
+use mathlib.Core.Path.{_≡_, refl, sym, ap, _∙_}
 use mathlib.Core.List.{List, [], _∷_, _++_}
 use Prim.Native.Nat.{ℕ, _+_, _-_, _≤_, _<_}
 use native.Mathlib.Omega.{arith}
-use Rattle.pulses.specs.Play.{Entry, pulse, endless, rest, over, time, Finite}
+use Rattle.pulses.specs.Play.{Entry, pulse, endless, rest, over, time, comesTo, Finite}
 use Rattle.pulses.specs.Steps.{rest-nil, rest-zero, rest-here, rest-past, rest-ways}
 
 module _ {A : Type 0} where
@@ -18,6 +18,12 @@ module _ {A : Type 0} where
   finite-append [] ys f g = g
   finite-append (endless a v ∷ xs) ys f g = absurd f
   finite-append (pulse a v t ∷ xs) ys f g = finite-append xs ys f g
+
+  pub comes-append : (xs ys : List (Entry A)) → Finite xs → comesTo (xs ++ ys) ≡ comesTo ys
+  unfolding comesTo Finite
+  comes-append [] ys f = refl
+  comes-append (endless a v ∷ xs) ys f = absurd f
+  comes-append (pulse a v t ∷ xs) ys f = comes-append xs ys f
 
   -- at the run's own sum the head is still inside it, before its last entries of no length
   pub rest-in : (xs ys : List (Entry A)) (n : ℕ) → Finite xs → n ≤ time xs → rest (xs ++ ys) n ≡ rest xs n ++ ys

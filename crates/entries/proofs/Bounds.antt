@@ -1,0 +1,118 @@
+-- A WELL-FORMED BLOCK LASTS LESS THAN 2 ^ 50 T-STATES, and so do its parts. Assumes nothing.
+use Prim.Native.Nat.{ℕ, _+_, _-_, _*_, _/_, _^_, _≤_, _<_, max}
+use native.Mathlib.Nat.{mul-le-mul}
+use native.Mathlib.Omega.{arith}
+use lib.Count.{ones}
+use native.Mathlib.Decide.{ℕ-discrete}
+use borrow.Author.Tests.{eq-eqb, ne-eqb}
+use mathlib.Core.Path.{_≡_}
+use mathlib.Core.Bool.{true}
+use mathlib.Core.List.{List, [], _∷_}
+use Rattle.pulses.specs.Play.{time}
+use Rattle.pulses.specs.Joined.{time-append}
+use Rattle.pulses.specs.Runs.{run, run-time-most}
+use Rattle.rows.specs.declared.Tone.{Tone}
+use Rattle.rows.specs.declared.Block.{Block}
+use Rattle.rows.specs.Rows.{tone}
+use Rattle.rows.specs.Well.{wellTone, wellTones, wellNumbers, wellBlock}
+use Rattle.rows.proofs.WellLaws.{block-clauses, ranges-inside, numbers-most, tone-most, tones-each}
+use Rattle.entries.specs.Entries.{entryOf, cyclesOf, toneOf, rowOf, tonesOf, bitsAt, bitOf, halfOf, bitEntries, byteOf, byteEntries, dataOf, pauseOf, pauseEntry, soundOf, entriesOf}
+use Rattle.entries.proofs.Runs.{few-ones, tone-time, bit-finite, bit-time, row-finite, bytes-finite, sound-finite, sound-time}
+
+pub tone-most-time : (b i : ℕ) (t : Tone) → wellTone t ≡ true → time (toneOf b i t) ≤ 8589672450
+unfolding cyclesOf
+tone-most-time b i t e =
+    let h = tone-most t e in
+    let m : cyclesOf t ≤ 65535 = omega arith in
+    let n : t .len1 + t .len2 ≤ 131070 = omega arith in
+    let k : cyclesOf t * (t .len1 + t .len2) ≤ 65535 * 131070 = mul-le-mul m n in
+    omega (arith, tone-time b i t)
+
+pub rows-most-time : (tones : List ℕ) (b : ℕ) (r : Block) (n : ℕ) → wellTones tones (r .tone) (r .tones) ≡ true → n ≤ r .tones
+    → time (run (rowOf tones b r) 0 n) ≤ n * 8589672450
+rows-most-time tones b r n e h =
+    run-time-most (rowOf tones b r) (row-finite tones b r) 8589672450 0 n
+    (λ i l g. tone-most-time b i _ (tones-each tones (r .tone) (r .tones) i e (omega arith)))
+
+half-most : (r : Block) (d : ℕ) → wellNumbers r ≡ true → halfOf r d ≤ 65535
+unfolding halfOf
+half-most r d e =
+    let h = numbers-most r e in
+    elim (ℕ-discrete d 0) [
+      | yes z ↦ rw (eq-eqb d 0 z) (h .zero)
+      | no z ↦ rw (ne-eqb d 0 z) (h .one)
+    ]
+
+-- what holds of the last byte's bits and of 8 holds of a byte's bits
+bits-ways : (P : ℕ → Type 0) (r : Block) (pos : ℕ) → P (max 1 (r .last)) → P 8 → P (bitsAt r pos)
+unfolding bitsAt
+bits-ways P r pos p q =
+    elim (ℕ-discrete (pos + 1) (r .size)) [
+      | yes z ↦ rw (eq-eqb (pos + 1) (r .size) z) p
+      | no z ↦ rw (ne-eqb (pos + 1) (r .size) z) q
+    ]
+
+pub bits-most : (r : Block) (pos : ℕ) → wellNumbers r ≡ true → pos < r .size → bitsAt r pos ≤ 8
+bits-most r pos e l =
+    let k : r .last ≤ 8 = numbers-most r e .last (omega arith) in
+    bits-ways (λ n. n ≤ 8) r pos (omega arith) (omega arith)
+
+pub bits-some : (r : Block) (pos : ℕ) → 0 < bitsAt r pos
+bits-some r pos = bits-ways (λ n. 0 < n) r pos (omega arith) (omega arith)
+
+-- the ones among a byte's first n bits, and what they and the zeros last
+pub record Few (r : Block) (k n : ℕ) : Type 0 where
+  pub ones : k ≤ n
+  pub long : k * r .one ≤ 524280
+  pub short : (n - k) * r .zero ≤ 524280
+
+pub few : (r : Block) (v n : ℕ) → wellNumbers r ≡ true → v < 256 → n ≤ 8 → Few r (ones (v / 2 ^ (8 - n))) n
+few r v n e small h =
+    let w = numbers-most r e in
+    let k = ones (v / 2 ^ (8 - n)) in
+    let l : k ≤ n = few-ones v n small h in
+    let i : k ≤ 8 = omega arith in
+    let o : n - k ≤ 8 = omega arith in
+    let a : k * r .one ≤ 8 * 65535 = mul-le-mul i (w .one) in
+    let b : (n - k) * r .zero ≤ 8 * 65535 = mul-le-mul o (w .zero) in
+    record { ones = l; long = omega arith; short = omega arith }
+
+pub byte-most-time : (b : ℕ) (r : Block) (pos v : ℕ) → wellNumbers r ≡ true → pos < r .size → time (byteOf b r pos v) ≤ 1048560
+unfolding byteOf
+byte-most-time b r pos v e l =
+    let m : time (run (bitEntries b r pos v) 0 (bitsAt r pos)) ≤ bitsAt r pos * 131070 =
+    run-time-most (bitEntries b r pos v) (bit-finite b r pos v) 131070 0 (bitsAt r pos)
+    (λ k x y. omega (arith, bit-time b r pos v k, half-most r (bitOf v k) e)) in
+    omega (arith, bits-most r pos e l)
+
+pub bytes-most-time : (tape : List ℕ) (b : ℕ) (r : Block) (n : ℕ) → wellNumbers r ≡ true → n ≤ r .size
+    → time (run (byteEntries tape b r) 0 n) ≤ n * 1048560
+bytes-most-time tape b r n e h =
+    run-time-most (byteEntries tape b r) (bytes-finite tape b r) 1048560 0 n
+    (λ pos l g. byte-most-time b r pos _ e (omega arith))
+
+-- over any bytes: the tape's length alone counts
+module _ (size : ℕ) (tape tones : List ℕ) (b : ℕ) (r : Block) (w : wellBlock size tones r ≡ true) (few : size ≤ 1048576) where
+  sound-most : time (soundOf tape tones b r) ≤ 564032268533760
+  unfolding tonesOf dataOf
+  sound-most =
+      let c = block-clauses size tones r w in
+      let i = ranges-inside size tones r (c .ranges) in
+      omega (arith, sound-time tape tones b r, rows-most-time tones b r (r .tones) (c .rows) (omega arith), bytes-most-time tape b r (r .size) (c .numbers) (omega arith))
+
+  pub sound-below : time (soundOf tape tones b r) < 2 ^ 50
+  sound-below = omega (arith, sound-most)
+
+  pause-most-time : time (pauseEntry b r ∷ []) ≤ 229372500
+  unfolding entryOf pauseOf time
+  pause-most-time =
+      let c = block-clauses size tones r w in
+      let n = numbers-most r (c .numbers) in
+      elim (ℕ-discrete (r .endless) 1) [
+        | yes z ↦ rw (eq-eqb (r .endless) 1 z) (omega arith)
+        | no z ↦ rw (ne-eqb (r .endless) 1 z) (omega (arith, n .pause z))
+      ]
+
+  pub block-below : time (entriesOf tape tones b r) < 2 ^ 50
+  unfolding entriesOf
+  block-below = omega (arith, time-append (soundOf tape tones b r) (pauseEntry b r ∷ []) (sound-finite tape tones b r), sound-most, pause-most-time)

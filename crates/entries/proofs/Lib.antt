@@ -1,0 +1,10 @@
+pub mod Examples
+pub mod Readings
+pub mod Runs
+pub mod Bounds
+pub mod Follows
+pub mod Valid
+pub mod Tails
+pub mod Levels
+pub mod Loading
+pub mod Parts

@@ -1,0 +1,85 @@
+-- `length_at` meets its contract. Assumes nothing.
+use native.Mathlib.Omega.{arith}
+use lib.ListN.{length}
+use borrow.Author.Needs.{needs}
+use Rattle.entries.specs.Places.{lengthAt}
+use Rattle.entries.proofs.Valid.{at-row, at-bit}
+use Rattle.entries.proofs.length_at.Statement.{statement}
+use Rattle.entries.proofs.length_at.Tie as tie
+
+enum-told : tie.Need-enum-told
+enum-told c = search needs
+
+enum-known-f : tie.Need-enum-known-f
+enum-known-f c = search needs
+
+row-tone-requires : tie.Need-row-tone-requires
+row-tone-requires c κs =
+    let s = c .before .before .before .before .before in
+    let d = at-row (length (s .args .tape .now)) (s .args .tones .now) (s .args .r) (s .pre .0) (s .pre .1) (c .before .f .given .1) in
+    (d .lent, d .one)
+
+cycle-half-requires : tie.Need-cycle-half-requires
+cycle-half-requires c κs = search needs
+
+enum-known-f-2 : tie.Need-enum-known-f-2
+enum-known-f-2 c = search needs
+
+add-at : tie.Need-add-at
+add-at c =
+    let s = c .before .before .before .before .before .before in
+    let d = at-bit (length (s .args .tape .now)) (s .args .tones .now) (s .args .r) (s .pre .0) (s .pre .1) (c .before .before .f2 .given .1) in
+    omega arith
+
+shared-slice-read-half-of : tie.Need-shared-slice-read-half-of
+shared-slice-read-half-of c =
+    let s = c .before .before .before .before .before .before .before in
+    let d = at-bit (length (s .args .tape .now)) (s .args .tones .now) (s .args .r) (s .pre .0) (s .pre .1) (c .before .before .before .f2 .given .1) in
+    d .place
+
+half-of-requires : tie.Need-half-of-requires
+half-of-requires c κs =
+    let s = c .before .before .before .before .before .before .before in
+    let d = at-bit (length (s .args .tape .now)) (s .args .tones .now) (s .args .r) (s .pre .0) (s .pre .1) (c .before .before .before .f2 .given .1) in
+    d .one
+
+enum-told-2 : tie.Need-enum-told-2
+enum-told-2 c = search needs
+
+pause-of-requires : tie.Need-pause-of-requires
+pause-of-requires c κs = search needs
+
+returns : tie.Need-returns
+unfolding lengthAt
+returns c = rw (c .enum-told .given .1)
+
+returns-2 : tie.Need-returns-2
+unfolding lengthAt
+returns-2 c = rw (c .before .before .before .f .given .1, c .cycle-half .ensures, c .before .row-tone .ensures)
+
+returns-3 : tie.Need-returns-3
+unfolding lengthAt
+returns-3 c = rw (c .before .before .before .before .f2 .given .1, c .half-of .ensures)
+
+returns-4 : tie.Need-returns-4
+unfolding lengthAt
+returns-4 c = rw (c .before .enum-told2 .given .1) (c .pause-of .ensures)
+
+pub length-at-spec : {M : Type 1} → statement M
+length-at-spec =
+    tie.close
+    (tie.spec
+    enum-told
+    enum-known-f
+    row-tone-requires
+    cycle-half-requires
+    enum-known-f-2
+    add-at
+    shared-slice-read-half-of
+    half-of-requires
+    enum-told-2
+    pause-of-requires
+    returns
+    returns-2
+    returns-3
+    returns-4)

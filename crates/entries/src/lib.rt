@@ -1,0 +1,252 @@
+// What a block's entries are, and their times, each a step a tone row and a data byte.
+use rows::Block;
+use rows::Tone;
+use rows::tone_at;
+ghost use mathlib.Core.Path.{_≡_};
+ghost use mathlib.Core.Bool.{true, _&&_};
+ghost use Prim.Native.Nat.{ℕ, _+_, _<_, _≤_, max, min};
+ghost use lib.Dec.{leb};
+ghost use lib.ListN.{length};
+ghost use Rattle.pulses.specs.Play.{time};
+ghost use Rattle.pulses.specs.Runs.{run};
+ghost use Rattle.rows.specs.Table.{capacityOf};
+ghost use Rattle.rows.specs.Rows.{tone, toneMost};
+ghost use Rattle.rows.specs.Well.{wellTone, wellTones, wellNumbers, wellBlock};
+ghost use Rattle.entries.specs.Entries.{cyclesOf, toneOf, toneAt, tonesOf, bitsAt, bitOf, halfOf, bitEntries, byteEntries, dataOf, pauseOf, soundOf, entriesOf, lastsOf};
+ghost use Rattle.entries.specs.Places.{cycleHalf, hasEntry, lengthAt, remains, levelOf};
+
+// Where an entry stands in its block; the Rust's `TapePhase`.
+pub enum Phase {
+    Start,
+    Tones {
+        index: u64,
+        pulse: u64,
+        last_half: bool,
+    },
+    Data {
+        pos: u64,
+        bit: u64,
+        last_half: bool,
+    },
+    Pause,
+}
+
+// T-states, or none that ends it; the Rust's `Duration`.
+pub enum Duration {
+    T(u64),
+    Endless,
+}
+
+// A count of cycles or bits, 0 as one.
+fn at_least_one(n: u64) -> u64
+    ensures { λ r. ⌜ r ≡ max 1 n ⌝ }
+{
+    if n == 0 { 1 } else { n }
+}
+
+// The cycles of a tone row.
+pub fn cycles_of(t: Tone) -> u64
+    ensures { λ n. ⌜ n ≡ cyclesOf t ⌝ }
+{
+    at_least_one(t.num)
+}
+
+// T-states of a tone row, which its callers know to be well formed.
+pub fn tone_time(t: Tone) -> u64
+    requires { ⌜ wellTone t ≡ true ⌝ }
+    ensures { λ r. ⌜ ((b i : ℕ) → r ≡ time (toneOf b i t)) ⌝ }
+{
+    cycles_of(t) * (t.len1 + t.len2)
+}
+
+// A block's tone row, which its callers know to be one of those lent.
+pub fn row_tone(tones: &[u64], r: Block, index: u64) -> Tone
+    requires { ⌜ (r .tone + r .tones ≤ capacityOf tone toneMost (now tones)) × (index < r .tones) ⌝ }
+    ensures { λ t. ⌜ t ≡ toneAt (now (tones .entry)) r index ⌝ }
+{
+    tone_at(tones, (r.tone + index) as usize)
+}
+
+// T-states of a block's tone rows, which its callers know to be lent and well formed.
+pub fn tones_time(tones: &[u64], r: Block) -> u64
+    requires { ⌜ r .tone + r .tones ≤ capacityOf tone toneMost (now tones) ⌝ }
+    requires { ⌜ wellTones (now tones) (r .tone) (r .tones) ≡ true ⌝ }
+    ensures { λ t. ⌜ ((b : ℕ) → t ≡ time (tonesOf (now (tones .entry)) b r)) ⌝ }
+{
+    let mut sum = 0;
+    let mut i = 0;
+    while i < r.tones {
+        sum += tone_time(row_tone(tones, r, i));
+        i += 1;
+    }
+    sum
+}
+
+// The bits of a block's data byte at pos, which its callers know to be one.
+pub fn bits_at(r: Block, pos: u64) -> u64
+    requires { ⌜ pos < r .size ⌝ }
+    ensures { λ n. ⌜ n ≡ bitsAt r pos ⌝ }
+{
+    if pos + 1 == r.size {
+        at_least_one(r.last)
+    } else {
+        8
+    }
+}
+
+// T-states of the first n bits of a byte, which its callers know to be 1 to 8 in a row whose numbers are well formed.
+fn bits_time(v: u8, n: u64, r: Block) -> u64
+    requires { ⌜ (0 < n) × (n ≤ 8) ⌝ }
+    requires { ⌜ wellNumbers r ≡ true ⌝ }
+    ensures { λ t. ⌜ ((b pos : ℕ) → t ≡ time (run (bitEntries b r pos v) 0 n)) ⌝ }
+{
+    let ones = u8::count_ones(v >> (8 - n)) as u64;
+    2 * (ones * r.one + (n - ones) * r.zero)
+}
+
+// T-states of a block's data byte at pos, which its callers know to lie in the tape, in a row whose numbers are well formed.
+pub fn byte_time(tape: &[u8], r: Block, pos: u64) -> u64
+    requires { ⌜ (r .start + r .size ≤ length (now tape)) × (pos < r .size) ⌝ }
+    requires { ⌜ wellNumbers r ≡ true ⌝ }
+    ensures { λ t. ⌜ ((b : ℕ) → t ≡ time (byteEntries (now (tape .entry)) b r pos)) ⌝ }
+{
+    let at = (r.start + pos) as usize;
+    bits_time(tape[at], bits_at(r, pos), r)
+}
+
+// T-states of a block's data, which its callers know to lie in a tape within the limit, in a row whose numbers are well formed.
+pub fn data_time(tape: &[u8], r: Block) -> u64
+    requires { ⌜ (r .start + r .size ≤ length (now tape)) × (length (now tape) ≤ 1048576) ⌝ }
+    requires { ⌜ wellNumbers r ≡ true ⌝ }
+    ensures { λ t. ⌜ ((b : ℕ) → t ≡ time (dataOf (now (tape .entry)) b r)) ⌝ }
+{
+    let mut sum = 0;
+    let mut pos = 0;
+    while pos < r.size {
+        sum += byte_time(tape, r, pos);
+        pos += 1;
+    }
+    sum
+}
+
+// T-states of a block without its pause; its callers know the row to be well formed over a tape within the limit.
+pub fn sound_time(tape: &[u8], tones: &[u64], r: Block) -> u64
+    requires { ⌜ wellBlock (length (now tape)) (now tones) r ≡ true ⌝ }
+    requires { ⌜ length (now tape) ≤ 1048576 ⌝ }
+    ensures { λ t. ⌜ ((b : ℕ) → t ≡ time (soundOf (now (tape .entry)) (now (tones .entry)) b r)) ⌝ }
+{
+    tones_time(tones, r) + data_time(tape, r)
+}
+
+// A block's pause, endless for a stop.
+pub fn pause_of(r: Block) -> Duration
+    ensures { λ d. ⌜ d ≡ pauseOf r ⌝ }
+{
+    if r.endless == 1 {
+        Duration::Endless
+    } else {
+        Duration::T(r.pause)
+    }
+}
+
+// T-states of a block with its pause, or that it never ends; its callers know the row to be well formed over a tape within the limit.
+pub fn block_time(tape: &[u8], tones: &[u64], r: Block) -> Duration
+    requires { ⌜ wellBlock (length (now tape)) (now tones) r ≡ true ⌝ }
+    requires { ⌜ length (now tape) ≤ 1048576 ⌝ }
+    ensures { λ d. ⌜ ((b : ℕ) → d ≡ lastsOf (entriesOf (now (tape .entry)) (now (tones .entry)) b r)) ⌝ }
+{
+    if r.endless == 1 {
+        Duration::Endless
+    } else {
+        Duration::T(sound_time(tape, tones, r) + r.pause)
+    }
+}
+
+// T-states of either half of bit k, one of 8, of a byte.
+pub fn half_of(v: u8, k: u64, r: Block) -> u64
+    requires { ⌜ k < 8 ⌝ }
+    ensures { λ n. ⌜ n ≡ halfOf r (bitOf v k) ⌝ }
+{
+    if (v >> (7 - k)) % 2 == 0 {
+        r.zero
+    } else {
+        r.one
+    }
+}
+
+// T-states of a half of a tone row's cycle.
+pub fn cycle_half(t: Tone, last: bool) -> u64
+    ensures { λ n. ⌜ n ≡ cycleHalf t last ⌝ }
+{
+    if last { t.len2 } else { t.len1 }
+}
+
+// Whether a block, whose tone rows its callers know to be lent, has an entry of this phase.
+pub fn has_entry(tones: &[u64], r: Block, f: Phase) -> bool
+    requires { ⌜ r .tone + r .tones ≤ capacityOf tone toneMost (now tones) ⌝ }
+    ensures { λ b. ⌜ b ≡ hasEntry (now (tones .entry)) r f ⌝ }
+{
+    match f {
+        Phase::Start => true,
+        Phase::Tones { index, pulse, .. } => index < r.tones
+            && pulse < cycles_of(row_tone(tones, r, index)),
+        Phase::Data { pos, bit, .. } => pos < r.size && bit < bits_at(r, pos),
+        Phase::Pause => true,
+    }
+}
+
+// The length of a block's entry; its callers know the row to be well formed and the entry to be one of it.
+pub fn length_at(tape: &[u8], tones: &[u64], r: Block, f: Phase) -> Duration
+    requires { ⌜ wellBlock (length (now tape)) (now tones) r ≡ true ⌝ }
+    requires { ⌜ hasEntry (now tones) r f ≡ true ⌝ }
+    ensures { λ d. ⌜ d ≡ lengthAt (now (tape .entry)) (now (tones .entry)) r f ⌝ }
+{
+    match f {
+        Phase::Start => Duration::T(0),
+        Phase::Tones {
+            index,
+            last_half,
+            ..
+        } => Duration::T(cycle_half(row_tone(tones, r, index), last_half)),
+        Phase::Data { pos, bit, .. } => {
+            let at = (r.start + pos) as usize;
+            Duration::T(half_of(tape[at], bit, r))
+        }
+        Phase::Pause => pause_of(r),
+    }
+}
+
+// Whether so much may be left of an entry of this length.
+pub fn may_remain(left: Duration, length: Duration) -> bool
+    ensures { λ b. ⌜ b ≡ remains left length ⌝ }
+{
+    match left {
+        Duration::T(n) => match length {
+            Duration::T(t) => within(n, t),
+            Duration::Endless => false,
+        },
+        Duration::Endless => match length {
+            Duration::T(_) => false,
+            Duration::Endless => true,
+        },
+    }
+}
+
+// Whether n is 1 to t, or 0 where t is.
+fn within(n: u64, t: u64) -> bool
+    ensures { λ b. ⌜ b ≡ (leb (min 1 t) n && leb n t) ⌝ }
+{
+    if n == 0 { t == 0 } else { n <= t }
+}
+
+// The level of a source row's entry.
+pub fn mic(f: Phase) -> bool
+    ensures { λ v. ⌜ v ≡ levelOf f ⌝ }
+{
+    match f {
+        Phase::Start => false,
+        Phase::Tones { last_half, .. } => last_half,
+        Phase::Data { last_half, .. } => last_half,
+        Phase::Pause => false,
+    }
+}

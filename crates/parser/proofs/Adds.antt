@@ -32,6 +32,12 @@ module _ {R : Type 0} (C : Codec R) (most : ℕ) (t : List ℕ) {b : Bool} (rs :
   pub adds : {t′ : List ℕ} (r : R) → t ≡ tableOf C rs N → t′ ≡ appended C most t n r → b ≡ true → t′ ≡ tableOf C (rs ++ r ∷ []) N
   adds r is p e = p ∙ append-next C most rs N n r is k ∙ rw (← q, e)
 
+paused-length : (rs : List Block) → length (lastPaused rs) ≡ length rs
+unfolding lastPaused
+paused-length [] = refl
+paused-length (r ∷ []) = refl
+paused-length (r ∷ q ∷ rs) = ap suc (paused-length (q ∷ rs))
+
 module _ {B N : ℕ} {s : State} {bt tt : List ℕ} {t : Tape} (h : Holds B N s bt tt t) where
   pub holds-block : {bt′ : List ℕ} {p : Pending} (r : Block) → length (t .blocks) < blockRoom B → length bt′ ≡ B → bt′ ≡ tableOf block (t .blocks ++ r ∷ []) B → p ≡ used (t .pending) → Holds B N (record { blocks = s .blocks + 1; tones = s .tones; pending = p; body = s .body }) bt′ tt (tapeOf (t .blocks ++ r ∷ []) (t .tones) (used (t .pending)) (t .body))
   holds-block r k len is e =
@@ -45,9 +51,6 @@ module _ {B N : ℕ} {s : State} {bt tt : List ℕ} {t : Tape} (h : Holds B N s 
   holds-paused len is =
       let l = paused-length (t .blocks) in
       record { nb = h .nb ∙ sym l; nt = h .nt; pends = h .pends; loops = h .loops; roomB = rw l (h .roomB); roomT = h .roomT; lenB = len; lenT = h .lenT; isB = is; isT = h .isT }
-    where
-      paused-length : (rs : List Block) → length (lastPaused rs) ≡ length rs
-      paused-length rs = ?
 
 -- the last block paused is a row replaced
 last-set : (d : Block) (rs : List Block) (i : ℕ) → length rs ≡ suc i → lastPaused rs ≡ set rs i (paused (getD rs i d))

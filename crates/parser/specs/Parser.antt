@@ -138,9 +138,9 @@ copies most zero rs t = on t
 copies most (suc n) rs t = copyRows most rs t ⟫ copies most n rs
 
 -- a loop end appends them; an end without a start is ignored
+unfoldable pub closed : ℕ → Loop → Tape → Out
+closed most Closed t = on t
+closed most (Open start times) t = copies most times (drop start (t .blocks)) (withBody Closed t)
+
 unfoldable pub closeLoop : ℕ → Tape → Out
-closeLoop most t = closing (t .body)
-  where
-    closing : Loop → Out
-    closing Closed = on t
-    closing (Open start times) = copies most times (drop start (t .blocks)) (withBody Closed t)
+closeLoop most t = closed most (t .body) t

@@ -1,3 +1,16 @@
+use Rattle.parser.proofs.Copies.{Begins, begins, begins-block, begins-rows, begins-length, row-turn, rows-end, body-turn, bodies-end}
+use Rattle.parser.proofs.Laws.{Going, going-starts, going-on, going-no, going-ends}
+use Rattle.parser.specs.Holds.{Holds, blockRoom}
+use Rattle.parser.specs.Parser.{Tape, nameless, addBlock, copyRows, copies}
+use Rattle.rows.specs.Rows.{block}
+use Rattle.rows.specs.Table.{get}
+use lib.Seq.{slice}
+use lib.ListN.{length}
+use mathlib.Core.List.{List}
+use mathlib.Core.Path.{_≡_, refl}
+use native.Mathlib.Omega.{arith}
+use Prim.Native.Nat.{ℕ, _+_, _-_, _≤_, _<_}
+use borrow.Author.Needs.{needs}
 use Rattle.parser.proofs.copy_bodies.Statement.{statement}
 use Rattle.parser.proofs.copy_bodies.Tie as tie
 use Rattle.parser.proofs.copy_bodies.Reads as reads
@@ -5,54 +18,79 @@ use Rattle.parser.proofs.copy_bodies.Lts as lts
 use Rattle.parser.proofs.copy_body.Reads as copy-body-reads
 
 abbrev Inv-loop : tie.InvT-loop
-Inv-loop blocks₀ start end times s₀ left₀ blocks s left = ?
+Inv-loop blocks₀ start end times s₀ left₀ blocks s left =
+    (length blocks ≡ length blocks₀)
+    × ((B N : ℕ) (tt : List ℕ) (t : Tape) → Holds B N s₀ blocks₀ tt t → end ≤ length (t .blocks) → Going (Begins (t .blocks)) B N s blocks tt (copies (blockRoom B) left (slice start end (t .blocks))) (copies (blockRoom B) times (slice start end (t .blocks)) t))
 
 abbrev μ-loop : tie.MeasureT-loop
-μ-loop blocks₀ start end times s₀ left₀ blocks s left = ?
+μ-loop blocks₀ start end times s₀ left₀ blocks s left = left
 
 -- src/lib.rt:287:5
 loop-holds : tie.Need-loop-holds Inv-loop μ-loop
-loop-holds c = ?
+loop-holds c =
+    (refl, λ B N tt t h e. going-starts (begins t) h)
 
 -- src/lib.rt:288:15
 copy-body-requires : tie.Need-copy-body-requires Inv-loop μ-loop
-copy-body-requires c κs = ?
+copy-body-requires c κs = search needs
 
 -- src/lib.rt:289:22
 enum-known-next : tie.Need-enum-known-next Inv-loop μ-loop
-enum-known-next c = ?
+enum-known-next c = search needs
 
 -- src/lib.rt:290:22
 enum-known-k : tie.Need-enum-known-k Inv-loop μ-loop
-enum-known-k c = ?
+enum-known-k c = search needs
 
 -- src/lib.rt:290:28
 same-length : tie.Need-same-length Inv-loop μ-loop
-same-length c = ?
+same-length c = search needs
 
 -- src/lib.rt:290:28
 returns : tie.Need-returns Inv-loop μ-loop
-returns c = ?
+returns c =
+    λ B N tt t h e.
+    let a = c .before .before .before .before .before in
+    let l = a .before .before .before in
+    let p = l .before .before .args in
+    let g = l .loop .inv .1 B N tt t h e in
+    let m = blockRoom B in
+    going-no g (copyRows m (slice (p .start) (p .end) (g .at .blocks))) (copies m (l .loop .left - 1) (slice (p .start) (p .end) (t .blocks))) (body-turn m (l .loop .left) (p .start) (p .end) (g .known) (omega arith) e)
+    (a .copy-body .ensures B N tt (g .at) (g .holds) (begins-length (p .end) (g .known) e)) (c .before .k .given .1)
 
 -- src/lib.rt:292:9
 sub-left : tie.Need-sub-left Inv-loop μ-loop
-sub-left c = ?
+sub-left c = search needs
 
 -- src/lib.rt:287:5
 loop-less : tie.Need-loop-less Inv-loop μ-loop
-loop-less c = ?
+loop-less c = search needs
 
 -- src/lib.rt:287:5
 loop-again : tie.Need-loop-again Inv-loop μ-loop
-loop-again c = ?
+loop-again c =
+    let a = c .before .before .before .before .before in
+    let l = a .before .before .before in
+    let p = l .before .before .args in
+    (omega arith, λ B N tt t h e.
+    let g = l .loop .inv .1 B N tt t h e in
+    let m = blockRoom B in
+    let rs = slice (p .start) (p .end) (g .at .blocks) in
+    going-on g (copyRows m rs) (copies m (l .loop .left - 1) (slice (p .start) (p .end) (t .blocks))) (body-turn m (l .loop .left) (p .start) (p .end) (g .known) (omega arith) e)
+    (a .copy-body .ensures B N tt (g .at) (g .holds) (begins-length (p .end) (g .known) e)) (c .before .next .given .1) (λ u q. begins-rows (t .blocks) m rs (g .known) q))
 
 -- src/lib.rt:281:1
 same-length-2 : tie.Need-same-length-2 Inv-loop μ-loop
-same-length-2 c = ?
+same-length-2 c = search needs
 
 -- src/lib.rt:281:1
 returns-2 : tie.Need-returns-2 Inv-loop μ-loop
-returns-2 c = ?
+returns-2 c =
+    λ B N tt t h e.
+    let l = c .before in
+    let p = l .before .before .args in
+    let g = l .loop .inv .1 B N tt t h e in
+    going-ends g (bodies-end (blockRoom B) (l .loop .left) (slice (p .start) (p .end) (t .blocks)) (g .at) (omega arith))
 
 pub copy-bodies-spec : {M : Type 1} → statement M
 copy-bodies-spec =

@@ -1,3 +1,8 @@
+use Rattle.parser.proofs.Adds.{holds-paused}
+use Rattle.parser.proofs.Laws.{holds-name}
+use Rattle.parser.specs.Holds.{goes}
+use Rattle.parser.specs.Parser.{endGroup}
+use native.Mathlib.Omega.{arith}
 use borrow.Author.Needs.{needs}
 use Rattle.parser.proofs.group_end.Statement.{statement}
 use Rattle.parser.proofs.group_end.Tie as tie
@@ -25,7 +30,11 @@ same-length c = search needs
 
 -- src/lib.rt:238:1
 returns : tie.Need-returns
-returns c = ?
+unfolding endGroup
+returns c =
+    λ B N tt t h.
+    let p = c .before .before .before .before in
+    rw (c .with-pending .ensures) (goes (holds-name (holds-paused h (omega arith) (p .pause-last .ensures B (t .blocks) (h .lenB) (h .nb) (h .roomB) (h .isB))) (rw (h .pends) at (c .before .group-ended .ensures))))
 
 pub group-end-spec : {M : Type 1} → statement M
 group-end-spec =

@@ -1,3 +1,8 @@
+use Rattle.parser.specs.declared.Loop.{Loop}
+use Rattle.parser.proofs.Laws.{holds-loop}
+use Rattle.parser.specs.Holds.{blockRoom, goes}
+use Rattle.parser.specs.Parser.{on, closed, closeLoop}
+use mathlib.Core.Path.{_≡_, refl, sym, ap, _∙_}
 use borrow.Author.Needs.{needs}
 use Rattle.parser.proofs.loop_end.Statement.{statement}
 use Rattle.parser.proofs.loop_end.Tie as tie
@@ -24,7 +29,11 @@ repeat-requires c κs = search needs
 
 -- src/lib.rt:311:1
 returns : tie.Need-returns
-returns c = ?
+unfolding closeLoop closed
+returns c =
+    λ B N tt t h.
+    let q : closed (blockRoom B) (t .body) t ≡ on t = ap (λ (l : Loop). closed (blockRoom B) l t) (sym (h .loops) ∙ c .enum-told .given .1) in
+    rw q (goes h)
 
 -- src/lib.rt:311:1
 same-length : tie.Need-same-length
@@ -32,7 +41,12 @@ same-length c = search needs
 
 -- src/lib.rt:311:1
 returns-2 : tie.Need-returns-2
-returns-2 c = ?
+unfolding closeLoop closed
+returns-2 c =
+    λ B N tt t h.
+    let a = c .before .before in
+    let w = a .before .before in
+    rw (← h .loops, w .before .before .b .given .1) (a .repeat .ensures B N tt _ (rw (w .with-body .ensures) (holds-loop h refl)))
 
 pub loop-end-spec : {M : Type 1} → statement M
 loop-end-spec =

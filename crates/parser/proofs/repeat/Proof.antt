@@ -1,3 +1,11 @@
+use Rattle.parser.proofs.Copies.{copies-none}
+use Rattle.parser.specs.Holds.{blockRoom, goes}
+use lib.Seq.{take-all}
+use lib.ListN.{length, drop-of-length-le}
+use mathlib.Core.List.{List}
+use mathlib.Core.Path.{_≡_, refl, sym, _∙_}
+use native.Mathlib.Omega.{arith}
+use Prim.Native.Nat.{ℕ, _≤_, _<_}
 use borrow.Author.Needs.{needs}
 use Rattle.parser.proofs.repeat.Statement.{statement}
 use Rattle.parser.proofs.repeat.Tie as tie
@@ -8,7 +16,11 @@ use Rattle.rows.proofs.block_capacity.Reads as block-capacity-reads
 
 -- src/lib.rt:303:9
 returns : tie.Need-returns
-returns c = ?
+returns c =
+    λ B N tt t h.
+    let p = c .before .before .args in
+    let k : length (t .blocks) ≤ p .start = omega arith in
+    rw (drop-of-length-le (t .blocks) k, copies-none (blockRoom B) (p .times) t) (goes h)
 
 -- src/lib.rt:305:9
 block-capacity-requires : tie.Need-block-capacity-requires
@@ -20,7 +32,8 @@ same-length c = search needs
 
 -- src/lib.rt:306:9
 returns-2 : tie.Need-returns-2
-returns-2 c = ?
+returns-2 c =
+    λ B N tt t h. absurd (omega arith)
 
 -- src/lib.rt:308:5
 copy-bodies-requires : tie.Need-copy-bodies-requires
@@ -32,7 +45,10 @@ same-length-2 c = search needs
 
 -- src/lib.rt:298:1
 returns-3 : tie.Need-returns-3
-returns-3 c = ?
+returns-3 c =
+    λ B N tt t h.
+    let k : length (t .blocks) ≤ c .before .before .before .before .before .before .before .before .before .args .s .blocks = omega arith in
+    rw (take-all _ (t .blocks) k) at (c .before .before .copy-bodies .ensures B N tt t h (omega arith))
 
 pub repeat-spec : {M : Type 1} → statement M
 repeat-spec =

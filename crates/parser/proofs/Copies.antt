@@ -1,4 +1,4 @@
--- What a loop's copies do, row by row and body by body, and what they keep of a tape. Assumes nothing.
+-- What a loop's copies do, row by row and body by body. Assumes nothing.
 use Prim.Native.Nat.{ℕ, zero, suc, _+_, _-_, _≤_, _<_}
 use native.Mathlib.Omega.{arith}
 use native.Mathlib.Numerals.{add-one}
@@ -16,46 +16,7 @@ use Rattle.rows.proofs.Tables.{get-row}
 use Rattle.parser.specs.declared.State.{State}
 use Rattle.parser.specs.Parser.{Tape, withBlock, Out, on, no, _⟫_, named, addBlock, nameless, copyRows, copies}
 use Rattle.parser.specs.Holds.{Holds}
-use Rattle.parser.proofs.Laws.{Going}
-
--- where an answer is a tape, it has the property K
-pub data Sure (K : Tape → Type 0) : Out → Type 0 where
-  sure : {t : Tape} → K t → Sure K (on t)
-  none : {k : ℕ} → Sure K (no k)
-
-pub sure-of : {K : Tape → Type 0} {o : Out} {t : Tape} → Sure K o → o ≡ on t → K t
-sure-of {t = t} (sure {t = u} k) e = let q : u ≡ t = cc in rw q at k
-sure-of (none) e = let z : _≡_ {A = ℕ} 0 1 = cc in absurd (omega arith)
-
-pub sure-then : {K L : Tape → Type 0} {o : Out} (f : Tape → Out) → Sure K o → ((t : Tape) → K t → Sure L (f t)) → Sure L (o ⟫ f)
-unfolding _⟫_
-sure-then f (sure {t = t} k) g = g t k
-sure-then f (none) g = none
-
--- all elements of a list
-pub data All (P : Block → Type 0) : List Block → Type 0 where
-  nil : All P []
-  cons : {r : Block} {rs : List Block} → P r → All P rs → All P (r ∷ rs)
-
--- a property that one more block keeps is kept by copies
-module _ (P : Block → Type 0) (K : Tape → Type 0) (keep : (r : Block) (t : Tape) → P r → K t → K (withBlock r t)) (m : ℕ) where
-  pub block-keeps : (r : Block) (t : Tape) → P r → K t → Sure K (addBlock m r t)
-  unfolding addBlock
-  block-keeps r t p k = by-cases (ltb (length (t .blocks)) m)
-    where
-      by-cases : (b : Bool) → Sure K (b ⇒ on (withBlock r t) ∣ no 6)
-      by-cases true = sure (keep r t p k)
-      by-cases false = none
-
-  pub rows-keep : {rs : List Block} → All (λ r. P (nameless r)) rs → (t : Tape) → K t → Sure K (copyRows m rs t)
-  unfolding copyRows
-  rows-keep nil t k = sure k
-  rows-keep (cons {r = r} {rs = rs} p ps) t k = sure-then (copyRows m rs) (block-keeps (nameless r) t p k) (rows-keep ps)
-
-  pub copies-keep : (n : ℕ) {rs : List Block} → All (λ r. P (nameless r)) rs → (t : Tape) → K t → Sure K (copies m n rs t)
-  unfolding copies
-  copies-keep zero ps t k = sure k
-  copies-keep (suc n) {rs} ps t k = sure-then (copies m n rs) (rows-keep ps t k) (copies-keep n ps)
+use Rattle.parser.proofs.Kept.{All, nil, cons, sure-of, block-keeps, rows-keep}
 
 -- the blocks begin with the rows l
 pub record Begins (l : List Block) (t : Tape) : Type 0 where

@@ -1,37 +1,27 @@
-use mathlib.Core.List.{[], _∷_, _++_}
+-- `add_block` meets its contract. Assumes nothing.
 use Rattle.parser.proofs.Adds.{full, fits, adds, holds-block}
-use Rattle.parser.specs.Holds.{blockRoom, goes, refuses}
-use Rattle.parser.specs.Parser.{tapeOf, named, used, addBlock}
+use Rattle.parser.specs.Holds.{goes, refuses}
+use Rattle.parser.specs.Parser.{named, addBlock}
 use Rattle.rows.specs.Table.{capacityOf}
 use Rattle.rows.specs.Rows.{block, blockMost}
 use borrow.Author.Tests.{lt-ltb, le-ltb, ltb-true}
-use mathlib.Core.Bool.{true, false}
+use mathlib.Core.Bool.{true}
 use lib.Dec.{ltb}
-use lib.ListN.{length, length-append}
-use mathlib.Core.Path.{_≡_, refl, sym, _∙_}
+use mathlib.Core.Path.{_≡_, sym, _∙_}
 use native.Mathlib.Omega.{arith}
-use Prim.Native.Nat.{ℕ, _+_, _≤_, _<_}
 use borrow.Author.Needs.{needs}
 use Rattle.parser.proofs.add_block.Statement.{statement}
 use Rattle.parser.proofs.add_block.Tie as tie
-use Rattle.parser.proofs.add_block.Reads as reads
-use Rattle.parser.proofs.add_block.Lts as lts
-use Rattle.parser.proofs.after_use.Reads as after-use-reads
-use Rattle.parser.proofs.with_name.Reads as with-name-reads
 
--- src/lib.rt:146:41
 with-name-requires : tie.Need-with-name-requires
 with-name-requires c κs = search needs
 
--- src/lib.rt:146:8
 append-block-requires : tie.Need-append-block-requires
 append-block-requires c κs = search needs
 
--- src/lib.rt:147:13
 after-use-requires : tie.Need-after-use-requires
 after-use-requires c κs = search needs
 
--- src/lib.rt:150:21
 add-t14 : tie.Need-add-t14
 add-t14 c =
     let a = c .before .before .before .before in
@@ -39,11 +29,9 @@ add-t14 c =
     let q : ltb (p .s .blocks) (capacityOf block blockMost (p .blocks .now)) ≡ true = sym (a .append-block .ensures .0) ∙ c .before .if1 .taken in
     omega (arith, ltb-true (p .s .blocks) (capacityOf block blockMost (p .blocks .now)) q)
 
--- src/lib.rt:141:1
 same-length : tie.Need-same-length
 same-length c = search needs
 
--- src/lib.rt:141:1
 returns : tie.Need-returns
 unfolding addBlock
 returns c =
@@ -57,11 +45,9 @@ returns c =
     rw (lt-ltb _ _ k)
     (goes (holds-block h r k (omega arith) (adds block blockMost (p .blocks .now) (t .blocks) B (p .s .blocks) (h .lenB) (h .nb) (a .append-block .ensures .0) r (h .isB) q e) (rw (h .pends) at (c .after-use .ensures))))
 
--- src/lib.rt:141:1
 same-length-2 : tie.Need-same-length-2
 same-length-2 c = search needs
 
--- src/lib.rt:141:1
 returns-2 : tie.Need-returns-2
 unfolding addBlock
 returns-2 c =

@@ -1,28 +1,23 @@
-use mathlib.Core.List.{[], _∷_, _++_}
+-- `add_tone` meets its contract. Assumes nothing.
 use Rattle.parser.proofs.Adds.{full, fits, adds, holds-tone}
 use Rattle.parser.specs.Holds.{toneRoom, goes, refuses}
-use Rattle.parser.specs.Parser.{tapeOf, addTones}
+use Rattle.parser.specs.Parser.{addTones}
 use Rattle.rows.specs.Table.{capacityOf}
 use Rattle.rows.specs.Rows.{tone, toneMost}
 use borrow.Author.Tests.{le-leb, lt-leb, ltb-true}
-use mathlib.Core.Bool.{true, false}
+use mathlib.Core.Bool.{true}
 use lib.Dec.{ltb}
-use lib.ListN.{length, length-append}
-use mathlib.Core.Path.{_≡_, refl, sym, _∙_}
+use lib.ListN.{length}
+use mathlib.Core.Path.{_≡_, sym, _∙_}
 use native.Mathlib.Omega.{arith}
-use Prim.Native.Nat.{ℕ, _+_, _≤_, _<_}
+use Prim.Native.Nat.{_+_, _≤_, _<_}
 use borrow.Author.Needs.{needs}
 use Rattle.parser.proofs.add_tone.Statement.{statement}
 use Rattle.parser.proofs.add_tone.Tie as tie
-use Rattle.parser.proofs.add_tone.Reads as reads
-use Rattle.parser.proofs.add_tone.Lts as lts
-use Rattle.rows.proofs.append_tone.Reads as append-tone-reads
 
--- src/lib.rt:126:8
 append-tone-requires : tie.Need-append-tone-requires
 append-tone-requires c κs = search needs
 
--- src/lib.rt:131:20
 add-t12 : tie.Need-add-t12
 add-t12 c =
     let a = c .before .before .before in
@@ -30,11 +25,9 @@ add-t12 c =
     let q : ltb (p .s .tones) (capacityOf tone toneMost (p .tones .now)) ≡ true = sym (a .append-tone .ensures .0) ∙ c .if1 .taken in
     omega (arith, ltb-true (p .s .tones) (capacityOf tone toneMost (p .tones .now)) q)
 
--- src/lib.rt:122:1
 same-length : tie.Need-same-length
 same-length c = search needs
 
--- src/lib.rt:122:1
 returns : tie.Need-returns
 unfolding addTones
 returns c =
@@ -47,11 +40,9 @@ returns c =
     rw (le-leb _ _ l)
     (goes (holds-tone h (p .r) k (omega arith) (adds tone toneMost (p .tones .now) (t .tones) N (p .s .tones) (h .lenT) (h .nt) (a .append-tone .ensures .0) (p .r) (h .isT) (a .append-tone .ensures .1) e)))
 
--- src/lib.rt:122:1
 same-length-2 : tie.Need-same-length-2
 same-length-2 c = search needs
 
--- src/lib.rt:122:1
 returns-2 : tie.Need-returns-2
 unfolding addTones
 returns-2 c =

@@ -1,39 +1,30 @@
+-- `after_use` meets its contract. Assumes nothing.
 use borrow.Author.Needs.{needs}
 use Rattle.parser.proofs.after_use.Statement.{statement}
 use Rattle.parser.proofs.after_use.Tie as tie
-use Rattle.parser.proofs.after_use.Reads as reads
-use Rattle.parser.proofs.after_use.Lts as lts
 
--- src/lib.rt:114:29
 enum-told : tie.Need-enum-told
 enum-told c = search needs
 
--- src/lib.rt:115:26
 enum-known-p : tie.Need-enum-known-p
 enum-known-p c = search needs
 
--- src/lib.rt:116:49
 enum-told-2 : tie.Need-enum-told-2
 enum-told-2 c = search needs
 
--- src/lib.rt:117:48
 enum-told-3 : tie.Need-enum-told-3
 enum-told-3 c = search needs
 
--- src/lib.rt:110:1
 returns : tie.Need-returns
 returns c = search needs
 
--- src/lib.rt:110:1
 returns-2 : tie.Need-returns-2
 returns-2 c =
     rw (c .before .p .given .1)
 
--- src/lib.rt:110:1
 returns-3 : tie.Need-returns-3
 returns-3 c = search needs
 
--- src/lib.rt:110:1
 returns-4 : tie.Need-returns-4
 returns-4 c = search needs
 

@@ -1,21 +1,17 @@
-use Rattle.parser.proofs.Copies.{Begins, begins, begins-block, begins-rows, begins-length, row-turn, rows-end, body-turn, bodies-end}
+-- `copy_bodies` meets its contract. Assumes nothing.
+use Rattle.parser.proofs.Copies.{Begins, begins, begins-rows, begins-length, body-turn, bodies-end}
 use Rattle.parser.proofs.Laws.{Going, going-starts, going-on, going-no, going-ends}
 use Rattle.parser.specs.Holds.{Holds, blockRoom}
-use Rattle.parser.specs.Parser.{Tape, nameless, addBlock, copyRows, copies}
-use Rattle.rows.specs.Rows.{block}
-use Rattle.rows.specs.Table.{get}
+use Rattle.parser.specs.Parser.{Tape, copyRows, copies}
 use lib.Seq.{slice}
 use lib.ListN.{length}
 use mathlib.Core.List.{List}
 use mathlib.Core.Path.{_≡_, refl}
 use native.Mathlib.Omega.{arith}
-use Prim.Native.Nat.{ℕ, _+_, _-_, _≤_, _<_}
+use Prim.Native.Nat.{ℕ, _-_, _≤_}
 use borrow.Author.Needs.{needs}
 use Rattle.parser.proofs.copy_bodies.Statement.{statement}
 use Rattle.parser.proofs.copy_bodies.Tie as tie
-use Rattle.parser.proofs.copy_bodies.Reads as reads
-use Rattle.parser.proofs.copy_bodies.Lts as lts
-use Rattle.parser.proofs.copy_body.Reads as copy-body-reads
 
 abbrev Inv-loop : tie.InvT-loop
 Inv-loop blocks₀ start end times s₀ left₀ blocks s left =
@@ -25,28 +21,22 @@ Inv-loop blocks₀ start end times s₀ left₀ blocks s left =
 abbrev μ-loop : tie.MeasureT-loop
 μ-loop blocks₀ start end times s₀ left₀ blocks s left = left
 
--- src/lib.rt:287:5
 loop-holds : tie.Need-loop-holds Inv-loop μ-loop
 loop-holds c =
     (refl, λ B N tt t h e. going-starts (begins t) h)
 
--- src/lib.rt:288:15
 copy-body-requires : tie.Need-copy-body-requires Inv-loop μ-loop
 copy-body-requires c κs = search needs
 
--- src/lib.rt:289:22
 enum-known-next : tie.Need-enum-known-next Inv-loop μ-loop
 enum-known-next c = search needs
 
--- src/lib.rt:290:22
 enum-known-k : tie.Need-enum-known-k Inv-loop μ-loop
 enum-known-k c = search needs
 
--- src/lib.rt:290:28
 same-length : tie.Need-same-length Inv-loop μ-loop
 same-length c = search needs
 
--- src/lib.rt:290:28
 returns : tie.Need-returns Inv-loop μ-loop
 returns c =
     λ B N tt t h e.
@@ -58,15 +48,12 @@ returns c =
     going-no g (copyRows m (slice (p .start) (p .end) (g .at .blocks))) (copies m (l .loop .left - 1) (slice (p .start) (p .end) (t .blocks))) (body-turn m (l .loop .left) (p .start) (p .end) (g .known) (omega arith) e)
     (a .copy-body .ensures B N tt (g .at) (g .holds) (begins-length (p .end) (g .known) e)) (c .before .k .given .1)
 
--- src/lib.rt:292:9
 sub-left : tie.Need-sub-left Inv-loop μ-loop
 sub-left c = search needs
 
--- src/lib.rt:287:5
 loop-less : tie.Need-loop-less Inv-loop μ-loop
 loop-less c = search needs
 
--- src/lib.rt:287:5
 loop-again : tie.Need-loop-again Inv-loop μ-loop
 loop-again c =
     let a = c .before .before .before .before .before in
@@ -79,11 +66,9 @@ loop-again c =
     going-on g (copyRows m rs) (copies m (l .loop .left - 1) (slice (p .start) (p .end) (t .blocks))) (body-turn m (l .loop .left) (p .start) (p .end) (g .known) (omega arith) e)
     (a .copy-body .ensures B N tt (g .at) (g .holds) (begins-length (p .end) (g .known) e)) (c .before .next .given .1) (λ u q. begins-rows (t .blocks) m rs (g .known) q))
 
--- src/lib.rt:281:1
 same-length-2 : tie.Need-same-length-2 Inv-loop μ-loop
 same-length-2 c = search needs
 
--- src/lib.rt:281:1
 returns-2 : tie.Need-returns-2 Inv-loop μ-loop
 returns-2 c =
     λ B N tt t h e.

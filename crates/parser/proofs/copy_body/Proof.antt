@@ -1,7 +1,8 @@
-use Rattle.parser.proofs.Copies.{Begins, begins, begins-block, begins-rows, begins-length, row-turn, rows-end, body-turn, bodies-end}
+-- `copy_body` meets its contract. Assumes nothing.
+use Rattle.parser.proofs.Copies.{Begins, begins, begins-block, row-turn, rows-end}
 use Rattle.parser.proofs.Laws.{Going, going-starts, going-on, going-no, going-ends}
 use Rattle.parser.specs.Holds.{Holds, blockRoom}
-use Rattle.parser.specs.Parser.{Tape, nameless, addBlock, copyRows, copies}
+use Rattle.parser.specs.Parser.{Tape, nameless, addBlock, copyRows}
 use Rattle.rows.specs.Rows.{block}
 use Rattle.rows.specs.Table.{get}
 use lib.Seq.{slice}
@@ -9,15 +10,10 @@ use lib.ListN.{length}
 use mathlib.Core.List.{List}
 use mathlib.Core.Path.{_≡_, refl}
 use native.Mathlib.Omega.{arith}
-use Prim.Native.Nat.{ℕ, _+_, _-_, _≤_, _<_}
+use Prim.Native.Nat.{ℕ, _+_, _-_, _≤_}
 use borrow.Author.Needs.{needs}
 use Rattle.parser.proofs.copy_body.Statement.{statement}
 use Rattle.parser.proofs.copy_body.Tie as tie
-use Rattle.parser.proofs.copy_body.Reads as reads
-use Rattle.parser.proofs.copy_body.Lts as lts
-use Rattle.parser.proofs.add_block.Reads as add-block-reads
-use Rattle.parser.proofs.rename.Reads as rename-reads
-use Rattle.rows.proofs.block_at.Reads as block-at-reads
 
 abbrev Inv-loop : tie.InvT-loop
 Inv-loop blocks₀ start end s₀ i₀ blocks s i =
@@ -27,36 +23,28 @@ Inv-loop blocks₀ start end s₀ i₀ blocks s i =
 abbrev μ-loop : tie.MeasureT-loop
 μ-loop blocks₀ start end s₀ i₀ blocks s i = end - i
 
--- src/lib.rt:270:5
 loop-holds : tie.Need-loop-holds Inv-loop μ-loop
 loop-holds c =
     (refl, λ B N tt t h e. going-starts (begins t) h)
 
--- src/lib.rt:271:55
 block-at-requires : tie.Need-block-at-requires Inv-loop μ-loop
 block-at-requires c κs = search needs
 
--- src/lib.rt:271:36
 rename-requires : tie.Need-rename-requires Inv-loop μ-loop
 rename-requires c κs = search needs
 
--- src/lib.rt:271:15
 add-block-requires : tie.Need-add-block-requires Inv-loop μ-loop
 add-block-requires c κs = search needs
 
--- src/lib.rt:272:22
 enum-known-next : tie.Need-enum-known-next Inv-loop μ-loop
 enum-known-next c = search needs
 
--- src/lib.rt:273:22
 enum-known-k : tie.Need-enum-known-k Inv-loop μ-loop
 enum-known-k c = search needs
 
--- src/lib.rt:273:28
 same-length : tie.Need-same-length Inv-loop μ-loop
 same-length c = search needs
 
--- src/lib.rt:273:28
 returns : tie.Need-returns Inv-loop μ-loop
 returns c =
     λ B N tt t h e.
@@ -68,15 +56,12 @@ returns c =
     let gave = rw (a .before .rename .ensures, a .before .before .block-at .ensures) at (a .add-block .ensures B N tt (g .at) (g .holds)) in
     going-no g (addBlock m (nameless (get block (l .loop .blocks) (l .loop .i)))) (copyRows m (slice (l .loop .i + 1) end (t .blocks))) (row-turn m (l .loop .i) end (g .holds) (g .known) (omega arith) e) gave (c .before .k .given .1)
 
--- src/lib.rt:275:9
 add-i : tie.Need-add-i Inv-loop μ-loop
 add-i c = search needs
 
--- src/lib.rt:270:5
 loop-less : tie.Need-loop-less Inv-loop μ-loop
 loop-less c = search needs
 
--- src/lib.rt:270:5
 loop-again : tie.Need-loop-again Inv-loop μ-loop
 loop-again c =
     let a = c .before .before .before .before .before in
@@ -89,11 +74,9 @@ loop-again c =
     let gave = rw (a .before .rename .ensures, a .before .before .block-at .ensures) at (a .add-block .ensures B N tt (g .at) (g .holds)) in
     going-on g (addBlock m r) (copyRows m (slice (l .loop .i + 1) end (t .blocks))) (row-turn m (l .loop .i) end (g .holds) (g .known) (omega arith) e) gave (c .before .next .given .1) (λ u q. begins-block (t .blocks) m r (g .known) q))
 
--- src/lib.rt:264:1
 same-length-2 : tie.Need-same-length-2 Inv-loop μ-loop
 same-length-2 c = search needs
 
--- src/lib.rt:264:1
 returns-2 : tie.Need-returns-2 Inv-loop μ-loop
 returns-2 c =
     λ B N tt t h e.

@@ -1,3 +1,4 @@
+-- `group_end` meets its contract. Assumes nothing.
 use Rattle.parser.proofs.Adds.{holds-paused}
 use Rattle.parser.proofs.Laws.{holds-name}
 use Rattle.parser.specs.Holds.{goes}
@@ -6,29 +7,19 @@ use native.Mathlib.Omega.{arith}
 use borrow.Author.Needs.{needs}
 use Rattle.parser.proofs.group_end.Statement.{statement}
 use Rattle.parser.proofs.group_end.Tie as tie
-use Rattle.parser.proofs.group_end.Reads as reads
-use Rattle.parser.proofs.group_end.Lts as lts
-use Rattle.parser.proofs.group_ended.Reads as group-ended-reads
-use Rattle.parser.proofs.pause_last.Reads as pause-last-reads
-use Rattle.parser.proofs.with_pending.Reads as with-pending-reads
 
--- src/lib.rt:242:5
 pause-last-requires : tie.Need-pause-last-requires
 pause-last-requires c κs = search needs
 
--- src/lib.rt:243:21
 group-ended-requires : tie.Need-group-ended-requires
 group-ended-requires c κs = search needs
 
--- src/lib.rt:243:5
 with-pending-requires : tie.Need-with-pending-requires
 with-pending-requires c κs = search needs
 
--- src/lib.rt:238:1
 same-length : tie.Need-same-length
 same-length c = search needs
 
--- src/lib.rt:238:1
 returns : tie.Need-returns
 unfolding endGroup
 returns c =

@@ -1,3 +1,4 @@
+-- `loop_end` meets its contract. Assumes nothing.
 use Rattle.parser.specs.declared.Loop.{Loop}
 use Rattle.parser.proofs.Laws.{holds-loop}
 use Rattle.parser.specs.Holds.{blockRoom, goes}
@@ -6,28 +7,19 @@ use mathlib.Core.Path.{_≡_, refl, sym, ap, _∙_}
 use borrow.Author.Needs.{needs}
 use Rattle.parser.proofs.loop_end.Statement.{statement}
 use Rattle.parser.proofs.loop_end.Tie as tie
-use Rattle.parser.proofs.loop_end.Reads as reads
-use Rattle.parser.proofs.loop_end.Lts as lts
-use Rattle.parser.proofs.repeat.Reads as repeat-reads
-use Rattle.parser.proofs.with_body.Reads as with-body-reads
 
--- src/lib.rt:316:25
 enum-told : tie.Need-enum-told
 enum-told c = search needs
 
--- src/lib.rt:317:22
 enum-known-b : tie.Need-enum-known-b
 enum-known-b c = search needs
 
--- src/lib.rt:317:47
 with-body-requires : tie.Need-with-body-requires
 with-body-requires c κs = search needs
 
--- src/lib.rt:317:40
 repeat-requires : tie.Need-repeat-requires
 repeat-requires c κs = search needs
 
--- src/lib.rt:311:1
 returns : tie.Need-returns
 unfolding closeLoop closed
 returns c =
@@ -35,11 +27,9 @@ returns c =
     let q : closed (blockRoom B) (t .body) t ≡ on t = ap (λ (l : Loop). closed (blockRoom B) l t) (sym (h .loops) ∙ c .enum-told .given .1) in
     rw q (goes h)
 
--- src/lib.rt:311:1
 same-length : tie.Need-same-length
 same-length c = search needs
 
--- src/lib.rt:311:1
 returns-2 : tie.Need-returns-2
 unfolding closeLoop closed
 returns-2 c =

@@ -1,24 +1,17 @@
+-- `loop_start` meets its contract. Assumes nothing.
 use Rattle.parser.proofs.Laws.{holds-loop}
 use Rattle.parser.specs.Parser.{openLoop}
 use Rattle.parser.specs.Holds.{goes}
-use mathlib.Core.Path.{_∙_}
 use borrow.Author.Needs.{needs}
 use Rattle.parser.proofs.loop_start.Statement.{statement}
 use Rattle.parser.proofs.loop_start.Tie as tie
-use Rattle.parser.proofs.loop_start.Reads as reads
-use Rattle.parser.proofs.loop_start.Lts as lts
-use Rattle.parser.proofs.loop_opened.Reads as loop-opened-reads
-use Rattle.parser.proofs.with_body.Reads as with-body-reads
 
--- src/lib.rt:260:18
 loop-opened-requires : tie.Need-loop-opened-requires
 loop-opened-requires c κs = search needs
 
--- src/lib.rt:260:5
 with-body-requires : tie.Need-with-body-requires
 with-body-requires c κs = search needs
 
--- src/lib.rt:256:1
 returns : tie.Need-returns
 unfolding openLoop
 returns c =

@@ -1,24 +1,17 @@
-use mathlib.Core.Path.{_∙_}
+-- `text_description` meets its contract. Assumes nothing.
 use Rattle.parser.proofs.Laws.{holds-name}
 use Rattle.parser.specs.Parser.{noteText}
 use Rattle.parser.specs.Holds.{goes}
 use borrow.Author.Needs.{needs}
 use Rattle.parser.proofs.text_description.Statement.{statement}
 use Rattle.parser.proofs.text_description.Tie as tie
-use Rattle.parser.proofs.text_description.Reads as reads
-use Rattle.parser.proofs.text_description.Lts as lts
-use Rattle.parser.proofs.text_noted.Reads as text-noted-reads
-use Rattle.parser.proofs.with_pending.Reads as with-pending-reads
 
--- src/lib.rt:195:21
 text-noted-requires : tie.Need-text-noted-requires
 text-noted-requires c κs = search needs
 
--- src/lib.rt:195:5
 with-pending-requires : tie.Need-with-pending-requires
 with-pending-requires c κs = search needs
 
--- src/lib.rt:191:1
 returns : tie.Need-returns
 unfolding noteText
 returns c =

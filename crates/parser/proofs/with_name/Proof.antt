@@ -1,54 +1,41 @@
+-- `with_name` meets its contract. Assumes nothing.
 use borrow.Author.Needs.{needs}
 use Rattle.parser.proofs.with_name.Statement.{statement}
 use Rattle.parser.proofs.with_name.Tie as tie
-use Rattle.parser.proofs.with_name.Reads as reads
-use Rattle.parser.proofs.with_name.Lts as lts
-use Rattle.parser.proofs.rename.Reads as rename-reads
 
--- src/lib.rt:102:29
 enum-told : tie.Need-enum-told
 enum-told c = search needs
 
--- src/lib.rt:103:26
 enum-known-p : tie.Need-enum-known-p
 enum-known-p c = search needs
 
--- src/lib.rt:103:43
 rename-requires : tie.Need-rename-requires
 rename-requires c κs = search needs
 
--- src/lib.rt:104:26
 enum-known-p-2 : tie.Need-enum-known-p-2
 enum-known-p-2 c = search needs
 
--- src/lib.rt:104:43
 rename-requires-2 : tie.Need-rename-requires-2
 rename-requires-2 c κs = search needs
 
--- src/lib.rt:105:25
 enum-known-p-3 : tie.Need-enum-known-p-3
 enum-known-p-3 c = search needs
 
--- src/lib.rt:105:42
 rename-requires-3 : tie.Need-rename-requires-3
 rename-requires-3 c κs = search needs
 
--- src/lib.rt:98:1
 returns : tie.Need-returns
 returns c =
     rw (c .enum-told .given .1)
 
--- src/lib.rt:98:1
 returns-2 : tie.Need-returns-2
 returns-2 c =
     rw (c .before .before .p .given .1) (c .rename .ensures)
 
--- src/lib.rt:98:1
 returns-3 : tie.Need-returns-3
 returns-3 c =
     rw (c .before .before .p2 .given .1) (c .rename2 .ensures)
 
--- src/lib.rt:98:1
 returns-4 : tie.Need-returns-4
 returns-4 c =
     rw (c .before .before .p3 .given .1) (c .rename3 .ensures)

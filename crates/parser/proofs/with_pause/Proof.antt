@@ -1,23 +1,19 @@
+-- `with_pause` meets its contract. Assumes nothing.
 use Rattle.parser.specs.Parser.{paused}
 use borrow.Author.Tests.{eq-eqb, ne-eqb}
 use Rattle.parser.proofs.with_pause.Statement.{statement}
 use Rattle.parser.proofs.with_pause.Tie as tie
-use Rattle.parser.proofs.with_pause.Reads as reads
-use Rattle.parser.proofs.with_pause.Lts as lts
 
--- src/lib.rt:215:9
 returns : tie.Need-returns
 unfolding paused
 returns c =
     rw (ne-eqb (c .before .before .args .r .endless) 0 (c .if1 .taken))
 
--- src/lib.rt:218:9
 returns-2 : tie.Need-returns-2
 unfolding paused
 returns-2 c =
     rw (eq-eqb _ _ (c .before .before .if1 .left), ne-eqb (c .before .before .before .before .args .r .pause) 0 (c .if2 .taken))
 
--- src/lib.rt:211:1
 returns-3 : tie.Need-returns-3
 unfolding paused
 returns-3 c =

@@ -12,7 +12,7 @@ use Rattle.parser.specs.Parser.{Tape, empty, Out, on, no, _⟫_, paused,
 abbrev born : ℕ → ℕ → ℕ → ℕ → ℕ → Tape → Out
 born n pause endless selectable case = addBlock 6 (decodeBlock (n ∷ 2 ∷ 0 ∷ 0 ∷ 0 ∷ 0 ∷ 0 ∷ pause ∷ endless ∷ selectable ∷ case ∷ 0 ∷ 0 ∷ []))
 
--- with data, without data, and a stop
+-- selectable, with a pause; not selectable, with pause 0; a stop
 abbrev a : Tape → Out
 a = born 7 9 0 1 0
 
@@ -22,7 +22,6 @@ b = born 8 0 0 0 0
 abbrev stop : Tape → Out
 stop = born 9 0 1 1 1
 
--- three blocks
 abbrev three : Tape → Out
 three t = a t ⟫ a ⟫ a
 
@@ -32,16 +31,9 @@ group = startGroup 50 4
 abbrev text : Tape → Out
 text = noteText 40 3
 
-abbrev end : Tape → Out
-end = endGroup
-
 abbrev close : Tape → Out
 close = closeLoop 6
 
-abbrev loop : ℕ → Tape → Out
-loop = openLoop
-
--- so many tone rows
 abbrev tones : List Tone → Tape → Out
 tones = addTones 3
 
@@ -61,7 +53,7 @@ abbrev shown : Out → ℕ × List (List ℕ)
 shown (on t) = (0, map words (t .blocks))
 shown (no k) = (k, [])
 
--- the blocks above as they are born; a copy of a and of the stop, b's being like it
+-- the words of a, of b (and of its copy, which is no different), of a stop, and of a copy of a and of a stop
 abbrev A : List ℕ
 A = 7 ∷ 2 ∷ 9 ∷ 0 ∷ 1 ∷ 0 ∷ 0 ∷ 0 ∷ []
 
@@ -81,51 +73,51 @@ Stop′ = 9 ∷ 2 ∷ 0 ∷ 1 ∷ 0 ∷ 0 ∷ 0 ∷ 0 ∷ []
 abbrev table : List (List (Tape → Out) × ℕ × List (List ℕ))
 table =
     -- a loop of 2 round one block gives three rows; copies share tone rows
-    (loop 2 ∷ a ∷ close ∷ [], 0, A ∷ A′ ∷ A′ ∷ []) ∷
+    (openLoop 2 ∷ a ∷ close ∷ [], 0, A ∷ A′ ∷ A′ ∷ []) ∷
     -- a copy is nameless and unselectable
-    (loop 1 ∷ a ∷ stop ∷ close ∷ [], 0, A ∷ Stop ∷ A′ ∷ Stop′ ∷ []) ∷
+    (openLoop 1 ∷ a ∷ stop ∷ close ∷ [], 0, A ∷ Stop ∷ A′ ∷ Stop′ ∷ []) ∷
     -- what stood before the loop isn't copied; a loop of 0, and one round nothing
-    (b ∷ loop 1 ∷ a ∷ close ∷ [], 0, B ∷ A ∷ A′ ∷ []) ∷
-    (loop 0 ∷ a ∷ close ∷ [], 0, A ∷ []) ∷
-    (a ∷ loop 100 ∷ close ∷ [], 0, A ∷ []) ∷
+    (b ∷ openLoop 1 ∷ a ∷ close ∷ [], 0, B ∷ A ∷ A′ ∷ []) ∷
+    (openLoop 0 ∷ a ∷ close ∷ [], 0, A ∷ []) ∷
+    (a ∷ openLoop 100 ∷ close ∷ [], 0, A ∷ []) ∷
     -- a copy takes a pending text's name, and a group's
-    (loop 2 ∷ a ∷ text ∷ close ∷ [], 0, A ∷ (7 ∷ 2 ∷ 9 ∷ 0 ∷ 1 ∷ 2 ∷ 40 ∷ 3 ∷ []) ∷ A′ ∷ []) ∷
-    (loop 2 ∷ a ∷ group ∷ close ∷ [], 0, A ∷ (7 ∷ 2 ∷ 9 ∷ 0 ∷ 1 ∷ 3 ∷ 50 ∷ 4 ∷ []) ∷ (7 ∷ 2 ∷ 9 ∷ 0 ∷ 0 ∷ 4 ∷ 50 ∷ 4 ∷ []) ∷ []) ∷
+    (openLoop 2 ∷ a ∷ text ∷ close ∷ [], 0, A ∷ (7 ∷ 2 ∷ 9 ∷ 0 ∷ 1 ∷ 2 ∷ 40 ∷ 3 ∷ []) ∷ A′ ∷ []) ∷
+    (openLoop 2 ∷ a ∷ group ∷ close ∷ [], 0, A ∷ (7 ∷ 2 ∷ 9 ∷ 0 ∷ 1 ∷ 3 ∷ 50 ∷ 4 ∷ []) ∷ (7 ∷ 2 ∷ 9 ∷ 0 ∷ 0 ∷ 4 ∷ 50 ∷ 4 ∷ []) ∷ []) ∷
     -- a nested start is ignored, and so is an end without a start
-    (loop 1 ∷ a ∷ loop 9 ∷ b ∷ close ∷ [], 0, A ∷ B ∷ A′ ∷ B ∷ []) ∷
+    (openLoop 1 ∷ a ∷ openLoop 9 ∷ b ∷ close ∷ [], 0, A ∷ B ∷ A′ ∷ B ∷ []) ∷
     (close ∷ a ∷ close ∷ [], 0, A ∷ []) ∷
-    (loop 1 ∷ a ∷ close ∷ close ∷ [], 0, A ∷ A′ ∷ []) ∷
+    (openLoop 1 ∷ a ∷ close ∷ close ∷ [], 0, A ∷ A′ ∷ []) ∷
     -- a group's first block is selectable, a later one isn't, one after the group is as it is born
-    (group ∷ b ∷ a ∷ end ∷ a ∷ [], 0, (8 ∷ 2 ∷ 0 ∷ 0 ∷ 1 ∷ 3 ∷ 50 ∷ 4 ∷ []) ∷ (7 ∷ 2 ∷ 9 ∷ 0 ∷ 0 ∷ 4 ∷ 50 ∷ 4 ∷ []) ∷ A ∷ []) ∷
+    (group ∷ b ∷ a ∷ endGroup ∷ a ∷ [], 0, (8 ∷ 2 ∷ 0 ∷ 0 ∷ 1 ∷ 3 ∷ 50 ∷ 4 ∷ []) ∷ (7 ∷ 2 ∷ 9 ∷ 0 ∷ 0 ∷ 4 ∷ 50 ∷ 4 ∷ []) ∷ A ∷ []) ∷
     -- a text names one block
     (text ∷ b ∷ b ∷ [], 0, (8 ∷ 2 ∷ 0 ∷ 0 ∷ 1 ∷ 2 ∷ 40 ∷ 3 ∷ []) ∷ B ∷ []) ∷
     -- and replaces the name of a stop; a name may be empty
     (noteText 60 0 ∷ stop ∷ [], 0, (9 ∷ 2 ∷ 0 ∷ 1 ∷ 1 ∷ 2 ∷ 60 ∷ 0 ∷ []) ∷ []) ∷
     -- a group start drops a pending text, and so does a new text
-    (text ∷ group ∷ a ∷ end ∷ a ∷ [], 0, (7 ∷ 2 ∷ 9 ∷ 0 ∷ 1 ∷ 3 ∷ 50 ∷ 4 ∷ []) ∷ A ∷ []) ∷
+    (text ∷ group ∷ a ∷ endGroup ∷ a ∷ [], 0, (7 ∷ 2 ∷ 9 ∷ 0 ∷ 1 ∷ 3 ∷ 50 ∷ 4 ∷ []) ∷ A ∷ []) ∷
     (noteText 60 5 ∷ text ∷ a ∷ a ∷ [], 0, (7 ∷ 2 ∷ 9 ∷ 0 ∷ 1 ∷ 2 ∷ 40 ∷ 3 ∷ []) ∷ A ∷ []) ∷
     -- text or start inside a group is ignored, before its first block and after
     (group ∷ text ∷ startGroup 60 5 ∷ a ∷ [], 0, (7 ∷ 2 ∷ 9 ∷ 0 ∷ 1 ∷ 3 ∷ 50 ∷ 4 ∷ []) ∷ []) ∷
     (group ∷ a ∷ text ∷ startGroup 60 5 ∷ a ∷ [], 0, (7 ∷ 2 ∷ 9 ∷ 0 ∷ 1 ∷ 3 ∷ 50 ∷ 4 ∷ []) ∷ (7 ∷ 2 ∷ 9 ∷ 0 ∷ 0 ∷ 4 ∷ 50 ∷ 4 ∷ []) ∷ []) ∷
     -- a group end keeps a pending text
-    (text ∷ end ∷ a ∷ [], 0, (7 ∷ 2 ∷ 9 ∷ 0 ∷ 1 ∷ 2 ∷ 40 ∷ 3 ∷ []) ∷ []) ∷
+    (text ∷ endGroup ∷ a ∷ [], 0, (7 ∷ 2 ∷ 9 ∷ 0 ∷ 1 ∷ 2 ∷ 40 ∷ 3 ∷ []) ∷ []) ∷
     -- and the last block's finite pause 0 becomes 3,500, group open or not; no other, and no endless one
-    (b ∷ b ∷ end ∷ [], 0, B ∷ (8 ∷ 2 ∷ 3500 ∷ 0 ∷ 0 ∷ 0 ∷ 0 ∷ 0 ∷ []) ∷ []) ∷
-    (group ∷ b ∷ end ∷ [], 0, (8 ∷ 2 ∷ 3500 ∷ 0 ∷ 1 ∷ 3 ∷ 50 ∷ 4 ∷ []) ∷ []) ∷
-    (a ∷ end ∷ stop ∷ end ∷ [], 0, A ∷ Stop ∷ []) ∷
-    (end ∷ a ∷ [], 0, A ∷ []) ∷
+    (b ∷ b ∷ endGroup ∷ [], 0, B ∷ (8 ∷ 2 ∷ 3500 ∷ 0 ∷ 0 ∷ 0 ∷ 0 ∷ 0 ∷ []) ∷ []) ∷
+    (group ∷ b ∷ endGroup ∷ [], 0, (8 ∷ 2 ∷ 3500 ∷ 0 ∷ 1 ∷ 3 ∷ 50 ∷ 4 ∷ []) ∷ []) ∷
+    (a ∷ endGroup ∷ stop ∷ endGroup ∷ [], 0, A ∷ Stop ∷ []) ∷
+    (endGroup ∷ a ∷ [], 0, A ∷ []) ∷
     -- a copy has its original's new pause
-    (loop 1 ∷ b ∷ end ∷ close ∷ [], 0, (8 ∷ 2 ∷ 3500 ∷ 0 ∷ 0 ∷ 0 ∷ 0 ∷ 0 ∷ []) ∷ (8 ∷ 2 ∷ 3500 ∷ 0 ∷ 0 ∷ 0 ∷ 0 ∷ 0 ∷ []) ∷ []) ∷
+    (openLoop 1 ∷ b ∷ endGroup ∷ close ∷ [], 0, (8 ∷ 2 ∷ 3500 ∷ 0 ∷ 0 ∷ 0 ∷ 0 ∷ 0 ∷ []) ∷ (8 ∷ 2 ∷ 3500 ∷ 0 ∷ 0 ∷ 0 ∷ 0 ∷ 0 ∷ []) ∷ []) ∷
     -- refusal 6 from the seventh block on, a copy or not
     (three ∷ three ∷ [], 0, A ∷ A ∷ A ∷ A ∷ A ∷ A ∷ []) ∷
     (three ∷ three ∷ a ∷ [], 6, []) ∷
-    (loop 1 ∷ three ∷ close ∷ [], 0, A ∷ A ∷ A ∷ A′ ∷ A′ ∷ A′ ∷ []) ∷
-    (loop 6 ∷ a ∷ close ∷ [], 6, []) ∷
+    (openLoop 1 ∷ three ∷ close ∷ [], 0, A ∷ A ∷ A ∷ A′ ∷ A′ ∷ A′ ∷ []) ∷
+    (openLoop 6 ∷ a ∷ close ∷ [], 6, []) ∷
     -- refusal 5 from the fourth tone row on
     (tones (tone ∷ tone ∷ []) ∷ tones (tone ∷ []) ∷ a ∷ [], 0, A ∷ []) ∷
     (tones (tone ∷ tone ∷ []) ∷ tones (tone ∷ tone ∷ []) ∷ a ∷ [], 5, []) ∷
     -- the first refusal stands
-    (loop 6 ∷ a ∷ close ∷ tones (tone ∷ tone ∷ tone ∷ tone ∷ []) ∷ [], 6, []) ∷
+    (openLoop 6 ∷ a ∷ close ∷ tones (tone ∷ tone ∷ tone ∷ tone ∷ []) ∷ [], 6, []) ∷
     []
 
 examples : map (λ e. shown (after (e .0) (on empty))) table ≡ map (λ e. (e .1, e .2)) table

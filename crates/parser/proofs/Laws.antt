@@ -58,7 +58,7 @@ module _ {B N : ℕ} {bt tt : List ℕ} where
 
   pub refused : {x : Step} {k : ℕ} {o : Out} → Gives B N x bt tt o → x ≡ No k → o ≡ no k
   refused (goes h) e = let z : _≡_ {A = ℕ} 0 1 = cc in absurd (omega arith)
-  refused {k = k} (refuses {k = j}) e = cc
+  refused (refuses) e = cc
 
   -- two calls in turn: where the first went on, what the second gives from there is what both give; where it refused, so do both
   pub then-on : {x y : Step} {s : State} {bt′ tt′ : List ℕ} {o : Out} {f : Tape → Out} → Gives B N x bt tt o → x ≡ On s → ((t : Tape) → Holds B N s bt tt t → Gives B N y bt′ tt′ (f t)) → Gives B N y bt′ tt′ (o ⟫ f)

@@ -1,4 +1,4 @@
--- `copy_bodies` meets its contract. Assumes nothing.
+-- `copy_bodies` meets its contract: at each turn a tape is held from which the bodies left give what all of them give. Assumes nothing.
 use Rattle.parser.proofs.Copies.{Begins, begins, begins-rows, begins-length, body-turn, bodies-end}
 use Rattle.parser.proofs.Laws.{Going, going-starts, going-on, going-no, going-ends}
 use Rattle.parser.specs.Holds.{Holds, blockRoom}

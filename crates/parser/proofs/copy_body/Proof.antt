@@ -1,4 +1,4 @@
--- `copy_body` meets its contract. Assumes nothing.
+-- `copy_body` meets its contract: at each turn a tape is held from which the rows left give what the whole body gives. Assumes nothing.
 use Rattle.parser.proofs.Copies.{Begins, begins, begins-block, row-turn, rows-end}
 use Rattle.parser.proofs.Laws.{Going, going-starts, going-on, going-no, going-ends}
 use Rattle.parser.specs.Holds.{Holds, blockRoom}

@@ -1,0 +1,1 @@
+// Names of blocks as text, and the naming pass.

@@ -23,7 +23,7 @@ nothing d at = record { count = sym (add-zero at); bytes = refl }
 pub then : {d d1 d2 s t : List ℕ} {at r1 r2 : ℕ} → Wrote d at s d1 r1 → Wrote d1 r1 t d2 r2 → Wrote d at (s ++ t) d2 r2
 then {d} {d1} {d2} {s} {t} {at} {r1} {r2} p q = record {
   count = q .count ∙ ap (λ (n : ℕ). n + length t) (p .count) ∙ add-assoc at (length s) (length t) ∙ sym (ap (λ (n : ℕ). at + n) (length-append s t));
-  bytes = q .bytes ∙ ap (λ (n : ℕ). sets d1 n t) (p .count) ∙ ap (λ (l : List ℕ). sets l (at + length s) t) (p .bytes) ∙ sets-append d s t at
+  bytes = q .bytes ∙ ap (λ (n : ℕ). sets d1 n t) (p .count) ∙ ap (λ (l : List ℕ). sets l (at + length s) t) (p .bytes) ∙ sets-append d s t at;
 }
 
 pub same-len : {d d1 s : List ℕ} {at r : ℕ} → Wrote d at s d1 r → length d1 ≡ length d

@@ -1,0 +1,75 @@
+-- Laws of a pass over a table's rows in order, for any codec: a state is carried from row to row. Assumes nothing.
+use Prim.Native.Nat.{ℕ, zero, suc, _+_, _≤_, _<_}
+use native.Mathlib.Nat.{suc-inj, suc-ne-zero, not-suc-le-zero, le-of-suc-le-suc}
+use native.Mathlib.Numerals.{add-one}
+use native.Mathlib.Omega.{arith}
+use mathlib.Core.Path.{_≡_, refl, ap, _∙_}
+use mathlib.Core.List.{List, [], _∷_}
+use lib.ListN.{length, getD, set}
+use Rattle.rows.specs.Table.{Codec, get, put, rowsOf, over, step}
+use Rattle.rows.proofs.Tables.{get-row, put-set, rows-over, over-over}
+
+-- what rewriting the first n rows is of a table whose rows are known
+pub step-over : {R : Type 0} (C : Codec R) {t : List ℕ} (rs : List R) (u : List ℕ) (n : ℕ) (f : List R → List R) → t ≡ over C rs u → length rs ≡ n → n ≤ length (f rs) → step C n f t ≡ over C (f rs) u
+step-over {R} C rs u n f e k h =
+    ap (step C n f) e ∙ ap (λ (l : List R). over C (f l) (over C rs u)) (rows-over C rs u n k) ∙ over-over C rs (f rs) u (omega arith)
+
+-- f rewrites a row, g is the next state
+module _ {R S : Type 0} (f : S → R → R) (g : S → R → S) where
+  abbrev pub pass : S → List R → List R
+  pass s [] = []
+  pass s (r ∷ rs) = f s r ∷ pass (g s r) rs
+
+  -- the rows after i turns, and the state
+  abbrev pub passed : ℕ → S → List R → List R
+  passed zero s rs = rs
+  passed (suc i) s [] = []
+  passed (suc i) s (r ∷ rs) = f s r ∷ passed i (g s r) rs
+
+  abbrev pub carried : ℕ → S → List R → S
+  carried zero s rs = s
+  carried (suc i) s [] = s
+  carried (suc i) s (r ∷ rs) = carried i (g s r) rs
+
+  passed-length : (i : ℕ) (s : S) (rs : List R) → length (passed i s rs) ≡ length rs
+  passed-length zero s rs = refl
+  passed-length (suc i) s [] = refl
+  passed-length (suc i) s (r ∷ rs) = ap suc (passed-length i (g s r) rs)
+
+  pub passed-all : (s : S) (rs : List R) (n : ℕ) → length rs ≡ n → passed n s rs ≡ pass s rs
+  passed-all s [] zero e = refl
+  passed-all s [] (suc n) e = refl
+  passed-all s (r ∷ rs) zero e = absurd (suc-ne-zero _ e)
+  passed-all s (r ∷ rs) (suc n) e = ap (λ (l : List R). f s r ∷ l) (passed-all (g s r) rs n (suc-inj e))
+
+  -- the row of turn i is as it was; the turn's store; the turn's state
+  passed-row : (i : ℕ) (s : S) (rs : List R) (d : R) → getD (passed i s rs) i d ≡ getD rs i d
+  passed-row zero s rs d = refl
+  passed-row (suc i) s [] d = refl
+  passed-row (suc i) s (r ∷ rs) d = passed-row i (g s r) rs d
+
+  passed-more : (i : ℕ) (s : S) (rs : List R) (d : R) → i < length rs → set (passed i s rs) i (f (carried i s rs) (getD rs i d)) ≡ passed (suc i) s rs
+  passed-more i s [] d h = absurd (not-suc-le-zero h)
+  passed-more zero s (r ∷ rs) d h = refl
+  passed-more (suc i) s (r ∷ rs) d h = ap (λ (l : List R). f s r ∷ l) (passed-more i (g s r) rs d (le-of-suc-le-suc h))
+
+  carried-more : (i : ℕ) (s : S) (rs : List R) (d : R) → i < length rs → g (carried i s rs) (getD rs i d) ≡ carried (suc i) s rs
+  carried-more i s [] d h = absurd (not-suc-le-zero h)
+  carried-more zero s (r ∷ rs) d h = refl
+  carried-more (suc i) s (r ∷ rs) d h = carried-more i (g s r) rs d (le-of-suc-le-suc h)
+
+  -- a turn of the loop over a table: t₀ as the loop began, t and a as the turn begins
+  pub pass-more : (C : Codec R) (i : ℕ) (s : S) (rs : List R) (t₀ t : List ℕ) (a : S) → i < length rs → a ≡ carried i s rs → t ≡ over C (passed i s rs) t₀
+      → (g a (get C t i) ≡ carried (i + 1) s rs) × (put C t i (f a (get C t i)) ≡ over C (passed (i + 1) s rs) t₀)
+  pass-more C i s rs t₀ t a h p q =
+      let d = get C t i in
+      let k : i < length (passed i s rs) = rw (passed-length i s rs) h in
+      let e : get C t i ≡ getD rs i d = ap (λ (l : List ℕ). get C l i) q ∙ get-row C (passed i s rs) t₀ i d k ∙ passed-row i s rs d in (
+        ap (λ (b : S). g b (get C t i)) p ∙ ap (g (carried i s rs)) e ∙ carried-more i s rs d h ∙ rw add-one,
+        ap (λ (b : S). put C t i (f b (get C t i))) p
+            ∙ ap (λ (r : R). put C t i (f (carried i s rs) r)) e
+            ∙ ap (λ (l : List ℕ). put C l i (f (carried i s rs) (getD rs i d))) q
+            ∙ put-set C (passed i s rs) t₀ i (f (carried i s rs) (getD rs i d)) k
+            ∙ ap (λ (l : List R). over C l t₀) (passed-more i s rs d h)
+            ∙ rw add-one,
+      )

@@ -1,7 +1,7 @@
 -- The Rust's SPECTRUM_ENCODING: for each of the 256 codes its text, in UTF-8. Assumes nothing.
-use Prim.Native.Nat.{ℕ}
-use mathlib.Core.List.{List, [], _∷_}
-use lib.ListN.{getD}
+use Prim.Native.Nat.{ℕ, _+_}
+use mathlib.Core.List.{List, [], _∷_, _++_}
+use lib.ListN.{getD, length}
 
 unfoldable pub table : List (List ℕ)
 table =
@@ -73,3 +73,12 @@ table =
 
 unfoldable pub encoded : ℕ → List ℕ
 encoded code = getD table code []
+
+-- texts one after the other, and where each of them begins and the last one ends, counted from a
+unfoldable pub flat : List (List ℕ) → List ℕ
+flat [] = []
+flat (t ∷ ts) = t ++ flat ts
+
+unfoldable pub offsets : ℕ → List (List ℕ) → List ℕ
+offsets a [] = a ∷ []
+offsets a (t ∷ ts) = a ∷ offsets (a + length t) ts

@@ -1,32 +1,17 @@
 -- Document 01, 'Names and the model': a block's name as UTF-8 text, and the naming pass. Assumes nothing.
-use Prim.Native.Nat.{ℕ, zero, suc, _+_, _/_, _%_}
+use Prim.Native.Nat.{ℕ, _+_, _/_}
 use mathlib.Core.Bool.{Bool, true, false, _&&_}
 use mathlib.Core.List.{List, [], _∷_, _++_}
 use lib.ListN.{getD, take, drop}
-use lib.Dec.{eqb, ltb}
+use lib.Dec.{eqb}
 use Rattle.laws.specs.Rules.{_⇒_, _∣_}
+use Rattle.text.specs.Out.{decimal, latin, each}
 use Rattle.rows.specs.declared.Block.{Block}
 use Rattle.names.specs.Encoding.{encoded}
 
--- a number in decimal, of f digits at the most; a number of 64 bits has no more than 20
-unfoldable pub digits : ℕ → ℕ → List ℕ
-digits zero n = []
-digits (suc f) n = ltb n 10 ⇒ ((48 + n) ∷ []) ∣ digits f (n / 10) ++ ((48 + n % 10) ∷ [])
-
-unfoldable pub decimal : ℕ → List ℕ
-decimal n = digits 20 n
-
--- a given name: byte b is code point b
-unfoldable pub latin1 : ℕ → List ℕ
-latin1 b = ltb b 128 ⇒ (b ∷ []) ∣ ((192 + b / 64) ∷ (128 + b % 64) ∷ [])
-
-unfoldable pub latin : List ℕ → List ℕ
-latin [] = []
-latin (b ∷ bs) = latin1 b ++ latin bs
-
-unfoldable pub spelled : List ℕ → List ℕ
-spelled [] = []
-spelled (b ∷ bs) = encoded b ++ spelled bs
+-- bytes through `SPECTRUM_ENCODING`
+abbrev pub spelled : List ℕ → List ℕ
+spelled bs = each encoded bs
 
 -- 19 data bytes with first byte 0 is a header
 unfoldable pub isHeader : List ℕ → Block → Bool
@@ -40,18 +25,25 @@ typeName b =
     ∣ eqb b 3 ⇒ (0x42 ∷ 0x79 ∷ 0x74 ∷ 0x65 ∷ 0x73 ∷ [])
     ∣ (0x54 ∷ 0x79 ∷ 0x70 ∷ 0x65 ∷ 0x20 ∷ []) ++ decimal b
 
--- then `: ` and bytes 2 to 11 through `SPECTRUM_ENCODING`
-unfoldable pub headerName : List ℕ → Block → List ℕ
-headerName s r = typeName (getD s (r .start + 1) 0) ++ ((0x3A ∷ 0x20 ∷ []) ++ spelled (take 10 (drop (r .start + 2) s)))
+-- then `: ` and bytes 2 to 11 through `SPECTRUM_ENCODING`; the header's data begin at `start`
+unfoldable pub headerName : List ℕ → ℕ → List ℕ
+headerName s start = typeName (getD s (start + 1) 0) ++ ((0x3A ∷ 0x20 ∷ []) ++ spelled (take 10 (drop (start + 2) s)))
 
 -- `n bytes`, n the data size or, without data, tones/8
-unfoldable pub sizeName : Block → List ℕ
-sizeName r = decimal (eqb (r .size) 0 ⇒ r .tones / 8 ∣ r .size) ++ (0x20 ∷ 0x62 ∷ 0x79 ∷ 0x74 ∷ 0x65 ∷ 0x73 ∷ [])
+unfoldable pub sizeShown : Block → ℕ
+sizeShown r = eqb (r .size) 0 ⇒ r .tones / 8 ∣ r .size
 
--- a block's name: `stop`, the one given, or, where none is, the header's or the size's
+unfoldable pub sizeName : Block → List ℕ
+sizeName r = decimal (sizeShown r) ++ (0x20 ∷ 0x62 ∷ 0x79 ∷ 0x74 ∷ 0x65 ∷ 0x73 ∷ [])
+
+-- the name of a block to which none was given: the header's or the size's
+unfoldable pub guessed : List ℕ → Block → List ℕ
+guessed s r = isHeader s r ⇒ headerName s (r .start) ∣ sizeName r
+
+-- a block's name: that, `stop`, or the one given
 unfoldable pub nameOf : List ℕ → Block → List ℕ
 nameOf s r =
-    eqb (r .named) 0 ⇒ (isHeader s r ⇒ headerName s r ∣ sizeName r)
+    eqb (r .named) 0 ⇒ guessed s r
     ∣ eqb (r .named) 1 ⇒ (0x73 ∷ 0x74 ∷ 0x6F ∷ 0x70 ∷ [])
     ∣ latin (take (r .chars) (drop (r .text) s))
 

@@ -29,7 +29,7 @@ cut p n (t ∷ ts) zero e h =
     rw (first-offset (n + length t) ts) (record {
       order = omega arith;
       inside = simp length-append (omega arith);
-      is = rw (drop-at p (t ++ flat ts) n e, take-at t (flat ts) ((n + length t) - n) l)
+      is = rw (drop-at p (t ++ flat ts) n e, take-at t (flat ts) ((n + length t) - n) l);
     })
 cut p n (t ∷ ts) (suc k) e h =
     let l : length (p ++ t) ≡ n + length t = rw length-append (omega arith) in

@@ -52,3 +52,66 @@ name-all-row s p [] i d h = absurd (not-suc-le-zero h)
 name-all-row s p (r ∷ rs) zero d h = refl
 name-all-row s p (r ∷ rs) (suc zero) d h = name-all-row s (isHeader s r) rs zero d (le-of-suc-le-suc h)
 name-all-row s p (r ∷ rs) (suc (suc i)) d h = name-all-row s (isHeader s r) rs (suc i) d (le-of-suc-le-suc h)
+
+-- a header keeps its selectability
+pub header-stays : (s : List ℕ) (p : Bool) (rs : List Block) (i : ℕ) (d : Block) → i < length rs → isHeader s (getD rs i d) ≡ true → getD (nameAll s p rs) i d ≡ getD rs i d
+unfolding passed
+header-stays s p rs i d h e = name-all-row s p rs i d h ∙ rw e
+
+-- a block after a header that is no header becomes unselectable
+pub after-header : (s : List ℕ) (p : Bool) (rs : List Block) (i : ℕ) (d : Block) → suc i < length rs → isHeader s (getD rs i d) ≡ true → isHeader s (getD rs (suc i) d) ≡ false → getD (nameAll s p rs) (suc i) d ≡ unselected (getD rs (suc i) d)
+unfolding passed
+after-header s p rs i d h e f = name-all-row s p rs (suc i) d h ∙ rw (f, e)
+
+-- any other block keeps it
+pub other-stays : (s : List ℕ) (p : Bool) (rs : List Block) (i : ℕ) (d : Block) → i < length rs → before s p rs i d ≡ false → getD (nameAll s p rs) i d ≡ getD rs i d
+unfolding passed
+other-stays s p rs i d h e = name-all-row s p rs i d h ∙ rw e (same (isHeader s (getD rs i d)) (getD rs i d))
+  where
+    same : (b : Bool) (r : Block) → (b ⇒ r ∣ r) ≡ r
+    same true r = refl
+    same false r = refl
+
+-- what doesn't look at selectability is the same before and after
+module _ {A : Type 0} (f : Block → A) (blind : (r : Block) → f (unselected r) ≡ f r) where
+  passed-same : (s : List ℕ) (p : Bool) (r : Block) → f (passed s p r) ≡ f r
+  unfolding passed
+  passed-same s p r = cases (isHeader s r) p
+    where
+      cases : (h p : Bool) → f (h ⇒ r ∣ p ⇒ unselected r ∣ r) ≡ f r
+      cases true p = refl
+      cases false true = blind r
+      cases false false = refl
+
+  pub name-all-same : (s : List ℕ) (p : Bool) (rs : List Block) → map f (nameAll s p rs) ≡ map f rs
+  unfolding nameAll
+  name-all-same s p [] = refl
+  name-all-same s p (r ∷ rs) = rw (passed-same s p r, name-all-same s (isHeader s r) rs)
+
+-- so the pass changes nothing but selectability, and no name
+pub only-selectable : (s : List ℕ) (p : Bool) (rs : List Block) → map unselected (nameAll s p rs) ≡ map unselected rs
+unfolding unselected
+only-selectable s p rs = name-all-same unselected (λ r. refl) s p rs
+
+pub names-stay : (s : List ℕ) (p : Bool) (rs : List Block) → map (nameOf s) (nameAll s p rs) ≡ map (nameOf s) rs
+unfolding unselected nameOf guessed isHeader sizeName sizeShown
+names-stay s p rs = name-all-same (nameOf s) (λ r. refl) s p rs
+
+header-same : (s : List ℕ) (p : Bool) (r : Block) → isHeader s (passed s p r) ≡ isHeader s r
+unfolding unselected isHeader
+header-same s p r = passed-same (isHeader s) (λ r. refl) s p r
+
+-- a second pass changes nothing
+passed-twice : (s : List ℕ) (p : Bool) (r : Block) → passed s p (passed s p r) ≡ passed s p r
+unfolding passed unselected
+passed-twice s p r = rw (header-same s p r) (cases (isHeader s r) p)
+  where
+    cases : (h p : Bool) → (h ⇒ (h ⇒ r ∣ p ⇒ unselected r ∣ r) ∣ p ⇒ unselected (h ⇒ r ∣ p ⇒ unselected r ∣ r) ∣ (h ⇒ r ∣ p ⇒ unselected r ∣ r)) ≡ (h ⇒ r ∣ p ⇒ unselected r ∣ r)
+    cases true p = refl
+    cases false true = refl
+    cases false false = refl
+
+pub name-all-twice : (s : List ℕ) (p : Bool) (rs : List Block) → nameAll s p (nameAll s p rs) ≡ nameAll s p rs
+unfolding nameAll
+name-all-twice s p [] = refl
+name-all-twice s p (r ∷ rs) = rw (passed-twice s p r, header-same s p r, name-all-twice s (isHeader s r) rs)

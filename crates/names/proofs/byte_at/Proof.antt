@@ -1,22 +1,16 @@
-use native.Mathlib.Omega.{arith}
+-- `byte_at` meets its contract. Assumes nothing.
 use mathlib.Core.Path.{sym}
 use lib.ListN.{List·getD-eq-default}
-
 use borrow.Author.Needs.{needs}
 use Rattle.names.proofs.byte_at.Statement.{statement}
 use Rattle.names.proofs.byte_at.Tie as tie
-use Rattle.names.proofs.byte_at.Reads as reads
-use Rattle.names.proofs.byte_at.Lts as lts
 
--- src/lib.rt:125:16
 shared-slice-read-result : tie.Need-shared-slice-read-result
 shared-slice-read-result c = search needs
 
--- src/lib.rt:125:9
 returns : tie.Need-returns
 returns c = search needs
 
--- src/lib.rt:120:1
 returns-2 : tie.Need-returns-2
 returns-2 c =
     sym (List·getD-eq-default (c .before .args .tape .now) 0 (c .if1 .left))

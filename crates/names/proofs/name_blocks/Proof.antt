@@ -1,5 +1,6 @@
+-- `name_blocks` meets its contract. Assumes nothing.
 use Rattle.names.proofs.Selecting.{next, name-turn, name-all-pass}
-use Rattle.names.specs.Names.{passed, nameAll}
+use Rattle.names.specs.Names.{passed}
 use Rattle.rows.proofs.Passes.{turned, carried, turned-all}
 use Rattle.rows.proofs.Whole.{block-whole}
 use Rattle.rows.proofs.Tables.{rows-length, over-rows}
@@ -8,17 +9,11 @@ use Rattle.rows.specs.Rows.{block}
 use lib.ListN.{length}
 use mathlib.Core.Bool.{false}
 use mathlib.Core.Path.{_≡_, refl, sym, _∙_}
-use Prim.Native.Nat.{_+_, _-_, _≤_, _<_}
+use Prim.Native.Nat.{_-_, _≤_, _<_}
 use native.Mathlib.Omega.{arith}
 use borrow.Author.Needs.{needs}
 use Rattle.names.proofs.name_blocks.Statement.{statement}
 use Rattle.names.proofs.name_blocks.Tie as tie
-use Rattle.names.proofs.name_blocks.Reads as reads
-use Rattle.names.proofs.name_blocks.Lts as lts
-use Rattle.names.proofs.is_header.Reads as is-header-reads
-use Rattle.names.proofs.name_row.Reads as name-row-reads
-use Rattle.rows.proofs.block_at.Reads as block-at-reads
-use Rattle.rows.proofs.put_block.Reads as put-block-reads
 
 abbrev Inv-loop : tie.InvT-loop
 Inv-loop tape blocks₀ n prefixed₀ i₀ blocks prefixed i =
@@ -29,37 +24,29 @@ Inv-loop tape blocks₀ n prefixed₀ i₀ blocks prefixed i =
 abbrev μ-loop : tie.MeasureT-loop
 μ-loop tape blocks₀ n prefixed₀ i₀ blocks prefixed i = n - i
 
--- src/lib.rt:189:5
 loop-holds : tie.Need-loop-holds Inv-loop μ-loop
 loop-holds c =
     let a = c .before .before .args in
     (omega arith, refl, refl, sym (over-rows block block-whole (a .n) (a .blocks .now) (c .before .before .pre)))
 
--- src/lib.rt:190:13
 block-at-requires : tie.Need-block-at-requires Inv-loop μ-loop
 block-at-requires c κs = search needs
 
--- src/lib.rt:191:13
 is-header-requires : tie.Need-is-header-requires Inv-loop μ-loop
 is-header-requires c κs = search needs
 
--- src/lib.rt:192:36
 name-row-requires : tie.Need-name-row-requires Inv-loop μ-loop
 name-row-requires c κs = search needs
 
--- src/lib.rt:192:9
 put-block-requires : tie.Need-put-block-requires Inv-loop μ-loop
 put-block-requires c κs = search needs
 
--- src/lib.rt:194:9
 add-i : tie.Need-add-i Inv-loop μ-loop
 add-i c = search needs
 
--- src/lib.rt:189:5
 loop-less : tie.Need-loop-less Inv-loop μ-loop
 loop-less c = search needs
 
--- src/lib.rt:189:5
 loop-again : tie.Need-loop-again Inv-loop μ-loop
 loop-again c =
     let a = c .before .before .before .before .before .before .before .before .before .before .before .before .args in
@@ -69,11 +56,9 @@ loop-again c =
     let w = name-turn (a .tape .now) (l .i) rs (a .blocks .now) h (l .inv .2) (l .inv .3) (c .before .before .before .before .before .before .block-at .ensures) (c .before .before .before .before .before .is-header .ensures) (c .before .before .before .name-row .ensures) (c .before .before .put-block .ensures) in
     (omega arith, omega arith, w .0, w .1)
 
--- src/lib.rt:183:1
 same-length : tie.Need-same-length Inv-loop μ-loop
 same-length c = search needs
 
--- src/lib.rt:183:1
 returns : tie.Need-returns Inv-loop μ-loop
 returns c =
     let a = c .before .before .before .before .args in

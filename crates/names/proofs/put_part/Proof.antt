@@ -1,34 +1,26 @@
+-- `put_part` meets its contract. Assumes nothing.
 use Rattle.names.specs.Encoding.{table, flat}
 use borrow.Author.Needs.{needs}
 use Rattle.names.proofs.put_part.Statement.{statement}
 use Rattle.names.proofs.put_part.Tie as tie
-use Rattle.names.proofs.put_part.Reads as reads
-use Rattle.names.proofs.put_part.Lts as lts
-use Rattle.text.proofs.put_all.Reads as put-all-reads
 
--- src/lib.rt:45:28
 sub-put-all : tie.Need-sub-put-all
 sub-put-all c = search needs
 
--- src/lib.rt:45:28
 part-put-all-start : tie.Need-part-put-all-start
 part-put-all-start c = search needs
 
--- src/lib.rt:45:28
 part-put-all-end : tie.Need-part-put-all-end
 unfolding table flat
 part-put-all-end c =
     c .before .before .before .pre .1
 
--- src/lib.rt:45:5
 put-all-requires : tie.Need-put-all-requires
 put-all-requires c κs = search needs
 
--- src/lib.rt:41:1
 same-length : tie.Need-same-length
 same-length c = search needs
 
--- src/lib.rt:41:1
 returns : tie.Need-returns
 unfolding table flat
 returns c =

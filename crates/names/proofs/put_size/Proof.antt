@@ -1,37 +1,27 @@
-use Rattle.names.specs.Names.{sizeName, sizeShown}
+-- `put_size` meets its contract. Assumes nothing.
+use Rattle.names.specs.Names.{sizeName}
 use Rattle.text.proofs.Writing.{then, decimal-length}
 use native.Mathlib.Omega.{arith}
 use borrow.Author.Needs.{needs}
 use Rattle.names.proofs.put_size.Statement.{statement}
 use Rattle.names.proofs.put_size.Tie as tie
-use Rattle.names.proofs.put_size.Reads as reads
-use Rattle.names.proofs.put_size.Lts as lts
-use Rattle.names.proofs.size_shown.Reads as size-shown-reads
-use Rattle.text.proofs.put_all.Reads as put-all-reads
-use Rattle.text.proofs.put_decimal.Reads as put-decimal-reads
 
--- src/lib.rt:115:40
 size-shown-requires : tie.Need-size-shown-requires
 size-shown-requires c κs = search needs
 
--- src/lib.rt:115:9
 put-decimal-requires : tie.Need-put-decimal-requires
 put-decimal-requires c κs = search needs
 
--- src/lib.rt:116:27
 slice-aggregate-put-all : tie.Need-slice-aggregate-put-all
 slice-aggregate-put-all c = search needs
 
--- src/lib.rt:116:5
 put-all-requires : tie.Need-put-all-requires
 put-all-requires c κs =
     omega (arith, c .before .before .before .before .put-decimal .ensures .count, decimal-length (c .before .before .before .before .before .size-shown .result))
 
--- src/lib.rt:111:1
 same-length : tie.Need-same-length
 same-length c = search needs
 
--- src/lib.rt:111:1
 returns : tie.Need-returns
 unfolding sizeName
 returns c =

@@ -1,3 +1,4 @@
+-- `put_type` meets its contract. Assumes nothing.
 use Rattle.names.proofs.Naming.{as-other}
 use Rattle.names.specs.Names.{typeName}
 use Rattle.text.proofs.Writing.{then}
@@ -6,82 +7,61 @@ use native.Mathlib.Omega.{arith}
 use borrow.Author.Needs.{needs}
 use Rattle.names.proofs.put_type.Statement.{statement}
 use Rattle.names.proofs.put_type.Tie as tie
-use Rattle.names.proofs.put_type.Reads as reads
-use Rattle.names.proofs.put_type.Lts as lts
-use Rattle.text.proofs.put_all.Reads as put-all-reads
-use Rattle.text.proofs.put_decimal.Reads as put-decimal-reads
 
--- src/lib.rt:79:37
 slice-aggregate-put-all : tie.Need-slice-aggregate-put-all
 slice-aggregate-put-all c = search needs
 
--- src/lib.rt:79:14
 put-all-requires : tie.Need-put-all-requires
 put-all-requires c κs = search needs
 
--- src/lib.rt:80:37
 slice-aggregate-put-all-2 : tie.Need-slice-aggregate-put-all-2
 slice-aggregate-put-all-2 c = search needs
 
--- src/lib.rt:80:14
 put-all-requires-2 : tie.Need-put-all-requires-2
 put-all-requires-2 c κs = search needs
 
--- src/lib.rt:81:37
 slice-aggregate-put-all-3 : tie.Need-slice-aggregate-put-all-3
 slice-aggregate-put-all-3 c = search needs
 
--- src/lib.rt:81:14
 put-all-requires-3 : tie.Need-put-all-requires-3
 put-all-requires-3 c κs = search needs
 
--- src/lib.rt:83:47
 slice-aggregate-put-all-4 : tie.Need-slice-aggregate-put-all-4
 slice-aggregate-put-all-4 c = search needs
 
--- src/lib.rt:83:17
 put-all-requires-4 : tie.Need-put-all-requires-4
 put-all-requires-4 c κs = search needs
 
--- src/lib.rt:84:13
 put-decimal-requires : tie.Need-put-decimal-requires
 put-decimal-requires c κs = search needs
 
--- src/lib.rt:74:1
 same-length : tie.Need-same-length
 same-length c = search needs
 
--- src/lib.rt:74:1
 returns : tie.Need-returns
 unfolding typeName
 returns c =
     rw (c .before .before .before .before .before .match .keys1) (c .before .before .put-all .ensures)
 
--- src/lib.rt:74:1
 same-length-2 : tie.Need-same-length-2
 same-length-2 c = search needs
 
--- src/lib.rt:74:1
 returns-2 : tie.Need-returns-2
 unfolding typeName
 returns-2 c =
     rw (c .before .before .before .before .before .match .keys2) (c .before .before .put-all2 .ensures)
 
--- src/lib.rt:74:1
 same-length-3 : tie.Need-same-length-3
 same-length-3 c = search needs
 
--- src/lib.rt:74:1
 returns-3 : tie.Need-returns-3
 unfolding typeName
 returns-3 c =
     rw (c .before .before .before .before .before .match .keys3) (c .before .before .put-all3 .ensures)
 
--- src/lib.rt:74:1
 same-length-4 : tie.Need-same-length-4
 same-length-4 c = search needs
 
--- src/lib.rt:74:1
 returns-4 : tie.Need-returns-4
 returns-4 c =
     let w = then (c .before .before .before .before .before .before .put-all4 .ensures) (c .before .before .put-decimal .ensures) in

@@ -1,17 +1,14 @@
+-- `size_shown` meets its contract. Assumes nothing.
 use Rattle.names.specs.Names.{sizeShown}
 use borrow.Author.Tests.{eq-eqb, ne-eqb}
 use Rattle.names.proofs.size_shown.Statement.{statement}
 use Rattle.names.proofs.size_shown.Tie as tie
-use Rattle.names.proofs.size_shown.Reads as reads
-use Rattle.names.proofs.size_shown.Lts as lts
 
--- src/lib.rt:105:9
 returns : tie.Need-returns
 unfolding sizeShown
 returns c =
     rw (eq-eqb _ _ (c .before .if1 .taken))
 
--- src/lib.rt:101:1
 returns-2 : tie.Need-returns-2
 unfolding sizeShown
 returns-2 c =

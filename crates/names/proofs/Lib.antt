@@ -1,4 +1,3 @@
-pub mod Codes
 pub mod Examples
 pub mod Naming
 pub mod Selecting

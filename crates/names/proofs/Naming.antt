@@ -1,19 +1,22 @@
--- How long a name is, and a header's type. Assumes nothing.
+-- What the writers of names need, what a well-formed row gives them, and how long a name is. Assumes nothing.
 use mathlib.Core.Path.{_≡_, refl}
-use mathlib.Core.Bool.{Bool, true, false, _&&_}
+use mathlib.Core.Bool.{Bool, true, false, _&&_, false≢true}
 use mathlib.Core.List.{List, [], _∷_, _++_}
 use Prim.Native.Nat.{ℕ, _+_, _-_, _*_, _^_, _<_, _≤_}
 use native.Mathlib.Omega.{arith}
 use lib.ListN.{length, length-append, length-take, length-drop, getD, take, drop}
 use lib.Dec.{eqb}
-use borrow.Author.Tests.{ne-eqb, eqb-true}
+use borrow.Author.Tests.{ne-eqb, eqb-true, leb-true}
 use Rattle.laws.specs.Rules.{_⇒_, _∣_}
 use Rattle.text.specs.Out.{Wrote, decimal, latin1}
 use Rattle.text.proofs.Writing.{then, decimal-length, latin1-length, each-length}
 use Rattle.rows.specs.declared.Block.{Block}
-use Rattle.names.specs.Encoding.{encoded}
-use Rattle.names.specs.Names.{spelled, typeName, isHeader, headerName, sizeShown, sizeName, guessed, nameOf}
-use Rattle.names.proofs.Codes.{code-length}
+use Rattle.rows.specs.Table.{capacityOf}
+use Rattle.rows.specs.Rows.{tone, toneMost}
+use Rattle.rows.specs.Well.{inside, wellRanges, wellNumbers, wellCases, wellTones, wellBlock}
+use Rattle.encoding.specs.Encoding.{encoded, spelled}
+use Rattle.names.specs.Names.{typeName, isHeader, headerName, sizeShown, sizeName, guessed, nameOf}
+use Rattle.encoding.proofs.Codes.{code-length}
 
 -- a type byte that has no word of its own
 pub as-other : {d d1 : List ℕ} {at r : ℕ} (b : ℕ) → (b ≡ 0 → ⊥) → (b ≡ 1 → ⊥) → (b ≡ 3 → ⊥) → Wrote d at ((0x54 ∷ 0x79 ∷ 0x70 ∷ 0x65 ∷ 0x20 ∷ []) ++ decimal b) d1 r → Wrote d at (typeName b) d1 r
@@ -32,14 +35,28 @@ as-header s start p q w =
 pub ten-bytes : (s : List ℕ) (start : ℕ) → length (take ((start + 12) - (start + 2)) (drop (start + 2) s)) ≤ 10
 ten-bytes s start = rw length-take (omega arith)
 
+first : (a b : Bool) → (a && b) ≡ true → a ≡ true
+first true b e = refl
+first false b e = e
+
+second : (a b : Bool) → (a && b) ≡ true → b ≡ true
+second true b e = e
+second false b e = absurd (false≢true e)
+
 -- a header has 19 bytes
 pub header-size : (s : List ℕ) (r : Block) → isHeader s r ≡ true → r .size ≡ 19
 unfolding isHeader
 header-size s r e = eqb-true (r .size) 19 (first (eqb (r .size) 19) (eqb (getD s (r .start) 0) 0) e)
-  where
-    first : (a b : Bool) → (a && b) ≡ true → a ≡ true
-    first true b e = refl
-    first false b e = e
+
+-- what `put_name` asks is so of a well-formed row
+pub inside-tape : (tape : ℕ) (tones : List ℕ) (r : Block) → wellBlock tape tones r ≡ true → (r .start + r .size ≤ tape) × (r .text + r .chars ≤ tape)
+unfolding wellBlock wellRanges
+inside-tape tape tones r e =
+    let a = inside (r .tone) (r .tones) (capacityOf tone toneMost tones) in
+    let b = inside (r .start) (r .size) tape in
+    let c = inside (r .text) (r .chars) tape in
+    let w = second a (b && c) (first (a && (b && c)) (wellNumbers r && (wellCases r && wellTones tones (r .tone) (r .tones))) e) in
+    (leb-true _ _ (first b c w), leb-true _ _ (second b c w))
 
 either : (n : ℕ) (t : Bool) (x y : List ℕ) → length x ≤ n → length y ≤ n → length (t ⇒ x ∣ y) ≤ n
 either n true x y h k = h

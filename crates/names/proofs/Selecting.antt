@@ -2,7 +2,7 @@
 use mathlib.Core.Path.{_≡_, refl, sym, ap, _∙_}
 use mathlib.Core.Bool.{Bool, true, false}
 use mathlib.Core.List.{List, [], _∷_, map}
-use Prim.Native.Nat.{ℕ, zero, suc, _+_, _<_, _≤_}
+use Prim.Native.Nat.{ℕ, zero, suc, _+_, _<_}
 use native.Mathlib.Nat.{not-suc-le-zero, le-of-suc-le-suc}
 use native.Mathlib.Omega.{arith}
 use lib.ListN.{length, getD}
@@ -11,7 +11,7 @@ use Rattle.rows.specs.declared.Block.{Block}
 use Rattle.rows.specs.Table.{get, put, over, step, tableOf, zeros}
 use Rattle.rows.specs.Rows.{block}
 use Rattle.rows.proofs.Passes.{pass, turned, carried, pass-more, step-over}
-use Rattle.names.specs.Names.{isHeader, headerName, sizeShown, sizeName, guessed, nameOf, unselected, passed, nameAll}
+use Rattle.names.specs.Names.{isHeader, sizeShown, sizeName, guessed, nameOf, unselected, passed, nameAll}
 
 -- what is carried from row to row: whether the row before was a header
 abbrev pub next : List ℕ → Bool → Block → Bool

@@ -5,13 +5,9 @@ use mathlib.Core.List.{List, [], _∷_, _++_}
 use lib.ListN.{getD, take, drop}
 use lib.Dec.{eqb}
 use Rattle.laws.specs.Rules.{_⇒_, _∣_}
-use Rattle.text.specs.Out.{decimal, latin, each}
+use Rattle.text.specs.Out.{decimal, latin}
 use Rattle.rows.specs.declared.Block.{Block}
-use Rattle.names.specs.Encoding.{encoded}
-
--- bytes through `SPECTRUM_ENCODING`
-abbrev pub spelled : List ℕ → List ℕ
-spelled bs = each encoded bs
+use Rattle.encoding.specs.Encoding.{spelled}
 
 -- 19 data bytes with first byte 0 is a header
 unfoldable pub isHeader : List ℕ → Block → Bool

@@ -1,5 +1,4 @@
 // Text into lent bytes: each writer clips at the end of `out` and counts on, so a dry run into no bytes gives the length.
-ghost use mathlib.Core.Path.{_≡_};
 ghost use Prim.Native.Nat.{_+_, _*_, _^_, _<_};
 ghost use mathlib.Core.List.{[], _∷_};
 ghost use lib.ListN.{length};

@@ -1,4 +1,4 @@
--- `is_header` meets its contract. Assumes nothing.
+-- `names::is_header` meets its contract: each test decides its clause. Assumes nothing.
 use Rattle.names.specs.Names.{isHeader}
 use borrow.Author.Tests.{eq-eqb, ne-eqb}
 use borrow.Author.Needs.{needs}

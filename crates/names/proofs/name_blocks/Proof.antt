@@ -1,4 +1,4 @@
--- `name_blocks` meets its contract. Assumes nothing.
+-- `names::name_blocks` meets its contract: each turn is one step of the pass. Assumes nothing.
 use Rattle.names.proofs.Selecting.{next, name-turn, name-all-pass}
 use Rattle.names.specs.Names.{passed}
 use Rattle.rows.proofs.Passes.{turned, carried, turned-all}

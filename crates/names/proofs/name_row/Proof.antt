@@ -1,4 +1,4 @@
--- `name_row` meets its contract. Assumes nothing.
+-- `names::name_row` meets its contract: each return is one rule. Assumes nothing.
 use Rattle.names.specs.Names.{unselected}
 use Rattle.names.proofs.name_row.Statement.{statement}
 use Rattle.names.proofs.name_row.Tie as tie

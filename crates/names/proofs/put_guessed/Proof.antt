@@ -1,4 +1,4 @@
--- `put_guessed` meets its contract. Assumes nothing.
+-- `names::put_guessed` meets its contract: a header has 19 bytes, so its name lies inside the tape. Assumes nothing.
 use Rattle.names.proofs.Naming.{header-size}
 use native.Mathlib.Omega.{arith}
 use Rattle.names.specs.Names.{guessed}

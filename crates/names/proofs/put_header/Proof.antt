@@ -1,4 +1,4 @@
--- `put_header` meets its contract. Assumes nothing.
+-- `names::put_header` meets its contract: type, `: ` and name one after the other. Assumes nothing.
 use Rattle.names.proofs.Naming.{ten-bytes}
 use Prim.Native.Nat.{_+_}
 use lib.ListN.{getD}

@@ -1,4 +1,4 @@
--- `put_name` meets its contract. Assumes nothing.
+-- `names::put_name` meets its contract: each return is one rule. Assumes nothing.
 use Rattle.names.specs.Names.{nameOf}
 use native.Mathlib.Nat.{add-sub-cancel-left}
 use borrow.Author.Tests.{eq-eqb, ne-eqb}

@@ -1,4 +1,4 @@
--- `put_size` meets its contract. Assumes nothing.
+-- `names::put_size` meets its contract: the number, then ` bytes`. Assumes nothing.
 use Rattle.names.specs.Names.{sizeName}
 use Rattle.text.proofs.Writing.{then, decimal-length}
 use native.Mathlib.Omega.{arith}

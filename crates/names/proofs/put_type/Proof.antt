@@ -1,4 +1,4 @@
--- `put_type` meets its contract. Assumes nothing.
+-- `names::put_type` meets its contract: each arm is one rule. Assumes nothing.
 use Rattle.names.proofs.Naming.{as-other}
 use Rattle.names.specs.Names.{typeName}
 use Rattle.text.proofs.Writing.{then}

@@ -1,4 +1,4 @@
--- `size_shown` meets its contract. Assumes nothing.
+-- `names::size_shown` meets its contract: each return is one rule. Assumes nothing.
 use Rattle.names.specs.Names.{sizeShown}
 use borrow.Author.Tests.{eq-eqb, ne-eqb}
 use Rattle.names.proofs.size_shown.Statement.{statement}

@@ -1,4 +1,4 @@
--- `put_decimal` meets its contract. Assumes nothing.
+-- `text::put_decimal` meets its contract: the digits of n / 10, then the last one; n falls. Assumes nothing.
 use mathlib.Core.Path.{_∙_}
 use native.Mathlib.Omega.{arith}
 use Rattle.text.proofs.Writing.{decimal-length, as-digit, as-digits}

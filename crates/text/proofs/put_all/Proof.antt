@@ -1,4 +1,4 @@
--- `put_all` meets its contract. Assumes nothing.
+-- `text::put_all` meets its contract: each turn writes one byte more of s. Assumes nothing.
 use mathlib.Core.Path.{_≡_}
 use Prim.Native.Nat.{_-_, _≤_}
 use native.Mathlib.Omega.{arith}

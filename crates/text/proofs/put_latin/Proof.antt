@@ -1,4 +1,4 @@
--- `put_latin` meets its contract. Assumes nothing.
+-- `text::put_latin` meets its contract: each turn writes the text of one byte more. Assumes nothing.
 use mathlib.Core.Path.{_≡_}
 use Prim.Native.Nat.{_-_, _≤_}
 use native.Mathlib.Omega.{arith}

@@ -1,16 +1,15 @@
--- `names::put_spelled` meets its contract. Assumes nothing.
+-- `encoding::put_spelled` meets its contract: each turn writes the text of one code more. Assumes nothing.
 use mathlib.Core.Path.{_≡_}
 use Prim.Native.Nat.{_-_, _≤_}
 use native.Mathlib.Omega.{arith}
 use lib.ListN.{length, take}
 use lib.Seq.{take-length, length-take-le}
 use Rattle.text.specs.Out.{Wrote, each}
-use Rattle.names.specs.Encoding.{encoded}
-use Rattle.names.specs.Names.{spelled}
-use Rattle.names.proofs.Codes.{code-length}
+use Rattle.encoding.specs.Encoding.{encoded, spelled}
+use Rattle.encoding.proofs.Codes.{code-length}
 use Rattle.text.proofs.Writing.{nothing, then, same-len, each-one-more, each-length}
-use Rattle.names.proofs.put_spelled.Statement.{statement}
-use Rattle.names.proofs.put_spelled.Tie as tie
+use Rattle.encoding.proofs.put_spelled.Statement.{statement}
+use Rattle.encoding.proofs.put_spelled.Tie as tie
 
 abbrev Inv-loop : tie.InvT-loop
 Inv-loop out₀ at s o₀ i₀ out o i = (i ≤ length s) × Wrote out₀ at (spelled (take i s)) out o

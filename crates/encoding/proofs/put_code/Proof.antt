@@ -1,9 +1,9 @@
--- `put_code` meets its contract. Assumes nothing.
-use Rattle.names.proofs.Codes.{part}
+-- `encoding::put_code` meets its contract: the part between the two offsets is the text. Assumes nothing.
+use Rattle.encoding.proofs.Codes.{part}
 use native.Mathlib.Omega.{arith}
 use borrow.Author.Needs.{needs}
-use Rattle.names.proofs.put_code.Statement.{statement}
-use Rattle.names.proofs.put_code.Tie as tie
+use Rattle.encoding.proofs.put_code.Statement.{statement}
+use Rattle.encoding.proofs.put_code.Tie as tie
 
 start-of-requires : tie.Need-start-of-requires
 start-of-requires c κs = search needs

@@ -2,6 +2,7 @@
 use Prim.Native.Nat.{ℕ, _+_}
 use mathlib.Core.List.{List, [], _∷_, _++_}
 use lib.ListN.{getD, length}
+use Rattle.text.specs.Out.{each}
 
 unfoldable pub table : List (List ℕ)
 table =
@@ -73,6 +74,10 @@ table =
 
 unfoldable pub encoded : ℕ → List ℕ
 encoded code = getD table code []
+
+-- codes one after the other
+abbrev pub spelled : List ℕ → List ℕ
+spelled codes = each encoded codes
 
 -- texts one after the other, and where each of them begins and the last one ends, counted from a
 unfoldable pub flat : List (List ℕ) → List ℕ

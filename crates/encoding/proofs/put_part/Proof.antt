@@ -1,8 +1,8 @@
--- `put_part` meets its contract. Assumes nothing.
-use Rattle.names.specs.Encoding.{table, flat}
+-- `encoding::put_part` meets its contract: the flat table is the 256 texts one after the other, by one computation. Assumes nothing.
+use Rattle.encoding.specs.Encoding.{table, flat}
 use borrow.Author.Needs.{needs}
-use Rattle.names.proofs.put_part.Statement.{statement}
-use Rattle.names.proofs.put_part.Tie as tie
+use Rattle.encoding.proofs.put_part.Statement.{statement}
+use Rattle.encoding.proofs.put_part.Tie as tie
 
 sub-put-all : tie.Need-sub-put-all
 sub-put-all c = search needs

@@ -1,8 +1,8 @@
--- `start_of` meets its contract. Assumes nothing.
-use Rattle.names.specs.Encoding.{table, offsets}
+-- `encoding::start_of` meets its contract: the offsets are the sums of the lengths, by one computation. Assumes nothing.
+use Rattle.encoding.specs.Encoding.{table, offsets}
 use borrow.Author.Needs.{needs}
-use Rattle.names.proofs.start_of.Statement.{statement}
-use Rattle.names.proofs.start_of.Tie as tie
+use Rattle.encoding.proofs.start_of.Statement.{statement}
+use Rattle.encoding.proofs.start_of.Tie as tie
 
 mul-wide : tie.Need-mul-wide
 mul-wide c = search needs

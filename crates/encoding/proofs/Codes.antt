@@ -7,7 +7,7 @@ use native.Mathlib.Omega.{arith}
 use native.Mathlib.Numerals.{add-one}
 use lib.ListN.{length, length-append, length-drop, getD, take, drop}
 use lib.Seq.{take-at, drop-at, length-take-le}
-use Rattle.names.specs.Encoding.{table, encoded, flat, offsets}
+use Rattle.encoding.specs.Encoding.{table, encoded, flat, offsets}
 
 -- s from a to e is the text of ts at k
 record Cut (ts : List (List ℕ)) (s : List ℕ) (k a e : ℕ) : Type 0 where

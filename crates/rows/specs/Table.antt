@@ -45,6 +45,10 @@ module _ {R : Type 0} (C : Codec R) where
   abbrev pub tableOf : List R → ℕ → List ℕ
   tableOf rs n = over rs (zeros n)
 
+  -- the first n rows of a table, rewritten by f
+  abbrev pub step : ℕ → (List R → List R) → List ℕ → List ℕ
+  step n f t = over (f (rowsOf t n)) t
+
   -- the whole rows lent, at most `most`
   abbrev pub capacityOf : ℕ → List ℕ → ℕ
   capacityOf most t = min most (length t / C .width)

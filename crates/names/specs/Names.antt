@@ -1,0 +1,56 @@
+-- Document 01, 'Names and the model': a block's name as UTF-8 text, and the naming pass. Assumes nothing.
+use Prim.Native.Nat.{ℕ, _+_, _/_}
+use mathlib.Core.Bool.{Bool, true, false, _&&_}
+use mathlib.Core.List.{List, [], _∷_, _++_}
+use lib.ListN.{getD, take, drop}
+use lib.Dec.{eqb}
+use Rattle.laws.specs.Rules.{_⇒_, _∣_}
+use Rattle.text.specs.Out.{decimal, latin}
+use Rattle.rows.specs.declared.Block.{Block}
+use Rattle.encoding.specs.Encoding.{spelled}
+
+-- 19 data bytes with first byte 0 is a header
+unfoldable pub isHeader : List ℕ → Block → Bool
+isHeader s r = eqb (r .size) 19 && eqb (getD s (r .start) 0) 0
+
+-- `Program`, `Array`, `Bytes` for second byte 0, 1, 3, else `Type x`
+unfoldable pub typeName : ℕ → List ℕ
+typeName b =
+    eqb b 0 ⇒ (0x50 ∷ 0x72 ∷ 0x6F ∷ 0x67 ∷ 0x72 ∷ 0x61 ∷ 0x6D ∷ [])
+    ∣ eqb b 1 ⇒ (0x41 ∷ 0x72 ∷ 0x72 ∷ 0x61 ∷ 0x79 ∷ [])
+    ∣ eqb b 3 ⇒ (0x42 ∷ 0x79 ∷ 0x74 ∷ 0x65 ∷ 0x73 ∷ [])
+    ∣ (0x54 ∷ 0x79 ∷ 0x70 ∷ 0x65 ∷ 0x20 ∷ []) ++ decimal b
+
+-- then `: ` and bytes 2 to 11 through `SPECTRUM_ENCODING`; the header's data begin at `start`
+unfoldable pub headerName : List ℕ → ℕ → List ℕ
+headerName s start = typeName (getD s (start + 1) 0) ++ ((0x3A ∷ 0x20 ∷ []) ++ spelled (take 10 (drop (start + 2) s)))
+
+-- `n bytes`, n the data size or, without data, tones/8
+unfoldable pub sizeShown : Block → ℕ
+sizeShown r = eqb (r .size) 0 ⇒ r .tones / 8 ∣ r .size
+
+unfoldable pub sizeName : Block → List ℕ
+sizeName r = decimal (sizeShown r) ++ (0x20 ∷ 0x62 ∷ 0x79 ∷ 0x74 ∷ 0x65 ∷ 0x73 ∷ [])
+
+-- the name of a block to which none was given: the header's or the size's
+unfoldable pub guessed : List ℕ → Block → List ℕ
+guessed s r = isHeader s r ⇒ headerName s (r .start) ∣ sizeName r
+
+-- a block's name: that, `stop`, or the one given
+unfoldable pub nameOf : List ℕ → Block → List ℕ
+nameOf s r =
+    eqb (r .named) 0 ⇒ guessed s r
+    ∣ eqb (r .named) 1 ⇒ (0x73 ∷ 0x74 ∷ 0x6F ∷ 0x70 ∷ [])
+    ∣ latin (take (r .chars) (drop (r .text) s))
+
+-- the naming pass, in order over blocks: the next non-header block after a header loses selectability
+unfoldable pub unselected : Block → Block
+unselected r =
+    record { tone = r .tone; tones = r .tones; start = r .start; size = r .size; zero = r .zero; one = r .one; last = r .last; pause = r .pause; endless = r .endless; selectable = 0; named = r .named; text = r .text; chars = r .chars }
+
+unfoldable pub passed : List ℕ → Bool → Block → Block
+passed s prefixed r = isHeader s r ⇒ r ∣ prefixed ⇒ unselected r ∣ r
+
+unfoldable pub nameAll : List ℕ → Bool → List Block → List Block
+nameAll s prefixed [] = []
+nameAll s prefixed (r ∷ rs) = passed s prefixed r ∷ nameAll s (isHeader s r) rs

@@ -1,0 +1,33 @@
+-- Text as a list of bytes, and what writing it into lent bytes leaves. Assumes nothing.
+use Prim.Native.Nat.{ℕ, zero, suc, _+_, _/_, _%_}
+use mathlib.Core.Path.{_≡_}
+use mathlib.Core.List.{List, [], _∷_, _++_}
+use lib.ListN.{length}
+use lib.Seq.{sets}
+use lib.Dec.{ltb}
+use Rattle.laws.specs.Rules.{_⇒_, _∣_}
+
+-- `dst′` and `next` are what writing `text` into `dst` from `at` on leaves: bytes past the end of dst are not written, and counted
+pub record Wrote (dst : List ℕ) (at : ℕ) (text : List ℕ) (dst′ : List ℕ) (next : ℕ) : Type 0 where
+  pub count : next ≡ at + length text
+  pub bytes : dst′ ≡ sets dst at text
+
+-- a number in decimal, of f digits at the most; a number of 64 bits has no more than 20
+unfoldable pub digits : ℕ → ℕ → List ℕ
+digits zero n = []
+digits (suc f) n = ltb n 10 ⇒ ((48 + n) ∷ []) ∣ digits f (n / 10) ++ ((48 + n % 10) ∷ [])
+
+unfoldable pub decimal : ℕ → List ℕ
+decimal n = digits 20 n
+
+-- a byte as a code point, in UTF-8
+unfoldable pub latin1 : ℕ → List ℕ
+latin1 b = ltb b 128 ⇒ (b ∷ []) ∣ ((192 + b / 64) ∷ (128 + b % 64) ∷ [])
+
+-- the texts of bytes, one after the other
+unfoldable pub each : (ℕ → List ℕ) → List ℕ → List ℕ
+each f [] = []
+each f (b ∷ bs) = f b ++ each f bs
+
+abbrev pub latin : List ℕ → List ℕ
+latin bs = each latin1 bs

@@ -1,0 +1,1 @@
+// Generalised data (19) in the source reading.

@@ -52,3 +52,8 @@ module _ {R : Type 0} (C : Codec R) where
   -- r as row n where n is below the capacity; otherwise nothing is altered
   abbrev pub appended : ℕ → List ℕ → ℕ → R → List ℕ
   appended most t n r = ltb n (capacityOf most t) ⇒ put t n r ∣ t
+
+  -- rows put one after the other, from row i on
+  unfoldable pub putAll : List ℕ → ℕ → List R → List ℕ
+  putAll t i [] = t
+  putAll t i (r ∷ rs) = putAll (put t i r) (i + 1) rs

@@ -12,7 +12,7 @@ use Rattle.laws.specs.Numbers.{lt-or-ge}
 use Rattle.pieces.specs.declared.GeneralizedData.{GeneralizedData}
 use Rattle.pieces.specs.Grammar.{heldIf}
 use Rattle.pieces.specs.Places.{Places}
-use Rattle.general.specs.General.{symbolAt}
+use Rattle.general.specs.General.{Symbol, symbolAt}
 use Rattle.general.specs.Ways.{Kept, pulsesOf, symbolOf}
 
 -- an alphabet in use is there
@@ -74,3 +74,12 @@ module _ (s : List ℕ) (place pulses n : ℕ) (a : List (List ℕ)) (k : Kept s
   pub kept-symbol : symbolOf (getD a i []) ≡ symbolAt s place pulses i
   unfolding symbolOf
   kept-symbol = rw (kept-first, kept-second)
+
+-- two symbols of two pulses are there
+pub two-inside : (s : List ℕ) (g : GeneralizedData) → Places s g → 0 < g .totd → g .asd ≡ 2 → g .npd ≡ 2 → g .symbols + 10 ≤ length s
+two-inside s g p h a n = rw (a, n) at (data-inside s g p h)
+
+-- a symbol as the code keeps it, and back again
+pub symbol-back : {w : List ℕ} {y : Symbol} → w ≡ pulsesOf y → symbolOf w ≡ y
+unfolding symbolOf pulsesOf
+symbol-back e = rw e

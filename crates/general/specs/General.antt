@@ -105,13 +105,20 @@ pairRow s g i =
     ∣ leb (g .asd) d ⇒ Refused
     ∣ Gives (toneOf 1 (dataSymbol s g b .first) (dataSymbol s g d .first))
 
--- the data part where it is no ordinary block: refused for totd 0, nb 8, and nb 0 with npd 2 or with npd 1 and totd above 1;
--- an odd last symbol is dropped; other npd, a stop block
+-- nb 0 is refused with npd 2, and with npd 1 and totd above 1; an odd last symbol is dropped
+unfoldable pub singlesOf : List ℕ → GeneralizedData → Part
+singlesOf s g = eqb (g .nb) 0 ⇒ refused ∣ rowsFrom (singleRow s g) 0 (g .totd)
+
+unfoldable pub pairsOf : List ℕ → GeneralizedData → Part
+pairsOf s g = (eqb (g .nb) 0 && ltb 1 (g .totd)) ⇒ refused ∣ rowsFrom (pairRow s g) 0 (g .totd / 2)
+
+-- the data part where it is no ordinary block: refused for totd 0 and nb 8; npd above 2 or 0, a stop block
 unfoldable pub dataOf : List ℕ → GeneralizedData → Part
 dataOf s g =
-    (eqb (g .totd) 0 || leb 8 (g .nb)) ⇒ refused
-    ∣ eqb (g .npd) 2 ⇒ (eqb (g .nb) 0 ⇒ refused ∣ rowsFrom (singleRow s g) 0 (g .totd))
-    ∣ eqb (g .npd) 1 ⇒ ((eqb (g .nb) 0 && ltb 1 (g .totd)) ⇒ refused ∣ rowsFrom (pairRow s g) 0 (g .totd / 2))
+    eqb (g .totd) 0 ⇒ refused
+    ∣ leb 8 (g .nb) ⇒ refused
+    ∣ eqb (g .npd) 2 ⇒ singlesOf s g
+    ∣ eqb (g .npd) 1 ⇒ pairsOf s g
     ∣ stops
 
 -- what the piece gives: refusal 4; a stop block; or a block of these tones, with the data bytes as its data or without data

@@ -5,9 +5,11 @@ use mathlib.Core.List.{List, []}
 use lib.ListN.{length}
 use lib.Dec.{leb}
 use Rattle.laws.specs.Rules.{_⇒_, _∣_}
-use Rattle.rows.specs.Table.{putAll}
+use Rattle.rows.specs.Table.{put, putAll}
 use Rattle.rows.specs.Rows.{tone}
 use Rattle.rows.specs.declared.Tone.{Tone}
+use Rattle.general.specs.declared.Row.{Row}
+use Rattle.general.specs.declared.Row.the-variants.{Refused, Gives}
 use Rattle.general.specs.declared.Judged.{Judged}
 use Rattle.general.specs.declared.Judged.the-variants as judged
 use Rattle.general.specs.declared.Made.{Made}
@@ -30,6 +32,15 @@ unfoldable pub tonesOf : Part → List Tone
 tonesOf refused = []
 tonesOf stops = []
 tonesOf (tones ts) = ts
+
+-- a row is a tone or refused; a tone is put at row i
+unfoldable pub isGiven : Row → Bool
+isGiven Refused = false
+isGiven (Gives t) = true
+
+unfoldable pub putGiven : List ℕ → ℕ → Row → List ℕ
+putGiven table i Refused = table
+putGiven table i (Gives t) = put tone table i t
 
 -- the piece, where `room` rows remain: refusal 4 and a stop need none, and more rows than remain are Full
 unfoldable pub madeOf : ℕ → Given → Made

@@ -15,8 +15,8 @@ ghost use Rattle.rows.specs.Table.{putAll, capacityOf};
 ghost use Rattle.rows.specs.Rows.{tone, toneMost};
 ghost use Rattle.general.specs.declared.Row.the-variants.{Gives};
 ghost use Rattle.general.specs.declared.Judged.the-variants.{Rows};
-ghost use Rattle.general.specs.General.{symbolAt, toneOf, cycles, entryRow, singleRow, pairRow, rowsFrom, refused, pilotOf, equalHalves, ordinary, lastBits, numberAt, dataOf, withPilot, generalOf};
-ghost use Rattle.general.specs.Made.{judgedOf, isTones, tonesOf, madeOf, leaves};
+ghost use Rattle.general.specs.General.{symbolAt, toneOf, cycles, entryRow, singleRow, pairRow, rowsFrom, refused, pilotOf, equalHalves, ordinary, lastBits, numberAt, singlesOf, pairsOf, dataOf, withPilot, generalOf};
+ghost use Rattle.general.specs.Made.{judgedOf, isGiven, putGiven, isTones, tonesOf, madeOf, leaves};
 ghost use Rattle.general.specs.Ways.{Held, Kept, Ready, rowAt, countOf, placeFor, sizeFor, pulsesFor, pulsesOf, symbolOf};
 
 // The symbols of an alphabet at the most.
@@ -223,5 +223,194 @@ fn count(g: GeneralizedData, way: Way) -> u32
         Way::Pilot => g.totp,
         Way::Singles => g.totd,
         Way::Pairs => g.totd / 2,
+    }
+}
+
+// Whether a row is one.
+fn is_given(r: Row) -> bool
+    ensures { λ b. ⌜ b ≡ isGiven r ⌝ }
+{
+    match r {
+        Row::Refused => false,
+        Row::Gives(_) => true,
+    }
+}
+
+// Whether all rows of a sort are given.
+fn all_given(tape: &[u8], g: GeneralizedData, way: Way) -> bool
+    requires { ⌜ Held (now tape) g × Ready g way ⌝ }
+    ensures { λ b. ⌜ b ≡ isTones (rowsFrom (rowAt (now (tape .entry)) g way) 0 (countOf g way)) ⌝ }
+{
+    let a = alphabet_for(tape, g, way);
+    let n = count(g, way);
+    let mut i = 0;
+    while i < n {
+        if !is_given(row_at(tape, &a, g, way, i)) {
+            return false;
+        }
+        i += 1;
+    }
+    true
+}
+
+// What a part of one sort of rows comes to.
+fn part_of(tape: &[u8], g: GeneralizedData, way: Way) -> Judged
+    requires { ⌜ Held (now tape) g × Ready g way ⌝ }
+    ensures { λ r. ⌜ r ≡ judgedOf (rowsFrom (rowAt (now (tape .entry)) g way) 0 (countOf g way)) ⌝ }
+{
+    if all_given(tape, g, way) {
+        Judged::Rows(count(g, way))
+    } else {
+        Judged::Refused
+    }
+}
+
+// Whether symbols have as many pulses as the source takes.
+fn one_or_two(n: u32) -> bool
+    ensures { λ b. ⌜ b ≡ (eqb n 1 || eqb n 2) ⌝ }
+{
+    n == 1 || n == 2
+}
+
+// What the pilot part comes to.
+fn pilot_part(tape: &[u8], g: GeneralizedData) -> Judged
+    requires { ⌜ Held (now tape) g ⌝ }
+    ensures { λ r. ⌜ r ≡ judgedOf (pilotOf (now (tape .entry)) g) ⌝ }
+{
+    if g.totp == 0 {
+        return Judged::Rows(0);
+    }
+    if one_or_two(g.npp) {
+        return part_of(tape, g, Way::Pilot);
+    }
+    if g.asp <= byte_at(tape, g.entries) {
+        Judged::Refused
+    } else {
+        Judged::Stop
+    }
+}
+
+// Whether both halves of a symbol are equal.
+fn equal_halves(y: [u16; 2]) -> bool
+    ensures { λ b. ⌜ b ≡ equalHalves (symbolOf y) ⌝ }
+{
+    y[0] == y[1]
+}
+
+// Whether the data part is an ordinary data block.
+fn ordinary(tape: &[u8], g: GeneralizedData) -> bool
+    requires { ⌜ Held (now tape) g ⌝ }
+    ensures { λ b. ⌜ b ≡ (ltb 0 (g .totd) && ordinary (now (tape .entry)) g) ⌝ }
+{
+    if g.totd == 0 {
+        return false;
+    }
+    if g.asd != 2 {
+        return false;
+    }
+    if g.npd != 2 {
+        return false;
+    }
+    if !equal_halves(symbol(tape, g.symbols, 2, 0)) {
+        return false;
+    }
+    equal_halves(symbol(tape, g.symbols, 2, 1))
+}
+
+// Whether symbols of no bits are more than one.
+fn no_bits(g: GeneralizedData) -> bool
+    ensures { λ b. ⌜ b ≡ (eqb (g .nb) 0 && ltb 1 (g .totd)) ⌝ }
+{
+    g.nb == 0 && 1 < g.totd
+}
+
+// What the data part comes to where its symbols have two pulses.
+fn singles_part(tape: &[u8], g: GeneralizedData) -> Judged
+    requires { ⌜ Held (now tape) g × (0 < g .totd) × (g .npd ≡ 2) × (g .nb < 8) ⌝ }
+    ensures { λ r. ⌜ r ≡ judgedOf (singlesOf (now (tape .entry)) g) ⌝ }
+{
+    if g.nb == 0 {
+        Judged::Refused
+    } else {
+        part_of(tape, g, Way::Singles)
+    }
+}
+
+// What the data part comes to where its symbols have one pulse.
+fn pairs_part(tape: &[u8], g: GeneralizedData) -> Judged
+    requires { ⌜ Held (now tape) g × (0 < g .totd) × (g .npd ≡ 1) × (g .nb < 8) ⌝ }
+    ensures { λ r. ⌜ r ≡ judgedOf (pairsOf (now (tape .entry)) g) ⌝ }
+{
+    if no_bits(g) {
+        Judged::Refused
+    } else {
+        part_of(tape, g, Way::Pairs)
+    }
+}
+
+// What the data part comes to where it is no ordinary data block.
+fn data_part(tape: &[u8], g: GeneralizedData) -> Judged
+    requires { ⌜ Held (now tape) g ⌝ }
+    ensures { λ r. ⌜ r ≡ judgedOf (dataOf (now (tape .entry)) g) ⌝ }
+{
+    if g.totd == 0 {
+        return Judged::Refused;
+    }
+    if 8 <= g.nb {
+        return Judged::Refused;
+    }
+    if g.npd == 2 {
+        return singles_part(tape, g);
+    }
+    if g.npd == 1 {
+        return pairs_part(tape, g);
+    }
+    Judged::Stop
+}
+
+// The row in the tone table, where it is one.
+fn put_row(tones: &mut [u64], i: usize, r: Row)
+    requires { ⌜ i < capacityOf tone toneMost (now tones) ⌝ }
+    ensures { λ _. ⌜ now (tones .exit) ≡ putGiven (now (tones .entry)) i r ⌝ }
+{
+    match r {
+        Row::Refused => {}
+        Row::Gives(t) => put_tone(tones, i, t),
+    }
+}
+
+// The rows of a sort, all of which are given and fit, from row `used` on.
+fn put_rows(tape: &[u8], g: GeneralizedData, way: Way, tones: &mut [u64], used: usize)
+    requires { ⌜ Held (now tape) g × Ready g way × (isTones (rowsFrom (rowAt (now tape) g way) 0 (countOf g way)) ≡ true) × (countOf g way ≤ capacityOf tone toneMost (now tones) - used) ⌝ }
+    ensures { λ _. ⌜ now (tones .exit) ≡ putAll tone (now (tones .entry)) used (tonesOf (rowsFrom (rowAt (now (tape .entry)) g way) 0 (countOf g way))) ⌝ }
+{
+    let a = alphabet_for(tape, g, way);
+    let n = count(g, way);
+    let mut i = 0;
+    while i < n {
+        put_row(tones, used + i as usize, row_at(tape, &a, g, way, i));
+        i += 1;
+    }
+}
+
+// Whether `rows` tone rows fit after the first `used`.
+fn fits(tones: &[u64], used: usize, rows: u64) -> bool
+    ensures { λ b. ⌜ b ≡ leb rows (capacityOf tone toneMost (now (tones .entry)) - used) ⌝ }
+{
+    let most = tone_capacity(tones);
+    if used <= most {
+        rows <= (most - used) as u64
+    } else {
+        rows == 0
+    }
+}
+
+// The pilot's rows, which are tones and fit.
+fn put_pilot(tape: &[u8], g: GeneralizedData, tones: &mut [u64], used: usize)
+    requires { ⌜ Held (now tape) g × (judgedOf (pilotOf (now tape) g) ≡ Rows (g .totp)) × (g .totp ≤ capacityOf tone toneMost (now tones) - used) ⌝ }
+    ensures { λ _. ⌜ now (tones .exit) ≡ putAll tone (now (tones .entry)) used (tonesOf (pilotOf (now (tape .entry)) g)) ⌝ }
+{
+    if 0 < g.totp {
+        put_rows(tape, g, Way::Pilot, tones, used);
     }
 }

@@ -4,7 +4,7 @@ use mathlib.Core.Path.{_≡_, refl, sym, ap, _∙_}
 use mathlib.Core.List.{List, [], _∷_}
 use mathlib.Core.Logic.{⊎-elim}
 use native.Mathlib.Omega.{arith}
-use native.Mathlib.Nat.{suc-mul, mul-comm, mul-assoc, mul-le-mul-right, mul-lt-mul-of-pos-right, one-le-pow}
+use native.Mathlib.Nat.{suc-mul, mul-comm, mul-assoc, mul-le-mul-right, mul-lt-mul-of-pos-right}
 use lib.ListN.{length, getD, set}
 use lib.Seq.{getD-set-same, getD-set-other}
 use borrow.Author.Tests.{ne-eqb}
@@ -61,20 +61,6 @@ pair-bit i n t h k = let l : 2 * i < t = omega arith in single-bit (2 * i) n t l
 pub pair-even : (i n : ℕ) → 2 * i * n % 8 + 1 ≤ 7
 pair-even i n = rw (mul-assoc 2 i n) (omega arith)
 
--- what an array that holds an alphabet has at a symbol's number
-module _ (s : List ℕ) (place pulses n : ℕ) (a : List (List ℕ)) (k : Kept s place pulses n a) (i : ℕ) (h : i < n) where
-  pub kept-first : getD (getD a i []) 0 0 ≡ symbolAt s place pulses i .first
-  unfolding pulsesOf
-  kept-first = rw (k i h)
-
-  pub kept-second : getD (getD a i []) 1 0 ≡ symbolAt s place pulses i .second
-  unfolding pulsesOf
-  kept-second = rw (k i h)
-
-  pub kept-symbol : symbolOf (getD a i []) ≡ symbolAt s place pulses i
-  unfolding symbolOf
-  kept-symbol = rw (kept-first, kept-second)
-
 -- two symbols of two pulses are there
 pub two-inside : (s : List ℕ) (g : GeneralizedData) → Places s g → 0 < g .totd → g .asd ≡ 2 → g .npd ≡ 2 → g .symbols + 10 ≤ length s
 two-inside s g p h a n = rw (a, n) at (data-inside s g p h)
@@ -83,3 +69,16 @@ two-inside s g p h a n = rw (a, n) at (data-inside s g p h)
 pub symbol-back : {w : List ℕ} {y : Symbol} → w ≡ pulsesOf y → symbolOf w ≡ y
 unfolding symbolOf pulsesOf
 symbol-back e = rw e
+
+-- what an array that holds an alphabet has at a symbol's number
+module _ (s : List ℕ) (place pulses n : ℕ) (a : List (List ℕ)) (k : Kept s place pulses n a) (i : ℕ) (h : i < n) where
+  pub kept-symbol : symbolOf (getD a i []) ≡ symbolAt s place pulses i
+  kept-symbol = symbol-back (k i h)
+
+  pub kept-first : getD (getD a i []) 0 0 ≡ symbolAt s place pulses i .first
+  unfolding symbolOf
+  kept-first = ap (λ (y : Symbol). y .first) kept-symbol
+
+  pub kept-second : getD (getD a i []) 1 0 ≡ symbolAt s place pulses i .second
+  unfolding symbolOf
+  kept-second = ap (λ (y : Symbol). y .second) kept-symbol

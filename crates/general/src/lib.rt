@@ -163,13 +163,21 @@ fn power(k: u32) -> u32
     powers[k as usize]
 }
 
+// How far a byte is shifted to have a bit, or the bit `more` further down, at its low end.
+fn shift(bit: u32, more: u32) -> u32
+    requires { ⌜ bit % 8 + more ≤ 7 ⌝ }
+    ensures { λ r. ⌜ r ≡ 7 - bit % 8 - more ⌝ }
+{
+    7 - bit % 8 - more
+}
+
 // The symbol number at a bit of the data bytes, or `more` bits further down its byte.
 fn number_at(tape: &[u8], g: GeneralizedData, bit: u32, more: u32) -> u32
     requires { ⌜ Held (now tape) g × (g .nb < 8) × (bit < g .nb * g .totd) × (bit % 8 + more ≤ 7) ⌝ }
     ensures { λ r. ⌜ r ≡ numberAt (now (tape .entry)) g bit more ⌝ }
 {
     let byte = byte_at(tape, g.from + bit as u64 / 8);
-    byte / power(7 - bit % 8 - more) % power(g.nb)
+    byte / power(shift(bit, more)) % power(g.nb)
 }
 
 // Data symbol i.
@@ -216,6 +224,13 @@ fn row_at(tape: &[u8], a: &[[u16; 2]; SYMBOLS], g: GeneralizedData, way: Way, i:
     }
 }
 
+// How many pairs n symbols make; an odd last one is dropped.
+fn pairs_of(n: u32) -> u32
+    ensures { λ r. ⌜ r ≡ n / 2 ⌝ }
+{
+    n / 2
+}
+
 // How many rows a sort has.
 fn count(g: GeneralizedData, way: Way) -> u32
     ensures { λ r. ⌜ r ≡ countOf g way ⌝ }
@@ -223,7 +238,7 @@ fn count(g: GeneralizedData, way: Way) -> u32
     match way {
         Way::Pilot => g.totp,
         Way::Singles => g.totd,
-        Way::Pairs => g.totd / 2,
+        Way::Pairs => pairs_of(g.totd),
     }
 }
 

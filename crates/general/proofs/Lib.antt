@@ -1,0 +1,5 @@
+mod Symbols
+mod Parts
+mod Answers
+pub mod Holding
+pub mod Examples

@@ -1,0 +1,139 @@
+-- What the parser does with blocks, names and loops: document 01's sentences, over lists of rows. Assumes nothing.
+use Prim.Native.Nat.{ℕ, zero, suc, _+_}
+use mathlib.Core.Bool.{Bool, true, false, _&&_}
+use mathlib.Core.List.{List, [], _∷_, _++_}
+use lib.ListN.{length, drop}
+use lib.Dec.{leb, ltb, eqb}
+use Rattle.laws.specs.Rules.{_⇒_, _∣_}
+use Rattle.rows.specs.declared.Block.{Block}
+use Rattle.rows.specs.declared.Tone.{Tone}
+use Rattle.parser.specs.declared.Pending.{Pending}
+use Rattle.parser.specs.declared.Pending.the-variants.{Nothing, First, Later, Text}
+use Rattle.parser.specs.declared.Loop.{Loop}
+use Rattle.parser.specs.declared.Loop.the-variants.{Closed, Open}
+
+-- what was read so far: the blocks, the tone rows, the pending name, the open loop
+pub record Tape : Type 0 where
+  pub blocks : List Block
+  pub tones : List Tone
+  pub pending : Pending
+  pub body : Loop
+
+abbrev pub tapeOf : List Block → List Tone → Pending → Loop → Tape
+tapeOf bs ts p l = record { blocks = bs; tones = ts; pending = p; body = l }
+
+unfoldable pub empty : Tape
+empty = tapeOf [] [] Nothing Closed
+
+-- a step's answer: the tape read so far, or a refusal's number
+pub data Out : Type 0 where
+  on : Tape → Out
+  no : ℕ → Out
+
+infixl 30 _⟫_
+unfoldable pub _⟫_ : Out → (Tape → Out) → Out
+_⟫_ (on t) f = f t
+_⟫_ (no k) f = no k
+
+-- a block with another name and selectable mark
+unfoldable pub renamed : ℕ → ℕ → ℕ → ℕ → Block → Block
+renamed selectable case text chars r =
+    record { tone = r .tone; tones = r .tones; start = r .start; size = r .size; zero = r .zero; one = r .one; last = r .last; pause = r .pause; endless = r .endless; selectable = selectable; named = case; text = text; chars = chars }
+
+-- each added block takes a pending name: group first (selectable), group later (unselectable), text (selectable)
+unfoldable pub named : Pending → Block → Block
+named Nothing r = r
+named (First text chars) r = renamed 1 3 text chars r
+named (Later text chars) r = renamed 0 4 text chars r
+named (Text text chars) r = renamed 1 2 text chars r
+
+-- a text is used up, and a group's first block is followed by its later ones
+unfoldable pub used : Pending → Pending
+used Nothing = Nothing
+used (First text chars) = Later text chars
+used (Later text chars) = Later text chars
+used (Text text chars) = Nothing
+
+-- tone rows, where no more than `most` are then used: otherwise 5
+unfoldable pub addTones : ℕ → List Tone → Tape → Out
+addTones most ts t =
+    leb (length (t .tones) + length ts) most ⇒ on (tapeOf (t .blocks) (t .tones ++ ts) (t .pending) (t .body)) ∣ no 5
+
+-- a block, where one row at least remains of `most`: otherwise 6
+unfoldable pub addBlock : ℕ → Block → Tape → Out
+addBlock most r t =
+    ltb (length (t .blocks)) most ⇒ on (tapeOf (t .blocks ++ named (t .pending) r ∷ []) (t .tones) (used (t .pending)) (t .body)) ∣ no 6
+
+-- group start drops a pending text; inside a group it is ignored
+unfoldable pub started : ℕ → ℕ → Pending → Pending
+started text chars Nothing = First text chars
+started text chars (First p n) = First p n
+started text chars (Later p n) = Later p n
+started text chars (Text p n) = First text chars
+
+-- so does a new text
+unfoldable pub noted : ℕ → ℕ → Pending → Pending
+noted text chars Nothing = Text text chars
+noted text chars (First p n) = First p n
+noted text chars (Later p n) = Later p n
+noted text chars (Text p n) = Text text chars
+
+-- group end: an open group closes, a pending text stays
+unfoldable pub ended : Pending → Pending
+ended Nothing = Nothing
+ended (First p n) = Nothing
+ended (Later p n) = Nothing
+ended (Text p n) = Text p n
+
+abbrev pub withPending : Pending → Tape → Tape
+withPending p t = tapeOf (t .blocks) (t .tones) p (t .body)
+
+unfoldable pub startGroup : ℕ → ℕ → Tape → Out
+startGroup text chars t = on (withPending (started text chars (t .pending)) t)
+
+unfoldable pub noteText : ℕ → ℕ → Tape → Out
+noteText text chars t = on (withPending (noted text chars (t .pending)) t)
+
+-- then, if the last block, if any, has finite pause 0, it becomes 3,500, group open or not
+unfoldable pub paused : Block → Block
+paused r =
+    (eqb (r .endless) 0 && eqb (r .pause) 0) ⇒
+    record { tone = r .tone; tones = r .tones; start = r .start; size = r .size; zero = r .zero; one = r .one; last = r .last; pause = 3500; endless = r .endless; selectable = r .selectable; named = r .named; text = r .text; chars = r .chars }
+    ∣ r
+
+unfoldable pub lastPaused : List Block → List Block
+lastPaused [] = []
+lastPaused (r ∷ []) = paused r ∷ []
+lastPaused (r ∷ q ∷ rs) = r ∷ lastPaused (q ∷ rs)
+
+unfoldable pub endGroup : Tape → Out
+endGroup t = on (tapeOf (lastPaused (t .blocks)) (t .tones) (ended (t .pending)) (t .body))
+
+-- a loop start; a nested start is ignored
+unfoldable pub opened : ℕ → ℕ → Loop → Loop
+opened start times Closed = Open start times
+opened start times (Open p n) = Open p n
+
+unfoldable pub openLoop : ℕ → Tape → Out
+openLoop times t = on (tapeOf (t .blocks) (t .tones) (t .pending) (opened (length (t .blocks)) times (t .body)))
+
+-- a copy is nameless and unselectable before naming, and shares its original's tone rows
+unfoldable pub nameless : Block → Block
+nameless r = renamed 0 0 0 0 r
+
+unfoldable pub copyRows : ℕ → List Block → Tape → Out
+copyRows most [] t = on t
+copyRows most (r ∷ rs) t = addBlock most (nameless r) t ⟫ copyRows most rs
+
+-- n further copies of the body
+unfoldable pub copies : ℕ → ℕ → List Block → Tape → Out
+copies most zero rs t = on t
+copies most (suc n) rs t = copyRows most rs t ⟫ copies most n rs
+
+-- a loop end appends them; an end without a start is ignored
+unfoldable pub closeLoop : ℕ → Tape → Out
+closeLoop most t = closing (t .body)
+  where
+    closing : Loop → Out
+    closing Closed = on t
+    closing (Open start times) = copies most times (drop start (t .blocks)) (tapeOf (t .blocks) (t .tones) (t .pending) Closed)

@@ -10,8 +10,15 @@ use Rattle.parser.specs.declared.State.{State}
 use Rattle.parser.specs.declared.Step.{Step}
 use Rattle.parser.specs.declared.Step.the-variants.{On, No}
 use Rattle.parser.specs.declared.Loop.{Loop}
-use Rattle.parser.specs.declared.Loop.the-variants.{Closed, Open}
+use Rattle.parser.specs.declared.Pending.{Pending}
 use Rattle.parser.specs.Parser.{Tape, Out, on, no}
+
+-- a state with another pending name, and with another loop
+abbrev pub withName : Pending → State → State
+withName p s = record { blocks = s .blocks; tones = s .tones; pending = p; body = s .body }
+
+abbrev pub withLoop : Loop → State → State
+withLoop l s = record { blocks = s .blocks; tones = s .tones; pending = s .pending; body = l }
 
 -- the rows that so many lent words have room for
 abbrev pub blockRoom : ℕ → ℕ
@@ -20,18 +27,12 @@ blockRoom words = min blockMost (words / block .width)
 abbrev pub toneRoom : ℕ → ℕ
 toneRoom words = min toneMost (words / tone .width)
 
--- an open loop begins among the blocks
-abbrev pub Begun : Loop → ℕ → Type 0
-Begun Closed n = Unit {0}
-Begun (Open start times) n = start ≤ n
-
 -- in tables of B and N words
 pub record Holds (B N : ℕ) (s : State) (bt tt : List ℕ) (t : Tape) : Type 0 where
   pub nb : s .blocks ≡ length (t .blocks)
   pub nt : s .tones ≡ length (t .tones)
   pub pends : s .pending ≡ t .pending
   pub loops : s .body ≡ t .body
-  pub begun : Begun (t .body) (length (t .blocks))
   pub roomB : length (t .blocks) ≤ blockRoom B
   pub roomT : length (t .tones) ≤ toneRoom N
   pub lenB : length bt ≡ B
@@ -40,8 +41,6 @@ pub record Holds (B N : ℕ) (s : State) (bt tt : List ℕ) (t : Tape) : Type 0 
   pub isT : tt ≡ tableOf tone (t .tones) N
 
 -- the code's answer is the definition's; a refusal says nothing of the tables, which the load then blanks
-abbrev pub Gives : ℕ → ℕ → Step → List ℕ → List ℕ → Out → Type 0
-Gives B N (On s) bt tt (on t) = Holds B N s bt tt t
-Gives B N (On s) bt tt (no k) = ⊥
-Gives B N (No j) bt tt (on t) = ⊥
-Gives B N (No j) bt tt (no k) = j ≡ k
+pub data Gives (B N : ℕ) : Step → List ℕ → List ℕ → Out → Type 0 where
+  goes : {s : State} {bt tt : List ℕ} {t : Tape} → Holds B N s bt tt t → Gives B N (On s) bt tt (on t)
+  refuses : {k : ℕ} {bt tt : List ℕ} → Gives B N (No k) bt tt (no k)

@@ -36,50 +36,54 @@ _⟫_ (on t) f = f t
 _⟫_ (no k) f = no k
 
 -- a block with another name and selectable mark
-unfoldable pub renamed : ℕ → ℕ → ℕ → ℕ → Block → Block
+abbrev pub renamed : ℕ → ℕ → ℕ → ℕ → Block → Block
 renamed selectable case text chars r =
     record { tone = r .tone; tones = r .tones; start = r .start; size = r .size; zero = r .zero; one = r .one; last = r .last; pause = r .pause; endless = r .endless; selectable = selectable; named = case; text = text; chars = chars }
 
 -- each added block takes a pending name: group first (selectable), group later (unselectable), text (selectable)
-unfoldable pub named : Pending → Block → Block
+abbrev pub named : Pending → Block → Block
 named Nothing r = r
 named (First text chars) r = renamed 1 3 text chars r
 named (Later text chars) r = renamed 0 4 text chars r
 named (Text text chars) r = renamed 1 2 text chars r
 
 -- a text is used up, and a group's first block is followed by its later ones
-unfoldable pub used : Pending → Pending
+abbrev pub used : Pending → Pending
 used Nothing = Nothing
 used (First text chars) = Later text chars
 used (Later text chars) = Later text chars
 used (Text text chars) = Nothing
 
+abbrev pub withTones : List Tone → Tape → Tape
+withTones ts t = tapeOf (t .blocks) (t .tones ++ ts) (t .pending) (t .body)
+
+abbrev pub withBlock : Block → Tape → Tape
+withBlock r t = tapeOf (t .blocks ++ named (t .pending) r ∷ []) (t .tones) (used (t .pending)) (t .body)
+
 -- tone rows, where no more than `most` are then used: otherwise 5
 unfoldable pub addTones : ℕ → List Tone → Tape → Out
-addTones most ts t =
-    leb (length (t .tones) + length ts) most ⇒ on (tapeOf (t .blocks) (t .tones ++ ts) (t .pending) (t .body)) ∣ no 5
+addTones most ts t = leb (length (t .tones) + length ts) most ⇒ on (withTones ts t) ∣ no 5
 
 -- a block, where one row at least remains of `most`: otherwise 6
 unfoldable pub addBlock : ℕ → Block → Tape → Out
-addBlock most r t =
-    ltb (length (t .blocks)) most ⇒ on (tapeOf (t .blocks ++ named (t .pending) r ∷ []) (t .tones) (used (t .pending)) (t .body)) ∣ no 6
+addBlock most r t = ltb (length (t .blocks)) most ⇒ on (withBlock r t) ∣ no 6
 
 -- group start drops a pending text; inside a group it is ignored
-unfoldable pub started : ℕ → ℕ → Pending → Pending
+abbrev pub started : ℕ → ℕ → Pending → Pending
 started text chars Nothing = First text chars
 started text chars (First p n) = First p n
 started text chars (Later p n) = Later p n
 started text chars (Text p n) = First text chars
 
 -- so does a new text
-unfoldable pub noted : ℕ → ℕ → Pending → Pending
+abbrev pub noted : ℕ → ℕ → Pending → Pending
 noted text chars Nothing = Text text chars
 noted text chars (First p n) = First p n
 noted text chars (Later p n) = Later p n
 noted text chars (Text p n) = Text text chars
 
 -- group end: an open group closes, a pending text stays
-unfoldable pub ended : Pending → Pending
+abbrev pub ended : Pending → Pending
 ended Nothing = Nothing
 ended (First p n) = Nothing
 ended (Later p n) = Nothing
@@ -110,15 +114,18 @@ unfoldable pub endGroup : Tape → Out
 endGroup t = on (tapeOf (lastPaused (t .blocks)) (t .tones) (ended (t .pending)) (t .body))
 
 -- a loop start; a nested start is ignored
-unfoldable pub opened : ℕ → ℕ → Loop → Loop
+abbrev pub opened : ℕ → ℕ → Loop → Loop
 opened start times Closed = Open start times
 opened start times (Open p n) = Open p n
 
+abbrev pub withBody : Loop → Tape → Tape
+withBody l t = tapeOf (t .blocks) (t .tones) (t .pending) l
+
 unfoldable pub openLoop : ℕ → Tape → Out
-openLoop times t = on (tapeOf (t .blocks) (t .tones) (t .pending) (opened (length (t .blocks)) times (t .body)))
+openLoop times t = on (withBody (opened (length (t .blocks)) times (t .body)) t)
 
 -- a copy is nameless and unselectable before naming, and shares its original's tone rows
-unfoldable pub nameless : Block → Block
+abbrev pub nameless : Block → Block
 nameless r = renamed 0 0 0 0 r
 
 unfoldable pub copyRows : ℕ → List Block → Tape → Out
@@ -131,9 +138,9 @@ copies most zero rs t = on t
 copies most (suc n) rs t = copyRows most rs t ⟫ copies most n rs
 
 -- a loop end appends them; an end without a start is ignored
+unfoldable pub closed : ℕ → Loop → Tape → Out
+closed most Closed t = on t
+closed most (Open start times) t = copies most times (drop start (t .blocks)) (withBody Closed t)
+
 unfoldable pub closeLoop : ℕ → Tape → Out
-closeLoop most t = closing (t .body)
-  where
-    closing : Loop → Out
-    closing Closed = on t
-    closing (Open start times) = copies most times (drop start (t .blocks)) (tapeOf (t .blocks) (t .tones) (t .pending) Closed)
+closeLoop most t = closed most (t .body) t

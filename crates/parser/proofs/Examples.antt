@@ -1,0 +1,1 @@
+-- Worked examples by computation. Assumes nothing.

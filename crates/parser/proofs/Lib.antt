@@ -1,0 +1,5 @@
+pub mod Laws
+pub mod Kept
+pub mod Adds
+pub mod Copies
+pub mod Examples

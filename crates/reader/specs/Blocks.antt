@@ -33,8 +33,11 @@ unfoldable pub isHeader : List ℕ → ℕ → ℕ → Bool
 isHeader s start size = eqb size 0 || ltb (getD s start 0) 128
 
 -- tones: 4,032 cycles of 2168/2168 for a header, otherwise 1,612; then one of 667/735
+unfoldable pub standardCycles : Bool → ℕ
+standardCycles header = header ⇒ 4032 ∣ 1612
+
 unfoldable pub standardTones : Bool → List Tone
-standardTones header = toneOf (header ⇒ 4032 ∣ 1612) 2168 2168 ∷ toneOf 1 667 735 ∷ []
+standardTones header = toneOf (standardCycles header) 2168 2168 ∷ toneOf 1 667 735 ∷ []
 
 -- zero 855, one 1710, last bits 8
 unfoldable pub standardBlock : ℕ → ℕ → ℕ → ℕ → Block
@@ -55,6 +58,9 @@ turboBlock d tone = born 1 tone 2 (d .from) (d .size) (d .zero) (d .one) (d .las
 unfoldable pub pureTones : List Tone
 pureTones = toneOf 0 0 0 ∷ toneOf 1 0 0 ∷ []
 
+unfoldable pub pureBlock : ℕ → ℕ → ℕ → ℕ → ℕ → ℕ → ℕ → Block
+pureBlock nil one last pause start size tone = born 1 tone 2 start size nil one last (ms pause)
+
 -- 12: an odd count first gives one tone 0/length; then count/2 cycles
 unfoldable pub pureToneTones : ℕ → ℕ → List Tone
 pureToneTones half count =
@@ -68,6 +74,9 @@ soundOnly tones tone = born 0 tone tones 0 0 0 0 0 0
 unfoldable pub pulseAt : List ℕ → ℕ → ℕ → ℕ
 pulseAt s from i = leAt s (from + i * 2) 2
 
--- 20: a pause
+-- 20: a pause; 0 gives a stop block
 unfoldable pub pauseBlock : ℕ → ℕ → Block
 pauseBlock pause tone = born 0 tone 0 0 0 0 0 0 pause
+
+unfoldable pub pauseOrStop : ℕ → ℕ → Block
+pauseOrStop n tone = eqb n 0 ⇒ stopBlock tone ∣ pauseBlock (ms n) tone

@@ -1,2 +1,3 @@
 pub mod Blocks
 pub mod Source
+pub mod Does

@@ -23,7 +23,7 @@ use Rattle.general.specs.General.{Given, refused4, stop, plain, toned, generalO
 use Rattle.parser.specs.Parser.{Tape, Out, on, no as refuse, _⟫_, empty, addTones, addBlock, startGroup, noteText, endGroup, openLoop, closeLoop}
 use Rattle.reader.specs.declared.Failure.{Failure}
 use Rattle.reader.specs.declared.Failure.the-variants as failure
-use Rattle.reader.specs.Blocks.{ms, toneOf, born, stopBlock, isHeader, standardTones, standardBlock, standardPause, turboTones, turboBlock, pureTones, pureToneTones, soundOnly, pulseAt, pauseBlock}
+use Rattle.reader.specs.Blocks.{ms, toneOf, born, stopBlock, isHeader, standardTones, standardBlock, standardPause, turboTones, turboBlock, pureTones, pureBlock, pureToneTones, soundOnly, pulseAt, pauseOrStop}
 
 -- how many rows are lent
 pub record Lent : Type 0 where
@@ -31,9 +31,13 @@ pub record Lent : Type 0 where
   pub tones : ℕ
 
 module _ (lent : Lent) where
-  -- a block that needs these tone rows, its row over the first of them: 5, then 6
+  -- a block that needs these tone rows: 5, then 6
+  unfoldable pub addRows : List Tone → Block → Tape → Out
+  addRows ts r t = addTones (lent .tones) ts t ⟫ addBlock (lent .blocks) r
+
+  -- its row stands over the first of them
   unfoldable pub add : List Tone → (ℕ → Block) → Tape → Out
-  add ts row t = addTones (lent .tones) ts t ⟫ addBlock (lent .blocks) (row (length (t .tones)))
+  add ts row t = addRows ts (row (length (t .tones))) t
 
   -- 13: one block for each of n pairs from pulse i on
   unfoldable pub addPairs : List ℕ → ℕ → ℕ → ℕ → Tape → Out
@@ -54,9 +58,9 @@ module _ (lent : Lent) where
   act s model (Turbo d) t = add (turboTones d) (turboBlock d) t
   act s model (PureTone half count) t = add (pureToneTones half count) (soundOnly (length (pureToneTones half count))) t
   act s model (Pulses count from) t = addPairs s from 0 (count / 2) t
-  act s model (Pure nil one last pause from size) t = add pureTones (λ tone. born 1 tone 2 from size nil one last (ms pause)) t
+  act s model (Pure nil one last pause from size) t = add pureTones (pureBlock nil one last pause from size) t
   act s model (Generalized g) t = addGeneral g (generalOf s g) t
-  act s model (Pause n) t = add [] (eqb n 0 ⇒ stopBlock ∣ pauseBlock (ms n)) t
+  act s model (Pause n) t = add [] (pauseOrStop n) t
   act s model (GroupStart from size) t = startGroup from size t
   act s model GroupEnd t = endGroup t
   act s model (LoopStart times) t = openLoop times t

@@ -1,4 +1,18 @@
 // The source reading: what the Rust makes of each piece, and the run over a TZX or a TAP.
+use parser::State;
+use parser::Step;
+use parser::add_block;
+use parser::add_tone;
+use pieces::TurboData;
+use rows::Block;
+use rows::Tone;
+ghost use mathlib.Core.Path.{_≡_};
+ghost use mathlib.Core.List.{List, [], _∷_};
+ghost use Prim.Native.Nat.{ℕ};
+ghost use lib.ListN.{length};
+ghost use Rattle.reader.specs.Blocks.{ms, toneOf, born, stopBlock, isHeader, standardCycles, standardTones, standardBlock, standardPause, turboTones, turboBlock, pureTones, pureBlock, pureToneTones, soundOnly, pauseBlock, pauseOrStop};
+ghost use Rattle.reader.specs.Source.{Lent, addRows, add};
+ghost use Rattle.reader.specs.Does.{Does};
 
 // Why a reading failed: a bad signature; the first field that came up short, in the piece of this kind or in none (a head, a TAP);
 // or a 2A of a length that is not 0.
@@ -7,4 +21,231 @@ pub enum Failure {
     Short { place: u64, width: u64 },
     ShortPiece { kind: u8, place: u64, width: u64 },
     Length { length: u32 },
+}
+
+// A block as it is born: nameless, with a finite pause.
+fn born(
+    selectable: u64,
+    tone: u64,
+    tones: u64,
+    start: u64,
+    size: u64,
+    zero: u64,
+    one: u64,
+    last: u64,
+    pause: u64,
+) -> Block
+    ensures { λ r. ⌜ r ≡ born selectable tone tones start size zero one last pause ⌝ }
+{
+    Block {
+        tone,
+        tones,
+        start,
+        size,
+        zero,
+        one,
+        last,
+        pause,
+        endless: 0,
+        selectable,
+        named: 0,
+        text: 0,
+        chars: 0,
+    }
+}
+
+// A stop block, named `stop`.
+fn stop_row(tone: u64) -> Block
+    ensures { λ r. ⌜ r ≡ stopBlock tone ⌝ }
+{
+    Block {
+        tone,
+        tones: 0,
+        start: 0,
+        size: 0,
+        zero: 0,
+        one: 0,
+        last: 0,
+        pause: 0,
+        endless: 1,
+        selectable: 1,
+        named: 1,
+        text: 0,
+        chars: 0,
+    }
+}
+
+// One tone row and a block.
+fn one_tone(s: State, blocks: &mut [u64], tones: &mut [u64], a: Tone, r: Block) -> Step
+    ensures { λ x. ⌜ Does (λ lent. addRows lent (a ∷ []) r) s x (now (blocks .entry)) (now (tones .entry)) (now (blocks .exit)) (now (tones .exit)) ⌝ }
+{
+    match add_tone(s, tones, a) {
+        Step::On(next) => add_block(next, blocks, r),
+        Step::No(k) => Step::No(k),
+    }
+}
+
+// Two tone rows and a block.
+fn two_tones(s: State, blocks: &mut [u64], tones: &mut [u64], a: Tone, b: Tone, r: Block) -> Step
+    ensures { λ x. ⌜ Does (λ lent. addRows lent (a ∷ b ∷ []) r) s x (now (blocks .entry)) (now (tones .entry)) (now (blocks .exit)) (now (tones .exit)) ⌝ }
+{
+    match add_tone(s, tones, a) {
+        Step::On(next) => one_tone(next, blocks, tones, b, r),
+        Step::No(k) => Step::No(k),
+    }
+}
+
+// Whether a standard block is a header.
+fn is_header(tape: &[u8], start: u64, size: u32) -> bool
+    ensures { λ b. ⌜ b ≡ isHeader (now (tape .entry)) start size ⌝ }
+{
+    if size == 0 {
+        return true;
+    }
+    if start < tape.len() as u64 { tape[start as usize] < 128 } else { true }
+}
+
+// The pilot cycles of a standard block.
+fn standard_cycles(header: bool) -> u64
+    ensures { λ n. ⌜ n ≡ standardCycles header ⌝ }
+{
+    if header { 4032 } else { 1612 }
+}
+
+// 10, and a block of a TAP.
+fn standard_data_block(
+    s: State,
+    blocks: &mut [u64],
+    tones: &mut [u64],
+    header: bool,
+    start: u64,
+    size: u32,
+    pause: u64,
+) -> Step
+    ensures { λ x. ⌜ Does (λ lent. add lent (standardTones header) (standardBlock start size pause)) s x (now (blocks .entry)) (now (tones .entry)) (now (blocks .exit)) (now (tones .exit)) ⌝ }
+{
+    let pilot = Tone {
+        num: standard_cycles(header),
+        len1: 2168,
+        len2: 2168,
+    };
+    let sync = Tone {
+        num: 1,
+        len1: 667,
+        len2: 735,
+    };
+    let r = born(1, s.tones, 2, start, size as u64, 855, 1710, 8, pause);
+    two_tones(s, blocks, tones, pilot, sync, r)
+}
+
+// 11
+fn turbo_data_block(s: State, blocks: &mut [u64], tones: &mut [u64], d: TurboData) -> Step
+    ensures { λ x. ⌜ Does (λ lent. add lent (turboTones d) (turboBlock d)) s x (now (blocks .entry)) (now (tones .entry)) (now (blocks .exit)) (now (tones .exit)) ⌝ }
+{
+    let pilot = Tone {
+        num: (d.pilots as u64 + 1) / 2,
+        len1: d.pilot as u64,
+        len2: d.pilot as u64,
+    };
+    let sync = Tone {
+        num: 1,
+        len1: d.sync1 as u64,
+        len2: d.sync2 as u64,
+    };
+    let r = born(
+        1,
+        s.tones,
+        2,
+        d.from,
+        d.size as u64,
+        d.zero as u64,
+        d.one as u64,
+        d.last as u64,
+        d.pause as u64 * 3500,
+    );
+    two_tones(s, blocks, tones, pilot, sync, r)
+}
+
+// 14: `data` is the row's data and bits, its pause in ms.
+fn pure_data_block(
+    s: State,
+    blocks: &mut [u64],
+    tones: &mut [u64],
+    zero: u32,
+    one: u32,
+    last: u32,
+    pause: u32,
+    start: u64,
+    size: u32,
+) -> Step
+    ensures { λ x. ⌜ Does (λ lent. add lent pureTones (pureBlock zero one last pause start size)) s x (now (blocks .entry)) (now (tones .entry)) (now (blocks .exit)) (now (tones .exit)) ⌝ }
+{
+    let pilot = Tone {
+        num: 0,
+        len1: 0,
+        len2: 0,
+    };
+    let sync = Tone {
+        num: 1,
+        len1: 0,
+        len2: 0,
+    };
+    let r = born(
+        1,
+        s.tones,
+        2,
+        start,
+        size as u64,
+        zero as u64,
+        one as u64,
+        last as u64,
+        pause as u64 * 3500,
+    );
+    two_tones(s, blocks, tones, pilot, sync, r)
+}
+
+// 12
+fn pure_tone_block(s: State, blocks: &mut [u64], tones: &mut [u64], half: u32, count: u32) -> Step
+    ensures { λ x. ⌜ Does (λ lent. add lent (pureToneTones half count) (soundOnly (length (pureToneTones half count)))) s x (now (blocks .entry)) (now (tones .entry)) (now (blocks .exit)) (now (tones .exit)) ⌝ }
+{
+    let whole = Tone {
+        num: (count / 2) as u64,
+        len1: half as u64,
+        len2: half as u64,
+    };
+    if count % 2 == 0 {
+        let r = born(0, s.tones, 1, 0, 0, 0, 0, 0, 0);
+        return one_tone(s, blocks, tones, whole, r);
+    }
+    let odd = Tone {
+        num: 1,
+        len1: 0,
+        len2: half as u64,
+    };
+    let r = born(0, s.tones, 2, 0, 0, 0, 0, 0, 0);
+    two_tones(s, blocks, tones, odd, whole, r)
+}
+
+// A block without tone rows.
+fn no_tone(s: State, blocks: &mut [u64], r: Block) -> Step
+    ensures { λ x. ⌜ ((tt : List ℕ) → Does (λ lent. addRows lent [] r) s x (now (blocks .entry)) tt (now (blocks .exit)) tt) ⌝ }
+{
+    add_block(s, blocks, r)
+}
+
+// 20
+fn pause_block(s: State, blocks: &mut [u64], pause: u32) -> Step
+    ensures { λ x. ⌜ ((tt : List ℕ) → Does (λ lent. add lent [] (pauseOrStop pause)) s x (now (blocks .entry)) tt (now (blocks .exit)) tt) ⌝ }
+{
+    if pause == 0 {
+        return no_tone(s, blocks, stop_row(s.tones));
+    }
+    no_tone(s, blocks, born(0, s.tones, 0, 0, 0, 0, 0, 0, pause as u64 * 3500))
+}
+
+// A stop block.
+fn stop_block(s: State, blocks: &mut [u64]) -> Step
+    ensures { λ x. ⌜ ((tt : List ℕ) → Does (λ lent. add lent [] stopBlock) s x (now (blocks .entry)) tt (now (blocks .exit)) tt) ⌝ }
+{
+    no_tone(s, blocks, stop_row(s.tones))
 }

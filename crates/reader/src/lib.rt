@@ -1,4 +1,6 @@
 // The source reading: what the Rust makes of each piece, and the run over a TZX or a TAP.
+use fields::Cursor;
+use fields::field;
 use parser::State;
 use parser::Step;
 use parser::add_block;
@@ -8,10 +10,10 @@ use rows::Block;
 use rows::Tone;
 ghost use mathlib.Core.Path.{_≡_};
 ghost use mathlib.Core.List.{List, [], _∷_};
-ghost use Prim.Native.Nat.{ℕ};
+ghost use Prim.Native.Nat.{ℕ, _+_, _*_, _≤_};
 ghost use lib.ListN.{length};
-ghost use Rattle.reader.specs.Blocks.{ms, toneOf, born, stopBlock, isHeader, standardCycles, standardTones, standardBlock, standardPause, turboTones, turboBlock, pureTones, pureBlock, pureToneTones, soundOnly, pauseBlock, pauseOrStop};
-ghost use Rattle.reader.specs.Source.{Lent, addRows, add};
+ghost use Rattle.reader.specs.Blocks.{ms, toneOf, born, stopBlock, isHeader, standardCycles, standardTones, standardBlock, standardPause, turboTones, turboBlock, pureTones, pureBlock, pureToneTones, soundOnly, pulseAt, pauseBlock, pauseOrStop};
+ghost use Rattle.reader.specs.Source.{Lent, addRows, add, addPairs};
 ghost use Rattle.reader.specs.Does.{Does};
 
 // Why a reading failed: a bad signature; the first field that came up short, in the piece of this kind or in none (a head, a TAP);
@@ -248,4 +250,45 @@ fn stop_block(s: State, blocks: &mut [u64]) -> Step
     ensures { λ x. ⌜ ((tt : List ℕ) → Does (λ lent. add lent [] stopBlock) s x (now (blocks .entry)) tt (now (blocks .exit)) tt) ⌝ }
 {
     no_tone(s, blocks, stop_row(s.tones))
+}
+
+// Pulse i of those at `from`; its callers know it to lie in the tape.
+fn pulse_at(tape: &[u8], from: u64, i: u64) -> u64
+    requires { ⌜ from + i * 2 + 2 ≤ length (now tape) ⌝ }
+    ensures { λ p. ⌜ p ≡ pulseAt (now (tape .entry)) from i ⌝ }
+{
+    let read = field(tape, Cursor::At(from + i * 2), 2);
+    read.value as u64
+}
+
+// 13: one block for each of n pairs of pulses; its callers know them to lie in the tape.
+fn pulse_blocks(
+    tape: &[u8],
+    s0: State,
+    blocks: &mut [u64],
+    tones: &mut [u64],
+    from: u64,
+    n: u64,
+) -> Step
+    requires { ⌜ from + n * 4 ≤ length (now tape) ⌝ }
+    ensures { λ x. ⌜ Does (λ lent. addPairs lent (now (tape .entry)) from 0 n) s0 x (now (blocks .entry)) (now (tones .entry)) (now (blocks .exit)) (now (tones .exit)) ⌝ }
+{
+    let mut s = s0;
+    let mut i = 0;
+    let mut left = n;
+    while 0 < left {
+        let pair = Tone {
+            num: 1,
+            len1: pulse_at(tape, from, i),
+            len2: pulse_at(tape, from, i + 1),
+        };
+        let r = born(0, s.tones, 1, 0, 0, 0, 0, 0, 0);
+        match one_tone(s, blocks, tones, pair, r) {
+            Step::On(next) => s = next,
+            Step::No(k) => return Step::No(k),
+        }
+        i += 2;
+        left -= 1;
+    }
+    Step::On(s)
 }

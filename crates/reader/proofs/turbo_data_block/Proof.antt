@@ -35,7 +35,7 @@ cast-born-5 c = search needs
 
 -- src/lib.rt:160:9
 cast-born-6 : tie.Need-cast-born-6
-cast-born-6 c = omega arith
+cast-born-6 c = omega (arith, c .struct-known6 .given .1 .1 .1 .1 .1 .1 .1 .1 .1 .0)
 
 -- src/lib.rt:161:9
 cast-born-7 : tie.Need-cast-born-7

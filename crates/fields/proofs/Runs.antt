@@ -11,7 +11,7 @@ use Rattle.laws.specs.Numbers.{lt-or-ge}
 use Rattle.fields.specs.declared.Cursor.{Cursor}
 use Rattle.fields.specs.declared.Cursor.the-variants.{At, Short}
 use Rattle.fields.specs.declared.Read.{Read}
-use Rattle.fields.specs.Field.{numberAt, fieldAt}
+use Rattle.fields.specs.Field.{numberAt, fieldAt, placeOf}
 use Rattle.fields.specs.Run.{times, eachAt, groupsAt, Wholes}
 
 -- a cursor that came up short
@@ -70,6 +70,29 @@ module _ (f : Cursor → Cursor) (g l : ℕ) (moves : (p : ℕ) → p + g ≤ l 
       let k = w .there (omega arith) in
       let r : p + q * g ≤ l = omega arith in
       rw e (times-whole (suc n) p (rw e at r))
+
+-- a run of steps that stands began at a place, and each of its steps moved
+pub record Stood (c : Cursor) (b q : ℕ) : Type 0 where
+  pub began : c ≡ At (placeOf c)
+  pub moved : q ≡ placeOf c + b
+
+not-there : {c : Cursor} {q : ℕ} → Stopped c → c ≡ At q → ⊥
+not-there stopped e = told e
+
+module _ (f : Cursor → Cursor) (g l : ℕ) (moves : (p : ℕ) → p + g ≤ l → f (At p) ≡ At (p + g)) (stops : (p : ℕ) → l < p + g → Stopped (f (At p))) where
+  times-moved : (n p : ℕ) {q : ℕ} → times f n (At p) ≡ At q → q ≡ p + n * g
+  unfolding times
+  times-moved zero p {q} e = let z = zero-mul g in let i : p ≡ q = cc in omega arith
+  times-moved (suc n) p {q} e =
+      ⊎-elim
+      (λ (a : l < p + g). let t = stops p a in absurd (not-there t (sym (times-stopped f n t) ∙ e)))
+      (λ (a : p + g ≤ l). let i : q ≡ p + g + n * g = times-moved n (p + g) (rw (moves p a) at e) in omega (arith, suc-mul n g))
+      (lt-or-ge l (p + g))
+
+  times-stood : (n : ℕ) (c : Cursor) {q : ℕ} → times f n c ≡ At q → Stood c (n * g) q
+  unfolding placeOf
+  times-stood n (At p) e = record { began = refl; moved = times-moved n p e }
+  times-stood n (Short p w) e = absurd (not-there stopped (sym (times-stopped f n (stopped {p = p} {w = w})) ∙ e))
 
 -- how many are whole, by division
 pub wholes-none : (l p n g : ℕ) → l < p → Wholes l p n g 0
@@ -177,3 +200,14 @@ module _ (s : List ℕ) where
   pub groups-stopped : (n h k w : ℕ) {c : Cursor} → Stopped c → groupsAt s c n h k w ≡ c
   unfolding groupsAt
   groups-stopped n h k w t = times-stopped (λ c. eachAt s (fieldAt s c h .cursor) k w) n t
+
+  -- fields and groups that are all there
+  pub each-stood : (n w : ℕ) (c : Cursor) {q : ℕ} → eachAt s c n w ≡ At q → Stood c (n * w) q
+  unfolding eachAt
+  each-stood n w c e =
+      times-stood (λ c. fieldAt s c w .cursor) w (length s) (field-moves w) (λ p a. rw (field-stops w p a) stopped) n c e
+
+  pub groups-stood : (n h k w : ℕ) (c : Cursor) {q : ℕ} → groupsAt s c n h k w ≡ At q → Stood c (n * (h + k * w)) q
+  unfolding groupsAt
+  groups-stood n h k w c e =
+      times-stood (λ c. eachAt s (fieldAt s c h .cursor) k w) (h + k * w) (length s) (group-moves h k w) (group-stops h k w) n c e

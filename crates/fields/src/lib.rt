@@ -36,8 +36,8 @@ fn room(tape: &[u8], at: u64, n: u64) -> bool
     if at <= end { n <= end - at } else { false }
 }
 
-// The number of `width` bytes at `at`, the lowest first.
-fn low_first(tape: &[u8], at: u64, width: u64) -> u32
+// The number of `width` bytes at `at`, the lowest first; its callers know the bytes to be there.
+pub fn low_first(tape: &[u8], at: u64, width: u64) -> u32
     requires { ⌜ (at + width ≤ length (now tape)) × (width ≤ 4) ⌝ }
     ensures { λ r. ⌜ r ≡ leAt (now (tape .entry)) at width ⌝ }
 {

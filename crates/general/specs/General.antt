@@ -8,6 +8,8 @@ use Rattle.laws.specs.Rules.{_⇒_, _∣_}
 use Rattle.fields.specs.Field.{leAt}
 use Rattle.rows.specs.declared.Tone.{Tone}
 use Rattle.pieces.specs.declared.GeneralizedData.{GeneralizedData}
+use Rattle.general.specs.declared.Row.{Row}
+use Rattle.general.specs.declared.Row.the-variants.{Refused, Gives}
 
 -- a symbol: up to two pulses, the second 0 where it has one alone
 pub record Symbol : Type 0 where
@@ -29,15 +31,23 @@ pub data Part : Type 0 where
   stops : Part
   tones : List Tone → Part
 
-unfoldable pub before : Tone → Part → Part
-before t refused = refused
-before t stops = stops
-before t (tones ts) = tones (t ∷ ts)
+-- an entry's or a symbol's row before the others of its part
+unfoldable pub before : Row → Part → Part
+before Refused rest = refused
+before (Gives t) refused = refused
+before (Gives t) stops = stops
+before (Gives t) (tones ts) = tones (t ∷ ts)
 
--- one pulse, or second pulse 0, gives (repeat + 1)/2 cycles; two give repeat cycles
-unfoldable pub cycles : Symbol → ℕ → Tone
+-- the rows of n entries or symbols from index i on
+unfoldable pub rowsFrom : (ℕ → Row) → ℕ → ℕ → Part
+rowsFrom row i zero = tones []
+rowsFrom row i (suc n) = before (row i) (rowsFrom row (i + 1) n)
+
+-- one pulse, or second pulse 0, gives (repeat + 1)/2 cycles, refused with repeat 65,535; two give repeat cycles
+unfoldable pub cycles : Symbol → ℕ → Row
 cycles y repeat =
-    eqb (y .second) 0 ⇒ toneOf ((repeat + 1) / 2) (y .first) (y .first) ∣ toneOf repeat (y .first) (y .second)
+    eqb (y .second) 0 ⇒ (eqb repeat 65535 ⇒ Refused ∣ Gives (toneOf ((repeat + 1) / 2) (y .first) (y .first)))
+    ∣ Gives (toneOf repeat (y .first) (y .second))
 
 -- pilot entry i: a symbol's number and its repetitions
 unfoldable pub entrySymbol : List ℕ → GeneralizedData → ℕ → ℕ
@@ -46,20 +56,17 @@ entrySymbol s g i = getD s (g .entries + i * 3) 0
 unfoldable pub entryRepeat : List ℕ → GeneralizedData → ℕ → ℕ
 entryRepeat s g i = leAt s (g .entries + i * 3 + 1) 2
 
--- n pilot entries from entry i on: refused with a symbol not below asp, or repeat 65,535 where one is added
-unfoldable pub pilotFrom : List ℕ → GeneralizedData → ℕ → ℕ → Part
-pilotFrom s g i zero = tones []
-pilotFrom s g i (suc n) =
-    let y = symbolAt s (g .pilot) (g .npp) (entrySymbol s g i) in
-    leb (g .asp) (entrySymbol s g i) ⇒ refused
-    ∣ (eqb (y .second) 0 && eqb (entryRepeat s g i) 65535) ⇒ refused
-    ∣ before (cycles y (entryRepeat s g i)) (pilotFrom s g (i + 1) n)
+-- refused with a symbol not below asp
+unfoldable pub entryRow : List ℕ → GeneralizedData → ℕ → Row
+entryRow s g i =
+    leb (g .asp) (entrySymbol s g i) ⇒ Refused
+    ∣ cycles (symbolAt s (g .pilot) (g .npp) (entrySymbol s g i)) (entryRepeat s g i)
 
 -- the pilot part: npp 0 or above 2 at the first entry makes the piece a stop block
 unfoldable pub pilotOf : List ℕ → GeneralizedData → Part
 pilotOf s g =
     eqb (g .totp) 0 ⇒ tones []
-    ∣ (eqb (g .npp) 1 || eqb (g .npp) 2) ⇒ pilotFrom s g 0 (g .totp)
+    ∣ (eqb (g .npp) 1 || eqb (g .npp) 2) ⇒ rowsFrom (entryRow s g) 0 (g .totp)
     ∣ leb (g .asp) (entrySymbol s g 0) ⇒ refused
     ∣ stops
 
@@ -82,30 +89,36 @@ numberAt s g bit more = getD s (g .from + bit / 8) 0 / 2 ^ (7 - bit % 8 - more) 
 abbrev pub dataSymbol : List ℕ → GeneralizedData → ℕ → Symbol
 dataSymbol s g b = symbolAt s (g .symbols) (g .npd) b
 
--- npd 2: one tone for each of n symbols from index i on; refused with a used symbol not below asd
-unfoldable pub singles : List ℕ → GeneralizedData → ℕ → ℕ → Part
-singles s g i zero = tones []
-singles s g i (suc n) =
+-- npd 2: one tone for each symbol; refused with a used symbol not below asd
+unfoldable pub singleRow : List ℕ → GeneralizedData → ℕ → Row
+singleRow s g i =
     let b = numberAt s g (i * g .nb) 0 in
-    leb (g .asd) b ⇒ refused
-    ∣ before (toneOf 1 (dataSymbol s g b .first) (dataSymbol s g b .second)) (singles s g (i + 1) n)
+    leb (g .asd) b ⇒ Refused
+    ∣ Gives (toneOf 1 (dataSymbol s g b .first) (dataSymbol s g b .second))
 
--- npd 1: one tone for each of n pairs, the second symbol shifted by one less at the first one's bit
-unfoldable pub pairs : List ℕ → GeneralizedData → ℕ → ℕ → Part
-pairs s g i zero = tones []
-pairs s g i (suc n) =
+-- npd 1: one tone for each pair, the second symbol shifted by one less at the first one's bit
+unfoldable pub pairRow : List ℕ → GeneralizedData → ℕ → Row
+pairRow s g i =
     let b = numberAt s g (2 * i * g .nb) 0 in
     let d = numberAt s g (2 * i * g .nb) 1 in
-    (leb (g .asd) b || leb (g .asd) d) ⇒ refused
-    ∣ before (toneOf 1 (dataSymbol s g b .first) (dataSymbol s g d .first)) (pairs s g (i + 1) n)
+    leb (g .asd) b ⇒ Refused
+    ∣ leb (g .asd) d ⇒ Refused
+    ∣ Gives (toneOf 1 (dataSymbol s g b .first) (dataSymbol s g d .first))
 
--- the data part where it is no ordinary block: refused for totd 0, nb 8, and nb 0 with npd 2 or with npd 1 and totd above 1;
--- an odd last symbol is dropped; other npd, a stop block
+-- nb 0 is refused with npd 2, and with npd 1 and totd above 1; an odd last symbol is dropped
+unfoldable pub singlesOf : List ℕ → GeneralizedData → Part
+singlesOf s g = eqb (g .nb) 0 ⇒ refused ∣ rowsFrom (singleRow s g) 0 (g .totd)
+
+unfoldable pub pairsOf : List ℕ → GeneralizedData → Part
+pairsOf s g = (eqb (g .nb) 0 && ltb 1 (g .totd)) ⇒ refused ∣ rowsFrom (pairRow s g) 0 (g .totd / 2)
+
+-- the data part where it is no ordinary block: refused for totd 0 and nb 8; npd above 2 or 0, a stop block
 unfoldable pub dataOf : List ℕ → GeneralizedData → Part
 dataOf s g =
-    (eqb (g .totd) 0 || leb 8 (g .nb)) ⇒ refused
-    ∣ eqb (g .npd) 2 ⇒ (eqb (g .nb) 0 ⇒ refused ∣ singles s g 0 (g .totd))
-    ∣ eqb (g .npd) 1 ⇒ ((eqb (g .nb) 0 && ltb 1 (g .totd)) ⇒ refused ∣ pairs s g 0 (g .totd / 2))
+    eqb (g .totd) 0 ⇒ refused
+    ∣ leb 8 (g .nb) ⇒ refused
+    ∣ eqb (g .npd) 2 ⇒ singlesOf s g
+    ∣ eqb (g .npd) 1 ⇒ pairsOf s g
     ∣ stops
 
 -- what the piece gives: refusal 4; a stop block; or a block of these tones, with the data bytes as its data or without data
@@ -115,17 +128,17 @@ pub data Given : Type 0 where
   plain : List Tone → ℕ → ℕ → ℕ → Given
   toned : List Tone → Given
 
-unfoldable pub withData : List ℕ → GeneralizedData → List Tone → Part → Given
-withData s g ps refused = refused4
-withData s g ps stops = stop
-withData s g ps (tones ts) = toned (ps ++ ts)
+unfoldable pub withData : List Tone → Part → Given
+withData ps refused = refused4
+withData ps stops = stop
+withData ps (tones ts) = toned (ps ++ ts)
 
 unfoldable pub withPilot : List ℕ → GeneralizedData → Part → Given
 withPilot s g refused = refused4
 withPilot s g stops = stop
 withPilot s g (tones ps) =
     (ltb 0 (g .totd) && ordinary s g) ⇒ plain ps (symbolAt s (g .symbols) 2 0 .first) (symbolAt s (g .symbols) 2 1 .first) (lastBits (g .totd))
-    ∣ withData s g ps (dataOf s g)
+    ∣ withData ps (dataOf s g)
 
 unfoldable pub generalOf : List ℕ → GeneralizedData → Given
 generalOf s g = withPilot s g (pilotOf s g)

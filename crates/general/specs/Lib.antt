@@ -1,1 +1,3 @@
 pub mod General
+pub mod Made
+pub mod Ways

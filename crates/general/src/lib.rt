@@ -1,1 +1,416 @@
-// Generalised data (19) in the source reading.
+// Generalised data (19) in the source reading: what a cut piece gives, and its rows in the tone table.
+use fields::low_first;
+use pieces::GeneralizedData;
+use rows::Tone;
+use rows::put_tone;
+use rows::tone_capacity;
+ghost use mathlib.Core.Path.{_≡_};
+ghost use mathlib.Core.Bool.{true, _&&_, _||_};
+ghost use Prim.Native.Nat.{_+_, _*_, _-_, _/_, _%_, _^_, _≤_, _<_};
+ghost use lib.ListN.{length, getD};
+ghost use lib.Dec.{leb, ltb, eqb};
+ghost use Rattle.laws.specs.Rules.{_⇒_, _∣_};
+ghost use Rattle.fields.specs.Field.{leAt};
+ghost use Rattle.rows.specs.Table.{putAll, capacityOf};
+ghost use Rattle.rows.specs.Rows.{tone, toneMost};
+ghost use Rattle.general.specs.declared.Row.the-variants.{Gives};
+ghost use Rattle.general.specs.declared.Judged.the-variants.{Rows};
+ghost use Rattle.general.specs.General.{symbolAt, toneOf, cycles, entryRow, singleRow, pairRow, rowsFrom, refused, pilotOf, equalHalves, ordinary, lastBits, numberAt, singlesOf, pairsOf, dataOf, withPilot, generalOf};
+ghost use Rattle.general.specs.Made.{judgedOf, isGiven, putGiven, isTones, tonesOf, madeOf, leaves};
+ghost use Rattle.general.specs.Ways.{Held, Kept, Ready, rowAt, countOf, placeFor, sizeFor, pulsesFor, pulsesOf, symbolOf};
+
+// The symbols of an alphabet at the most.
+const SYMBOLS: usize = 255;
+
+// What a pilot entry, a data symbol or a pair of them gives: refusal 4, or a tone.
+pub enum Row {
+    Refused,
+    Gives(Tone),
+}
+
+// The sorts of rows: one for a pilot entry, for a data symbol, for a pair of them.
+pub enum Way {
+    Pilot,
+    Singles,
+    Pairs,
+}
+
+// What a part of the piece comes to: refusal 4, a stop block, or so many rows.
+pub enum Judged {
+    Refused,
+    Stop,
+    Rows(u32),
+}
+
+// What the piece comes to: refusal 4, more rows than remain, a stop block, a data block, or a block of tones alone.
+pub enum Made {
+    Refused,
+    Full,
+    Stop,
+    Data {
+        rows: u64,
+        zero: u32,
+        one: u32,
+        last: u32,
+    },
+    Tones {
+        rows: u64,
+    },
+}
+
+// The byte at a place.
+fn byte_at(tape: &[u8], at: u64) -> u32
+    requires { ⌜ at < length (now tape) ⌝ }
+    ensures { λ r. ⌜ r ≡ getD (now (tape .entry)) at 0 ⌝ }
+{
+    tape[at as usize] as u32
+}
+
+// The pulse at a place.
+fn pulse(tape: &[u8], at: u64) -> u16
+    requires { ⌜ at + 2 ≤ length (now tape) ⌝ }
+    ensures { λ r. ⌜ r ≡ leAt (now (tape .entry)) at 2 ⌝ }
+{
+    low_first(tape, at, 2) as u16
+}
+
+// Symbol i of an alphabet: a flag byte, which the source ignores, and n pulses, of which two are kept.
+fn symbol(tape: &[u8], place: u64, n: u32, i: u32) -> [u16; 2]
+    requires { ⌜ (0 < n) × (place + i * (1 + n * 2) + (1 + n * 2) ≤ length (now tape)) ⌝ }
+    ensures { λ r. ⌜ r ≡ pulsesOf (symbolAt (now (tape .entry)) place n i) ⌝ }
+{
+    let at = place + i as u64 * (1 + n as u64 * 2) + 1;
+    let first = pulse(tape, at);
+    if 1 < n {
+        [first, pulse(tape, at + 2)]
+    } else {
+        [first, 0]
+    }
+}
+
+// An alphabet of n symbols.
+fn alphabet(tape: &[u8], place: u64, n: u32, pulses: u32) -> [[u16; 2]; SYMBOLS]
+    requires { ⌜ (n ≤ 255) × (0 < pulses) × (place + n * (1 + pulses * 2) ≤ length (now tape)) ⌝ }
+    ensures { λ a. ⌜ Kept (now (tape .entry)) place pulses n a ⌝ }
+{
+    let mut a = [[0u16; 2]; SYMBOLS];
+    let mut i = 0;
+    while i < n {
+        let row = symbol(tape, place, pulses, i);
+        a[i as usize] = row;
+        i += 1;
+    }
+    a
+}
+
+// The alphabet that a sort of rows uses.
+fn alphabet_for(tape: &[u8], g: GeneralizedData, way: Way) -> [[u16; 2]; SYMBOLS]
+    requires { ⌜ Held (now tape) g × Ready g way ⌝ }
+    ensures { λ a. ⌜ Kept (now (tape .entry)) (placeFor g way) (pulsesFor g way) (sizeFor g way) a ⌝ }
+{
+    match way {
+        Way::Pilot => alphabet(tape, g.pilot, g.asp, g.npp),
+        Way::Singles => alphabet(tape, g.symbols, g.asd, g.npd),
+        Way::Pairs => alphabet(tape, g.symbols, g.asd, g.npd),
+    }
+}
+
+// A row of cycles.
+fn gives(num: u32, len1: u16, len2: u16) -> Row
+    ensures { λ r. ⌜ r ≡ Gives (toneOf num len1 len2) ⌝ }
+{
+    Row::Gives(Tone {
+        num: num as u64,
+        len1: len1 as u64,
+        len2: len2 as u64,
+    })
+}
+
+// The cycles of a pilot symbol.
+fn cycles(y: [u16; 2], repeat: u32) -> Row
+    requires { ⌜ repeat ≤ 65535 ⌝ }
+    ensures { λ r. ⌜ r ≡ cycles (symbolOf y) repeat ⌝ }
+{
+    if y[1] == 0 {
+        if repeat == 65535 {
+            return Row::Refused;
+        }
+        return gives((repeat + 1) / 2, y[0], y[0]);
+    }
+    gives(repeat, y[0], y[1])
+}
+
+// Pilot entry i.
+fn entry_row(tape: &[u8], a: &[[u16; 2]; SYMBOLS], g: GeneralizedData, i: u32) -> Row
+    requires { ⌜ Held (now tape) g × Kept (now tape) (g .pilot) (g .npp) (g .asp) (now a) × (i < g .totp) ⌝ }
+    ensures { λ r. ⌜ r ≡ entryRow (now (tape .entry)) g i ⌝ }
+{
+    let at = g.entries + i as u64 * 3;
+    let n = byte_at(tape, at);
+    if g.asp <= n {
+        return Row::Refused;
+    }
+    cycles(a[n as usize], low_first(tape, at + 1, 2))
+}
+
+// A power of 2 that a byte can be divided by.
+fn power(k: u32) -> u32
+    requires { ⌜ k < 8 ⌝ }
+    ensures { λ r. ⌜ r ≡ 2 ^ k ⌝ }
+{
+    let powers = [1u32, 2, 4, 8, 16, 32, 64, 128];
+    powers[k as usize]
+}
+
+// The symbol number at a bit of the data bytes, or `more` bits further down its byte.
+fn number_at(tape: &[u8], g: GeneralizedData, bit: u32, more: u32) -> u32
+    requires { ⌜ Held (now tape) g × (g .nb < 8) × (bit < g .nb * g .totd) × (bit % 8 + more ≤ 7) ⌝ }
+    ensures { λ r. ⌜ r ≡ numberAt (now (tape .entry)) g bit more ⌝ }
+{
+    let byte = byte_at(tape, g.from + bit as u64 / 8);
+    byte / power(7 - bit % 8 - more) % power(g.nb)
+}
+
+// Data symbol i.
+fn single_row(tape: &[u8], a: &[[u16; 2]; SYMBOLS], g: GeneralizedData, i: u32) -> Row
+    requires { ⌜ Held (now tape) g × Kept (now tape) (g .symbols) (g .npd) (g .asd) (now a) × (0 < g .nb) × (g .nb < 8) × (i < g .totd) ⌝ }
+    ensures { λ r. ⌜ r ≡ singleRow (now (tape .entry)) g i ⌝ }
+{
+    let b = number_at(tape, g, i * g.nb, 0);
+    if g.asd <= b {
+        return Row::Refused;
+    }
+    let y = a[b as usize];
+    gives(1, y[0], y[1])
+}
+
+// Pair i of data symbols, one pulse each.
+fn pair_row(tape: &[u8], a: &[[u16; 2]; SYMBOLS], g: GeneralizedData, i: u32) -> Row
+    requires { ⌜ Held (now tape) g × Kept (now tape) (g .symbols) (g .npd) (g .asd) (now a) × (0 < g .nb) × (g .nb < 8) × (i < g .totd / 2) ⌝ }
+    ensures { λ r. ⌜ r ≡ pairRow (now (tape .entry)) g i ⌝ }
+{
+    let bit = 2 * i * g.nb;
+    let b = number_at(tape, g, bit, 0);
+    if g.asd <= b {
+        return Row::Refused;
+    }
+    let d = number_at(tape, g, bit, 1);
+    if g.asd <= d {
+        return Row::Refused;
+    }
+    let y = a[b as usize];
+    let z = a[d as usize];
+    gives(1, y[0], z[0])
+}
+
+// Row i of a sort.
+fn row_at(tape: &[u8], a: &[[u16; 2]; SYMBOLS], g: GeneralizedData, way: Way, i: u32) -> Row
+    requires { ⌜ Held (now tape) g × Ready g way × Kept (now tape) (placeFor g way) (pulsesFor g way) (sizeFor g way) (now a) × (i < countOf g way) ⌝ }
+    ensures { λ r. ⌜ r ≡ rowAt (now (tape .entry)) g way i ⌝ }
+{
+    match way {
+        Way::Pilot => entry_row(tape, a, g, i),
+        Way::Singles => single_row(tape, a, g, i),
+        Way::Pairs => pair_row(tape, a, g, i),
+    }
+}
+
+// How many rows a sort has.
+fn count(g: GeneralizedData, way: Way) -> u32
+    ensures { λ r. ⌜ r ≡ countOf g way ⌝ }
+{
+    match way {
+        Way::Pilot => g.totp,
+        Way::Singles => g.totd,
+        Way::Pairs => g.totd / 2,
+    }
+}
+
+// Whether a row is one.
+fn is_given(r: Row) -> bool
+    ensures { λ b. ⌜ b ≡ isGiven r ⌝ }
+{
+    match r {
+        Row::Refused => false,
+        Row::Gives(_) => true,
+    }
+}
+
+// Whether all rows of a sort are given.
+fn all_given(tape: &[u8], g: GeneralizedData, way: Way) -> bool
+    requires { ⌜ Held (now tape) g × Ready g way ⌝ }
+    ensures { λ b. ⌜ b ≡ isTones (rowsFrom (rowAt (now (tape .entry)) g way) 0 (countOf g way)) ⌝ }
+{
+    let a = alphabet_for(tape, g, way);
+    let n = count(g, way);
+    let mut i = 0;
+    while i < n {
+        if !is_given(row_at(tape, &a, g, way, i)) {
+            return false;
+        }
+        i += 1;
+    }
+    true
+}
+
+// What a part of one sort of rows comes to.
+fn part_of(tape: &[u8], g: GeneralizedData, way: Way) -> Judged
+    requires { ⌜ Held (now tape) g × Ready g way ⌝ }
+    ensures { λ r. ⌜ r ≡ judgedOf (rowsFrom (rowAt (now (tape .entry)) g way) 0 (countOf g way)) ⌝ }
+{
+    if all_given(tape, g, way) {
+        Judged::Rows(count(g, way))
+    } else {
+        Judged::Refused
+    }
+}
+
+// Whether symbols have as many pulses as the source takes.
+fn one_or_two(n: u32) -> bool
+    ensures { λ b. ⌜ b ≡ (eqb n 1 || eqb n 2) ⌝ }
+{
+    n == 1 || n == 2
+}
+
+// What the pilot part comes to.
+fn pilot_part(tape: &[u8], g: GeneralizedData) -> Judged
+    requires { ⌜ Held (now tape) g ⌝ }
+    ensures { λ r. ⌜ r ≡ judgedOf (pilotOf (now (tape .entry)) g) ⌝ }
+{
+    if g.totp == 0 {
+        return Judged::Rows(0);
+    }
+    if one_or_two(g.npp) {
+        return part_of(tape, g, Way::Pilot);
+    }
+    if g.asp <= byte_at(tape, g.entries) {
+        Judged::Refused
+    } else {
+        Judged::Stop
+    }
+}
+
+// Whether both halves of a symbol are equal.
+fn equal_halves(y: [u16; 2]) -> bool
+    ensures { λ b. ⌜ b ≡ equalHalves (symbolOf y) ⌝ }
+{
+    y[0] == y[1]
+}
+
+// Whether the data part is an ordinary data block.
+fn ordinary(tape: &[u8], g: GeneralizedData) -> bool
+    requires { ⌜ Held (now tape) g ⌝ }
+    ensures { λ b. ⌜ b ≡ (ltb 0 (g .totd) && ordinary (now (tape .entry)) g) ⌝ }
+{
+    if g.totd == 0 {
+        return false;
+    }
+    if g.asd != 2 {
+        return false;
+    }
+    if g.npd != 2 {
+        return false;
+    }
+    if !equal_halves(symbol(tape, g.symbols, 2, 0)) {
+        return false;
+    }
+    equal_halves(symbol(tape, g.symbols, 2, 1))
+}
+
+// Whether symbols of no bits are more than one.
+fn no_bits(g: GeneralizedData) -> bool
+    ensures { λ b. ⌜ b ≡ (eqb (g .nb) 0 && ltb 1 (g .totd)) ⌝ }
+{
+    g.nb == 0 && 1 < g.totd
+}
+
+// What the data part comes to where its symbols have two pulses.
+fn singles_part(tape: &[u8], g: GeneralizedData) -> Judged
+    requires { ⌜ Held (now tape) g × (0 < g .totd) × (g .npd ≡ 2) × (g .nb < 8) ⌝ }
+    ensures { λ r. ⌜ r ≡ judgedOf (singlesOf (now (tape .entry)) g) ⌝ }
+{
+    if g.nb == 0 {
+        Judged::Refused
+    } else {
+        part_of(tape, g, Way::Singles)
+    }
+}
+
+// What the data part comes to where its symbols have one pulse.
+fn pairs_part(tape: &[u8], g: GeneralizedData) -> Judged
+    requires { ⌜ Held (now tape) g × (0 < g .totd) × (g .npd ≡ 1) × (g .nb < 8) ⌝ }
+    ensures { λ r. ⌜ r ≡ judgedOf (pairsOf (now (tape .entry)) g) ⌝ }
+{
+    if no_bits(g) {
+        Judged::Refused
+    } else {
+        part_of(tape, g, Way::Pairs)
+    }
+}
+
+// What the data part comes to where it is no ordinary data block.
+fn data_part(tape: &[u8], g: GeneralizedData) -> Judged
+    requires { ⌜ Held (now tape) g ⌝ }
+    ensures { λ r. ⌜ r ≡ judgedOf (dataOf (now (tape .entry)) g) ⌝ }
+{
+    if g.totd == 0 {
+        return Judged::Refused;
+    }
+    if 8 <= g.nb {
+        return Judged::Refused;
+    }
+    if g.npd == 2 {
+        return singles_part(tape, g);
+    }
+    if g.npd == 1 {
+        return pairs_part(tape, g);
+    }
+    Judged::Stop
+}
+
+// The row in the tone table, where it is one.
+fn put_row(tones: &mut [u64], i: usize, r: Row)
+    requires { ⌜ i < capacityOf tone toneMost (now tones) ⌝ }
+    ensures { λ _. ⌜ now (tones .exit) ≡ putGiven (now (tones .entry)) i r ⌝ }
+{
+    match r {
+        Row::Refused => {}
+        Row::Gives(t) => put_tone(tones, i, t),
+    }
+}
+
+// The rows of a sort, all of which are given and fit, from row `used` on.
+fn put_rows(tape: &[u8], g: GeneralizedData, way: Way, tones: &mut [u64], used: usize)
+    requires { ⌜ Held (now tape) g × Ready g way × (isTones (rowsFrom (rowAt (now tape) g way) 0 (countOf g way)) ≡ true) × (countOf g way ≤ capacityOf tone toneMost (now tones) - used) ⌝ }
+    ensures { λ _. ⌜ now (tones .exit) ≡ putAll tone (now (tones .entry)) used (tonesOf (rowsFrom (rowAt (now (tape .entry)) g way) 0 (countOf g way))) ⌝ }
+{
+    let a = alphabet_for(tape, g, way);
+    let n = count(g, way);
+    let mut i = 0;
+    while i < n {
+        put_row(tones, used + i as usize, row_at(tape, &a, g, way, i));
+        i += 1;
+    }
+}
+
+// Whether `rows` tone rows fit after the first `used`.
+fn fits(tones: &[u64], used: usize, rows: u64) -> bool
+    ensures { λ b. ⌜ b ≡ leb rows (capacityOf tone toneMost (now (tones .entry)) - used) ⌝ }
+{
+    let most = tone_capacity(tones);
+    if used <= most {
+        rows <= (most - used) as u64
+    } else {
+        rows == 0
+    }
+}
+
+// The pilot's rows, which are tones and fit.
+fn put_pilot(tape: &[u8], g: GeneralizedData, tones: &mut [u64], used: usize)
+    requires { ⌜ Held (now tape) g × (judgedOf (pilotOf (now tape) g) ≡ Rows (g .totp)) × (g .totp ≤ capacityOf tone toneMost (now tones) - used) ⌝ }
+    ensures { λ _. ⌜ now (tones .exit) ≡ putAll tone (now (tones .entry)) used (tonesOf (pilotOf (now (tape .entry)) g)) ⌝ }
+{
+    if 0 < g.totp {
+        put_rows(tape, g, Way::Pilot, tones, used);
+    }
+}

@@ -29,7 +29,7 @@ named-ends kind at short e = absurd (let z : _≡_ {A = ℕ} 0 1 = cc in omega a
 named-ends kind at wide e = absurd (let z : _≡_ {A = ℕ} 0 1 = cc in omega arith)
 
 -- a place inside the tape has a kind byte
-cut-there : (s : List ℕ) (at full : ℕ) → at < length s
+pub cut-there : (s : List ℕ) (at full : ℕ) → at < length s
     → cutAt s at full ≡ named (getD s at 0) at (readAt (kindOf full (getD s at 0)) s (At (at + 1)))
 unfolding cutAt
 cut-there s at full h = rw (lt-leb (length s) at h)
@@ -42,14 +42,14 @@ never : {k a next : ℕ} {piece : Piece} → taken.End ≡ taken.Whole k a next 
 never e = let z : _≡_ {A = ℕ} 0 1 = cc in omega arith
 
 module _ (s : List ℕ) (at full : ℕ) {k a next : ℕ} {piece : Piece} (e : cutAt s at full ≡ taken.Whole k a next piece) where
-  inside : at < length s
-  inside =
+  pub cut-inside : at < length s
+  cut-inside =
       ⊎-elim (λ (h : at < length s). h) (λ (h : length s ≤ at). absurd (never (sym (cut-end s at full h) ∙ e))) (lt-or-ge at (length s))
 
   -- forward, and inside the tape
   pub cut-forward : (at < next) × (next ≤ length s)
   cut-forward =
-      let h = inside in
+      let h = cut-inside in
       let f = forward (kindOf full (getD s at 0)) s (at + 1) (At (at + 1)) (stands (le-refl (at + 1)) (omega arith)) in
       let r = named-ends (getD s at 0) at f (sym (cut-there s at full h) ∙ e) in
       (omega (arith, r .0), r .1)
@@ -62,7 +62,7 @@ module _ (s : List ℕ) (at full : ℕ) {k a next : ℕ} {piece : Piece} (e : cu
   pub cut-own : (m : ℕ) → next ≤ m → cutAt (take m s) at full ≡ cutAt s at full
   cut-own m h =
       let f = cut-forward in
-      let i = inside in
+      let i = cut-inside in
       let l : at < length (take m s) = rw length-take (omega (arith, f .0, f .1)) in
       let g : getD (take m s) at 0 ≡ getD s at 0 = getD-take m s at 0 (omega (arith, f .0)) in
       let c = cut-there s at full i in

@@ -1,4 +1,5 @@
 pub mod Grammar
 pub mod Kinds
 pub mod Cut
+pub mod Places
 pub mod Steps

@@ -1,0 +1,256 @@
+-- A whole 19 has its tables where its places say, inside the tape, and no other kind gives one. Assumes nothing.
+use Prim.Native.Nat.{ℕ, zero, suc, _+_, _*_, _-_, _/_, _≤_, _<_}
+use mathlib.Core.Path.{_≡_, refl, sym, ap, subst, _∙_}
+use mathlib.Core.Bool.{Bool, true, false, cond}
+use mathlib.Core.List.{List, [], _∷_}
+use mathlib.Core.Logic.{⊎-elim}
+use native.Mathlib.Omega.{arith}
+use native.Mathlib.Nat.{le-trans}
+use lib.ListN.{length, getD, take}
+use lib.Dec.{leb, eqb}
+use borrow.Author.Tests.{leb-true}
+use Rattle.laws.specs.Numbers.{lt-or-ge}
+use Rattle.laws.specs.Rules.{_⇒_, _∣_}
+use Rattle.laws.specs.Arms.{Arm, lookup}
+use Rattle.fields.specs.declared.Cursor.{Cursor}
+use Rattle.fields.specs.declared.Cursor.the-variants.{At}
+use Rattle.fields.specs.declared.Cursor.the-variants as cursor
+use Rattle.fields.specs.Field.{leAt, numberAt, fieldAt, placeOf}
+use Rattle.fields.specs.Run.{eachAt, groupsAt}
+use Rattle.fields.proofs.Runs.{Stood, field-there, field-short, each-stood, groups-stood}
+use Rattle.pieces.specs.declared.GeneralizedData.{GeneralizedData}
+use Rattle.pieces.specs.declared.Piece.{Piece}
+use Rattle.pieces.specs.declared.Piece.the-variants as piece
+use Rattle.pieces.specs.declared.Body.{Body}
+use Rattle.pieces.specs.declared.Body.the-variants.{Whole, Unknown, Short, Overflow}
+use Rattle.pieces.specs.declared.Taken.{Taken}
+use Rattle.pieces.specs.declared.Taken.the-variants as taken
+use Rattle.pieces.specs.Grammar.{Passed, Layout, number, counted, here, pass, within, fitting, whole, unknown, countedAt, passAt, wholeAt, sealed, enclosed, fittingAt, readAt, bitsOf, orFull, heldIf}
+use Rattle.pieces.specs.Kinds.{kind10, kind11, kind12, kind13, kind14, stream19, kind19, kind20, kind21, kind22, kind24, kind25, kind2A, kind30, kind31, info32, kind32, kind33, kind35, kind5A, unread, kinds, kindOf}
+use Rattle.pieces.specs.Cut.{named, cutAt}
+use Rattle.pieces.specs.Steps.{head19}
+use Rattle.pieces.specs.Places.{Places}
+use Rattle.pieces.proofs.Cutting.{cut-there, cut-inside, cut-forward}
+
+unfoldable isGeneral : Piece → Bool
+isGeneral (piece.Standard a b d) = false
+isGeneral (piece.Turbo a) = false
+isGeneral (piece.Tone a b) = false
+isGeneral (piece.Pulses a b) = false
+isGeneral (piece.Pure a b d x y z) = false
+isGeneral (piece.Generalized g) = true
+isGeneral (piece.Pause a) = false
+isGeneral (piece.GroupStart a b) = false
+isGeneral piece.GroupEnd = false
+isGeneral (piece.LoopStart a) = false
+isGeneral piece.LoopEnd = false
+isGeneral (piece.Stop48 a) = false
+isGeneral (piece.Text a b) = false
+isGeneral (piece.Message a b d) = false
+isGeneral (piece.Archive a b) = false
+isGeneral (piece.Hardware a b) = false
+isGeneral (piece.Custom a b d) = false
+isGeneral piece.Glue = false
+
+-- a layout that gives no 19, whatever it reads
+abbrev Other : Layout → Type 0
+Other (number w rest) = (v : ℕ) → Other (rest v)
+Other (counted w rest) = (p n : ℕ) → Other (rest p n)
+Other (here rest) = (p : ℕ) → Other (rest p)
+Other (pass part rest) = Other rest
+Other (within n inner) = Other inner
+Other (fitting bits rest) = Other rest
+Other (whole x) = isGeneral x ≡ false
+Other (unknown described) = Unit {0}
+
+-- an answer that is no 19
+abbrev NoGeneral : Body → Type 0
+NoGeneral b = (g : GeneralizedData) (next : ℕ) → b ≡ Whole (piece.Generalized g) next → ⊥
+
+whole-other : (x : Piece) (c : Cursor) → isGeneral x ≡ false → NoGeneral (wholeAt x c)
+unfolding wholeAt isGeneral
+whole-other x (At p) h g next e = let i : x ≡ piece.Generalized g = cc in let z : true ≡ false = rw i at h in let n : _≡_ {A = ℕ} 0 1 = cc in omega arith
+whole-other x (cursor.Short p w) h g next e = let z : _≡_ {A = ℕ} 0 1 = cc in omega arith
+
+sealed-other : (end : ℕ) (b : Body) → NoGeneral b → NoGeneral (sealed end b)
+unfolding sealed
+sealed-other end (Whole x p) h g next e =
+    let i : x ≡ piece.Generalized g = cc in h g p (ap (λ (y : Piece). Whole y p) i)
+sealed-other end (Unknown described) h g next e = let z : _≡_ {A = ℕ} 0 1 = cc in omega arith
+sealed-other end (Short p w) h g next e = let z : _≡_ {A = ℕ} 0 1 = cc in omega arith
+sealed-other end (Overflow p) h g next e = let z : _≡_ {A = ℕ} 0 1 = cc in omega arith
+
+enclosed-other : (inner : ℕ → Body) (c : Cursor) → ((end : ℕ) → NoGeneral (inner end)) → NoGeneral (enclosed inner c)
+unfolding enclosed
+enclosed-other inner (At end) h g next e = sealed-other end (inner end) (h end) g next e
+enclosed-other inner (cursor.Short p w) h g next e = let z : _≡_ {A = ℕ} 0 1 = cc in omega arith
+
+fitting-other : (bits : ℕ) (c : Cursor) (rest : Body) → NoGeneral rest → NoGeneral (fittingAt bits c rest)
+unfolding fittingAt
+fitting-other bits (At p) rest h g next e = by-cases (leb bits 4294967295) e
+  where
+    by-cases : (t : Bool) → (t ⇒ rest ∣ Overflow p) ≡ Whole (piece.Generalized g) next → ⊥
+    by-cases true q = h g next q
+    by-cases false q = let z : _≡_ {A = ℕ} 0 1 = cc in omega arith
+fitting-other bits (cursor.Short p w) rest h g next e = h g next e
+
+other-none : (l : Layout) → Other l → (s : List ℕ) (c : Cursor) → NoGeneral (readAt l s c)
+unfolding readAt
+other-none (number w rest) o s c = other-none (rest (fieldAt s c w .value)) (o (fieldAt s c w .value)) s (fieldAt s c w .cursor)
+other-none (counted w rest) o s c =
+    other-none (rest (countedAt s c w .from) (countedAt s c w .size)) (o (countedAt s c w .from) (countedAt s c w .size)) s (countedAt s c w .cursor)
+other-none (here rest) o s c = other-none (rest (placeOf c)) (o (placeOf c)) s c
+other-none (pass part rest) o s c = other-none rest o s (passAt part s c)
+other-none (within n inner) o s c =
+    enclosed-other (λ end. readAt inner (take end s) c) (fieldAt s c n .cursor) (λ end. other-none inner o (take end s) c)
+other-none (fitting bits rest) o s c = fitting-other bits c (readAt rest s c) (other-none rest o s c)
+other-none (whole x) o s c = whole-other x c o
+other-none (unknown described) o s c = λ g next e. let z : _≡_ {A = ℕ} 0 1 = cc in omega arith
+
+-- the end of 19: its data bytes are there, and their bits fit
+record Streamed (s : List ℕ) (bits : ℕ) (g₀ g : GeneralizedData) (c : Cursor) (next : ℕ) : Type 0 where
+  same : g₀ ≡ g
+  fits : bits ≤ 4294967295
+  stood : Stood c (g₀ .size * 1) next
+
+whole-streamed : (s : List ℕ) (g₀ : GeneralizedData) (c d : Cursor) {g : GeneralizedData} {next : ℕ} → eachAt s c (g₀ .size) 1 ≡ d → wholeAt (piece.Generalized g₀) d ≡ Whole (piece.Generalized g) next → (g₀ ≡ g) × Stood c (g₀ .size * 1) next
+unfolding wholeAt
+whole-streamed s g₀ c (At q) {next = next} f e =
+    let i : q ≡ next = cc in (cc, each-stood s (g₀ .size) 1 c (f ∙ ap At i))
+whole-streamed s g₀ c (cursor.Short q w) f e = absurd (let z : _≡_ {A = ℕ} 0 1 = cc in omega arith)
+
+streamed : (s : List ℕ) (bits : ℕ) (g₀ : GeneralizedData) (c : Cursor) {g : GeneralizedData} {next : ℕ} → readAt (stream19 bits g₀) s c ≡ Whole (piece.Generalized g) next → Streamed s bits g₀ g c next
+unfolding readAt stream19 passAt fittingAt
+streamed s bits g₀ (At p) {g} {next} e = by-cases (leb bits 4294967295) refl e
+  where
+    by-cases : (t : Bool) → leb bits 4294967295 ≡ t → (t ⇒ wholeAt (piece.Generalized g₀) (eachAt s (At p) (g₀ .size) 1) ∣ Overflow p) ≡ Whole (piece.Generalized g) next → Streamed s bits g₀ g (At p) next
+    by-cases true b q =
+        let r = whole-streamed s g₀ (At p) (eachAt s (At p) (g₀ .size) 1) refl q in
+        record { same = r .0; fits = leb-true _ _ b; stood = r .1 }
+    by-cases false b q = absurd (let z : _≡_ {A = ℕ} 0 1 = cc in omega arith)
+streamed s bits g₀ (cursor.Short p w) e =
+    let r = whole-streamed s g₀ (cursor.Short p w) (eachAt s (cursor.Short p w) (g₀ .size) 1) refl e in
+    absurd (stuck (r .1 .began))
+  where
+    stuck : cursor.Short p w ≡ At (placeOf (cursor.Short p w)) → ⊥
+    stuck i = let z : _≡_ {A = ℕ} 0 1 = cc in omega arith
+
+-- a 19 that ends at `next`: its places, and its alphabets' sizes, which are bytes or `full`
+pub record Found (full : ℕ) (s : List ℕ) (g : GeneralizedData) (next : ℕ) : Type 0 where
+  pub end : next ≡ g .from + g .size
+  pub places : Places s g
+  pub sizes : ((i : ℕ) → getD s i 0 < 256) → (most : ℕ) → full ≤ most → 255 ≤ most → (g .asp ≤ most) × (g .asd ≤ most)
+
+-- what a layout says of the 19 that it gives
+abbrev Placed : ℕ → List ℕ → Body → Type 0
+Placed full s b = (g : GeneralizedData) (next : ℕ) → b ≡ Whole (piece.Generalized g) next → next ≤ length s → Found full s g next
+
+other-placed : {full : ℕ} (l : Layout) → Other l → (s : List ℕ) (c : Cursor) → Placed full s (readAt l s c)
+other-placed l o s c g next e h = absurd (other-none l o s c g next e)
+
+-- an alphabet's size
+byte-small : (s : List ℕ) → ((i : ℕ) → getD s i 0 < 256) → (c : Cursor) → fieldAt s c 1 .value ≤ 255
+unfolding fieldAt numberAt leAt
+byte-small s h (At p) =
+    ⊎-elim
+    (λ (t : length s < p + 1). rw (field-short s 1 p t) (omega arith))
+    (λ (t : p + 1 ≤ length s). rw (field-there s 1 p t) (omega (arith, h p)))
+    (lt-or-ge (length s) (p + 1))
+byte-small s h (cursor.Short p w) = omega arith
+
+full-small : (full size most : ℕ) → full ≤ most → size ≤ most → orFull full size ≤ most
+unfolding orFull
+full-small full size most h k = by-cases (eqb size 0)
+  where
+    by-cases : (t : Bool) → (t ⇒ full ∣ size) ≤ most
+    by-cases true = h
+    by-cases false = k
+
+-- the tables of 19, from the last one back
+module _ (full : ℕ) (s : List ℕ) (g₀ : GeneralizedData) (asp asd pilot entries symbols from : Cursor) where
+  tables : entries ≡ groupsAt s pilot (heldIf (g₀ .totp) (g₀ .asp)) 1 (g₀ .npp) 2
+      → symbols ≡ groupsAt s entries (g₀ .totp) 1 1 2
+      → from ≡ groupsAt s symbols (heldIf (g₀ .totd) (g₀ .asd)) 1 (g₀ .npd) 2
+      → g₀ .pilot ≡ placeOf pilot → g₀ .entries ≡ placeOf entries → g₀ .symbols ≡ placeOf symbols → g₀ .from ≡ placeOf from
+      → g₀ .nb ≡ bitsOf (g₀ .asd - 1) → g₀ .size ≡ (g₀ .nb * g₀ .totd + 7) / 8
+      → g₀ .asp ≡ orFull full (fieldAt s asp 1 .value) → g₀ .asd ≡ orFull full (fieldAt s asd 1 .value)
+      → Placed full s (readAt (stream19 (g₀ .nb * g₀ .totd) g₀) s from)
+  tables e2 e3 e4 p1 p2 p3 p4 n z a d g next e h =
+      let t = streamed s (g₀ .nb * g₀ .totd) g₀ from e in
+      let d4 = groups-stood s (heldIf (g₀ .totd) (g₀ .asd)) 1 (g₀ .npd) 2 symbols (sym e4 ∙ t .stood .began) in
+      let d3 = groups-stood s (g₀ .totp) 1 1 2 entries (sym e3 ∙ d4 .began) in
+      let d2 = groups-stood s (heldIf (g₀ .totp) (g₀ .asp)) 1 (g₀ .npp) 2 pilot (sym e2 ∙ d3 .began) in
+      let m4 = d4 .moved in
+      let m3 = d3 .moved in
+      let m2 = d2 .moved in
+      let m5 = t .stood .moved in
+      let end : next ≡ g₀ .from + g₀ .size = omega arith in
+      let places : Places s g₀ =
+      record { entries = omega arith; symbols = omega arith; from = omega arith; inside = omega arith; bits = n; size = z; fits = t .fits } in
+      let small : (c : Cursor) → ((i : ℕ) → getD s i 0 < 256) → (most : ℕ) → full ≤ most → 255 ≤ most → orFull full (fieldAt s c 1 .value) ≤ most =
+      λ c b most f k. full-small full (fieldAt s c 1 .value) most f (le-trans (byte-small s b c) k) in
+      subst (λ (x : GeneralizedData). Found full s x next) (t .same)
+      (record { end = end; places = places; sizes = λ b most f k. (rw a (small asp b most f k), rw d (small asd b most f k)) })
+
+general-placed : (full : ℕ) (s : List ℕ) (c : Cursor) → Placed full s (readAt (kind19 full) s c)
+unfolding readAt kind19 passAt head19
+general-placed full s c = tables full s _ _ _ (head19 s c .cursor) _ _ _ refl refl refl refl refl refl refl refl refl refl refl
+
+-- what holds of every row of a table holds of what is found there
+abbrev Every : {A : Type 0} → (A → Type 0) → List (Arm A) → Type 0
+Every P [] = Unit {0}
+Every P (a ∷ more) = P (a .val) × Every P more
+
+found-every : {A : Type 0} (P : A → Type 0) (arms : List (Arm A)) (x : ℕ) (d : A) → Every P arms → P d → P (lookup arms x d)
+found-every P [] x d h k = k
+found-every P (a ∷ more) x d h k = by-cases (eqb x (a .key)) (found-every P more x d (h .1) k)
+  where
+    by-cases : (t : Bool) → P (lookup more x d) → P (cond t (a .val) (lookup more x d))
+    by-cases true r = h .0
+    by-cases false r = r
+
+-- a body under its name
+unnamed : (kind at : ℕ) (b : Body) {k a next : ℕ} {x : Piece} → named kind at b ≡ taken.Whole k a next x → b ≡ Whole x next
+unfolding named
+unnamed kind at (Whole y p) e = cc
+unnamed kind at (Unknown described) e = absurd (let z : _≡_ {A = ℕ} 0 1 = cc in omega arith)
+unnamed kind at (Short p w) e = absurd (let z : _≡_ {A = ℕ} 0 1 = cc in omega arith)
+unnamed kind at (Overflow p) e = absurd (let z : _≡_ {A = ℕ} 0 1 = cc in omega arith)
+
+-- of all rows, that of 19 alone gives a 19
+module _ (full : ℕ) where
+  abbrev Row : Layout → Type 0
+  Row l = (s : List ℕ) (c : Cursor) → Placed full s (readAt l s c)
+
+  rows-placed : (kind : ℕ) → Row (kindOf full kind)
+  unfolding isGeneral kindOf kinds kind10 kind11 kind12 kind13 kind14 kind20 kind21 kind22 kind24 kind25 kind2A kind30 kind31 info32 kind32 kind33 kind35 kind5A
+  rows-placed kind =
+      found-every Row (kinds full) kind (unknown _)
+      (other-placed kind10 (λ _ _ _. refl), (
+      other-placed kind11 (λ _ _ _ _ _ _ _ _ _ _. refl), (
+      other-placed kind12 (λ _ _. refl), (
+      other-placed kind13 (λ _ _. refl), (
+      other-placed kind14 (λ _ _ _ _ _ _. refl), (
+      general-placed full, (
+      other-placed kind20 (λ _. refl), (
+      other-placed kind21 (λ _ _. refl), (
+      other-placed kind22 refl, (
+      other-placed unread tt, (
+      other-placed kind24 (λ _. refl), (
+      other-placed kind25 refl, (
+      other-placed kind2A (λ _. refl), (
+      other-placed unread tt, (
+      other-placed kind30 (λ _ _. refl), (
+      other-placed kind31 (λ _ _ _. refl), (
+      other-placed kind32 (λ _ _ _. refl), (
+      other-placed kind33 (λ _ _. refl), (
+      other-placed unread tt, (
+      other-placed kind35 (λ _ _ _. refl), (
+      other-placed unread tt, (
+      other-placed kind5A refl, tt))))))))))))))))))))))
+      (other-placed (unknown _) tt)
+
+-- a whole 19 has its tables where its places say
+pub cut-places : (s : List ℕ) (at full : ℕ) {k a next : ℕ} {g : GeneralizedData} → cutAt s at full ≡ taken.Whole k a next (piece.Generalized g) → Found full s g next
+cut-places s at full {next = next} {g = g} e =
+    rows-placed full (getD s at 0) s (At (at + 1)) g next (unnamed (getD s at 0) at _ (sym (cut-there s at full (cut-inside s at full e)) ∙ e)) (cut-forward s at full e .1)

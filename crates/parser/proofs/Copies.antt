@@ -3,18 +3,15 @@ use Prim.Native.Nat.{ℕ, zero, suc, _+_, _-_, _≤_, _<_}
 use native.Mathlib.Omega.{arith}
 use native.Mathlib.Numerals.{add-one}
 use mathlib.Core.Path.{_≡_, refl, sym, ap, _∙_}
-use mathlib.Core.Bool.{Bool, true, false}
 use mathlib.Core.List.{List, [], _∷_, _++_, append-assoc, append-nil}
-use lib.ListN.{length, getD, take, drop, length-append, length-take, List·getD-append, drop-of-length-le}
+use lib.ListN.{length, getD, take, length-append, length-take, List·getD-append, drop-of-length-le}
 use lib.Seq.{slice, slice-cons, take-append-le}
-use lib.Dec.{ltb}
-use Rattle.laws.specs.Rules.{_⇒_, _∣_}
 use Rattle.rows.specs.declared.Block.{Block}
 use Rattle.rows.specs.Table.{zeros, get}
 use Rattle.rows.specs.Rows.{block}
 use Rattle.rows.proofs.Tables.{get-row}
 use Rattle.parser.specs.declared.State.{State}
-use Rattle.parser.specs.Parser.{Tape, withBlock, Out, on, no, _⟫_, named, addBlock, nameless, copyRows, copies}
+use Rattle.parser.specs.Parser.{Tape, withBlock, on, _⟫_, named, addBlock, nameless, copyRows, copies}
 use Rattle.parser.specs.Holds.{Holds}
 use Rattle.parser.proofs.Kept.{All, nil, cons, sure-of, block-keeps, rows-keep}
 

@@ -1,8 +1,8 @@
 -- What every step keeps: a property of blocks that naming and pausing keep holds of all blocks of every tape read. Assumes nothing.
 use Prim.Native.Nat.{ℕ, zero, suc, _+_, _≤_}
 use native.Mathlib.Omega.{arith}
-use mathlib.Core.Path.{_≡_, refl}
-use mathlib.Core.Bool.{Bool, true, false, _&&_}
+use mathlib.Core.Path.{_≡_}
+use mathlib.Core.Bool.{Bool, true, false}
 use mathlib.Core.List.{List, [], _∷_, _++_}
 use lib.ListN.{length, drop}
 use lib.Dec.{ltb, leb}
@@ -13,7 +13,7 @@ use Rattle.parser.specs.declared.Pending.{Pending}
 use Rattle.parser.specs.declared.Pending.the-variants.{Nothing, First, Later, Text}
 use Rattle.parser.specs.declared.Loop.{Loop}
 use Rattle.parser.specs.declared.Loop.the-variants.{Closed, Open}
-use Rattle.parser.specs.Parser.{Tape, empty, withTones, withBlock, withBody, Out, on, no, _⟫_, renamed, named, used, started, noted, ended, paused, lastPaused, nameless, addTones, addBlock, startGroup, noteText, endGroup, openLoop, copyRows, copies, closed, closeLoop}
+use Rattle.parser.specs.Parser.{Tape, empty, withTones, withBlock, withBody, Out, on, no, _⟫_, renamed, named, used, inGroup, paused, lastPaused, nameless, addTones, addBlock, startGroup, noteText, endGroup, openLoop, copyRows, copies, closed, closeLoop}
 
 -- where an answer is a tape, it has the property K
 pub data Sure (K : Tape → Type 0) : Out → Type 0 where
@@ -102,23 +102,9 @@ module _ {P : Block → Type 0} {Q : ℕ → ℕ → Type 0} (k : Lasting P Q) w
   used-keeps (Later text chars) q = q
   used-keeps (Text text chars) q = tt
 
-  started-keeps : (text chars : ℕ) (p : Pending) → Q text chars → Named Q p → Named Q (started text chars p)
-  started-keeps text chars Nothing n q = n
-  started-keeps text chars (First x y) n q = q
-  started-keeps text chars (Later x y) n q = q
-  started-keeps text chars (Text x y) n q = n
-
-  noted-keeps : (text chars : ℕ) (p : Pending) → Q text chars → Named Q p → Named Q (noted text chars p)
-  noted-keeps text chars Nothing n q = n
-  noted-keeps text chars (First x y) n q = q
-  noted-keeps text chars (Later x y) n q = q
-  noted-keeps text chars (Text x y) n q = n
-
-  ended-keeps : (p : Pending) → Named Q p → Named Q (ended p)
-  ended-keeps Nothing q = tt
-  ended-keeps (First x y) q = tt
-  ended-keeps (Later x y) q = tt
-  ended-keeps (Text x y) q = q
+  either : (b : Bool) (p q : Pending) → Named Q p → Named Q q → Named Q (b ⇒ p ∣ q)
+  either true p q n m = n
+  either false p q n m = m
 
   last-keeps : {rs : List Block} → All P rs → All P (lastPaused rs)
   unfolding lastPaused
@@ -142,15 +128,15 @@ module _ {P : Block → Type 0} {Q : ℕ → ℕ → Type 0} (k : Lasting P Q) w
 
   pub kept-start : (text chars : ℕ) {t : Tape} → Q text chars → Kept P Q t → Sure (Kept P Q) (startGroup text chars t)
   unfolding startGroup
-  kept-start text chars {t} q s = sure (record { rows = s .rows; name = started-keeps text chars (t .pending) q (s .name) })
+  kept-start text chars {t} q s = sure (record { rows = s .rows; name = either (inGroup (t .pending)) (t .pending) (First text chars) (s .name) q })
 
   pub kept-text : (text chars : ℕ) {t : Tape} → Q text chars → Kept P Q t → Sure (Kept P Q) (noteText text chars t)
   unfolding noteText
-  kept-text text chars {t} q s = sure (record { rows = s .rows; name = noted-keeps text chars (t .pending) q (s .name) })
+  kept-text text chars {t} q s = sure (record { rows = s .rows; name = either (inGroup (t .pending)) (t .pending) (Text text chars) (s .name) q })
 
   pub kept-end : {t : Tape} → Kept P Q t → Sure (Kept P Q) (endGroup t)
   unfolding endGroup
-  kept-end {t} s = sure (record { rows = last-keeps (s .rows); name = ended-keeps (t .pending) (s .name) })
+  kept-end {t} s = sure (record { rows = last-keeps (s .rows); name = either (inGroup (t .pending)) Nothing (t .pending) tt (s .name) })
 
   pub kept-open : (times : ℕ) {t : Tape} → Kept P Q t → Sure (Kept P Q) (openLoop times t)
   unfolding openLoop

@@ -1,15 +1,15 @@
 -- Laws of the steps for those who chain them. Assumes nothing.
-use Prim.Native.Nat.{ℕ, zero, suc, _+_, _≤_, _<_}
+use Prim.Native.Nat.{ℕ, _+_, _<_}
 use native.Mathlib.Omega.{arith}
-use mathlib.Core.Path.{_≡_, refl, sym, ap, _∙_}
+use mathlib.Core.Path.{_≡_, refl, sym, _∙_}
 use mathlib.Core.Bool.{Bool, true, false}
-use mathlib.Core.List.{List, [], _∷_, _++_, append-assoc}
+use mathlib.Core.List.{List, _++_, append-assoc}
 use lib.ListN.{length, length-append, length-replicate}
 use lib.Dec.{leb}
 use borrow.Author.Tests.{lt-leb, leb-false}
 use Rattle.laws.specs.Rules.{_⇒_, _∣_}
 use Rattle.rows.specs.declared.Tone.{Tone}
-use Rattle.rows.specs.Table.{zeros, over, tableOf}
+use Rattle.rows.specs.Table.{zeros}
 use Rattle.rows.specs.Rows.{block, tone}
 use Rattle.rows.proofs.Tables.{over-none}
 use Rattle.parser.specs.declared.State.{State}

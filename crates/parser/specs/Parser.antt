@@ -68,26 +68,22 @@ addTones most ts t = leb (length (t .tones) + length ts) most ⇒ on (withTones 
 unfoldable pub addBlock : ℕ → Block → Tape → Out
 addBlock most r t = ltb (length (t .blocks)) most ⇒ on (withBlock r t) ∣ no 6
 
--- group start drops a pending text; inside a group it is ignored
-abbrev pub started : ℕ → ℕ → Pending → Pending
-started text chars Nothing = First text chars
-started text chars (First p n) = First p n
-started text chars (Later p n) = Later p n
-started text chars (Text p n) = First text chars
+abbrev pub inGroup : Pending → Bool
+inGroup Nothing = false
+inGroup (First text chars) = true
+inGroup (Later text chars) = true
+inGroup (Text text chars) = false
 
--- so does a new text
+-- group start or a new text drops a pending text; text or start inside a group is ignored
+abbrev pub started : ℕ → ℕ → Pending → Pending
+started text chars p = inGroup p ⇒ p ∣ First text chars
+
 abbrev pub noted : ℕ → ℕ → Pending → Pending
-noted text chars Nothing = Text text chars
-noted text chars (First p n) = First p n
-noted text chars (Later p n) = Later p n
-noted text chars (Text p n) = Text text chars
+noted text chars p = inGroup p ⇒ p ∣ Text text chars
 
 -- group end: an open group closes, a pending text stays
 abbrev pub ended : Pending → Pending
-ended Nothing = Nothing
-ended (First p n) = Nothing
-ended (Later p n) = Nothing
-ended (Text p n) = Text p n
+ended p = inGroup p ⇒ Nothing ∣ p
 
 abbrev pub withPending : Pending → Tape → Tape
 withPending p t = tapeOf (t .blocks) (t .tones) p (t .body)

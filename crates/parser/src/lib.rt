@@ -9,13 +9,13 @@ use rows::block_capacity;
 use rows::put_block;
 ghost use mathlib.Core.Path.{_≡_};
 ghost use mathlib.Core.List.{List, [], _∷_};
-ghost use Prim.Native.Nat.{ℕ, _*_, _≤_};
+ghost use Prim.Native.Nat.{ℕ, _≤_};
 ghost use lib.ListN.{length, drop};
 ghost use lib.Seq.{slice};
 ghost use Rattle.rows.specs.Table.{zeros, tableOf, capacityOf};
 ghost use Rattle.rows.specs.Rows.{block, blockMost};
 ghost use Rattle.parser.specs.declared.Step.the-variants.{On};
-ghost use Rattle.parser.specs.Parser.{Tape, empty, renamed, named, used, started, noted, ended, opened, paused, lastPaused, nameless, addTones, addBlock, startGroup, noteText, endGroup, openLoop, copyRows, copies, closeLoop};
+ghost use Rattle.parser.specs.Parser.{Tape, empty, renamed, named, used, inGroup, opened, paused, lastPaused, addTones, addBlock, startGroup, noteText, endGroup, openLoop, copyRows, copies, closeLoop};
 ghost use Rattle.parser.specs.Holds.{Holds, Gives, blockRoom, toneRoom, withName, withLoop};
 
 // The name that the next blocks take; a place in the tape and a length. The Rust's `GroupParse`.
@@ -157,15 +157,14 @@ pub fn add_block(s: State, blocks: &mut [u64], r: Block) -> Step
     }
 }
 
-// What is pending after a group start.
-fn group_started(p: Pending, text: u64, chars: u64) -> Pending
-    ensures { λ q. ⌜ q ≡ started text chars p ⌝ }
+fn in_group(p: Pending) -> bool
+    ensures { λ b. ⌜ b ≡ inGroup p ⌝ }
 {
     match p {
-        Pending::Nothing => Pending::First { text, chars },
-        Pending::First { text: _, chars: _ } => p,
-        Pending::Later { text: _, chars: _ } => p,
-        Pending::Text { text: _, chars: _ } => Pending::First { text, chars },
+        Pending::Nothing => false,
+        Pending::First { text: _, chars: _ } => true,
+        Pending::Later { text: _, chars: _ } => true,
+        Pending::Text { text: _, chars: _ } => false,
     }
 }
 
@@ -173,38 +172,20 @@ pub fn group_start(s: State, text: u64, chars: u64) -> State
     ensures { λ a. ⌜ ((B N : ℕ) (bt tt : List ℕ) (t : Tape) → Holds B N s bt tt t → Gives B N (On a) bt tt (startGroup text chars t)) ⌝ }
 {
     let p = s.pending;
-    with_pending(s, group_started(p, text, chars))
-}
-
-// What is pending after a text.
-fn text_noted(p: Pending, text: u64, chars: u64) -> Pending
-    ensures { λ q. ⌜ q ≡ noted text chars p ⌝ }
-{
-    match p {
-        Pending::Nothing => Pending::Text { text, chars },
-        Pending::First { text: _, chars: _ } => p,
-        Pending::Later { text: _, chars: _ } => p,
-        Pending::Text { text: _, chars: _ } => Pending::Text { text, chars },
+    if in_group(p) {
+        return s;
     }
+    with_pending(s, Pending::First { text, chars })
 }
 
 pub fn text_description(s: State, text: u64, chars: u64) -> State
     ensures { λ a. ⌜ ((B N : ℕ) (bt tt : List ℕ) (t : Tape) → Holds B N s bt tt t → Gives B N (On a) bt tt (noteText text chars t)) ⌝ }
 {
     let p = s.pending;
-    with_pending(s, text_noted(p, text, chars))
-}
-
-// What is pending after a group end.
-fn group_ended(p: Pending) -> Pending
-    ensures { λ q. ⌜ q ≡ ended p ⌝ }
-{
-    match p {
-        Pending::Nothing => p,
-        Pending::First { text: _, chars: _ } => Pending::Nothing,
-        Pending::Later { text: _, chars: _ } => Pending::Nothing,
-        Pending::Text { text: _, chars: _ } => p,
+    if in_group(p) {
+        return s;
     }
+    with_pending(s, Pending::Text { text, chars })
 }
 
 // A block whose finite pause 0 is 3,500 instead.
@@ -238,9 +219,12 @@ fn pause_last(blocks: &mut [u64], n: u64)
 pub fn group_end(s: State, blocks: &mut [u64]) -> State
     ensures { λ a. ⌜ ((B N : ℕ) (tt : List ℕ) (t : Tape) → Holds B N s (now (blocks .entry)) tt t → Gives B N (On a) (now (blocks .exit)) tt (endGroup t)) ⌝ }
 {
-    let p = s.pending;
     pause_last(blocks, s.blocks);
-    with_pending(s, group_ended(p))
+    let p = s.pending;
+    if in_group(p) {
+        return with_pending(s, Pending::Nothing);
+    }
+    s
 }
 
 // The open loop after a loop start.

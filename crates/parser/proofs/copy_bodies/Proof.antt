@@ -58,13 +58,15 @@ loop-again : tie.Need-loop-again Inv-loop μ-loop
 loop-again c =
     let a = c .before .before .before .before .before in
     let l = a .before .before .before in
-    let p = l .before .before .args in
-    (omega arith, λ B N tt t h e.
-    let g = l .loop .inv .1 B N tt t h e in
-    let m = blockRoom B in
-    let rs = slice (p .start) (p .end) (g .at .blocks) in
-    going-on g (copyRows m rs) (copies m (l .loop .left - 1) (slice (p .start) (p .end) (t .blocks))) (body-turn m (l .loop .left) (p .start) (p .end) (g .known) (omega arith) e)
-    (a .copy-body .ensures B N tt (g .at) (g .holds) (begins-length (p .end) (g .known) e)) (c .before .next .given .1) (λ u q. begins-rows (t .blocks) m rs (g .known) q))
+    let p = l .before .before .args in (
+      omega arith,
+      λ B N tt t h e.
+          let g = l .loop .inv .1 B N tt t h e in
+          let m = blockRoom B in
+          let rs = slice (p .start) (p .end) (g .at .blocks) in
+          going-on g (copyRows m rs) (copies m (l .loop .left - 1) (slice (p .start) (p .end) (t .blocks))) (body-turn m (l .loop .left) (p .start) (p .end) (g .known) (omega arith) e)
+          (a .copy-body .ensures B N tt (g .at) (g .holds) (begins-length (p .end) (g .known) e)) (c .before .next .given .1) (λ u q. begins-rows (t .blocks) m rs (g .known) q),
+    )
 
 same-length-2 : tie.Need-same-length-2 Inv-loop μ-loop
 same-length-2 c = search needs

@@ -65,14 +65,16 @@ loop-less c = search needs
 loop-again : tie.Need-loop-again Inv-loop μ-loop
 loop-again c =
     let a = c .before .before .before .before .before in
-    let l = a .before .before .before .before .before .before in
-    (omega arith, λ B N tt t h e.
-    let g = l .loop .inv .1 B N tt t h e in
-    let m = blockRoom B in
-    let end = l .before .before .args .end in
-    let r = nameless (get block (l .loop .blocks) (l .loop .i)) in
-    let gave = rw (a .before .rename .ensures, a .before .before .block-at .ensures) at (a .add-block .ensures B N tt (g .at) (g .holds)) in
-    going-on g (addBlock m r) (copyRows m (slice (l .loop .i + 1) end (t .blocks))) (row-turn m (l .loop .i) end (g .holds) (g .known) (omega arith) e) gave (c .before .next .given .1) (λ u q. begins-block (t .blocks) m r (g .known) q))
+    let l = a .before .before .before .before .before .before in (
+      omega arith,
+      λ B N tt t h e.
+          let g = l .loop .inv .1 B N tt t h e in
+          let m = blockRoom B in
+          let end = l .before .before .args .end in
+          let r = nameless (get block (l .loop .blocks) (l .loop .i)) in
+          let gave = rw (a .before .rename .ensures, a .before .before .block-at .ensures) at (a .add-block .ensures B N tt (g .at) (g .holds)) in
+          going-on g (addBlock m r) (copyRows m (slice (l .loop .i + 1) end (t .blocks))) (row-turn m (l .loop .i) end (g .holds) (g .known) (omega arith) e) gave (c .before .next .given .1) (λ u q. begins-block (t .blocks) m r (g .known) q),
+    )
 
 same-length-2 : tie.Need-same-length-2 Inv-loop μ-loop
 same-length-2 c = search needs

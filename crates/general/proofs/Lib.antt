@@ -1,2 +1,3 @@
 mod Symbols
 mod Parts
+mod Answers

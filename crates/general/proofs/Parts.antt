@@ -6,8 +6,10 @@ use mathlib.Core.List.{List, [], _∷_}
 use native.Mathlib.Omega.{arith}
 use native.Mathlib.Nat.{div-mul-le-self}
 use lib.ListN.{length}
-use lib.Dec.{eqb, ltb}
-use borrow.Author.Tests.{ltb-false}
+use lib.Dec.{eqb, ltb, leb}
+use borrow.Author.Tests.{ltb-false, leb-false, ne-eqb, eq-eqb, eqb-true, eqb-false, lt-leb}
+use Rattle.laws.specs.Rules.{_⇒_, _∣_}
+use Rattle.pieces.specs.declared.GeneralizedData.{GeneralizedData}
 use Rattle.rows.specs.Table.{putAll, capacityOf}
 use Rattle.rows.specs.Rows.{tone, toneMost}
 use Rattle.rows.specs.declared.Tone.{Tone}
@@ -15,8 +17,11 @@ use Rattle.general.specs.declared.Row.{Row}
 use Rattle.general.specs.declared.Row.the-variants.{Refused, Gives}
 use Rattle.general.specs.declared.Judged.{Judged}
 use Rattle.general.specs.declared.Judged.the-variants as judged
-use Rattle.general.specs.General.{Part, refused, stops, tones, before, rowsFrom}
+use Rattle.general.specs.General.{Part, refused, stops, tones, before, rowsFrom, entrySymbol, entryRow, pilotOf, singleRow, pairRow, singlesOf, pairsOf, dataOf}
 use Rattle.general.specs.Made.{isGiven, putGiven, judgedOf, isTones, tonesOf}
+use Rattle.general.specs.Ways.{Ready, rowAt, countOf}
+use Rattle.general.specs.declared.Way.{Way}
+use Rattle.general.specs.declared.Way.the-variants.{Pilot, Singles, Pairs}
 
 -- two truths
 pub differ : true ≡ false → ⊥
@@ -110,3 +115,104 @@ some-pulses (suc n) e = omega arith
 pub some-bits : (nb totd : ℕ) → (eqb nb 0 && ltb 1 totd) ≡ false → 1 < totd → 0 < nb
 some-bits zero totd e h = absurd (omega (arith, ltb-false 1 totd e))
 some-bits (suc n) totd e h = omega arith
+
+-- a part whose answer is known
+pub told-rows : (p : Part) {n : ℕ} → judgedOf p ≡ judged.Rows n → (p ≡ tones (tonesOf p)) × (length (tonesOf p) ≡ n)
+unfolding judgedOf tonesOf
+told-rows refused e = absurd (let z : _≡_ {A = ℕ} 0 1 = cc in omega arith)
+told-rows stops e = absurd (let z : _≡_ {A = ℕ} 0 1 = cc in omega arith)
+told-rows (tones ts) e = (refl, cc)
+
+pub told-refused : (p : Part) → judgedOf p ≡ judged.Refused → p ≡ refused
+unfolding judgedOf
+told-refused refused e = refl
+told-refused stops e = absurd (let z : _≡_ {A = ℕ} 0 1 = cc in omega arith)
+told-refused (tones ts) e = absurd (let z : _≡_ {A = ℕ} 0 1 = cc in omega arith)
+
+pub told-stop : (p : Part) → judgedOf p ≡ judged.Stop → p ≡ stops
+unfolding judgedOf
+told-stop refused e = absurd (let z : _≡_ {A = ℕ} 0 1 = cc in omega arith)
+told-stop stops e = refl
+told-stop (tones ts) e = absurd (let z : _≡_ {A = ℕ} 0 1 = cc in omega arith)
+
+-- n rows that are tones are n tones
+pub rowed-length : {n : ℕ} {p : Part} → Rowed n p → isTones p ≡ true → length (tonesOf p) ≡ n
+unfolding isTones tonesOf
+rowed-length none e = absurd (differ (sym e))
+rowed-length (all h) e = h
+
+-- a part that is tones is the rows of one sort, which is ready
+pub record Sorted (s : List ℕ) (g : GeneralizedData) (way : Way) (p : Part) : Type 0 where
+  pub ready : Ready g way
+  pub rows : p ≡ rowsFrom (rowAt s g way) 0 (countOf g way)
+
+-- a rule that refuses did not hold, and one without which there are no tones did
+passes : (b : Bool) (p : Part) → isTones (b ⇒ refused ∣ p) ≡ true → b ≡ false
+unfolding isTones
+passes true p e = sym e
+passes false p e = refl
+
+holds : (b : Bool) (p q : Part) → isTones q ≡ false → isTones (b ⇒ p ∣ q) ≡ true → b ≡ true
+holds true p q n e = refl
+holds false p q n e = sym n ∙ e
+
+no-tones : (b : Bool) → isTones (b ⇒ refused ∣ stops) ≡ false
+unfolding isTones
+no-tones true = refl
+no-tones false = refl
+
+module _ (s : List ℕ) (g : GeneralizedData) where
+  pub pilot-sorted : 0 < g .totp → isTones (pilotOf s g) ≡ true → Sorted s g Pilot (pilotOf s g)
+  unfolding pilotOf
+  pilot-sorted h e =
+      let z = ne-eqb (g .totp) 0 (λ q. omega arith) in
+      let p = holds (eqb (g .npp) 1 || eqb (g .npp) 2) (rowsFrom (entryRow s g) 0 (g .totp)) _ (no-tones (leb (g .asp) (entrySymbol s g 0))) (rw z at e) in
+      record { ready = (h, some-pulses (g .npp) p); rows = rw (z, p) }
+
+  -- where the data part is tones, there are symbols, of fewer than 8 bits
+  module _ (e : isTones (dataOf s g) ≡ true) where
+    used : eqb (g .totd) 0 ≡ false
+    unfolding dataOf
+    used = passes (eqb (g .totd) 0) _ e
+
+    narrow : leb 8 (g .nb) ≡ false
+    unfolding dataOf
+    narrow = passes (leb 8 (g .nb)) _ (rw used at e)
+
+    by-pulses : isTones (eqb (g .npd) 2 ⇒ singlesOf s g ∣ eqb (g .npd) 1 ⇒ pairsOf s g ∣ stops) ≡ true
+    unfolding dataOf
+    by-pulses = rw narrow at (rw used at e)
+
+    some : 0 < g .totd
+    some = let z = eqb-false (g .totd) 0 used in omega arith
+
+    pub singles-sorted : g .npd ≡ 2 → Sorted s g Singles (dataOf s g)
+    unfolding dataOf singlesOf
+    singles-sorted h =
+        let p = eq-eqb (g .npd) 2 h in
+        let b = passes (eqb (g .nb) 0) _ (rw p at by-pulses) in
+        let z = eqb-false (g .nb) 0 b in
+        record { ready = (some, omega arith, omega arith, leb-false 8 (g .nb) narrow); rows = rw (used, narrow, p, b) }
+
+    pub pairs-sorted : (g .npd ≡ 2 → ⊥) → Sorted s g Pairs (dataOf s g)
+    unfolding dataOf pairsOf isTones
+    pairs-sorted h =
+        let p = ne-eqb (g .npd) 2 h in
+        let l = rw p at by-pulses in
+        let o = holds (eqb (g .npd) 1) (pairsOf s g) stops refl l in
+        let b = passes (eqb (g .nb) 0 && ltb 1 (g .totd)) _ (rw o at l) in
+        let n = eqb-true (g .npd) 1 o in
+        record { ready = (some, omega arith, some-bits (g .nb) (g .totd) b, leb-false 8 (g .nb) narrow); rows = rw (used, narrow, p, o, b) }
+
+-- what the rows of a sort have from the part that they are
+module _ {s : List ℕ} {g : GeneralizedData} {way : Way} {p : Part} (o : Sorted s g way p) (e : isTones p ≡ true) where
+  pub sorted-tones : isTones (rowsFrom (rowAt s g way) 0 (countOf g way)) ≡ true
+  sorted-tones = rw (o .rows) at e
+
+  pub sorted-count : {room : ℕ} → length (tonesOf p) ≤ room → countOf g way ≤ room
+  sorted-count h =
+      let l = rowed-length (rowed (rowAt s g way) 0 (countOf g way)) sorted-tones in omega (arith, ap (λ (q : Part). length (tonesOf q)) (o .rows))
+
+pub told-tones : (p : Part) {n : ℕ} → judgedOf p ≡ judged.Rows n → isTones p ≡ true
+unfolding isTones
+told-tones p e = rw (told-rows p e .0)

@@ -1,12 +1,13 @@
 -- The answers of the code: a part's, and the piece's with the tone table that it leaves. Assumes nothing.
-use Prim.Native.Nat.{ℕ}
+use Prim.Native.Nat.{ℕ, _-_}
+use mathlib.Core.Path.{_≡_}
 use mathlib.Core.Bool.{Bool, true, false}
 use mathlib.Core.List.{List, []}
 use lib.ListN.{length}
 use lib.Dec.{leb}
 use Rattle.laws.specs.Rules.{_⇒_, _∣_}
-use Rattle.rows.specs.Table.{put, putAll}
-use Rattle.rows.specs.Rows.{tone}
+use Rattle.rows.specs.Table.{put, putAll, capacityOf}
+use Rattle.rows.specs.Rows.{tone, toneMost}
 use Rattle.rows.specs.declared.Tone.{Tone}
 use Rattle.general.specs.declared.Row.{Row}
 use Rattle.general.specs.declared.Row.the-variants.{Refused, Gives}
@@ -55,3 +56,8 @@ leaves room t used refused4 = t
 leaves room t used stop = t
 leaves room t used (plain ts nil one last) = leb (length ts) room ⇒ putAll tone t used ts ∣ t
 leaves room t used (toned ts) = leb (length ts) room ⇒ putAll tone t used ts ∣ t
+
+-- the answer r, and the tone table t that has become t′
+pub record Done (given : Given) (used : ℕ) (t t′ : List ℕ) (r : Made) : Type 0 where
+  pub answer : r ≡ madeOf (capacityOf tone toneMost t - used) given
+  pub table : t′ ≡ leaves (capacityOf tone toneMost t - used) t used given

@@ -15,8 +15,9 @@ ghost use Rattle.rows.specs.Table.{putAll, capacityOf};
 ghost use Rattle.rows.specs.Rows.{tone, toneMost};
 ghost use Rattle.general.specs.declared.Row.the-variants.{Gives};
 ghost use Rattle.general.specs.declared.Judged.the-variants.{Rows};
-ghost use Rattle.general.specs.General.{symbolAt, toneOf, cycles, entryRow, singleRow, pairRow, rowsFrom, refused, pilotOf, equalHalves, ordinary, lastBits, numberAt, singlesOf, pairsOf, dataOf, withPilot, generalOf};
-ghost use Rattle.general.specs.Made.{judgedOf, isGiven, putGiven, isTones, tonesOf, madeOf, leaves};
+ghost use Rattle.general.specs.declared.Made.the-variants.{Data};
+ghost use Rattle.general.specs.General.{symbolAt, toneOf, cycles, entryRow, singleRow, pairRow, rowsFrom, refused, pilotOf, equalHalves, ordinary, lastBits, numberAt, singlesOf, pairsOf, dataOf, withData, withPilot, generalOf};
+ghost use Rattle.general.specs.Made.{judgedOf, isGiven, putGiven, isTones, tonesOf, Done};
 ghost use Rattle.general.specs.Ways.{Held, Kept, Ready, rowAt, countOf, placeFor, sizeFor, pulsesFor, pulsesOf, symbolOf};
 
 // The symbols of an alphabet at the most.
@@ -394,7 +395,7 @@ fn put_rows(tape: &[u8], g: GeneralizedData, way: Way, tones: &mut [u64], used: 
 }
 
 // Whether `rows` tone rows fit after the first `used`.
-fn fits(tones: &[u64], used: usize, rows: u64) -> bool
+fn room_for(tones: &[u64], used: usize, rows: u64) -> bool
     ensures { λ b. ⌜ b ≡ leb rows (capacityOf tone toneMost (now (tones .entry)) - used) ⌝ }
 {
     let most = tone_capacity(tones);
@@ -407,10 +408,99 @@ fn fits(tones: &[u64], used: usize, rows: u64) -> bool
 
 // The pilot's rows, which are tones and fit.
 fn put_pilot(tape: &[u8], g: GeneralizedData, tones: &mut [u64], used: usize)
-    requires { ⌜ Held (now tape) g × (judgedOf (pilotOf (now tape) g) ≡ Rows (g .totp)) × (g .totp ≤ capacityOf tone toneMost (now tones) - used) ⌝ }
+    requires { ⌜ Held (now tape) g × (isTones (pilotOf (now tape) g) ≡ true) × (length (tonesOf (pilotOf (now tape) g)) ≤ capacityOf tone toneMost (now tones) - used) ⌝ }
     ensures { λ _. ⌜ now (tones .exit) ≡ putAll tone (now (tones .entry)) used (tonesOf (pilotOf (now (tape .entry)) g)) ⌝ }
 {
     if 0 < g.totp {
-        put_rows(tape, g, Way::Pilot, tones, used);
+        put_rows(tape, g, Way::Pilot, tones, used)
+    }
+}
+
+// The data's rows, which are tones and fit.
+fn put_data(tape: &[u8], g: GeneralizedData, tones: &mut [u64], used: usize)
+    requires { ⌜ Held (now tape) g × (isTones (dataOf (now tape) g) ≡ true) × (length (tonesOf (dataOf (now tape) g)) ≤ capacityOf tone toneMost (now tones) - used) ⌝ }
+    ensures { λ _. ⌜ now (tones .exit) ≡ putAll tone (now (tones .entry)) used (tonesOf (dataOf (now (tape .entry)) g)) ⌝ }
+{
+    if g.npd == 2 {
+        put_rows(tape, g, Way::Singles, tones, used)
+    } else {
+        put_rows(tape, g, Way::Pairs, tones, used)
+    }
+}
+
+// The bits of the last data byte.
+fn last_bits(totd: u32) -> u32
+    ensures { λ r. ⌜ r ≡ lastBits totd ⌝ }
+{
+    if totd % 8 == 0 { 8 } else { totd % 8 }
+}
+
+// A data block's answer.
+fn data_made(rows: u32, zero: u16, one: u16, last: u32) -> Made
+    ensures { λ r. ⌜ r ≡ Data rows zero one last ⌝ }
+{
+    Made::Data {
+        rows: rows as u64,
+        zero: zero as u32,
+        one: one as u32,
+        last,
+    }
+}
+
+// The data block, after a pilot of n rows.
+fn data_block(tape: &[u8], g: GeneralizedData, tones: &mut [u64], used: usize, n: u32) -> Made
+    requires { ⌜ Held (now tape) g × (judgedOf (pilotOf (now tape) g) ≡ Rows n) × ((ltb 0 (g .totd) && ordinary (now tape) g) ≡ true) ⌝ }
+    ensures { λ r. ⌜ Done (withPilot (now (tape .entry)) g (pilotOf (now (tape .entry)) g)) used (now (tones .entry)) (now (tones .exit)) r ⌝ }
+{
+    if room_for(tones, used, n as u64) {
+        put_pilot(tape, g, tones, used);
+        let zero = symbol(tape, g.symbols, 2, 0);
+        let one = symbol(tape, g.symbols, 2, 1);
+        data_made(n, zero[0], one[0], last_bits(g.totd))
+    } else {
+        Made::Full
+    }
+}
+
+// The block of tones alone, n of the pilot and m of the data.
+fn tone_block(tape: &[u8], g: GeneralizedData, tones: &mut [u64], used: usize, n: u32, m: u32) -> Made
+    requires { ⌜ Held (now tape) g × (judgedOf (pilotOf (now tape) g) ≡ Rows n) × (judgedOf (dataOf (now tape) g) ≡ Rows m) ⌝ }
+    ensures { λ r. ⌜ Done (withData (tonesOf (pilotOf (now (tape .entry)) g)) (dataOf (now (tape .entry)) g)) used (now (tones .entry)) (now (tones .exit)) r ⌝ }
+{
+    let rows = n as u64 + m as u64;
+    if room_for(tones, used, rows) {
+        put_pilot(tape, g, tones, used);
+        put_data(tape, g, tones, used + n as usize);
+        Made::Tones { rows }
+    } else {
+        Made::Full
+    }
+}
+
+// The block, after a pilot of n rows; the data part is judged before a row is written.
+fn with_pilot(tape: &[u8], g: GeneralizedData, tones: &mut [u64], used: usize, n: u32) -> Made
+    requires { ⌜ Held (now tape) g × (judgedOf (pilotOf (now tape) g) ≡ Rows n) ⌝ }
+    ensures { λ r. ⌜ Done (withPilot (now (tape .entry)) g (pilotOf (now (tape .entry)) g)) used (now (tones .entry)) (now (tones .exit)) r ⌝ }
+{
+    if ordinary(tape, g) {
+        return data_block(tape, g, tones, used, n);
+    }
+    match data_part(tape, g) {
+        Judged::Refused => Made::Refused,
+        Judged::Stop => Made::Stop,
+        Judged::Rows(m) => tone_block(tape, g, tones, used, n, m),
+    }
+}
+
+// What a 19 comes to, its rows put after the first `used` of the tone table: the answer decides, and nothing is written
+// but the rows of `Data` and `Tones`. Our crates call it with what `pieces::cut` gave for this tape, where 0 means 255.
+pub fn general(tape: &[u8], g: GeneralizedData, tones: &mut [u64], used: usize) -> Made
+    requires { ⌜ Held (now tape) g ⌝ }
+    ensures { λ r. ⌜ Done (generalOf (now (tape .entry)) g) used (now (tones .entry)) (now (tones .exit)) r ⌝ }
+{
+    match pilot_part(tape, g) {
+        Judged::Refused => Made::Refused,
+        Judged::Stop => Made::Stop,
+        Judged::Rows(n) => with_pilot(tape, g, tones, used, n),
     }
 }

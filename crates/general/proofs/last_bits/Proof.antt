@@ -1,0 +1,21 @@
+use Rattle.general.specs.General.{lastBits}
+use borrow.Author.Tests.{eq-eqb, ne-eqb}
+use Rattle.general.proofs.last_bits.Statement.{statement}
+use Rattle.general.proofs.last_bits.Tie as tie
+use Rattle.general.proofs.last_bits.Reads as reads
+use Rattle.general.proofs.last_bits.Lts as lts
+
+-- src/lib.rt:432:1
+returns : tie.Need-returns
+unfolding lastBits
+returns c =
+    rw (eq-eqb _ _ (c .if1 .taken))
+
+-- src/lib.rt:432:1
+returns-2 : tie.Need-returns-2
+unfolding lastBits
+returns-2 c =
+    rw (ne-eqb _ _ (c .if1 .left))
+
+pub last-bits-spec : {M : Type 1} → statement M
+last-bits-spec = tie.close (tie.spec returns returns-2)

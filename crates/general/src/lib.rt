@@ -463,7 +463,14 @@ fn data_block(tape: &[u8], g: GeneralizedData, tones: &mut [u64], used: usize, n
 }
 
 // The block of tones alone, n of the pilot and m of the data.
-fn tone_block(tape: &[u8], g: GeneralizedData, tones: &mut [u64], used: usize, n: u32, m: u32) -> Made
+fn tone_block(
+    tape: &[u8],
+    g: GeneralizedData,
+    tones: &mut [u64],
+    used: usize,
+    n: u32,
+    m: u32,
+) -> Made
     requires { ⌜ Held (now tape) g × (judgedOf (pilotOf (now tape) g) ≡ Rows n) × (judgedOf (dataOf (now tape) g) ≡ Rows m) ⌝ }
     ensures { λ r. ⌜ Done (withData (tonesOf (pilotOf (now (tape .entry)) g)) (dataOf (now (tape .entry)) g)) used (now (tones .entry)) (now (tones .exit)) r ⌝ }
 {

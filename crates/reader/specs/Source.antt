@@ -52,6 +52,10 @@ module _ (lent : Lent) where
   addGeneral g (plain ts nil one last) t = add ts (λ tone. born 1 tone (length ts) (g .from) (g .size) nil one last (ms (g .pause))) t
   addGeneral g (toned ts) t = add ts (λ tone. born 1 tone (length ts) 0 0 0 0 0 (ms (g .pause))) t
 
+  -- 2A: a stop block on 48K only
+  unfoldable pub stopOn48 : ℕ → Tape → Out
+  stopOn48 model t = eqb model 0 ⇒ add [] stopBlock t ∣ on t
+
   -- what a piece does; a 2A of another length than 0 does not come here
   unfoldable pub act : List ℕ → ℕ → Piece → Tape → Out
   act s model (Standard pause from size) t = add (standardTones (isHeader s from size)) (standardBlock from size (ms pause)) t
@@ -65,7 +69,7 @@ module _ (lent : Lent) where
   act s model GroupEnd t = endGroup t
   act s model (LoopStart times) t = openLoop times t
   act s model LoopEnd t = closeLoop (lent .blocks) t
-  act s model (Stop48 length) t = eqb model 0 ⇒ add [] stopBlock t ∣ on t
+  act s model (Stop48 length) t = stopOn48 model t
   act s model (Text from size) t = noteText from size t
   act s model (Message seconds from size) t = on t
   act s model (Archive count from) t = on t
@@ -126,6 +130,16 @@ stopLength Glue = 0
 abbrev pub full : ℕ
 full = 255
 
+-- 7 last: TZX was read whole, but a block with data has last bits above 8
+unfoldable pub tooManyBits : List Block → Bool
+tooManyBits [] = false
+tooManyBits (r ∷ rs) = (ltb 0 (r .size) && ltb 8 (r .last)) ⇒ true ∣ tooManyBits rs
+
+unfoldable pub judged : Read → Read
+judged (done t) = tooManyBits (t .blocks) ⇒ refused 7 ∣ done t
+judged (failed f) = failed f
+judged (refused j) = refused j
+
 module _ (lent : Lent) (s : List ℕ) where
   -- a kind not named is skipped as one byte; the overflow of 19 is a 4
   unfoldable pub tzxOf : ℕ → ℕ → Taken → See
@@ -138,16 +152,6 @@ module _ (lent : Lent) (s : List ℕ) where
 
   unfoldable pub tzxSee : ℕ → ℕ → See
   tzxSee model at = tzxOf model at (cutAt s at full)
-
-  -- 7 last: TZX was read whole, but a block with data has last bits above 8
-  unfoldable pub tooManyBits : List Block → Bool
-  tooManyBits [] = false
-  tooManyBits (r ∷ rs) = (ltb 0 (r .size) && ltb 8 (r .last)) ⇒ true ∣ tooManyBits rs
-
-  unfoldable pub judged : Read → Read
-  judged (done t) = tooManyBits (t .blocks) ⇒ refused 7 ∣ done t
-  judged (failed f) = failed f
-  judged (refused j) = refused j
 
   -- TZX: a head, version ignored; then pieces up to the end
   unfoldable pub headed : ℕ → Heading → Read

@@ -1,11 +1,9 @@
+-- `born` meets its contract. Assumes nothing.
 use Rattle.reader.specs.Blocks.{born}
 use mathlib.Core.Path.{refl}
 use Rattle.reader.proofs.born.Statement.{statement}
 use Rattle.reader.proofs.born.Tie as tie
-use Rattle.reader.proofs.born.Reads as reads
-use Rattle.reader.proofs.born.Lts as lts
 
--- src/lib.rt:27:1
 returns : tie.Need-returns
 unfolding born
 returns c =

@@ -1,30 +1,24 @@
+-- `is_header` meets its contract. Assumes nothing.
 use lib.ListN.{List·getD-eq-default}
-use lib.ListN.{length}
-use borrow.Author.Tests.{eq-eqb, ne-eqb, lt-ltb}
+use borrow.Author.Tests.{eq-eqb, ne-eqb}
 use Rattle.reader.specs.Blocks.{isHeader}
 use borrow.Author.Needs.{needs}
 use Rattle.reader.proofs.is_header.Statement.{statement}
 use Rattle.reader.proofs.is_header.Tie as tie
-use Rattle.reader.proofs.is_header.Reads as reads
-use Rattle.reader.proofs.is_header.Lts as lts
 
--- src/lib.rt:103:9
 returns : tie.Need-returns
 unfolding isHeader
 returns c =
     rw (eq-eqb _ _ (c .if1 .taken))
 
--- src/lib.rt:105:36
 shared-slice-read-result : tie.Need-shared-slice-read-result
 shared-slice-read-result c = search needs
 
--- src/lib.rt:99:1
 returns-2 : tie.Need-returns-2
 unfolding isHeader
 returns-2 c =
     rw (ne-eqb _ _ (c .before .before .if1 .left))
 
--- src/lib.rt:99:1
 returns-3 : tie.Need-returns-3
 unfolding isHeader
 returns-3 c =

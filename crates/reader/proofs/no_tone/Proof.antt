@@ -1,20 +1,15 @@
+-- `no_tone` meets its contract. Assumes nothing.
 use Rattle.reader.proofs.Laws.{rows-none}
 use borrow.Author.Needs.{needs}
 use Rattle.reader.proofs.no_tone.Statement.{statement}
 use Rattle.reader.proofs.no_tone.Tie as tie
-use Rattle.reader.proofs.no_tone.Reads as reads
-use Rattle.reader.proofs.no_tone.Lts as lts
-use Rattle.parser.proofs.add_block.Reads as add-block-reads
 
--- src/lib.rt:233:5
 add-block-requires : tie.Need-add-block-requires
 add-block-requires c κs = search needs
 
--- src/lib.rt:230:1
 same-length : tie.Need-same-length
 same-length c = search needs
 
--- src/lib.rt:230:1
 returns : tie.Need-returns
 returns c =
     λ tt B N t h. rw (rows-none (c .before .before .before .before .before .args .r) t h) (c .before .before .add-block .ensures B N tt t h)

@@ -1,3 +1,4 @@
+-- `one_tone` meets its contract. Assumes nothing.
 use Rattle.reader.specs.Source.{addRows}
 use Rattle.parser.specs.Holds.{blockRoom}
 use Rattle.parser.specs.Parser.{addBlock}
@@ -5,46 +6,33 @@ use Rattle.parser.proofs.Laws.{then-on, then-no}
 use borrow.Author.Needs.{needs}
 use Rattle.reader.proofs.one_tone.Statement.{statement}
 use Rattle.reader.proofs.one_tone.Tie as tie
-use Rattle.reader.proofs.one_tone.Reads as reads
-use Rattle.reader.proofs.one_tone.Lts as lts
-use Rattle.parser.proofs.add_block.Reads as add-block-reads
-use Rattle.parser.proofs.add_tone.Reads as add-tone-reads
 
--- src/lib.rt:82:11
 add-tone-requires : tie.Need-add-tone-requires
 add-tone-requires c κs = search needs
 
--- src/lib.rt:83:18
 enum-known-next : tie.Need-enum-known-next
 enum-known-next c = search needs
 
--- src/lib.rt:83:27
 add-block-requires : tie.Need-add-block-requires
 add-block-requires c κs = search needs
 
--- src/lib.rt:84:18
 enum-known-k : tie.Need-enum-known-k
 enum-known-k c = search needs
 
--- src/lib.rt:79:1
 same-length : tie.Need-same-length
 same-length c = search needs
 
--- src/lib.rt:79:1
 same-length-2 : tie.Need-same-length-2
 same-length-2 c = search needs
 
--- src/lib.rt:79:1
 returns : tie.Need-returns
 unfolding addRows
 returns c =
     λ B N t h. then-on (c .before .before .before .before .before .before .before .before .before .add-tone .ensures B N _ t h) (c .before .before .before .before .before .next .given .1) (λ u k. c .before .before .add-block .ensures B N _ u k)
 
--- src/lib.rt:79:1
 same-length-3 : tie.Need-same-length-3
 same-length-3 c = search needs
 
--- src/lib.rt:79:1
 returns-2 : tie.Need-returns-2
 unfolding addRows
 returns-2 c =

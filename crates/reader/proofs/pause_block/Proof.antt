@@ -1,3 +1,4 @@
+-- `pause_block` meets its contract. Assumes nothing.
 use Rattle.reader.proofs.Laws.{does-add}
 use Rattle.reader.specs.Blocks.{pauseBlock, pauseOrStop}
 use borrow.Author.Tests.{eq-eqb, ne-eqb}
@@ -5,47 +6,33 @@ use mathlib.Core.List.{[]}
 use borrow.Author.Needs.{needs}
 use Rattle.reader.proofs.pause_block.Statement.{statement}
 use Rattle.reader.proofs.pause_block.Tie as tie
-use Rattle.reader.proofs.pause_block.Reads as reads
-use Rattle.reader.proofs.pause_block.Lts as lts
-use Rattle.reader.proofs.born.Reads as born-reads
-use Rattle.reader.proofs.no_tone.Reads as no-tone-reads
-use Rattle.reader.proofs.stop_row.Reads as stop-row-reads
 
--- src/lib.rt:241:35
 stop-row-requires : tie.Need-stop-row-requires
 stop-row-requires c κs = search needs
 
--- src/lib.rt:241:9
 no-tone-requires : tie.Need-no-tone-requires
 no-tone-requires c κs = search needs
 
--- src/lib.rt:241:9
 same-length : tie.Need-same-length
 same-length c = search needs
 
--- src/lib.rt:241:9
 returns : tie.Need-returns
 unfolding pauseOrStop
 returns c =
     λ tt. does-add [] (pauseOrStop (c .before .before .before .before .before .before .before .args .pause)) (rw (eq-eqb _ _ (c .before .before .before .before .before .if1 .taken)) (c .before .before .before .stop-row .ensures)) (c .before .before .no-tone .ensures tt)
 
--- src/lib.rt:243:59
 mul-born : tie.Need-mul-born
 mul-born c = search needs
 
--- src/lib.rt:243:24
 born-requires : tie.Need-born-requires
 born-requires c κs = search needs
 
--- src/lib.rt:243:5
 no-tone-requires-2 : tie.Need-no-tone-requires-2
 no-tone-requires-2 c κs = search needs
 
--- src/lib.rt:237:1
 same-length-2 : tie.Need-same-length-2
 same-length-2 c = search needs
 
--- src/lib.rt:237:1
 returns-2 : tie.Need-returns-2
 unfolding pauseOrStop pauseBlock
 returns-2 c =

@@ -1,24 +1,19 @@
+-- `pulse_blocks` meets its contract. Assumes nothing.
 use Prim.Native.Nat.{ℕ, _+_, _*_, _-_}
 use mathlib.Core.Path.{_≡_, refl}
-use mathlib.Core.List.{List, [], _∷_}
+use mathlib.Core.List.{[], _∷_}
 use native.Mathlib.Omega.{arith}
 use lib.ListN.{length}
 use borrow.Author.Needs.{needs}
-use Rattle.parser.specs.declared.Step.{Step}
-use Rattle.parser.specs.Parser.{Tape, Out}
+use Rattle.parser.specs.Parser.{Tape}
 use Rattle.parser.specs.Holds.{Holds}
 use Rattle.parser.proofs.Laws.{Going, going-starts, going-on, going-no, going-ends}
 use Rattle.reader.specs.Blocks.{toneOf, soundOnly, pulseAt}
-use Rattle.reader.specs.Source.{Lent, add, addRows, addPairs}
-use Rattle.reader.specs.Does.{lentOf, Does}
+use Rattle.reader.specs.Source.{add, addPairs}
+use Rattle.reader.specs.Does.{lentOf}
 use Rattle.reader.proofs.Laws.{Any, does-add, pairs-more}
 use Rattle.reader.proofs.pulse_blocks.Statement.{statement}
 use Rattle.reader.proofs.pulse_blocks.Tie as tie
-use Rattle.reader.proofs.pulse_blocks.Reads as reads
-use Rattle.reader.proofs.pulse_blocks.Lts as lts
-use Rattle.reader.proofs.born.Reads as born-reads
-use Rattle.reader.proofs.one_tone.Reads as one-tone-reads
-use Rattle.reader.proofs.pulse_at.Reads as pulse-at-reads
 
 abbrev Inv-loop : tie.InvT-loop
 Inv-loop tape blocks₀ tones₀ from n s₀ i₀ left₀ blocks tones s i left =
@@ -28,48 +23,37 @@ Inv-loop tape blocks₀ tones₀ from n s₀ i₀ left₀ blocks tones s i left 
 abbrev μ-loop : tie.MeasureT-loop
 μ-loop tape blocks₀ tones₀ from n s₀ i₀ left₀ blocks tones s i left = left
 
--- src/lib.rt:279:5
 loop-holds : tie.Need-loop-holds Inv-loop μ-loop
 loop-holds c =
     (refl, refl, omega arith, λ B N t h. going-starts tt h)
 
--- src/lib.rt:282:19
 pulse-at-requires : tie.Need-pulse-at-requires Inv-loop μ-loop
 pulse-at-requires c κs = search needs
 
--- src/lib.rt:283:40
 add-pulse-at : tie.Need-add-pulse-at Inv-loop μ-loop
 add-pulse-at c = search needs
 
--- src/lib.rt:283:19
 pulse-at-requires-2 : tie.Need-pulse-at-requires-2 Inv-loop μ-loop
 pulse-at-requires-2 c κs = search needs
 
--- src/lib.rt:285:13
 born-requires : tie.Need-born-requires Inv-loop μ-loop
 born-requires c κs = search needs
 
--- src/lib.rt:286:15
 one-tone-requires : tie.Need-one-tone-requires Inv-loop μ-loop
 one-tone-requires c κs = search needs
 
--- src/lib.rt:287:22
 enum-known-next : tie.Need-enum-known-next Inv-loop μ-loop
 enum-known-next c = search needs
 
--- src/lib.rt:288:22
 enum-known-k : tie.Need-enum-known-k Inv-loop μ-loop
 enum-known-k c = search needs
 
--- src/lib.rt:288:28
 same-length : tie.Need-same-length Inv-loop μ-loop
 same-length c = search needs
 
--- src/lib.rt:288:28
 same-length-2 : tie.Need-same-length-2 Inv-loop μ-loop
 same-length-2 c = search needs
 
--- src/lib.rt:288:28
 returns : tie.Need-returns Inv-loop μ-loop
 returns c =
     λ B N t h.
@@ -80,39 +64,36 @@ returns c =
     let gave = does-add (toneOf 1 (pulseAt (a .tape .now) (a .from) (l .i)) (pulseAt (a .tape .now) (a .from) (l .i + 1)) ∷ []) (soundOnly 1) (c .before .before .before .before .before .before .before .before .before .before .born .ensures) (rw (c .before .before .before .before .before .before .before .before .before .before .before .before .pulse-at .ensures, c .before .before .before .before .before .before .before .before .before .before .before .pulse-at2 .ensures) at (c .before .before .before .before .before .before .before .one-tone .ensures)) B N (g .at) (g .holds) in
     going-no g f (addPairs (lentOf B N) (a .tape .now) (a .from) (l .i + 2) (l .left - 1)) (pairs-more (lentOf B N) (a .tape .now) (a .from) (l .i) (l .left) (g .at) (c .before .before .before .before .before .before .before .before .before .before .before .before .before .loop-test .taken)) gave (c .before .k .given .1)
 
--- src/lib.rt:290:9
 add-i : tie.Need-add-i Inv-loop μ-loop
 add-i c =
     omega (arith, c .before .before .before .before .before .before .before .before .before .before .before .before .before .before .before .before .before .before .good .0, c .before .before .before .before .before .before .before .before .before .before .before .before .before .before .before .before .before .before .pre, c .before .before .before .before .before .before .before .before .before .before .before .before .before .before .loop .inv .2, c .before .before .before .before .before .before .before .before .before .before .before .before .before .loop-test .taken)
 
--- src/lib.rt:291:9
 sub-left : tie.Need-sub-left Inv-loop μ-loop
 sub-left c = search needs
 
--- src/lib.rt:279:5
 loop-less : tie.Need-loop-less Inv-loop μ-loop
 loop-less c = search needs
 
--- src/lib.rt:279:5
 loop-again : tie.Need-loop-again Inv-loop μ-loop
 loop-again c =
     let l = c .before .before .before .before .before .before .before .before .before .before .before .before .before .before .loop in
-    let a = c .before .before .before .before .before .before .before .before .before .before .before .before .before .before .before .before .before .before .args in
-    (search needs, search needs, omega arith, λ B N t h.
-    let g = l .inv .3 B N t h in
-    let f = add (lentOf B N) (toneOf 1 (pulseAt (a .tape .now) (a .from) (l .i)) (pulseAt (a .tape .now) (a .from) (l .i + 1)) ∷ []) (soundOnly 1) in
-    let gave = does-add (toneOf 1 (pulseAt (a .tape .now) (a .from) (l .i)) (pulseAt (a .tape .now) (a .from) (l .i + 1)) ∷ []) (soundOnly 1) (c .before .before .before .before .before .before .before .before .before .before .born .ensures) (rw (c .before .before .before .before .before .before .before .before .before .before .before .before .pulse-at .ensures, c .before .before .before .before .before .before .before .before .before .before .before .pulse-at2 .ensures) at (c .before .before .before .before .before .before .before .one-tone .ensures)) B N (g .at) (g .holds) in
-    going-on g f (addPairs (lentOf B N) (a .tape .now) (a .from) (l .i + 2) (l .left - 1)) (pairs-more (lentOf B N) (a .tape .now) (a .from) (l .i) (l .left) (g .at) (c .before .before .before .before .before .before .before .before .before .before .before .before .before .loop-test .taken)) gave (c .before .next .given .1) (λ u q. tt))
+    let a = c .before .before .before .before .before .before .before .before .before .before .before .before .before .before .before .before .before .before .args in (
+      search needs,
+      search needs,
+      omega arith,
+      λ B N t h.
+          let g = l .inv .3 B N t h in
+          let f = add (lentOf B N) (toneOf 1 (pulseAt (a .tape .now) (a .from) (l .i)) (pulseAt (a .tape .now) (a .from) (l .i + 1)) ∷ []) (soundOnly 1) in
+          let gave = does-add (toneOf 1 (pulseAt (a .tape .now) (a .from) (l .i)) (pulseAt (a .tape .now) (a .from) (l .i + 1)) ∷ []) (soundOnly 1) (c .before .before .before .before .before .before .before .before .before .before .born .ensures) (rw (c .before .before .before .before .before .before .before .before .before .before .before .before .pulse-at .ensures, c .before .before .before .before .before .before .before .before .before .before .before .pulse-at2 .ensures) at (c .before .before .before .before .before .before .before .one-tone .ensures)) B N (g .at) (g .holds) in
+          going-on g f (addPairs (lentOf B N) (a .tape .now) (a .from) (l .i + 2) (l .left - 1)) (pairs-more (lentOf B N) (a .tape .now) (a .from) (l .i) (l .left) (g .at) (c .before .before .before .before .before .before .before .before .before .before .before .before .before .loop-test .taken)) gave (c .before .next .given .1) (λ u q. tt),
+    )
 
--- src/lib.rt:265:1
 same-length-3 : tie.Need-same-length-3 Inv-loop μ-loop
 same-length-3 c = search needs
 
--- src/lib.rt:265:1
 same-length-4 : tie.Need-same-length-4 Inv-loop μ-loop
 same-length-4 c = search needs
 
--- src/lib.rt:265:1
 returns-2 : tie.Need-returns-2 Inv-loop μ-loop
 unfolding addPairs
 returns-2 c =

@@ -1,34 +1,25 @@
+-- `pure_data_block` meets its contract. Assumes nothing.
 use Rattle.reader.proofs.Laws.{does-add}
 use Rattle.reader.specs.Blocks.{pureTones, pureBlock}
 use borrow.Author.Needs.{needs}
 use Rattle.reader.proofs.pure_data_block.Statement.{statement}
 use Rattle.reader.proofs.pure_data_block.Tie as tie
-use Rattle.reader.proofs.pure_data_block.Reads as reads
-use Rattle.reader.proofs.pure_data_block.Lts as lts
-use Rattle.reader.proofs.born.Reads as born-reads
-use Rattle.reader.proofs.two_tones.Reads as two-tones-reads
 
--- src/lib.rt:202:9
 mul-born : tie.Need-mul-born
 mul-born c = search needs
 
--- src/lib.rt:193:9
 born-requires : tie.Need-born-requires
 born-requires c κs = search needs
 
--- src/lib.rt:204:5
 two-tones-requires : tie.Need-two-tones-requires
 two-tones-requires c κs = search needs
 
--- src/lib.rt:170:1
 same-length : tie.Need-same-length
 same-length c = search needs
 
--- src/lib.rt:170:1
 same-length-2 : tie.Need-same-length-2
 same-length-2 c = search needs
 
--- src/lib.rt:170:1
 returns : tie.Need-returns
 unfolding pureTones pureBlock
 returns c =

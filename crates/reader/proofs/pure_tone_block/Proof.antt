@@ -1,59 +1,43 @@
+-- `pure_tone_block` meets its contract. Assumes nothing.
 use Rattle.reader.proofs.Laws.{does-add}
-use lib.ListN.{length}
 use borrow.Author.Tests.{eq-eqb, ne-eqb}
 use Rattle.reader.specs.Blocks.{pureToneTones, soundOnly}
 use borrow.Author.Needs.{needs}
 use Rattle.reader.proofs.pure_tone_block.Statement.{statement}
 use Rattle.reader.proofs.pure_tone_block.Tie as tie
-use Rattle.reader.proofs.pure_tone_block.Reads as reads
-use Rattle.reader.proofs.pure_tone_block.Lts as lts
-use Rattle.reader.proofs.born.Reads as born-reads
-use Rattle.reader.proofs.one_tone.Reads as one-tone-reads
-use Rattle.reader.proofs.two_tones.Reads as two-tones-reads
 
--- src/lib.rt:212:14
 cast-t11 : tie.Need-cast-t11
 cast-t11 c = search needs
 
--- src/lib.rt:217:13
 born-requires : tie.Need-born-requires
 born-requires c κs = search needs
 
--- src/lib.rt:218:9
 one-tone-requires : tie.Need-one-tone-requires
 one-tone-requires c κs = search needs
 
--- src/lib.rt:218:9
 same-length : tie.Need-same-length
 same-length c = search needs
 
--- src/lib.rt:218:9
 same-length-2 : tie.Need-same-length-2
 same-length-2 c = search needs
 
--- src/lib.rt:218:9
 returns : tie.Need-returns
 unfolding pureToneTones
 returns c =
     rw (eq-eqb _ _ (c .before .before .before .before .before .before .before .before .if1 .taken)) (does-add _ (soundOnly 1) (c .before .before .before .before .before .before .before .born .ensures) (c .before .before .before .before .one-tone .ensures))
 
--- src/lib.rt:225:9
 born-requires-2 : tie.Need-born-requires-2
 born-requires-2 c κs = search needs
 
--- src/lib.rt:226:5
 two-tones-requires : tie.Need-two-tones-requires
 two-tones-requires c κs = search needs
 
--- src/lib.rt:208:1
 same-length-3 : tie.Need-same-length-3
 same-length-3 c = search needs
 
--- src/lib.rt:208:1
 same-length-4 : tie.Need-same-length-4
 same-length-4 c = search needs
 
--- src/lib.rt:208:1
 returns-2 : tie.Need-returns-2
 unfolding pureToneTones
 returns-2 c =

@@ -1,35 +1,25 @@
+-- `standard_data_block` meets its contract. Assumes nothing.
 use Rattle.reader.proofs.Laws.{does-add}
 use Rattle.reader.specs.Blocks.{standardTones, standardBlock}
 use borrow.Author.Needs.{needs}
 use Rattle.reader.proofs.standard_data_block.Statement.{statement}
 use Rattle.reader.proofs.standard_data_block.Tie as tie
-use Rattle.reader.proofs.standard_data_block.Reads as reads
-use Rattle.reader.proofs.standard_data_block.Lts as lts
-use Rattle.reader.proofs.born.Reads as born-reads
-use Rattle.reader.proofs.standard_cycles.Reads as standard-cycles-reads
-use Rattle.reader.proofs.two_tones.Reads as two-tones-reads
 
--- src/lib.rt:128:14
 standard-cycles-requires : tie.Need-standard-cycles-requires
 standard-cycles-requires c κs = search needs
 
--- src/lib.rt:137:9
 born-requires : tie.Need-born-requires
 born-requires c κs = search needs
 
--- src/lib.rt:138:5
 two-tones-requires : tie.Need-two-tones-requires
 two-tones-requires c κs = search needs
 
--- src/lib.rt:116:1
 same-length : tie.Need-same-length
 same-length c = search needs
 
--- src/lib.rt:116:1
 same-length-2 : tie.Need-same-length-2
 same-length-2 c = search needs
 
--- src/lib.rt:116:1
 returns : tie.Need-returns
 unfolding standardTones standardBlock
 returns c =

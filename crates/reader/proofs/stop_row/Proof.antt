@@ -1,11 +1,9 @@
+-- `stop_row` meets its contract. Assumes nothing.
 use Rattle.reader.specs.Blocks.{stopBlock}
 use mathlib.Core.Path.{refl}
 use Rattle.reader.proofs.stop_row.Statement.{statement}
 use Rattle.reader.proofs.stop_row.Tie as tie
-use Rattle.reader.proofs.stop_row.Reads as reads
-use Rattle.reader.proofs.stop_row.Lts as lts
 
--- src/lib.rt:58:1
 returns : tie.Need-returns
 unfolding stopBlock
 returns c =

@@ -1,79 +1,59 @@
+-- `turbo_data_block` meets its contract. Assumes nothing.
 use native.Mathlib.Omega.{arith}
 use Rattle.reader.proofs.Laws.{does-add}
 use Rattle.reader.specs.Blocks.{turboTones, turboBlock}
 use borrow.Author.Needs.{needs}
 use Rattle.reader.proofs.turbo_data_block.Statement.{statement}
 use Rattle.reader.proofs.turbo_data_block.Tie as tie
-use Rattle.reader.proofs.turbo_data_block.Reads as reads
-use Rattle.reader.proofs.turbo_data_block.Lts as lts
-use Rattle.reader.proofs.born.Reads as born-reads
-use Rattle.reader.proofs.two_tones.Reads as two-tones-reads
 
--- src/lib.rt:146:15
 cast-born : tie.Need-cast-born
 cast-born c = search needs
 
--- src/lib.rt:146:15
 add-born : tie.Need-add-born
 add-born c = search needs
 
--- src/lib.rt:147:15
 cast-born-2 : tie.Need-cast-born-2
 cast-born-2 c = search needs
 
--- src/lib.rt:148:15
 cast-born-3 : tie.Need-cast-born-3
 cast-born-3 c = search needs
 
--- src/lib.rt:152:15
 cast-born-4 : tie.Need-cast-born-4
 cast-born-4 c = search needs
 
--- src/lib.rt:153:15
 cast-born-5 : tie.Need-cast-born-5
 cast-born-5 c = search needs
 
--- src/lib.rt:160:9
 cast-born-6 : tie.Need-cast-born-6
 cast-born-6 c = omega (arith, c .struct-known6 .given .1 .1 .1 .1 .1 .1 .1 .1 .1 .0)
 
--- src/lib.rt:161:9
 cast-born-7 : tie.Need-cast-born-7
 cast-born-7 c = search needs
 
--- src/lib.rt:162:9
 cast-born-8 : tie.Need-cast-born-8
 cast-born-8 c = search needs
 
--- src/lib.rt:163:9
 cast-born-9 : tie.Need-cast-born-9
 cast-born-9 c = search needs
 
--- src/lib.rt:164:9
 cast-born-10 : tie.Need-cast-born-10
 cast-born-10 c = search needs
 
--- src/lib.rt:164:9
 mul-born : tie.Need-mul-born
 mul-born c = search needs
 
--- src/lib.rt:155:9
 born-requires : tie.Need-born-requires
 born-requires c κs = search needs
 
--- src/lib.rt:166:5
 two-tones-requires : tie.Need-two-tones-requires
 two-tones-requires c κs = search needs
 
--- src/lib.rt:142:1
 same-length : tie.Need-same-length
 same-length c = search needs
 
--- src/lib.rt:142:1
 same-length-2 : tie.Need-same-length-2
 same-length-2 c = search needs
 
--- src/lib.rt:142:1
 returns : tie.Need-returns
 unfolding turboTones turboBlock
 returns c =

@@ -1,4 +1,4 @@
--- A whole 19 has its tables where its places say, inside the tape, and no other kind gives one. Assumes nothing.
+-- A whole 19 has its tables where its places say, inside the tape, a whole 13 its pulses, and no other kind gives one. Assumes nothing.
 use Prim.Native.Nat.{ℕ, zero, suc, _+_, _*_, _-_, _/_, _≤_, _<_}
 use mathlib.Core.Path.{_≡_, refl, sym, ap, subst, _∙_}
 use mathlib.Core.Bool.{Bool, true, false, cond}
@@ -52,60 +52,81 @@ isGeneral (piece.Hardware a b) = false
 isGeneral (piece.Custom a b d) = false
 isGeneral piece.Glue = false
 
--- a layout that gives no 19, whatever it reads
-abbrev Other : Layout → Type 0
-Other (number w rest) = (v : ℕ) → Other (rest v)
-Other (counted w rest) = (p n : ℕ) → Other (rest p n)
-Other (here rest) = (p : ℕ) → Other (rest p)
-Other (pass part rest) = Other rest
-Other (within n inner) = Other inner
-Other (fitting bits rest) = Other rest
-Other (whole x) = isGeneral x ≡ false
-Other (unknown described) = Unit {0}
+unfoldable isPulses : Piece → Bool
+isPulses (piece.Standard a b d) = false
+isPulses (piece.Turbo a) = false
+isPulses (piece.Tone a b) = false
+isPulses (piece.Pulses a b) = true
+isPulses (piece.Pure a b d x y z) = false
+isPulses (piece.Generalized g) = false
+isPulses (piece.Pause a) = false
+isPulses (piece.GroupStart a b) = false
+isPulses piece.GroupEnd = false
+isPulses (piece.LoopStart a) = false
+isPulses piece.LoopEnd = false
+isPulses (piece.Stop48 a) = false
+isPulses (piece.Text a b) = false
+isPulses (piece.Message a b d) = false
+isPulses (piece.Archive a b) = false
+isPulses (piece.Hardware a b) = false
+isPulses (piece.Custom a b d) = false
+isPulses piece.Glue = false
 
--- an answer that is no 19
-abbrev NoGeneral : Body → Type 0
-NoGeneral b = (g : GeneralizedData) (next : ℕ) → b ≡ Whole (piece.Generalized g) next → ⊥
+module _ (is : Piece → Bool) where
+  -- a layout that gives no such piece, whatever it reads
+  abbrev Other : Layout → Type 0
+  Other (number w rest) = (v : ℕ) → Other (rest v)
+  Other (counted w rest) = (p n : ℕ) → Other (rest p n)
+  Other (here rest) = (p : ℕ) → Other (rest p)
+  Other (pass part rest) = Other rest
+  Other (within n inner) = Other inner
+  Other (fitting bits rest) = Other rest
+  Other (whole x) = is x ≡ false
+  Other (unknown described) = Unit {0}
 
-whole-other : (x : Piece) (c : Cursor) → isGeneral x ≡ false → NoGeneral (wholeAt x c)
-unfolding wholeAt isGeneral
-whole-other x (At p) h g next e = let i : x ≡ piece.Generalized g = cc in let z : true ≡ false = rw i at h in let n : _≡_ {A = ℕ} 0 1 = cc in omega arith
-whole-other x (cursor.Short p w) h g next e = let z : _≡_ {A = ℕ} 0 1 = cc in omega arith
+  -- an answer that is no such piece
+  abbrev Never : Body → Type 0
+  Never b = (x : Piece) (next : ℕ) → is x ≡ true → b ≡ Whole x next → ⊥
 
-sealed-other : (end : ℕ) (b : Body) → NoGeneral b → NoGeneral (sealed end b)
-unfolding sealed
-sealed-other end (Whole x p) h g next e =
-    let i : x ≡ piece.Generalized g = cc in h g p (ap (λ (y : Piece). Whole y p) i)
-sealed-other end (Unknown described) h g next e = let z : _≡_ {A = ℕ} 0 1 = cc in omega arith
-sealed-other end (Short p w) h g next e = let z : _≡_ {A = ℕ} 0 1 = cc in omega arith
-sealed-other end (Overflow p) h g next e = let z : _≡_ {A = ℕ} 0 1 = cc in omega arith
+  whole-other : (x : Piece) (c : Cursor) → is x ≡ false → Never (wholeAt x c)
+  unfolding wholeAt
+  whole-other x (At p) h y next t e =
+      let i : x ≡ y = cc in let z : false ≡ true = sym h ∙ ap is i ∙ t in let n : _≡_ {A = ℕ} 0 1 = cc in omega arith
+  whole-other x (cursor.Short p w) h y next t e = let z : _≡_ {A = ℕ} 0 1 = cc in omega arith
 
-enclosed-other : (inner : ℕ → Body) (c : Cursor) → ((end : ℕ) → NoGeneral (inner end)) → NoGeneral (enclosed inner c)
-unfolding enclosed
-enclosed-other inner (At end) h g next e = sealed-other end (inner end) (h end) g next e
-enclosed-other inner (cursor.Short p w) h g next e = let z : _≡_ {A = ℕ} 0 1 = cc in omega arith
+  sealed-other : (end : ℕ) (b : Body) → Never b → Never (sealed end b)
+  unfolding sealed
+  sealed-other end (Whole x p) h y next t e = let i : x ≡ y = cc in h y p t (ap (λ (z : Piece). Whole z p) i)
+  sealed-other end (Unknown described) h y next t e = let z : _≡_ {A = ℕ} 0 1 = cc in omega arith
+  sealed-other end (Short p w) h y next t e = let z : _≡_ {A = ℕ} 0 1 = cc in omega arith
+  sealed-other end (Overflow p) h y next t e = let z : _≡_ {A = ℕ} 0 1 = cc in omega arith
 
-fitting-other : (bits : ℕ) (c : Cursor) (rest : Body) → NoGeneral rest → NoGeneral (fittingAt bits c rest)
-unfolding fittingAt
-fitting-other bits (At p) rest h g next e = by-cases (leb bits 4294967295) e
-  where
-    by-cases : (t : Bool) → (t ⇒ rest ∣ Overflow p) ≡ Whole (piece.Generalized g) next → ⊥
-    by-cases true q = h g next q
-    by-cases false q = let z : _≡_ {A = ℕ} 0 1 = cc in omega arith
-fitting-other bits (cursor.Short p w) rest h g next e = h g next e
+  enclosed-other : (inner : ℕ → Body) (c : Cursor) → ((end : ℕ) → Never (inner end)) → Never (enclosed inner c)
+  unfolding enclosed
+  enclosed-other inner (At end) h y next t e = sealed-other end (inner end) (h end) y next t e
+  enclosed-other inner (cursor.Short p w) h y next t e = let z : _≡_ {A = ℕ} 0 1 = cc in omega arith
 
-other-none : (l : Layout) → Other l → (s : List ℕ) (c : Cursor) → NoGeneral (readAt l s c)
-unfolding readAt
-other-none (number w rest) o s c = other-none (rest (fieldAt s c w .value)) (o (fieldAt s c w .value)) s (fieldAt s c w .cursor)
-other-none (counted w rest) o s c =
-    other-none (rest (countedAt s c w .from) (countedAt s c w .size)) (o (countedAt s c w .from) (countedAt s c w .size)) s (countedAt s c w .cursor)
-other-none (here rest) o s c = other-none (rest (placeOf c)) (o (placeOf c)) s c
-other-none (pass part rest) o s c = other-none rest o s (passAt part s c)
-other-none (within n inner) o s c =
-    enclosed-other (λ end. readAt inner (take end s) c) (fieldAt s c n .cursor) (λ end. other-none inner o (take end s) c)
-other-none (fitting bits rest) o s c = fitting-other bits c (readAt rest s c) (other-none rest o s c)
-other-none (whole x) o s c = whole-other x c o
-other-none (unknown described) o s c = λ g next e. let z : _≡_ {A = ℕ} 0 1 = cc in omega arith
+  fitting-other : (bits : ℕ) (c : Cursor) (rest : Body) → Never rest → Never (fittingAt bits c rest)
+  unfolding fittingAt
+  fitting-other bits (At p) rest h y next t e = by-cases (leb bits 4294967295) e
+    where
+      by-cases : (b : Bool) → (b ⇒ rest ∣ Overflow p) ≡ Whole y next → ⊥
+      by-cases true q = h y next t q
+      by-cases false q = let z : _≡_ {A = ℕ} 0 1 = cc in omega arith
+  fitting-other bits (cursor.Short p w) rest h y next t e = h y next t e
+
+  other-none : (l : Layout) → Other l → (s : List ℕ) (c : Cursor) → Never (readAt l s c)
+  unfolding readAt
+  other-none (number w rest) o s c = other-none (rest (fieldAt s c w .value)) (o (fieldAt s c w .value)) s (fieldAt s c w .cursor)
+  other-none (counted w rest) o s c =
+      other-none (rest (countedAt s c w .from) (countedAt s c w .size)) (o (countedAt s c w .from) (countedAt s c w .size)) s (countedAt s c w .cursor)
+  other-none (here rest) o s c = other-none (rest (placeOf c)) (o (placeOf c)) s c
+  other-none (pass part rest) o s c = other-none rest o s (passAt part s c)
+  other-none (within n inner) o s c =
+      enclosed-other (λ end. readAt inner (take end s) c) (fieldAt s c n .cursor) (λ end. other-none inner o (take end s) c)
+  other-none (fitting bits rest) o s c = fitting-other bits c (readAt rest s c) (other-none rest o s c)
+  other-none (whole x) o s c = whole-other x c o
+  other-none (unknown described) o s c = λ y next t e. let z : _≡_ {A = ℕ} 0 1 = cc in omega arith
 
 -- the end of 19: its data bytes are there, and their bits fit
 record Streamed (s : List ℕ) (bits : ℕ) (g₀ g : GeneralizedData) (c : Cursor) (next : ℕ) : Type 0 where
@@ -145,8 +166,9 @@ pub record Found (full : ℕ) (s : List ℕ) (g : GeneralizedData) (next : ℕ) 
 abbrev Placed : ℕ → List ℕ → Body → Type 0
 Placed full s b = (g : GeneralizedData) (next : ℕ) → b ≡ Whole (piece.Generalized g) next → next ≤ length s → Found full s g next
 
-other-placed : {full : ℕ} (l : Layout) → Other l → (s : List ℕ) (c : Cursor) → Placed full s (readAt l s c)
-other-placed l o s c g next e h = absurd (other-none l o s c g next e)
+other-placed : {full : ℕ} (l : Layout) → Other isGeneral l → (s : List ℕ) (c : Cursor) → Placed full s (readAt l s c)
+unfolding isGeneral
+other-placed l o s c g next e h = absurd (other-none isGeneral l o s c (piece.Generalized g) next refl e)
 
 -- an alphabet's size
 byte-small : (s : List ℕ) → ((i : ℕ) → getD s i 0 < 256) → (c : Cursor) → fieldAt s c 1 .value ≤ 255
@@ -298,3 +320,107 @@ module _ (full : ℕ) where
 pub cut-places : (s : List ℕ) (at full : ℕ) {k a next : ℕ} {g : GeneralizedData} → cutAt s at full ≡ taken.Whole k a next (piece.Generalized g) → Found full s g next
 cut-places s at full {next = next} {g = g} e =
     rows-placed full (getD s at 0) s (At (at + 1)) g next (unnamed (getD s at 0) at _ (sym (cut-there s at full (cut-inside s at full e)) ∙ e)) (cut-forward s at full e .1)
+
+-- pulses that end at `next`
+abbrev Ended : Body → Type 0
+Ended b = (count from next : ℕ) → b ≡ Whole (piece.Pulses count from) next → next ≡ from + count * 2
+
+other-ended : (l : Layout) → Other isPulses l → (s : List ℕ) (c : Cursor) → Ended (readAt l s c)
+unfolding isPulses
+other-ended l o s c count from next e = absurd (other-none isPulses l o s c (piece.Pulses count from) next refl e)
+
+whole-ended : (s : List ℕ) (n : ℕ) (c d : Cursor) → eachAt s c n 2 ≡ d → Ended (wholeAt (piece.Pulses n (placeOf c)) d)
+unfolding wholeAt
+whole-ended s n c (At q) f count from next e =
+    let i : q ≡ next = cc in
+    let j : n ≡ count = cc in
+    let k : placeOf c ≡ from = cc in
+    let m = each-stood s n 2 c f .moved in
+    omega arith
+whole-ended s n c (cursor.Short q w) f count from next e = absurd (let z : _≡_ {A = ℕ} 0 1 = cc in omega arith)
+
+pulses-ended : (s : List ℕ) (c : Cursor) → Ended (readAt kind13 s c)
+unfolding readAt kind13 passAt
+pulses-ended s c = whole-ended s (fieldAt s c 1 .value) (fieldAt s c 1 .cursor) _ refl
+
+-- of all rows, that of 13 alone gives pulses
+abbrev RowEnded : Layout → Type 0
+RowEnded l = (s : List ℕ) (c : Cursor) → Ended (readAt l s c)
+
+rows-ended : (full kind : ℕ) → RowEnded (kindOf full kind)
+unfolding isPulses kindOf kinds kind10 kind11 kind12 kind14 stream19 kind19 kind20 kind21 kind22 kind24 kind25 kind2A kind30 kind31 info32 kind32 kind33 kind35 kind5A
+rows-ended full kind =
+    found-every RowEnded (kinds full) kind (unknown _) (
+      other-ended kind10 (λ _ _ _. refl),
+      (
+        other-ended kind11 (λ _ _ _ _ _ _ _ _ _ _. refl),
+        (
+          other-ended kind12 (λ _ _. refl),
+          (
+            pulses-ended,
+            (
+              other-ended kind14 (λ _ _ _ _ _ _. refl),
+              (
+                other-ended (kind19 full) (λ _ _ _ _ _ _ _ _ _ _ _ _. refl),
+                (
+                  other-ended kind20 (λ _. refl),
+                  (
+                    other-ended kind21 (λ _ _. refl),
+                    (
+                      other-ended kind22 refl,
+                      (
+                        other-ended unread tt,
+                        (
+                          other-ended kind24 (λ _. refl),
+                          (
+                            other-ended kind25 refl,
+                            (
+                              other-ended kind2A (λ _. refl),
+                              (
+                                other-ended unread tt,
+                                (
+                                  other-ended kind30 (λ _ _. refl),
+                                  (
+                                    other-ended kind31 (λ _ _ _. refl),
+                                    (
+                                      other-ended kind32 (λ _ _ _. refl),
+                                      (
+                                        other-ended kind33 (λ _ _. refl),
+                                        (
+                                          other-ended unread tt,
+                                          (
+                                            other-ended kind35 (λ _ _ _. refl),
+                                            (
+                                              other-ended unread tt,
+                                              (
+                                                other-ended kind5A refl,
+                                                tt,
+                                              ),
+                                            ),
+                                          ),
+                                        ),
+                                      ),
+                                    ),
+                                  ),
+                                ),
+                              ),
+                            ),
+                          ),
+                        ),
+                      ),
+                    ),
+                  ),
+                ),
+              ),
+            ),
+          ),
+        ),
+      ),
+    )
+    (other-ended (unknown _) tt)
+
+-- a whole 13 ends where its pulses do, inside the tape
+pub cut-pulses : (s : List ℕ) (at full : ℕ) {k a next count from : ℕ} → cutAt s at full ≡ taken.Whole k a next (piece.Pulses count from) → from + count * 2 ≤ length s
+cut-pulses s at full {next = next} {count} {from} e =
+    let m = rows-ended full (getD s at 0) s (At (at + 1)) count from next (unnamed (getD s at 0) at _ (sym (cut-there s at full (cut-inside s at full e)) ∙ e)) in
+    omega (arith, m, cut-forward s at full e .1)

@@ -1,0 +1,4 @@
+mod Laws
+mod Rest
+mod Generals
+pub mod Judged

@@ -2,7 +2,7 @@
 use Prim.Native.Nat.{ℕ, _+_, _-_, _*_, _/_, _≤_, _<_, max, min}
 use native.Mathlib.Nat.{mul-le-mul, div-mul-le-self, mul-zero}
 use native.Mathlib.Omega.{arith}
-use borrow.Author.Tests.{ltb-true, lt-ltb, le-ltb, eq-eqb, ne-eqb}
+use borrow.Author.Tests.{ltb-true, lt-ltb, le-ltb, le-leb, lt-leb, eq-eqb, ne-eqb}
 use native.Mathlib.Decide.{ℕ-discrete}
 use mathlib.Core.Path.{_≡_, refl, sym, ap, subst}
 use mathlib.Core.Bool.{Bool, true, false, not}
@@ -21,7 +21,8 @@ use Rattle.entries.specs.declared.Phase.the-variants.{Tones, Data}
 use Rattle.entries.specs.Entries.{cyclesOf, toneAt, bitsAt}
 use Rattle.entries.specs.Places.{hasEntry}
 use Rattle.entries.proofs.Bounds.{bits-most, bits-some}
-use Rattle.walks.specs.Steps.{stepTo, cycleFrom, cyclesStep, oneStep, fitting, takeCycles}
+use Rattle.walks.specs.declared.Step.{Step}
+use Rattle.walks.specs.Steps.{stepTo, cycleFrom, cyclesStep, oneStep, fitting, takeCycles, dropEntry, dropOf}
 use Rattle.walks.specs.Heads.{sizeOf}
 
 -- a phase that a match told
@@ -113,3 +114,26 @@ module _ (tones : List ℕ) (r : Block) (i p t d : ℕ) (x : Tone) (n k : ℕ) (
       subst
       (λ (y : Tone). n ≡ max 1 (y .num) → k ≡ fitting (y .len1 + y .len2) (n - p) d → stepTo (Tones i p true) t 1 ≡ takeCycles tones r i p t d)
       (sym e) (λ u v. rw (← u, ← v, le-ltb 0 k h)) f g
+
+-- what `drop_cycles` answers, of the tone it read
+module _ (tape tones : List ℕ) (r : Block) (i p d : ℕ) (x : Tone) (e : x ≡ toneAt tones r i) where
+  abbrev Here : Step → Type 0
+  Here s = s ≡ dropEntry tape tones r (Tones i p false) d → s ≡ dropOf tape tones r (Tones i p false) d
+
+  pub drops-first : (s : Step) → d < x .len1 → Here s
+  unfolding dropOf
+  drops-first s h f = subst (λ (y : Tone). d < y .len1 → Here s) (sym e) (λ l g. rw (lt-leb (toneAt tones r i .len1) d l) g) h f
+
+  pub drops-second : (s : Step) → x .len1 ≤ d → d < x .len2 → Here s
+  unfolding dropOf
+  drops-second s l h f =
+      subst (λ (y : Tone). y .len1 ≤ d → d < y .len2 → Here s) (sym e)
+      (λ u v g. rw (le-leb (toneAt tones r i .len1) d u, lt-leb (toneAt tones r i .len2) d v) g) l h f
+
+  pub drops-cycles : (n : ℕ) → n ≡ max 1 (x .num) → x .len1 ≤ d → x .len2 ≤ d
+      → stepTo (cycleFrom x r i (p + (n - p))) ((n - p) * (x .len1 + x .len2)) ((n - p) * 2) ≡ dropOf tape tones r (Tones i p false) d
+  unfolding dropOf cyclesStep cyclesOf
+  drops-cycles n f l h =
+      subst
+      (λ (y : Tone). n ≡ max 1 (y .num) → y .len1 ≤ d → y .len2 ≤ d → stepTo (cycleFrom y r i (p + (n - p))) ((n - p) * (y .len1 + y .len2)) ((n - p) * 2) ≡ dropOf tape tones r (Tones i p false) d)
+      (sym e) (λ u v w. rw (← u, le-leb (toneAt tones r i .len1) d v, le-leb (toneAt tones r i .len2) d w)) f l h

@@ -105,8 +105,7 @@ pub record One (w : Tape) (b : ℕ) (es : List (Entry Spot)) (s : Step) : Type 0
   pub has : s .over ≡ false → hasIn w b (s .phase) ≡ true
 
 -- a step over a run
-pub record Leap (w : Tape) (b : ℕ) (es : List (Entry Spot)) (s : Step) : Type 0 where
-  pub gone : List (Entry Spot)
+pub record Leap (w : Tape) (b : ℕ) (es : List (Entry Spot)) (s : Step) (gone : List (Entry Spot)) : Type 0 where
   pub finite : Finite gone
   pub split : es ≡ gone ++ behind w b s
   pub lasts : time gone ≡ s .time
@@ -153,7 +152,7 @@ module _ (w : Tape) (b : ℕ) (below : b < w .count) where
 
   -- WHOLE CYCLES
   pub leap-cycles : (i p k : ℕ) → i < blockIn w b .tones → p < cyclesOf (toneIn w b i) → p + k ≤ cyclesOf (toneIn w b i)
-      → Leap w b (fullAt w b (Tones i p false)) (cyclesStep (toneIn w b i) (blockIn w b) i p k)
+      → Leap w b (fullAt w b (Tones i p false)) (cyclesStep (toneIn w b i) (blockIn w b) i p k) (run (cycleOf b i (toneIn w b i)) p k)
   unfolding cyclesStep fromCycle time
   leap-cycles i p k h l g =
       let t = toneIn w b i in
@@ -161,7 +160,6 @@ module _ (w : Tape) (b : ℕ) (below : b < w .count) where
       let to = lands-cycle w b i (p + k) h in
       let e : cyclesOf t - p ≡ k + (cyclesOf t - (p + k)) = omega arith in
       record {
-        gone = run item p k;
         finite = run-finite item (cycle-finite b i t) p k;
         split =
             sym (lands-cycle-in w b i p h l .to)
@@ -175,7 +173,7 @@ module _ (w : Tape) (b : ℕ) (below : b < w .count) where
       }
 
   -- A BYTE
-  pub leap-byte : (pos : ℕ) → pos < blockIn w b .size → Leap w b (fullAt w b (Data pos 0 false)) (byteStep (w .bytes) (blockIn w b) pos)
+  pub leap-byte : (pos : ℕ) → pos < blockIn w b .size → Leap w b (fullAt w b (Data pos 0 false)) (byteStep (w .bytes) (blockIn w b) pos) (byteOf b (blockIn w b) pos (byteIn w b pos))
   unfolding byteStep byteTime fromByte
   leap-byte pos h =
       let r = blockIn w b in
@@ -183,7 +181,6 @@ module _ (w : Tape) (b : ℕ) (below : b < w .count) where
       let item = byteEntries (w .bytes) b r in
       let to = lands-byte w b (pos + 1) in
       record {
-        gone = byteOf b r pos v;
         finite = byte-finite b r pos v;
         split =
             sym (byte-in w b pos h ∙ lands-bit-in w b pos 0 h (bits-some r pos) .to)
@@ -214,20 +211,20 @@ one-took w b es s d j o p h =
       has = o .has;
     }
 
-leap-took : (w : Tape) (b : ℕ) (es : List (Entry Spot)) (s : Step) (d j : ℕ) → Leap w b es s → s .time < d → 0 < s .passed → Took w b es d j s
-leap-took w b es s d j l h k =
-    let x : d - time (l .gone) ≡ d - s .time = omega (arith, l .lasts) in
-    let y : j + length (l .gone) ≡ j + s .passed = omega (arith, l .many) in
+leap-took : (w : Tape) (b : ℕ) (es : List (Entry Spot)) (s : Step) {gone : List (Entry Spot)} (d j : ℕ) → Leap w b es s gone → s .time < d → 0 < s .passed → Took w b es d j s
+leap-took w b es s {gone} d j l h k =
+    let x : d - time gone ≡ d - s .time = omega (arith, l .lasts) in
+    let y : j + length gone ≡ j + s .passed = omega (arith, l .many) in
     record {
       lead =
           subst (λ (x : List (Entry Spot)). Leads x d j (behind w b s) (d - s .time) (j + s .passed)) (sym (l .split))
-          (lead-as (d - s .time) (j + s .passed) x y (lead-run (l .gone) (behind w b s) d j (l .finite) (omega (arith, l .lasts))));
+          (lead-as (d - s .time) (j + s .passed) x y (lead-run gone (behind w b s) d j (l .finite) (omega (arith, l .lasts))));
       most = omega arith;
       some = k;
       has = l .has;
     }
 
-one-time : (tones : List ℕ) (r : Block) (f : Phase) (t d : ℕ) → t ≤ d → oneStep tones r f t .time ≤ d
+pub one-time : (tones : List ℕ) (r : Block) (f : Phase) (t d : ℕ) → t ≤ d → oneStep tones r f t .time ≤ d
 unfolding oneStep
 one-time tones r Start t d h = omega arith
 one-time tones r (Tones i p false) t d h = h

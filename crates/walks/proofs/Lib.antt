@@ -3,3 +3,4 @@ pub mod Leaps
 pub mod Ends
 pub mod Needed
 pub mod Turns
+pub mod Sheds

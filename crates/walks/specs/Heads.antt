@@ -7,7 +7,7 @@ use lib.Dec.{ltb, eqb}
 use lib.ListN.{length}
 use Rattle.laws.specs.Rules.{_⇒_, _∣_}
 use Rattle.pulses.specs.Play.{Level, low, Entry, pulse, endless, Status, standing, stopped, ended, Answer, answer}
-use Rattle.pulses.specs.Source.{isEnded}
+use Rattle.pulses.specs.Source.{isEnded, dropped}
 use Rattle.rows.specs.Table.{capacityOf}
 use Rattle.rows.specs.Rows.{block, blockMost}
 use Rattle.rows.specs.Well.{wellBlock}
@@ -97,6 +97,10 @@ tapeOf bytes tones blocks count = record { bytes = bytes; tones = tones; blocks 
 -- THE MEASURED WALK of n T-states from a position
 unfoldable pub walkFrom : Tape → Position → ℕ → Reached
 walkFrom w q n = walked w (formed w (q .block)) (answer (ahead (formed w (q .block)) q) n)
+
+-- the sum of the finite entries that the source's play drops uncharged in a call of n from a position
+unfoldable pub droppedFrom : Tape → Position → ℕ → ℕ
+droppedFrom w q n = dropped (ahead (formed w (q .block)) q) n
 
 -- a valid position below the count, in a well-formed row, on a tape whose count is within its capacity
 pub record Walkable (w : Tape) (q : Position) : Type 0 where

@@ -9,6 +9,9 @@ use Rattle.rows.specs.declared.Tone.{Tone}
 use Rattle.rows.specs.declared.Block.{Block}
 use Rattle.entries.specs.declared.Phase.{Phase}
 use Rattle.entries.specs.declared.Phase.the-variants.{Start, Tones, Data, Pause}
+use Rattle.entries.specs.declared.Duration.{Duration}
+use Rattle.entries.specs.declared.Duration.the-variants.{T, Endless}
+use Rattle.entries.specs.Places.{lengthAt}
 use Rattle.entries.specs.Entries.{cyclesOf, toneAt, bitsAt, byteAt, byteOf}
 use Rattle.walks.specs.declared.Step.{Step}
 
@@ -76,3 +79,27 @@ takeOf tape tones r (Tones i p false) true t d = takeCycles tones r i p t d
 takeOf tape tones r (Data pos k true) true t d = oneStep tones r (Data pos k true) t
 takeOf tape tones r (Data pos k false) true t d = eqb k 0 ⇒ takeByte tape tones r pos t d ∣ oneStep tones r (Data pos k false) t
 takeOf tape tones r Pause true t d = oneStep tones r Pause t
+
+-- nothing is dropped
+abbrev pub noStep : Phase → Step
+noStep f = record { phase = f; time = 0; passed = 0; over = false }
+
+-- an entry of this length is dropped where it is no longer than d
+unfoldable pub dropOne : List ℕ → Block → Phase → Duration → ℕ → Step
+dropOne tones r f (T t) d = leb t d ⇒ oneStep tones r f t ∣ noStep f
+dropOne tones r f Endless d = noStep f
+
+abbrev pub dropEntry : List ℕ → List ℕ → Block → Phase → ℕ → Step
+dropEntry tape tones r f d = dropOne tones r f (lengthAt tape tones r f) d
+
+-- ONE TURN of the source's walk, from an entry that is full: a run of which each entry is no longer than d, else the entry
+unfoldable pub dropOf : List ℕ → List ℕ → Block → Phase → ℕ → Step
+dropOf tape tones r Start d = dropEntry tape tones r Start d
+dropOf tape tones r (Tones i p true) d = dropEntry tape tones r (Tones i p true) d
+dropOf tape tones r (Tones i p false) d =
+    let x = toneAt tones r i in
+    (leb (x .len1) d && leb (x .len2) d) ⇒ cyclesStep x r i p (cyclesOf x - p) ∣ dropEntry tape tones r (Tones i p false) d
+dropOf tape tones r (Data pos k true) d = dropEntry tape tones r (Data pos k true) d
+dropOf tape tones r (Data pos k false) d =
+    (eqb k 0 && (leb (r .zero) d && leb (r .one) d)) ⇒ byteStep tape r pos ∣ dropEntry tape tones r (Data pos k false) d
+dropOf tape tones r Pause d = dropEntry tape tones r Pause d

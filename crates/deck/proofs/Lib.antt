@@ -1,1 +1,3 @@
 pub mod Checks
+pub mod Sourced
+pub mod Plays

@@ -13,6 +13,7 @@ use walks::Reached;
 use walks::Stand;
 use walks::length_at;
 use walks::row_well;
+use walks::ran_ahead;
 use walks::walk;
 ghost use mathlib.Core.Path.{_≡_};
 ghost use mathlib.Core.Bool.{true, false};
@@ -29,7 +30,7 @@ ghost use lib.Dec.{eqb};
 ghost use Rattle.laws.specs.Rules.{_⇒_, _∣_};
 ghost use Rattle.walks.specs.Heads.{walkFrom};
 ghost use Rattle.deck.specs.declared.Check.the-variants.{Fine};
-ghost use Rattle.deck.specs.Deck.{atStart, judged, stays, playMeasured};
+ghost use Rattle.deck.specs.Deck.{atStart, judged, stays, playMeasured, sourceFrom, playSource, backTo, blockAt, headAfter, playMounted};
 
 // What the checks of a position come to.
 pub enum Check {
@@ -200,5 +201,128 @@ pub fn play_measured(tape: &[u8], tones: &[u64], blocks: &[u64], count: u64, pos
         Check::Fine => measure(tape, tones, blocks, count, pos, n as u64),
         Check::NotValid => Reached::NotValid,
         Check::NotFormed => Reached::NotFormed,
+    }
+}
+
+// The source's play of n from a position that its callers know to be fine.
+fn follow(tape: &[u8], tones: &[u64], blocks: &[u64], count: u64, pos: Position, n: u32) -> Reached
+    requires { ⌜ judged (tapeOf (now tape) (now tones) (now blocks) count) pos ≡ Fine ⌝ }
+    ensures { λ r. ⌜ r ≡ (eqb n 0 ⇒ stays (tapeOf (now (tape .entry)) (now (tones .entry)) (now (blocks .entry)) count) pos
+        ∣ sourceFrom (tapeOf (now (tape .entry)) (now (tones .entry)) (now (blocks .entry)) count) pos n) ⌝ }
+{
+    if n == 0 {
+        return stay(tape, tones, blocks, count, pos);
+    }
+    if count <= pos.block {
+        return Reached::Ended(Stand {
+            position: Position::new_at_block(count),
+            passed: 0,
+            level: false,
+        });
+    }
+    let more = ran_ahead(tape, tones, blocks, count, pos, n as u64);
+    walk(tape, tones, blocks, count, pos, n as u64 + more)
+}
+
+// The source's play: a call of n T-states from a position.
+pub fn play(tape: &[u8], tones: &[u64], blocks: &[u64], count: u64, pos: Position, n: u32) -> Reached
+    ensures { λ r. ⌜ r ≡ playSource (tapeOf (now (tape .entry)) (now (tones .entry)) (now (blocks .entry)) count) pos n ⌝ }
+{
+    let c = judge(tape, tones, blocks, count, pos);
+    match c {
+        Check::Fine => follow(tape, tones, blocks, count, pos, n),
+        Check::NotValid => Reached::NotValid,
+        Check::NotFormed => Reached::NotFormed,
+    }
+}
+
+// A position's block for a menu; or refusal 9, or 11.
+pub enum Selected {
+    Block(u64),
+    BadPosition,
+    BadRow,
+}
+
+// From a block back to a selectable one or 0; its callers know the rows to be lent.
+fn back(tape: &[u8], tones: &[u64], blocks: &[u64], from: u64) -> Selected
+    requires { ⌜ from * block .width + block .width ≤ length (now blocks) ⌝ }
+    ensures { λ r. ⌜ ((count : ℕ) → r ≡ backTo (tapeOf (now (tape .entry)) (now (tones .entry)) (now (blocks .entry)) count) from) ⌝ }
+{
+    let mut b = from;
+    loop {
+        if !row_well(tape, tones, blocks, b) {
+            return Selected::BadRow;
+        }
+        if b == 0 {
+            return Selected::Block(0);
+        }
+        let r = block_at(blocks, b as usize);
+        if r.selectable == 1 {
+            return Selected::Block(b);
+        }
+        b -= 1;
+    }
+}
+
+// The block that a position is shown under: back to a selectable one, or past the end.
+pub fn block(tape: &[u8], tones: &[u64], blocks: &[u64], count: u64, pos: Position) -> Selected
+    ensures { λ r. ⌜ r ≡ blockAt (tapeOf (now (tape .entry)) (now (tones .entry)) (now (blocks .entry)) count) pos ⌝ }
+{
+    let c = judge(tape, tones, blocks, count, pos);
+    match c {
+        Check::Fine => {
+            let b = pos.block;
+            if count <= b {
+                return Selected::Block(Position::PAST_END);
+            }
+            back(tape, tones, blocks, b)
+        }
+        Check::NotValid => Selected::BadPosition,
+        Check::NotFormed => Selected::BadRow,
+    }
+}
+
+// The mounted head.
+pub struct Head {
+    pub position: Position,
+}
+
+// A mounted head after a call, and the call's answer.
+pub struct Played {
+    pub head: Head,
+    pub answer: Reached,
+}
+
+// Where the head is after an answer: on a refusal as it was.
+fn head_after(head: Head, r: Reached) -> Head
+    ensures { λ h. ⌜ h ≡ headAfter head r ⌝ }
+{
+    match r {
+        Reached::At(s) => {
+            let p = s.position;
+            Head { position: p }
+        }
+        Reached::Stopped(s) => {
+            let p = s.position;
+            Head { position: p }
+        }
+        Reached::Ended(s) => {
+            let p = s.position;
+            Head { position: p }
+        }
+        Reached::NotValid => head,
+        Reached::NotFormed => head,
+    }
+}
+
+// The measured player over a head by value.
+pub fn play_mounted(tape: &[u8], tones: &[u64], blocks: &[u64], count: u64, head: Head, n: u32) -> Played
+    ensures { λ r. ⌜ r ≡ playMounted (tapeOf (now (tape .entry)) (now (tones .entry)) (now (blocks .entry)) count) head n ⌝ }
+{
+    let pos = head.position;
+    let r = play_measured(tape, tones, blocks, count, pos, n);
+    Played {
+        head: head_after(head, r),
+        answer: r,
     }
 }

@@ -317,6 +317,20 @@ module _ (w : Tape) (q : Position) (a : Walkable w q) (n : ℕ) where
             few = omega (arith, cur-most rows (omega (arith, a .lent)) (q .block) (omega arith) (first-on .below) (s .phase) (s .over) (o .has) (n - t));
           }
 
+-- what a call drops is small
+pub dropped-most : (w : Tape) (q : Position) (n : ℕ) → Walkable w q → droppedFrom w q n ≤ 4611686018427387904
+dropped-most w q n a = by-left (q .left) refl
+  where
+    by-left : (l : Duration) → q .left ≡ l → droppedFrom w q n ≤ 4611686018427387904
+    by-left Endless z = omega (arith, dropped-stop w q a n z)
+    by-left (T t) z =
+        ⊎-elim
+        (λ l. omega (arith, dropped-short w q a n t z l))
+        (λ g.
+        let s = oneStep (w .tones) (blockIn w (q .block)) (q .phase) t in
+        omega (arith, dropped-behind w q a n t z g (blockIn w (q .block)) refl s refl, off-first w q a n t z g (blockIn w (q .block)) refl s refl .few))
+        (lt-or-ge n t)
+
 -- a block's start
 pub off-start : {w : Tape} {b₀ k : ℕ} → Needs w b₀ k → (b : ℕ) (f : Phase) (over : Bool) (d sum : ℕ) → over ≡ true → Off w k b f over d sum → b + 1 < k
     → Off w k (b + 1) Start false d sum

@@ -38,7 +38,7 @@ pub enum Duration {
 }
 
 // A count of cycles or bits, 0 as one.
-fn at_least_one(n: u64) -> u64
+pub fn at_least_one(n: u64) -> u64
     ensures { λ r. ⌜ r ≡ max 1 n ⌝ }
 {
     if n == 0 { 1 } else { n }
@@ -95,7 +95,7 @@ pub fn bits_at(r: Block, pos: u64) -> u64
 }
 
 // T-states of the first n bits of a byte, which its callers know to be 1 to 8 in a row whose numbers are well formed.
-fn bits_time(v: u8, n: u64, r: Block) -> u64
+pub fn bits_time(v: u8, n: u64, r: Block) -> u64
     requires { ⌜ (0 < n) × (n ≤ 8) ⌝ }
     requires { ⌜ wellNumbers r ≡ true ⌝ }
     ensures { λ t. ⌜ ((b pos : ℕ) → t ≡ time (run (bitEntries b r pos v) 0 n)) ⌝ }

@@ -1,0 +1,223 @@
+-- DEMAND 3 OVER TAPES: on well-formed rows both players are the list's, from every valid position, for any cutting into calls. Assumes nothing.
+use Prim.Native.Nat.{ℕ, _+_, _-_, _≤_, _<_}
+use native.Mathlib.Omega.{arith}
+use borrow.Author.Tests.{lt-ltb, le-ltb, le-leb, lt-leb, leb-true, ltb-true, ne-eqb}
+use mathlib.Core.Path.{_≡_, refl, sym, ap, ap₂, subst, _∙_}
+use mathlib.Core.Bool.{Bool, true, false, not, _&&_, _||_}
+use mathlib.Core.Logic.{⊎-elim}
+use mathlib.Core.List.{List, [], _∷_}
+use lib.Dec.{ltb, leb, eqb}
+use Rattle.laws.specs.Numbers.{lt-or-ge}
+use Rattle.laws.specs.Rules.{_⇒_, _∣_}
+use Rattle.pulses.specs.Play.{Level, Entry, Status, standing, stopped, ended, Answer, made, rest, answer, counted, calls, sum, Positive, time, Demanded}
+use Rattle.pulses.specs.Demand.{conserved, any-cut, demanded}
+use Rattle.pulses.specs.Source.{isEnded, source, dropped, heard, Agrees}
+use Rattle.pulses.specs.Agreement.{agrees}
+use Rattle.rows.specs.Table.{capacityOf}
+use Rattle.rows.specs.Rows.{block, blockMost}
+use Rattle.entries.specs.Entries.{Spot}
+use Rattle.entries.specs.Places.{Tape, isStart, isNone, leftAt, levelOf, valid, headOf, leftOf, hasIn, lengthIn, remains}
+use Rattle.entries.proofs.Tails.{Tail, tail-left, tail-rest}
+use Rattle.entries.proofs.Levels.{Levels, levels-left, levels-rest}
+use Rattle.walks.specs.declared.Position.{Position}
+use Rattle.walks.specs.declared.Stand.{Stand}
+use Rattle.walks.specs.declared.Reached.{Reached}
+use Rattle.walks.specs.declared.Reached.the-variants.{At, Stopped, Ended, NotValid, NotFormed}
+use Rattle.walks.specs.Heads.{stand, placeOf, ahead, levelHere, toldAs, told, wellRow, firstBad, cutTo, formed, walked, walkFrom, droppedFrom}
+use Rattle.walks.proofs.Needed.{Needs, needed}
+use Rattle.deck.specs.declared.Check.the-variants.{Fine}
+use Rattle.deck.specs.Deck.{overfull, atStart, ruledOut, badRow, validAt, judged, unless, stays, playMeasured, sourceAnswer, sourceFrom, playSource}
+use Rattle.deck.proofs.Sourced.{source-answer, source-walk}
+
+-- a tape whose counted rows are all well formed
+pub record Whole (w : Tape) : Type 0 where
+  pub lent : w .count ≤ capacityOf block blockMost (w .blocks)
+  pub rows : (b : ℕ) → b < w .count → wellRow w b ≡ true
+
+-- where an answer leaves the head, and the entries it counts; a refusal leaves it where it was and counts none
+unfoldable pub positionIn : Position → Reached → Position
+positionIn q (At s) = s .position
+positionIn q (Stopped s) = s .position
+positionIn q (Ended s) = s .position
+positionIn q NotValid = q
+positionIn q NotFormed = q
+
+unfoldable pub passedIn : Reached → ℕ
+passedIn (At s) = s .passed
+passedIn (Stopped s) = s .passed
+passedIn (Ended s) = s .passed
+passedIn NotValid = 0
+passedIn NotFormed = 0
+
+abbrev more : ℕ → Stand → Stand
+more j s = stand (s .position) (j + s .passed) (s .level)
+
+unfoldable pub counting : ℕ → Reached → Reached
+counting j (At s) = At (more j s)
+counting j (Stopped s) = Stopped (more j s)
+counting j (Ended s) = Ended (more j s)
+counting j NotValid = NotValid
+counting j NotFormed = NotFormed
+
+-- a call of n and then of each of ms, each from where the head then stands: the last's answer, the entries passed added up
+unfoldable pub runCalls : Tape → Position → ℕ → List ℕ → Reached
+runCalls w q n [] = playMeasured w q n
+runCalls w q n (m ∷ ms) = counting (passedIn (playMeasured w q n)) (runCalls w (positionIn q (playMeasured w q n)) m ms)
+
+told-position : (q : Position) (st : Status) (s : Stand) → positionIn q (toldAs st s) ≡ s .position
+unfolding toldAs positionIn
+told-position q standing s = refl
+told-position q stopped s = refl
+told-position q ended s = refl
+
+told-passed : (st : Status) (s : Stand) → passedIn (toldAs st s) ≡ s .passed
+unfolding toldAs passedIn
+told-passed standing s = refl
+told-passed stopped s = refl
+told-passed ended s = refl
+
+told-counted : (j : ℕ) (st : Status) (s : Stand) → counting j (toldAs st s) ≡ toldAs st (more j s)
+unfolding toldAs counting
+told-counted j standing s = refl
+told-counted j stopped s = refl
+told-counted j ended s = refl
+
+not-both : {x : Bool} → x ≡ true → x ≡ false → ⊥
+not-both {x} e f = let y : _≡_ {A = ℕ} 0 1 = ap (λ (t : Bool). t ⇒ 0 ∣ 1) (sym e ∙ f) in absurd (omega arith)
+
+or-false : (a b : Bool) → (a || b) ≡ true → b ≡ false → a ≡ true
+or-false true b e f = refl
+or-false false b e f = absurd (not-both e f)
+
+and-not : (a : Bool) → (a && false) ≡ false
+and-not true = refl
+and-not false = refl
+
+ruled-out : (w : Tape) (q : Position) → validAt w q ≡ true → ruledOut w q ≡ false
+unfolding ruledOut valid
+ruled-out w q v =
+    ⊎-elim
+    (λ l. rw (lt-leb (w .count) (q .block) l))
+    (λ g.
+    let e : (ltb (q .block) (w .count) && (hasIn w (q .block) (q .phase) && remains (q .left) (lengthIn w (q .block) (q .phase)))) ≡ false = rw (le-ltb (q .block) (w .count) g) in
+    rw (or-false (atStart q) _ v e) (and-not (leb (w .count) (q .block))))
+    (lt-or-ge (q .block) (w .count))
+
+bad-row : (w : Tape) → Whole w → (q : Position) → badRow w q ≡ false
+unfolding badRow
+bad-row w whole q =
+    ⊎-elim
+    (λ l. rw (whole .rows (q .block) l) (and-not (ltb (q .block) (w .count))))
+    (λ g. rw (le-ltb (q .block) (w .count) g))
+    (lt-or-ge (q .block) (w .count))
+
+-- on the whole tape no walk meets a bad row
+all-walked : (w : Tape) (a : Answer Spot) → walked w w a ≡ told w a
+unfolding walked
+all-walked w a = rw (le-ltb (w .count) (w .count) (omega arith), and-not (isEnded (a .tells)))
+
+passed-of : (w : Tape) (a : Answer Spot) → passedIn (told w a) ≡ a .passed
+unfolding told
+passed-of w a = told-passed (a .tells) _
+
+counted-told : (w : Tape) (j : ℕ) (a : Answer Spot) → counting j (told w a) ≡ told w (counted j a)
+unfolding told counted
+counted-told w j a = told-counted j (a .tells) _
+
+place-of : (w : Tape) (es : List (Entry Spot)) (n m : ℕ) (ms : List ℕ)
+    → told w (counted (answer es n .passed) (calls (rest es n) m ms)) ≡ told w (counted (answer es n .passed) (calls (answer es n .place) m ms))
+unfolding answer
+place-of w es n m ms = refl
+
+module _ (w : Tape) (whole : Whole w) where
+  -- nothing is cut
+  whole-count : (b : ℕ) → firstBad w b (w .count - b) ≡ w .count
+  unfolding firstBad
+  whole-count b =
+      ⊎-elim
+      (λ l.
+      let x = needed w b (omega arith) in
+      ⊎-elim (λ h. absurd (not-both (whole .rows _ h) (x .bad h))) (λ g. omega (arith, x .most)) (lt-or-ge (firstBad w b (w .count - b)) (w .count)))
+      (λ g. let z : w .count - b ≡ 0 = omega arith in ap (firstBad w b) z)
+      (lt-or-ge b (w .count))
+
+  pub whole-formed : (b : ℕ) → formed w b ≡ w
+  unfolding formed
+  whole-formed b = ap (cutTo w) (whole-count b)
+
+  -- a valid position passes the checks
+  pub whole-fine : (q : Position) → validAt w q ≡ true → judged w q ≡ Fine
+  unfolding judged
+  whole-fine q v = rw (le-ltb (capacityOf block blockMost (w .blocks)) (w .count) (whole .lent), ruled, row, v)
+    where
+      ruled : ruledOut w q ≡ false
+      ruled = ruled-out w q v
+
+      row : badRow w q ≡ false
+      row = bad-row w whole q
+
+  -- THE MEASURED PLAYER answers what the list says
+  pub play-told : (q : Position) (n : ℕ) → validAt w q ≡ true → 0 < n → playMeasured w q n ≡ told w (answer (ahead w q) n)
+  unfolding playMeasured unless walkFrom
+  play-told q n v p =
+      rw (whole-fine q v, ne-eqb n 0 (omega arith), whole-formed (q .block)) (all-walked w (answer (ahead w q) n))
+
+  play-position : (q : Position) (n : ℕ) → validAt w q ≡ true → 0 < n → positionIn q (playMeasured w q n) ≡ placeOf w (rest (ahead w q) n)
+  unfolding told answer
+  play-position q n v p = ap (positionIn q) (play-told q n v p) ∙ told-position q _ _
+
+  -- where the head then stands: what is left to play from there is what is left of the list, and the position is valid
+  pub play-place : (q : Position) (n : ℕ) → validAt w q ≡ true → 0 < n
+      → (ahead w (positionIn q (playMeasured w q n)) ≡ rest (ahead w q) n) × (validAt w (positionIn q (playMeasured w q n)) ≡ true)
+  play-place q n v p =
+      let x = tail-rest w (ahead w q) n (tail-left w (q .block) (q .phase) (q .left) v) in
+      let e = play-position q n v p in
+      (ap (ahead w) e ∙ x .ahead, ap (validAt w) e ∙ x .stands)
+
+  -- ANY CALLS answer what the list's calls say
+  pub calls-told : (q : Position) (n : ℕ) (ms : List ℕ) → validAt w q ≡ true → 0 < n → Positive ms → runCalls w q n ms ≡ told w (calls (ahead w q) n ms)
+  unfolding runCalls calls Positive
+  calls-told q n [] v p h = play-told q n v p
+  calls-told q n (m ∷ ms) v p h =
+      let x = play-place q n v p in
+      ap₂ counting (passed-told q n v p)
+      (calls-told (positionIn q (playMeasured w q n)) m ms (x .1) (h .0) (h .1)
+      ∙ ap (λ (r : List (Entry Spot)). told w (calls r m ms)) (x .0))
+      ∙ counted-told w (answer (ahead w q) n .passed) (calls (rest (ahead w q) n) m ms)
+      ∙ place-told q n m ms
+    where
+      passed-told : (q : Position) (n : ℕ) → validAt w q ≡ true → 0 < n → passedIn (playMeasured w q n) ≡ answer (ahead w q) n .passed
+      passed-told q n v p = ap passedIn (play-told q n v p) ∙ passed-of w (answer (ahead w q) n)
+
+      place-told : (q : Position) (n m : ℕ) (ms : List ℕ)
+          → told w (counted (answer (ahead w q) n .passed) (calls (rest (ahead w q) n) m ms)) ≡ told w (counted (answer (ahead w q) n .passed) (calls (answer (ahead w q) n .place) m ms))
+      place-told q n m ms = place-of w (ahead w q) n m ms
+
+  -- .. and so as one call of their sum
+  pub cut-at-will : (q : Position) (n : ℕ) (ms : List ℕ) → validAt w q ≡ true → 0 < n → Positive ms → runCalls w q n ms ≡ playMeasured w q (n + sum ms)
+  cut-at-will q n ms v p h =
+      calls-told q n ms v p h ∙ ap (told w) (any-cut (ahead w q) n ms h) ∙ sym (play-told q (n + sum ms) v (omega arith))
+
+  -- DEMAND 3 for the code's positions: the calls' answer is the list's, and the list's is what demand 3 asks
+  pub demand-3 : (q : Position) (n : ℕ) (ms : List ℕ) → validAt w q ≡ true → 0 < n → Positive ms
+      → (runCalls w q n ms ≡ told w (calls (ahead w q) n ms)) × Demanded (ahead w q) (n + sum ms) (calls (ahead w q) n ms)
+  demand-3 q n ms v p h = (calls-told q n ms v p h, demanded (ahead w q) n ms p h)
+
+  -- CONSERVATION: up to the stop or the end, time gone and the listed time left from the new position are what was listed
+  pub time-kept : (q : Position) (n : ℕ) → validAt w q ≡ true → 0 < n → n ≤ time (ahead w q)
+      → n + time (ahead w (positionIn q (playMeasured w q n))) ≡ time (ahead w q)
+  unfolding answer calls sum Positive
+  time-kept q n v p h = ap (λ (r : List (Entry Spot)). n + time r) (play-place q n v p .0) ∙ conserved (ahead w q) n h .0
+
+  -- THE SOURCE'S PLAY answers what its turns over the list come to
+  pub source-told : (q : Position) (n : ℕ) → validAt w q ≡ true → 0 < n → playSource w q n ≡ told w (sourceAnswer (ahead w q) n)
+  unfolding playSource unless sourceFrom
+  source-told q n v p =
+      rw (whole-fine q v, ne-eqb n 0 (omega arith), whole-formed (q .block)) (all-walked w (sourceAnswer (ahead w q) n))
+
+  -- its outcome, end included, agrees with the measured player's for the count and the sum that it drops: they are even equal
+  pub source-agrees : (q : Position) (n : ℕ) → validAt w q ≡ true → 0 < n
+      → (playSource w q n ≡ playMeasured w q (n + dropped (ahead w q) n)) × Agrees (source (ahead w q) n) (heard (answer (ahead w q) (n + dropped (ahead w q) n)))
+  source-agrees q n v p =
+      (source-told q n v p ∙ ap (told w) (source-answer (ahead w q) n) ∙ sym (play-told q (n + dropped (ahead w q) n) v (omega arith)),
+      agrees (ahead w q) n)

@@ -1,0 +1,61 @@
+use mathlib.Core.Path.{_≡_, refl, sym, ap, _∙_}
+use Rattle.deck.specs.Deck.{unless, playMeasured}
+use borrow.Author.Needs.{needs}
+use Rattle.deck.proofs.play_measured.Statement.{statement}
+use Rattle.deck.proofs.play_measured.Tie as tie
+use Rattle.deck.proofs.play_measured.Reads as reads
+use Rattle.deck.proofs.play_measured.Lts as lts
+use Rattle.deck.proofs.judge.Reads as judge-reads
+use Rattle.deck.proofs.measure.Reads as measure-reads
+
+-- src/lib.rt:198:9
+judge-requires : tie.Need-judge-requires
+judge-requires c κs = search needs
+
+-- src/lib.rt:200:65
+enum-told : tie.Need-enum-told
+enum-told c = search needs
+
+-- src/lib.rt:200:24
+measure-requires : tie.Need-measure-requires
+measure-requires c κs =
+    sym (c .before .before .judge .ensures) ∙ c .enum-told .given .1
+
+-- src/lib.rt:201:28
+enum-told-2 : tie.Need-enum-told-2
+enum-told-2 c = search needs
+
+-- src/lib.rt:202:29
+enum-told-3 : tie.Need-enum-told-3
+enum-told-3 c = search needs
+
+-- src/lib.rt:195:1
+returns : tie.Need-returns
+unfolding playMeasured unless
+returns c =
+    rw (← c .before .before .before .judge .ensures, c .before .enum-told .given .1) (c .measure .ensures)
+
+-- src/lib.rt:195:1
+returns-2 : tie.Need-returns-2
+unfolding playMeasured unless
+returns-2 c =
+    rw (← c .before .before .judge .ensures, c .enum-told2 .given .1)
+
+-- src/lib.rt:195:1
+returns-3 : tie.Need-returns-3
+unfolding playMeasured unless
+returns-3 c =
+    rw (← c .before .before .judge .ensures, c .enum-told3 .given .1)
+
+pub play-measured-spec : {M : Type 1} → statement M
+play-measured-spec =
+    tie.close
+    (tie.spec
+    judge-requires
+    enum-told
+    measure-requires
+    enum-told-2
+    enum-told-3
+    returns
+    returns-2
+    returns-3)

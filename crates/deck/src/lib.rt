@@ -1,0 +1,328 @@
+// The players of a mounted tape: the measured one and the source's, by value and over a lent head.
+use entries::Phase;
+use entries::Duration;
+use entries::at_least_one;
+use entries::bits_at;
+use entries::mic;
+use rows::Block;
+use rows::block_at;
+use rows::block_capacity;
+use rows::tone_at;
+use walks::Position;
+use walks::Reached;
+use walks::Stand;
+use walks::length_at;
+use walks::row_well;
+use walks::ran_ahead;
+use walks::walk;
+ghost use mathlib.Core.Path.{_≡_};
+ghost use mathlib.Core.Bool.{true, false};
+ghost use Prim.Native.Nat.{ℕ, _+_, _*_, _<_, _≤_};
+ghost use lib.ListN.{length};
+ghost use Rattle.rows.specs.Table.{get, capacityOf};
+ghost use Rattle.rows.specs.Rows.{block, blockMost};
+ghost use Rattle.rows.specs.Well.{wellBlock};
+ghost use Rattle.entries.specs.Places.{hasEntry, lengthAt, isNone, remains};
+ghost use Rattle.walks.specs.Heads.{sizeOf, tapeOf, Walkable};
+ghost use Rattle.entries.specs.declared.Duration.the-variants.{T, Endless};
+ghost use mathlib.Core.Bool.{_&&_};
+ghost use lib.Dec.{eqb};
+ghost use Rattle.laws.specs.Rules.{_⇒_, _∣_};
+ghost use Rattle.walks.specs.Heads.{walkFrom};
+ghost use Rattle.deck.specs.declared.Check.the-variants.{Fine};
+ghost use Rattle.deck.specs.Deck.{atStart, judged, stays, playMeasured, sourceFrom, playSource, backTo, blockAt, headAfter, playMounted};
+
+// What the checks of a position come to.
+pub enum Check {
+    Fine,
+    NotValid,
+    NotFormed,
+}
+
+// Whether a position is a start with 0 left.
+fn at_start(pos: Position) -> bool
+    ensures { λ v. ⌜ v ≡ atStart pos ⌝ }
+{
+    let f = pos.phase;
+    let left = pos.left;
+    match f {
+        Phase::Start => none_left(left),
+        Phase::Tones { .. } => false,
+        Phase::Data { .. } => false,
+        Phase::Pause => false,
+    }
+}
+
+fn none_left(left: Duration) -> bool
+    ensures { λ v. ⌜ v ≡ isNone left ⌝ }
+{
+    match left {
+        Duration::T(n) => n == 0,
+        Duration::Endless => false,
+    }
+}
+
+// Whether so much may be left of a length.
+fn may_remain(left: Duration, length: Duration) -> bool
+    ensures { λ v. ⌜ v ≡ remains left length ⌝ }
+{
+    match left {
+        Duration::T(n) => part_of(n, length),
+        Duration::Endless => is_endless(length),
+    }
+}
+
+fn part_of(n: u64, length: Duration) -> bool
+    ensures { λ v. ⌜ v ≡ remains (T n) length ⌝ }
+{
+    match length {
+        Duration::T(t) => {
+            if t == 0 {
+                return n == 0;
+            }
+            0 < n && n <= t
+        }
+        Duration::Endless => false,
+    }
+}
+
+fn is_endless(length: Duration) -> bool
+    ensures { λ v. ⌜ v ≡ remains Endless length ⌝ }
+{
+    match length {
+        Duration::T(_) => false,
+        Duration::Endless => true,
+    }
+}
+
+// Whether a block has an entry of this phase; its callers know the row to be well formed.
+fn has_entry(tape: &[u8], tones: &[u64], r: Block, f: Phase) -> bool
+    requires { ⌜ wellBlock (sizeOf (now tape)) (now tones) r ≡ true ⌝ }
+    ensures { λ v. ⌜ v ≡ hasEntry (now (tones .entry)) r f ⌝ }
+{
+    match f {
+        Phase::Start => true,
+        Phase::Tones { index, pulse, .. } => {
+            if r.tones <= index {
+                return false;
+            }
+            let t = tone_at(tones, (r.tone + index) as usize);
+            pulse < at_least_one(t.num)
+        }
+        Phase::Data { pos, bit, .. } => {
+            if r.size <= pos {
+                return false;
+            }
+            bit < bits_at(r, pos)
+        }
+        Phase::Pause => true,
+    }
+}
+
+// Whether so much may be left of a block's entry; its callers know the row to be well formed.
+fn has_left(tape: &[u8], tones: &[u64], r: Block, f: Phase, left: Duration) -> bool
+    requires { ⌜ wellBlock (sizeOf (now tape)) (now tones) r ≡ true ⌝ }
+    ensures { λ v. ⌜ v ≡ (hasEntry (now (tones .entry)) r f && remains left (lengthAt (now (tape .entry)) (now (tones .entry)) r f)) ⌝ }
+{
+    if !has_entry(tape, tones, r, f) {
+        return false;
+    }
+    may_remain(left, length_at(tape, tones, r, f))
+}
+
+// The checks of a position, in document 01's order.
+fn judge(tape: &[u8], tones: &[u64], blocks: &[u64], count: u64, pos: Position) -> Check
+    ensures { λ r. ⌜ r ≡ judged (tapeOf (now (tape .entry)) (now (tones .entry)) (now (blocks .entry)) count) pos ⌝ }
+{
+    if (block_capacity(blocks) as u64) < count {
+        return Check::NotFormed;
+    }
+    let b = pos.block;
+    if count <= b {
+        if at_start(pos) {
+            return Check::Fine;
+        }
+        return Check::NotValid;
+    }
+    if !row_well(tape, tones, blocks, b) {
+        return Check::NotFormed;
+    }
+    let f = pos.phase;
+    let left = pos.left;
+    if !has_left(tape, tones, block_at(blocks, b as usize), f, left) {
+        return Check::NotValid;
+    }
+    Check::Fine
+}
+
+// A call of 0 from a position that its callers know to be fine: nothing is altered.
+fn stay(tape: &[u8], tones: &[u64], blocks: &[u64], count: u64, pos: Position) -> Reached
+    requires { ⌜ judged (tapeOf (now tape) (now tones) (now blocks) count) pos ≡ Fine ⌝ }
+    ensures { λ r. ⌜ r ≡ stays (tapeOf (now (tape .entry)) (now (tones .entry)) (now (blocks .entry)) count) pos ⌝ }
+{
+    let left = pos.left;
+    let f = pos.phase;
+    let here = Stand {
+        position: pos,
+        passed: 0,
+        level: mic(f),
+    };
+    match left {
+        Duration::T(_) => Reached::At(here),
+        Duration::Endless => Reached::Stopped(here),
+    }
+}
+
+// A call of n from a position that its callers know to be fine.
+fn measure(tape: &[u8], tones: &[u64], blocks: &[u64], count: u64, pos: Position, n: u64) -> Reached
+    requires { ⌜ judged (tapeOf (now tape) (now tones) (now blocks) count) pos ≡ Fine ⌝ }
+    ensures { λ r. ⌜ r ≡ (eqb n 0 ⇒ stays (tapeOf (now (tape .entry)) (now (tones .entry)) (now (blocks .entry)) count) pos
+        ∣ walkFrom (tapeOf (now (tape .entry)) (now (tones .entry)) (now (blocks .entry)) count) pos n) ⌝ }
+{
+    if n == 0 {
+        return stay(tape, tones, blocks, count, pos);
+    }
+    if count <= pos.block {
+        return Reached::Ended(Stand {
+            position: Position::new_at_block(count),
+            passed: 0,
+            level: false,
+        });
+    }
+    walk(tape, tones, blocks, count, pos, n)
+}
+
+// The measured player: a call of n T-states from a position.
+pub fn play_measured(tape: &[u8], tones: &[u64], blocks: &[u64], count: u64, pos: Position, n: u32) -> Reached
+    ensures { λ r. ⌜ r ≡ playMeasured (tapeOf (now (tape .entry)) (now (tones .entry)) (now (blocks .entry)) count) pos n ⌝ }
+{
+    let c = judge(tape, tones, blocks, count, pos);
+    match c {
+        Check::Fine => measure(tape, tones, blocks, count, pos, n as u64),
+        Check::NotValid => Reached::NotValid,
+        Check::NotFormed => Reached::NotFormed,
+    }
+}
+
+// The source's play of n from a position that its callers know to be fine.
+fn follow(tape: &[u8], tones: &[u64], blocks: &[u64], count: u64, pos: Position, n: u32) -> Reached
+    requires { ⌜ judged (tapeOf (now tape) (now tones) (now blocks) count) pos ≡ Fine ⌝ }
+    ensures { λ r. ⌜ r ≡ (eqb n 0 ⇒ stays (tapeOf (now (tape .entry)) (now (tones .entry)) (now (blocks .entry)) count) pos
+        ∣ sourceFrom (tapeOf (now (tape .entry)) (now (tones .entry)) (now (blocks .entry)) count) pos n) ⌝ }
+{
+    if n == 0 {
+        return stay(tape, tones, blocks, count, pos);
+    }
+    if count <= pos.block {
+        return Reached::Ended(Stand {
+            position: Position::new_at_block(count),
+            passed: 0,
+            level: false,
+        });
+    }
+    let more = ran_ahead(tape, tones, blocks, count, pos, n as u64);
+    walk(tape, tones, blocks, count, pos, n as u64 + more)
+}
+
+// The source's play: a call of n T-states from a position.
+pub fn play(tape: &[u8], tones: &[u64], blocks: &[u64], count: u64, pos: Position, n: u32) -> Reached
+    ensures { λ r. ⌜ r ≡ playSource (tapeOf (now (tape .entry)) (now (tones .entry)) (now (blocks .entry)) count) pos n ⌝ }
+{
+    let c = judge(tape, tones, blocks, count, pos);
+    match c {
+        Check::Fine => follow(tape, tones, blocks, count, pos, n),
+        Check::NotValid => Reached::NotValid,
+        Check::NotFormed => Reached::NotFormed,
+    }
+}
+
+// A position's block for a menu; or refusal 9, or 11.
+pub enum Selected {
+    Block(u64),
+    BadPosition,
+    BadRow,
+}
+
+// From a block back to a selectable one or 0; its callers know the rows to be lent.
+fn back(tape: &[u8], tones: &[u64], blocks: &[u64], from: u64) -> Selected
+    requires { ⌜ from * block .width + block .width ≤ length (now blocks) ⌝ }
+    ensures { λ r. ⌜ ((count : ℕ) → r ≡ backTo (tapeOf (now (tape .entry)) (now (tones .entry)) (now (blocks .entry)) count) from) ⌝ }
+{
+    let mut b = from;
+    loop {
+        if !row_well(tape, tones, blocks, b) {
+            return Selected::BadRow;
+        }
+        if b == 0 {
+            return Selected::Block(0);
+        }
+        let r = block_at(blocks, b as usize);
+        if r.selectable == 1 {
+            return Selected::Block(b);
+        }
+        b -= 1;
+    }
+}
+
+// The block that a position is shown under: back to a selectable one, or past the end.
+pub fn block(tape: &[u8], tones: &[u64], blocks: &[u64], count: u64, pos: Position) -> Selected
+    ensures { λ r. ⌜ r ≡ blockAt (tapeOf (now (tape .entry)) (now (tones .entry)) (now (blocks .entry)) count) pos ⌝ }
+{
+    let c = judge(tape, tones, blocks, count, pos);
+    match c {
+        Check::Fine => {
+            let b = pos.block;
+            if count <= b {
+                return Selected::Block(Position::PAST_END);
+            }
+            back(tape, tones, blocks, b)
+        }
+        Check::NotValid => Selected::BadPosition,
+        Check::NotFormed => Selected::BadRow,
+    }
+}
+
+// The mounted head.
+pub struct Head {
+    pub position: Position,
+}
+
+// A mounted head after a call, and the call's answer.
+pub struct Played {
+    pub head: Head,
+    pub answer: Reached,
+}
+
+// Where the head is after an answer: on a refusal as it was.
+fn head_after(head: Head, r: Reached) -> Head
+    ensures { λ h. ⌜ h ≡ headAfter head r ⌝ }
+{
+    match r {
+        Reached::At(s) => {
+            let p = s.position;
+            Head { position: p }
+        }
+        Reached::Stopped(s) => {
+            let p = s.position;
+            Head { position: p }
+        }
+        Reached::Ended(s) => {
+            let p = s.position;
+            Head { position: p }
+        }
+        Reached::NotValid => head,
+        Reached::NotFormed => head,
+    }
+}
+
+// The measured player over a head by value.
+pub fn play_mounted(tape: &[u8], tones: &[u64], blocks: &[u64], count: u64, head: Head, n: u32) -> Played
+    ensures { λ r. ⌜ r ≡ playMounted (tapeOf (now (tape .entry)) (now (tones .entry)) (now (blocks .entry)) count) head n ⌝ }
+{
+    let pos = head.position;
+    let r = play_measured(tape, tones, blocks, count, pos, n);
+    Played {
+        head: head_after(head, r),
+        answer: r,
+    }
+}

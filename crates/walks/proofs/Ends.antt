@@ -1,0 +1,108 @@
+-- WHERE A WALK LEAVES: what the list's answer is there, and which rows a walk needs. Assumes nothing.
+use Prim.Native.Nat.{ℕ, zero, suc, _+_, _-_, _*_, _≤_, _<_}
+use native.Mathlib.Omega.{arith}
+use borrow.Author.Tests.{lt-ltb, le-ltb}
+use mathlib.Core.Path.{_≡_, refl, sym, ap, ap₂, subst, _∙_}
+use mathlib.Core.Bool.{Bool, true, false, _&&_}
+use mathlib.Core.Logic.{_⊎_, inl, inr, ⊎-elim}
+use mathlib.Core.List.{List, [], _∷_, _++_}
+use lib.ListN.{length}
+use lib.Dec.{ltb}
+use Rattle.laws.specs.Numbers.{lt-or-ge}
+use Rattle.laws.specs.Rules.{_⇒_, _∣_}
+use Rattle.pulses.specs.Play.{Level, Entry, pulse, endless, Status, standing, stopped, ended, made, rest, over, shown, status, answer}
+use Rattle.pulses.specs.Steps.{rest-nil, rest-stop, rest-zero, rest-here, over-zero, over-pulse}
+use Rattle.pulses.specs.Demand.{status-left, status-over}
+use Rattle.pulses.specs.Lead.{Leads, lead-by, lead-as}
+use Rattle.pulses.specs.Source.{isEnded}
+use Rattle.entries.specs.declared.Phase.{Phase}
+use Rattle.entries.specs.declared.Phase.the-variants.{Start, Tones, Data, Pause}
+use Rattle.entries.specs.declared.Duration.{Duration}
+use Rattle.entries.specs.declared.Duration.the-variants.{T, Endless}
+use Rattle.entries.specs.Entries.{Spot, spot, entryOf, startOf}
+use Rattle.entries.specs.Places.{Tape, listFrom, fromTone, leftAt, lengthAt, levelOf, remains, lengthIn, headOf, leftOf}
+use Rattle.entries.proofs.Follows.{list-in, list-out}
+use Rattle.entries.proofs.Valid.{Stands, within-remains}
+use Rattle.walks.specs.declared.Reached.{Reached}
+use Rattle.walks.specs.declared.Reached.the-variants.{At, Stopped, Ended, NotFormed}
+use Rattle.walks.specs.Heads.{placed, startAt, stand, levelHere, toldAs, told, wellRow, firstBad, cutTo, formed, walked}
+
+over-nil : (A : Type 0) (m : ℕ) → over {A = A} [] m ≡ m
+unfolding over
+over-nil A m = refl
+
+module _ {A : Type 0} {es : List (Entry A)} {n : ℕ} where
+  -- the answer by what a walk has led to
+  answer-by : (fs gs : List (Entry A)) (m i u : ℕ) → Leads es n 0 fs m i → rest fs m ≡ gs → over fs m ≡ u → length fs ≡ length gs
+      → answer es n ≡ made gs (status gs u) i
+  unfolding answer
+  answer-by fs gs m i u l r o k =
+      let e : rest es n ≡ gs = l .rests ∙ r in
+      let c : length es - length (rest es n) ≡ i = omega (arith, l .counts, ap length e) in
+      ap₂ (λ (x : List (Entry A)) (j : ℕ). made x (status x (over es n)) j) e c ∙ ap (λ (x : ℕ). made gs (status gs x) i) (l .overs ∙ o)
+
+  pub answer-in : (a : A) (v : Level) (t : ℕ) (fs : List (Entry A)) (m i : ℕ) → Leads es n 0 (pulse a v t ∷ fs) m i → (m ≡ 0) ⊎ (m < t)
+      → answer es n ≡ made (pulse a v (t - m) ∷ fs) standing i
+  unfolding shown
+  answer-in a v t fs m i l h =
+      answer-by (pulse a v t ∷ fs) (pulse a v (t - m) ∷ fs) m i 0 l
+      (⊎-elim
+      (λ z.
+      let y : t ≡ t - m = omega arith in
+      ap (rest (pulse a v t ∷ fs)) z ∙ rest-zero _ ∙ ap (λ (x : ℕ). pulse a v x ∷ fs) y)
+      (λ g. rest-here a v t fs m g) h)
+      (over-pulse a v t fs m ∙ none) refl
+      ∙ ap (λ (s : Status). made (pulse a v (t - m) ∷ fs) s i) (status-left _ 0 refl)
+    where
+      none : over fs (m - t) ≡ 0
+      none = let y : m - t ≡ 0 = ⊎-elim (λ z. omega arith) (λ g. omega arith) h in ap (over fs) y ∙ over-zero fs
+
+  pub answer-stop : (a : A) (v : Level) (fs : List (Entry A)) (m i : ℕ) → Leads es n 0 (endless a v ∷ fs) m i
+      → answer es n ≡ made (endless a v ∷ fs) stopped i
+  unfolding shown over
+  answer-stop a v fs m i l =
+      answer-by (endless a v ∷ fs) (endless a v ∷ fs) m i 0 l (rest-stop a v fs m) refl refl
+      ∙ ap (λ (s : Status). made (endless a v ∷ fs) s i) (status-left _ 0 refl)
+
+  pub answer-end : (m i : ℕ) → Leads es n 0 [] m i → answer es n ≡ made [] (status {A = A} [] m) i
+  answer-end m i l = answer-by [] [] m i m l (rest-nil m) (over-nil A m) refl
+
+module _ (w v : Tape) {es : List (Entry Spot)} {n : ℕ} where
+  -- standing in an entry
+  pub tells-at : (b : ℕ) (f : Phase) (x : Level) (t : ℕ) (fs : List (Entry Spot)) (m i : ℕ) → Leads es n 0 (pulse (spot b f) x t ∷ fs) m i
+      → (m ≡ 0) ⊎ (m < t) → walked w v (answer es n) ≡ At (stand (placed b f (T (t - m))) i x)
+  unfolding walked told toldAs levelHere headOf leftOf
+  tells-at b f x t fs m i l h = rw (answer-in (spot b f) x t fs m i l h)
+
+  pub tells-stop : (b : ℕ) (f : Phase) (x : Level) (fs : List (Entry Spot)) (m i : ℕ) → Leads es n 0 (endless (spot b f) x ∷ fs) m i
+      → walked w v (answer es n) ≡ Stopped (stand (placed b f Endless) i x)
+  unfolding walked told toldAs levelHere headOf leftOf
+  tells-stop b f x fs m i l = rw (answer-stop (spot b f) x fs m i l)
+
+  -- at the end of v with T-states left: the tape's end, or a row that is not well formed
+  pub tells-end : (m i : ℕ) → Leads es n 0 [] m i → 0 < m → w .count ≤ v .count → walked w v (answer es n) ≡ Ended (stand (startAt (v .count)) i false)
+  unfolding walked told toldAs levelHere headOf leftOf
+  tells-end m i l h e = rw (answer-end m i l, status-over {A = Spot} [] m h, le-ltb (v .count) (w .count) e)
+
+  pub tells-bad : (m i : ℕ) → Leads es n 0 [] m i → 0 < m → v .count < w .count → walked w v (answer es n) ≡ NotFormed
+  unfolding walked
+  tells-bad m i l h e = rw (answer-end m i l, status-over {A = Spot} [] m h, lt-ltb (v .count) (w .count) e)
+
+  pub tells-last : (i : ℕ) → Leads es n 0 [] 0 i → walked w v (answer es n) ≡ At (stand (startAt (v .count)) i false)
+  unfolding walked told toldAs levelHere headOf leftOf shown
+  tells-last i l = rw (answer-end 0 i l, status-left {A = Spot} [] 0 refl)
+
+  -- at the start of the block behind b, with nothing left to spend
+  pub tells-next : (b m i : ℕ) → Leads es n 0 (listFrom v (b + 1)) m i → m ≡ 0 → b < v .count
+      → walked w v (answer es n) ≡ At (stand (startAt (b + 1)) i false)
+  tells-next b m i l z h =
+      ⊎-elim
+      (λ g.
+      let y : 0 - m ≡ 0 = omega arith in
+      tells-at (b + 1) Start false 0 (fromTone v (b + 1) 0) m i (lead-by (list-in v (b + 1) g) l) (inl z)
+      ∙ ap (λ (x : ℕ). At (stand (placed (b + 1) Start (T x)) i false)) y)
+      (λ g.
+      let e : v .count ≡ b + 1 = omega arith in
+      tells-last i (lead-as 0 i z refl (lead-by (list-out v (b + 1) g) l)) ∙ ap (λ (x : ℕ). At (stand (startAt x) i false)) e)
+      (lt-or-ge (b + 1) (v .count))
+

@@ -1,0 +1,578 @@
+// Positions, and the walks over a tape's entries that both players stand on.
+use rows::Block;
+use rows::Tone;
+use rows::tone_at;
+use rows::block_at;
+use rows::block_well;
+use entries::Phase;
+use entries::Duration;
+use entries::at_least_one;
+use entries::bits_at;
+use entries::bits_time;
+use entries::mic;
+use entries::pause_of;
+ghost use mathlib.Core.Path.{_≡_};
+ghost use mathlib.Core.Bool.{true, false};
+ghost use Prim.Native.Nat.{ℕ, _+_, _*_, _<_, _≤_};
+ghost use lib.ListN.{length};
+ghost use Rattle.rows.specs.Table.{get, capacityOf};
+ghost use Rattle.rows.specs.Rows.{tone, toneMost, block, blockMost};
+ghost use Rattle.rows.specs.Well.{wellTone, wellBlock};
+ghost use Rattle.pulses.specs.Play.{answer};
+ghost use Rattle.entries.specs.Entries.{cyclesOf, toneAt, bitsAt, byteAt, halfOf, bitOf};
+ghost use Rattle.entries.specs.Places.{Tape, leftAt, levelOf, hasEntry, lengthAt, valid};
+ghost use Rattle.walks.specs.Steps.{dataFrom, bitFrom, toneFrom, cycleFrom, fitting, cyclesStep, byteTime, byteStep, oneStep, takeCycles, takeByte, takeOf, noStep, dropOne, dropEntry, dropOf};
+ghost use Rattle.walks.specs.Heads.{placed, startAt, stand, ahead, sizeOf, tapeOf, Walkable, walkFrom, droppedFrom};
+ghost use Rattle.entries.specs.declared.Duration.the-variants.{T, Endless};
+ghost use Rattle.entries.specs.declared.Phase.the-variants.{Tones, Data};
+ghost use Rattle.walks.specs.declared.Reached.the-variants.{At, Stopped};
+
+// Where a head stands: its block, its entry there, and what is left of it; the Rust's `TapePos`.
+pub struct Position {
+    pub block: u64,
+    pub phase: Phase,
+    pub left: Duration,
+}
+
+impl Position {
+    // A block's first entry.
+    pub const START: Phase = Phase::Start;
+
+    // The block number that stands for past the end.
+    pub const PAST_END: u64 = 4_294_967_295;
+
+    pub fn new_at_block(block: u64) -> Position
+        ensures { λ r. ⌜ r ≡ startAt block ⌝ }
+    {
+        Position {
+            block,
+            phase: Position::START,
+            left: Duration::T(0),
+        }
+    }
+
+    // The level there, of a source row.
+    pub fn mic(self) -> bool
+        ensures { λ v. ⌜ v ≡ levelOf (self .phase) ⌝ }
+    {
+        let f = self.phase;
+        mic(f)
+    }
+
+    pub fn real_block(self) -> u64
+        ensures { λ b. ⌜ b ≡ self .block ⌝ }
+    {
+        self.block
+    }
+
+    pub fn position(self) -> Phase
+        ensures { λ f. ⌜ f ≡ self .phase ⌝ }
+    {
+        self.phase
+    }
+}
+
+// Where a call leaves the head: its position, the entries passed and the level there.
+pub struct Stand {
+    pub position: Position,
+    pub passed: u64,
+    pub level: bool,
+}
+
+// A player's answer: it stands, at an endless pause, or has ended; or refusal 9, or 11.
+pub enum Reached {
+    At(Stand),
+    Stopped(Stand),
+    Ended(Stand),
+    NotValid,
+    NotFormed,
+}
+
+// How a turn of a walk goes on: to this phase, or over the block; its T-states and entries.
+pub struct Step {
+    pub phase: Phase,
+    pub time: u64,
+    pub passed: u64,
+    pub over: bool,
+}
+
+// The first entry from data byte pos on.
+fn data_from(r: Block, pos: u64) -> Phase
+    ensures { λ f. ⌜ f ≡ dataFrom r pos ⌝ }
+{
+    if pos < r.size {
+        return Phase::Data { pos, bit: 0, last_half: false };
+    }
+    Phase::Pause
+}
+
+// The first entry from bit k of data byte pos on.
+fn bit_from(r: Block, pos: u64, k: u64) -> Phase
+    requires { ⌜ pos < r .size ⌝ }
+    ensures { λ f. ⌜ f ≡ bitFrom r pos k ⌝ }
+{
+    if k < bits_at(r, pos) {
+        return Phase::Data { pos, bit: k, last_half: false };
+    }
+    data_from(r, pos + 1)
+}
+
+// The first entry from tone row i on.
+fn tone_from(r: Block, i: u64) -> Phase
+    ensures { λ f. ⌜ f ≡ toneFrom r i ⌝ }
+{
+    if i < r.tones {
+        return Phase::Tones { index: i, pulse: 0, last_half: false };
+    }
+    data_from(r, 0)
+}
+
+// The first entry from cycle p of tone row i on.
+fn cycle_from(t: Tone, r: Block, i: u64, p: u64) -> Phase
+    requires { ⌜ i < r .tones ⌝ }
+    ensures { λ f. ⌜ f ≡ cycleFrom t r i p ⌝ }
+{
+    if p < at_least_one(t.num) {
+        return Phase::Tones { index: i, pulse: p, last_half: false };
+    }
+    tone_from(r, i + 1)
+}
+
+// Either half of bit k of data byte pos, which its callers know to lie in the tape.
+fn half_at(tape: &[u8], r: Block, pos: u64, k: u64) -> u64
+    requires { ⌜ (r .start + pos < length (now tape)) × (k < 8) ⌝ }
+    ensures { λ t. ⌜ t ≡ halfOf r (bitOf (byteAt (now (tape .entry)) r pos) k) ⌝ }
+{
+    let at = (r.start + pos) as usize;
+    let v = tape[at] >> (7 - k);
+    if v % 2 == 0 { r.zero } else { r.one }
+}
+
+// The length of a block's entry, which its callers know to be there in a well-formed row.
+pub fn length_at(tape: &[u8], tones: &[u64], r: Block, f: Phase) -> Duration
+    requires { ⌜ wellBlock (sizeOf (now tape)) (now tones) r ≡ true ⌝ }
+    requires { ⌜ hasEntry (now tones) r f ≡ true ⌝ }
+    ensures { λ d. ⌜ d ≡ lengthAt (now (tape .entry)) (now (tones .entry)) r f ⌝ }
+{
+    match f {
+        Phase::Start => Duration::T(0),
+        Phase::Tones { index, last_half, .. } => {
+            let t = tone_at(tones, (r.tone + index) as usize);
+            if last_half {
+                return Duration::T(t.len2);
+            }
+            Duration::T(t.len1)
+        }
+        Phase::Data { pos, bit, .. } => Duration::T(half_at(tape, r, pos, bit)),
+        Phase::Pause => pause_of(r),
+    }
+}
+
+// Behind one entry, which its callers know to be there in a well-formed row.
+pub fn one_step(tape: u64, tones: &[u64], r: Block, f: Phase, t: u64) -> Step
+    requires { ⌜ wellBlock tape (now tones) r ≡ true ⌝ }
+    requires { ⌜ hasEntry (now tones) r f ≡ true ⌝ }
+    ensures { λ s. ⌜ s ≡ oneStep (now (tones .entry)) r f t ⌝ }
+{
+    match f {
+        Phase::Start => Step {
+            phase: tone_from(r, 0),
+            time: 0,
+            passed: 1,
+            over: false,
+        },
+        Phase::Tones { index, pulse, last_half } => {
+            if last_half {
+                let x = tone_at(tones, (r.tone + index) as usize);
+                return Step {
+                    phase: cycle_from(x, r, index, pulse + 1),
+                    time: t,
+                    passed: 1,
+                    over: false,
+                };
+            }
+            Step {
+                phase: Phase::Tones { index, pulse, last_half: true },
+                time: t,
+                passed: 1,
+                over: false,
+            }
+        }
+        Phase::Data { pos, bit, last_half } => {
+            if last_half {
+                return Step {
+                    phase: bit_from(r, pos, bit + 1),
+                    time: t,
+                    passed: 1,
+                    over: false,
+                };
+            }
+            Step {
+                phase: Phase::Data { pos, bit, last_half: true },
+                time: t,
+                passed: 1,
+                over: false,
+            }
+        }
+        Phase::Pause => Step {
+            phase: Phase::Start,
+            time: t,
+            passed: 1,
+            over: true,
+        },
+    }
+}
+
+// Of m cycles of c T-states each, how many last less than d.
+fn fits(c: u64, m: u64, d: u64) -> u64
+    requires { ⌜ 0 < d ⌝ }
+    ensures { λ k. ⌜ k ≡ fitting c m d ⌝ }
+{
+    if c == 0 {
+        return m;
+    }
+    let k = (d - 1) / c;
+    if m <= k { m } else { k }
+}
+
+// From the first half of a cycle, full: the cycles that last less than d, or this half.
+fn take_cycles(tape: u64, tones: &[u64], r: Block, i: u64, p: u64, t: u64, d: u64) -> Step
+    requires { ⌜ wellBlock tape (now tones) r ≡ true ⌝ }
+    requires { ⌜ (i < r .tones) × (p < cyclesOf (toneAt (now tones) r i)) ⌝ }
+    requires { ⌜ 0 < d ⌝ }
+    ensures { λ s. ⌜ s ≡ takeCycles (now (tones .entry)) r i p t d ⌝ }
+{
+    let x = tone_at(tones, (r.tone + i) as usize);
+    let c = x.len1 + x.len2;
+    let k = fits(c, at_least_one(x.num) - p, d);
+    if 0 < k {
+        return Step {
+            phase: cycle_from(x, r, i, p + k),
+            time: k * c,
+            passed: k * 2,
+            over: false,
+        };
+    }
+    Step {
+        phase: Phase::Tones { index: i, pulse: p, last_half: true },
+        time: t,
+        passed: 1,
+        over: false,
+    }
+}
+
+// T-states of data byte pos, which its callers know to be there in a well-formed row.
+fn byte_time(tape: &[u8], tones: &[u64], r: Block, pos: u64) -> u64
+    requires { ⌜ wellBlock (sizeOf (now tape)) (now tones) r ≡ true ⌝ }
+    requires { ⌜ pos < r .size ⌝ }
+    ensures { λ t. ⌜ t ≡ byteTime (now (tape .entry)) r pos ⌝ }
+{
+    let at = (r.start + pos) as usize;
+    bits_time(tape[at], bits_at(r, pos), r)
+}
+
+// From the first half of a byte's first bit, full: the byte if it lasts less than d, or this half.
+fn take_byte(tape: &[u8], tones: &[u64], r: Block, pos: u64, t: u64, d: u64) -> Step
+    requires { ⌜ wellBlock (sizeOf (now tape)) (now tones) r ≡ true ⌝ }
+    requires { ⌜ pos < r .size ⌝ }
+    ensures { λ s. ⌜ s ≡ takeByte (now (tape .entry)) (now (tones .entry)) r pos t d ⌝ }
+{
+    let time = byte_time(tape, tones, r, pos);
+    if time < d {
+        return Step {
+            phase: data_from(r, pos + 1),
+            time,
+            passed: bits_at(r, pos) * 2,
+            over: false,
+        };
+    }
+    Step {
+        phase: Phase::Data { pos, bit: 0, last_half: true },
+        time: t,
+        passed: 1,
+        over: false,
+    }
+}
+
+// One turn of the measured walk, from an entry that its callers know to be there in a well-formed row.
+fn take(tape: &[u8], tones: &[u64], r: Block, f: Phase, full: bool, t: u64, d: u64) -> Step
+    requires { ⌜ wellBlock (sizeOf (now tape)) (now tones) r ≡ true ⌝ }
+    requires { ⌜ hasEntry (now tones) r f ≡ true ⌝ }
+    requires { ⌜ 0 < d ⌝ }
+    ensures { λ s. ⌜ s ≡ takeOf (now (tape .entry)) (now (tones .entry)) r f full t d ⌝ }
+{
+    let size = size_of(tape);
+    if !full {
+        return one_step(size, tones, r, f, t);
+    }
+    match f {
+        Phase::Start => one_step(size, tones, r, f, t),
+        Phase::Tones { index, pulse, last_half } => {
+            if last_half {
+                return one_step(size, tones, r, f, t);
+            }
+            take_cycles(size, tones, r, index, pulse, t, d)
+        }
+        Phase::Data { pos, bit, last_half } => {
+            if last_half {
+                return one_step(size, tones, r, f, t);
+            }
+            if bit == 0 {
+                return take_byte(tape, tones, r, pos, t, d);
+            }
+            one_step(size, tones, r, f, t)
+        }
+        Phase::Pause => one_step(size, tones, r, f, t),
+    }
+}
+
+// A tape's bytes, at most 1,048,576.
+fn size_of(tape: &[u8]) -> u64
+    ensures { λ n. ⌜ n ≡ sizeOf (now (tape .entry)) ⌝ }
+{
+    let n = tape.len() as u64;
+    if 1048576 <= n { 1048576 } else { n }
+}
+
+// Whether block b's row is well formed; its callers know the row to be lent.
+pub fn row_well(tape: &[u8], tones: &[u64], blocks: &[u64], b: u64) -> bool
+    requires { ⌜ b * block .width + block .width ≤ length (now blocks) ⌝ }
+    ensures { λ v. ⌜ v ≡ wellBlock (sizeOf (now (tape .entry))) (now (tones .entry)) (get block (now (blocks .entry)) b) ⌝ }
+{
+    block_well(size_of(tape), tones, block_at(blocks, b as usize))
+}
+
+// The head stands in this entry.
+fn stands(block: u64, phase: Phase, left: u64, passed: u64) -> Reached
+    ensures { λ r. ⌜ r ≡ At (stand (placed block phase (T left)) passed (levelOf phase)) ⌝ }
+{
+    Reached::At(Stand {
+        position: Position {
+            block,
+            phase,
+            left: Duration::T(left),
+        },
+        passed,
+        level: mic(phase),
+    })
+}
+
+// The head stands at an endless pause.
+fn stops(block: u64, phase: Phase, passed: u64) -> Reached
+    ensures { λ r. ⌜ r ≡ Stopped (stand (placed block phase Endless) passed (levelOf phase)) ⌝ }
+{
+    Reached::Stopped(Stand {
+        position: Position {
+            block,
+            phase,
+            left: Duration::Endless,
+        },
+        passed,
+        level: mic(phase),
+    })
+}
+
+// The measured walk of n T-states from a position that its callers know to be valid, below the count, in a well-formed row.
+pub fn walk(tape: &[u8], tones: &[u64], blocks: &[u64], count: u64, pos: Position, n: u64) -> Reached
+    requires { ⌜ Walkable (tapeOf (now tape) (now tones) (now blocks) count) pos ⌝ }
+    ensures { λ r. ⌜ r ≡ walkFrom (tapeOf (now (tape .entry)) (now (tones .entry)) (now (blocks .entry)) count) pos n ⌝ }
+{
+    let mut block = pos.block;
+    let mut phase = pos.phase;
+    let mut left = pos.left;
+    let mut full = false;
+    let mut d = n;
+    let mut passed: u64 = 0;
+    'blocks: loop {
+        let r = block_at(blocks, block as usize);
+        'entries: loop {
+            let Duration::T(t) = left else {
+                break 'blocks stops(block, phase, passed);
+            };
+            if d == 0 {
+                break 'blocks stands(block, phase, t, passed);
+            }
+            if d < t {
+                break 'blocks stands(block, phase, t - d, passed);
+            }
+            let s = take(tape, tones, r, phase, full, t, d);
+            d -= s.time;
+            passed += s.passed;
+            if s.over {
+                break 'entries;
+            }
+            phase = s.phase;
+            left = length_at(tape, tones, r, phase);
+            full = true;
+        }
+        block += 1;
+        if d == 0 {
+            break 'blocks stands(block, Phase::Start, 0, passed);
+        }
+        if block == count {
+            break 'blocks Reached::Ended(Stand {
+                position: Position::new_at_block(count),
+                passed,
+                level: false,
+            });
+        }
+        if !row_well(tape, tones, blocks, block) {
+            break 'blocks Reached::NotFormed;
+        }
+        phase = Phase::Start;
+        left = Duration::T(0);
+        full = true;
+    }
+}
+
+// Behind one entry of this length, if it is no longer than d; its callers know it to be there in a well-formed row.
+fn drop_one(tape: u64, tones: &[u64], r: Block, f: Phase, length: Duration, d: u64) -> Step
+    requires { ⌜ wellBlock tape (now tones) r ≡ true ⌝ }
+    requires { ⌜ hasEntry (now tones) r f ≡ true ⌝ }
+    ensures { λ s. ⌜ s ≡ dropOne (now (tones .entry)) r f length d ⌝ }
+{
+    match length {
+        Duration::T(t) => {
+            if t <= d {
+                return one_step(tape, tones, r, f, t);
+            }
+            Step {
+                phase: f,
+                time: 0,
+                passed: 0,
+                over: false,
+            }
+        }
+        Duration::Endless => Step {
+            phase: f,
+            time: 0,
+            passed: 0,
+            over: false,
+        },
+    }
+}
+
+// Behind one full entry, if it is no longer than d.
+fn drop_entry(tape: &[u8], tones: &[u64], r: Block, f: Phase, d: u64) -> Step
+    requires { ⌜ wellBlock (sizeOf (now tape)) (now tones) r ≡ true ⌝ }
+    requires { ⌜ hasEntry (now tones) r f ≡ true ⌝ }
+    ensures { λ s. ⌜ s ≡ dropEntry (now (tape .entry)) (now (tones .entry)) r f d ⌝ }
+{
+    drop_one(size_of(tape), tones, r, f, length_at(tape, tones, r, f), d)
+}
+
+// The rest of a tone row's cycles if neither half is longer than d, or this half if it isn't.
+fn drop_cycles(tape: &[u8], tones: &[u64], r: Block, i: u64, p: u64, d: u64) -> Step
+    requires { ⌜ wellBlock (sizeOf (now tape)) (now tones) r ≡ true ⌝ }
+    requires { ⌜ hasEntry (now tones) r (Tones i p false) ≡ true ⌝ }
+    ensures { λ s. ⌜ s ≡ dropOf (now (tape .entry)) (now (tones .entry)) r (Tones i p false) d ⌝ }
+{
+    let x = tone_at(tones, (r.tone + i) as usize);
+    let f = Phase::Tones { index: i, pulse: p, last_half: false };
+    if d < x.len1 {
+        return drop_entry(tape, tones, r, f, d);
+    }
+    if d < x.len2 {
+        return drop_entry(tape, tones, r, f, d);
+    }
+    let k = at_least_one(x.num) - p;
+    Step {
+        phase: cycle_from(x, r, i, p + k),
+        time: k * (x.len1 + x.len2),
+        passed: k * 2,
+        over: false,
+    }
+}
+
+// A data byte if no half of a bit can be longer than d, or its first half if it isn't.
+fn drop_byte(tape: &[u8], tones: &[u64], r: Block, pos: u64, d: u64) -> Step
+    requires { ⌜ wellBlock (sizeOf (now tape)) (now tones) r ≡ true ⌝ }
+    requires { ⌜ hasEntry (now tones) r (Data pos 0 false) ≡ true ⌝ }
+    ensures { λ s. ⌜ s ≡ dropOf (now (tape .entry)) (now (tones .entry)) r (Data pos 0 false) d ⌝ }
+{
+    let f = Phase::Data { pos, bit: 0, last_half: false };
+    if d < r.zero {
+        return drop_entry(tape, tones, r, f, d);
+    }
+    if d < r.one {
+        return drop_entry(tape, tones, r, f, d);
+    }
+    Step {
+        phase: data_from(r, pos + 1),
+        time: byte_time(tape, tones, r, pos),
+        passed: bits_at(r, pos) * 2,
+        over: false,
+    }
+}
+
+// One turn of the source's walk, from a full entry that its callers know to be there in a well-formed row.
+fn drop(tape: &[u8], tones: &[u64], r: Block, f: Phase, d: u64) -> Step
+    requires { ⌜ wellBlock (sizeOf (now tape)) (now tones) r ≡ true ⌝ }
+    requires { ⌜ hasEntry (now tones) r f ≡ true ⌝ }
+    ensures { λ s. ⌜ s ≡ dropOf (now (tape .entry)) (now (tones .entry)) r f d ⌝ }
+{
+    match f {
+        Phase::Start => drop_entry(tape, tones, r, f, d),
+        Phase::Tones { index, pulse, last_half } => {
+            if last_half {
+                return drop_entry(tape, tones, r, f, d);
+            }
+            drop_cycles(tape, tones, r, index, pulse, d)
+        }
+        Phase::Data { pos, bit, last_half } => {
+            if last_half {
+                return drop_entry(tape, tones, r, f, d);
+            }
+            if bit == 0 {
+                return drop_byte(tape, tones, r, pos, d);
+            }
+            drop_entry(tape, tones, r, f, d)
+        }
+        Phase::Pause => drop_entry(tape, tones, r, f, d),
+    }
+}
+
+// What the source's play drops in a call of n from a position that its callers know to be valid, below the count, in a well-formed row.
+pub fn ran_ahead(tape: &[u8], tones: &[u64], blocks: &[u64], count: u64, pos: Position, n: u64) -> u64
+    requires { ⌜ Walkable (tapeOf (now tape) (now tones) (now blocks) count) pos ⌝ }
+    ensures { λ s. ⌜ s ≡ droppedFrom (tapeOf (now (tape .entry)) (now (tones .entry)) (now (blocks .entry)) count) pos n ⌝ }
+{
+    let own = pos.left;
+    let Duration::T(t) = own else {
+        return 0;
+    };
+    if n < t {
+        return 0;
+    }
+    let d = n - t;
+    let mut block = pos.block;
+    let f = pos.phase;
+    let first = one_step(size_of(tape), tones, block_at(blocks, block as usize), f, t);
+    let mut phase = first.phase;
+    let mut over = first.over;
+    let mut sum: u64 = 0;
+    'blocks: loop {
+        let r = block_at(blocks, block as usize);
+        'entries: loop {
+            if over {
+                break 'entries;
+            }
+            let s = drop(tape, tones, r, phase, d);
+            if s.passed == 0 {
+                break 'blocks sum;
+            }
+            sum += s.time;
+            phase = s.phase;
+            over = s.over;
+        }
+        block += 1;
+        if block == count {
+            break 'blocks sum;
+        }
+        if !row_well(tape, tones, blocks, block) {
+            break 'blocks sum;
+        }
+        phase = Phase::Start;
+        over = false;
+    }
+}

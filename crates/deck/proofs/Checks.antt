@@ -11,7 +11,7 @@ use lib.Dec.{ltb, leb, eqb}
 use lib.ListN.{length}
 use Rattle.laws.specs.Numbers.{lt-or-ge}
 use Rattle.laws.specs.Rules.{_⇒_, _∣_}
-use Rattle.laws.specs.Clauses.{first, second}
+use Rattle.laws.specs.Tests.{first, second}
 use Rattle.pulses.specs.Play.{Entry, pulse, endless, shown, answer}
 use Rattle.pulses.specs.Lead.{lead-here, lead-by}
 use Rattle.rows.specs.Table.{capacityOf}

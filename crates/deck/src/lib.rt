@@ -326,3 +326,14 @@ pub fn play_mounted(tape: &[u8], tones: &[u64], blocks: &[u64], count: u64, head
         answer: r,
     }
 }
+
+// The measured player over the mounted head, which is lent and altered; on a refusal it is as it was.
+pub fn play_head(tape: &[u8], tones: &[u64], blocks: &[u64], count: u64, head: &mut Head, n: u32) -> Reached
+    ensures { λ r. ⌜ (r ≡ playMounted (tapeOf (now (tape .entry)) (now (tones .entry)) (now (blocks .entry)) count) (now (head .entry)) n .answer)
+        × (now (head .exit) ≡ playMounted (tapeOf (now (tape .entry)) (now (tones .entry)) (now (blocks .entry)) count) (now (head .entry)) n .head) ⌝ }
+{
+    let h = *head;
+    let p = play_mounted(tape, tones, blocks, count, h, n);
+    *head = p.head;
+    p.answer
+}

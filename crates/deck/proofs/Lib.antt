@@ -1,3 +1,4 @@
 pub mod Checks
 pub mod Sourced
 pub mod Plays
+pub mod Examples

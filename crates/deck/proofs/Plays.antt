@@ -218,6 +218,7 @@ module _ (w : Tape) (whole : Whole w) where
   -- its outcome, end included, agrees with the measured player's for the count and the sum that it drops: they are even equal
   pub source-agrees : (q : Position) (n : ℕ) → validAt w q ≡ true → 0 < n
       → (playSource w q n ≡ playMeasured w q (n + dropped (ahead w q) n)) × Agrees (source (ahead w q) n) (heard (answer (ahead w q) (n + dropped (ahead w q) n)))
-  source-agrees q n v p =
-      (source-told q n v p ∙ ap (told w) (source-answer (ahead w q) n) ∙ sym (play-told q (n + dropped (ahead w q) n) v (omega arith)),
-      agrees (ahead w q) n)
+  source-agrees q n v p = (
+    source-told q n v p ∙ ap (told w) (source-answer (ahead w q) n) ∙ sym (play-told q (n + dropped (ahead w q) n) v (omega arith)),
+    agrees (ahead w q) n,
+  )

@@ -1,6 +1,6 @@
 // The players of a mounted tape: the measured one and the source's, by value and over a lent head.
-use entries::Phase;
 use entries::Duration;
+use entries::Phase;
 use entries::at_least_one;
 use entries::bits_at;
 use entries::mic;
@@ -12,8 +12,8 @@ use walks::Position;
 use walks::Reached;
 use walks::Stand;
 use walks::length_at;
-use walks::row_well;
 use walks::ran_ahead;
+use walks::row_well;
 use walks::walk;
 ghost use mathlib.Core.Path.{_≡_};
 ghost use mathlib.Core.Bool.{true, false};
@@ -193,7 +193,14 @@ fn measure(tape: &[u8], tones: &[u64], blocks: &[u64], count: u64, pos: Position
 }
 
 // The measured player: a call of n T-states from a position.
-pub fn play_measured(tape: &[u8], tones: &[u64], blocks: &[u64], count: u64, pos: Position, n: u32) -> Reached
+pub fn play_measured(
+    tape: &[u8],
+    tones: &[u64],
+    blocks: &[u64],
+    count: u64,
+    pos: Position,
+    n: u32,
+) -> Reached
     ensures { λ r. ⌜ r ≡ playMeasured (tapeOf (now (tape .entry)) (now (tones .entry)) (now (blocks .entry)) count) pos n ⌝ }
 {
     let c = judge(tape, tones, blocks, count, pos);
@@ -225,7 +232,14 @@ fn follow(tape: &[u8], tones: &[u64], blocks: &[u64], count: u64, pos: Position,
 }
 
 // The source's play: a call of n T-states from a position.
-pub fn play(tape: &[u8], tones: &[u64], blocks: &[u64], count: u64, pos: Position, n: u32) -> Reached
+pub fn play(
+    tape: &[u8],
+    tones: &[u64],
+    blocks: &[u64],
+    count: u64,
+    pos: Position,
+    n: u32,
+) -> Reached
     ensures { λ r. ⌜ r ≡ playSource (tapeOf (now (tape .entry)) (now (tones .entry)) (now (blocks .entry)) count) pos n ⌝ }
 {
     let c = judge(tape, tones, blocks, count, pos);
@@ -316,7 +330,14 @@ fn head_after(head: Head, r: Reached) -> Head
 }
 
 // The measured player over a head by value.
-pub fn play_mounted(tape: &[u8], tones: &[u64], blocks: &[u64], count: u64, head: Head, n: u32) -> Played
+pub fn play_mounted(
+    tape: &[u8],
+    tones: &[u64],
+    blocks: &[u64],
+    count: u64,
+    head: Head,
+    n: u32,
+) -> Played
     ensures { λ r. ⌜ r ≡ playMounted (tapeOf (now (tape .entry)) (now (tones .entry)) (now (blocks .entry)) count) head n ⌝ }
 {
     let pos = head.position;
@@ -325,4 +346,22 @@ pub fn play_mounted(tape: &[u8], tones: &[u64], blocks: &[u64], count: u64, head
         head: head_after(head, r),
         answer: r,
     }
+}
+
+// The measured player over the mounted head, which is lent and altered; on a refusal it is as it was.
+pub fn play_head(
+    tape: &[u8],
+    tones: &[u64],
+    blocks: &[u64],
+    count: u64,
+    head: &mut Head,
+    n: u32,
+) -> Reached
+    ensures { λ r. ⌜ (r ≡ playMounted (tapeOf (now (tape .entry)) (now (tones .entry)) (now (blocks .entry)) count) (now (head .entry)) n .answer)
+        × (now (head .exit) ≡ playMounted (tapeOf (now (tape .entry)) (now (tones .entry)) (now (blocks .entry)) count) (now (head .entry)) n .head) ⌝ }
+{
+    let h = *head;
+    let p = play_mounted(tape, tones, blocks, count, h, n);
+    *head = p.head;
+    p.answer
 }

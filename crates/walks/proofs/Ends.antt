@@ -105,4 +105,3 @@ module _ (w v : Tape) {es : List (Entry Spot)} {n : ℕ} where
       let e : v .count ≡ b + 1 = omega arith in
       tells-last i (lead-as 0 i z refl (lead-by (list-out v (b + 1) g) l)) ∙ ap (λ (x : ℕ). At (stand (startAt x) i false)) e)
       (lt-or-ge (b + 1) (v .count))
-

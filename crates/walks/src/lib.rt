@@ -1,16 +1,16 @@
 // Positions, and the walks over a tape's entries that both players stand on.
-use rows::Block;
-use rows::Tone;
-use rows::tone_at;
-use rows::block_at;
-use rows::block_well;
-use entries::Phase;
 use entries::Duration;
+use entries::Phase;
 use entries::at_least_one;
 use entries::bits_at;
 use entries::bits_time;
 use entries::mic;
 use entries::pause_of;
+use rows::Block;
+use rows::Tone;
+use rows::block_at;
+use rows::block_well;
+use rows::tone_at;
 ghost use mathlib.Core.Path.{_≡_};
 ghost use mathlib.Core.Bool.{true, false};
 ghost use Prim.Native.Nat.{ℕ, _+_, _*_, _<_, _≤_};
@@ -101,7 +101,11 @@ fn data_from(r: Block, pos: u64) -> Phase
     ensures { λ f. ⌜ f ≡ dataFrom r pos ⌝ }
 {
     if pos < r.size {
-        return Phase::Data { pos, bit: 0, last_half: false };
+        return Phase::Data {
+            pos,
+            bit: 0,
+            last_half: false,
+        };
     }
     Phase::Pause
 }
@@ -112,7 +116,11 @@ fn bit_from(r: Block, pos: u64, k: u64) -> Phase
     ensures { λ f. ⌜ f ≡ bitFrom r pos k ⌝ }
 {
     if k < bits_at(r, pos) {
-        return Phase::Data { pos, bit: k, last_half: false };
+        return Phase::Data {
+            pos,
+            bit: k,
+            last_half: false,
+        };
     }
     data_from(r, pos + 1)
 }
@@ -122,7 +130,11 @@ fn tone_from(r: Block, i: u64) -> Phase
     ensures { λ f. ⌜ f ≡ toneFrom r i ⌝ }
 {
     if i < r.tones {
-        return Phase::Tones { index: i, pulse: 0, last_half: false };
+        return Phase::Tones {
+            index: i,
+            pulse: 0,
+            last_half: false,
+        };
     }
     data_from(r, 0)
 }
@@ -133,7 +145,11 @@ fn cycle_from(t: Tone, r: Block, i: u64, p: u64) -> Phase
     ensures { λ f. ⌜ f ≡ cycleFrom t r i p ⌝ }
 {
     if p < at_least_one(t.num) {
-        return Phase::Tones { index: i, pulse: p, last_half: false };
+        return Phase::Tones {
+            index: i,
+            pulse: p,
+            last_half: false,
+        };
     }
     tone_from(r, i + 1)
 }
@@ -156,7 +172,11 @@ pub fn length_at(tape: &[u8], tones: &[u64], r: Block, f: Phase) -> Duration
 {
     match f {
         Phase::Start => Duration::T(0),
-        Phase::Tones { index, last_half, .. } => {
+        Phase::Tones {
+            index,
+            last_half,
+            ..
+        } => {
             let t = tone_at(tones, (r.tone + index) as usize);
             if last_half {
                 return Duration::T(t.len2);
@@ -181,7 +201,11 @@ pub fn one_step(tape: u64, tones: &[u64], r: Block, f: Phase, t: u64) -> Step
             passed: 1,
             over: false,
         },
-        Phase::Tones { index, pulse, last_half } => {
+        Phase::Tones {
+            index,
+            pulse,
+            last_half,
+        } => {
             if last_half {
                 let x = tone_at(tones, (r.tone + index) as usize);
                 return Step {
@@ -192,13 +216,21 @@ pub fn one_step(tape: u64, tones: &[u64], r: Block, f: Phase, t: u64) -> Step
                 };
             }
             Step {
-                phase: Phase::Tones { index, pulse, last_half: true },
+                phase: Phase::Tones {
+                    index,
+                    pulse,
+                    last_half: true,
+                },
                 time: t,
                 passed: 1,
                 over: false,
             }
         }
-        Phase::Data { pos, bit, last_half } => {
+        Phase::Data {
+            pos,
+            bit,
+            last_half,
+        } => {
             if last_half {
                 return Step {
                     phase: bit_from(r, pos, bit + 1),
@@ -208,7 +240,11 @@ pub fn one_step(tape: u64, tones: &[u64], r: Block, f: Phase, t: u64) -> Step
                 };
             }
             Step {
-                phase: Phase::Data { pos, bit, last_half: true },
+                phase: Phase::Data {
+                    pos,
+                    bit,
+                    last_half: true,
+                },
                 time: t,
                 passed: 1,
                 over: false,
@@ -254,7 +290,11 @@ fn take_cycles(tape: u64, tones: &[u64], r: Block, i: u64, p: u64, t: u64, d: u6
         };
     }
     Step {
-        phase: Phase::Tones { index: i, pulse: p, last_half: true },
+        phase: Phase::Tones {
+            index: i,
+            pulse: p,
+            last_half: true,
+        },
         time: t,
         passed: 1,
         over: false,
@@ -287,7 +327,11 @@ fn take_byte(tape: &[u8], tones: &[u64], r: Block, pos: u64, t: u64, d: u64) -> 
         };
     }
     Step {
-        phase: Phase::Data { pos, bit: 0, last_half: true },
+        phase: Phase::Data {
+            pos,
+            bit: 0,
+            last_half: true,
+        },
         time: t,
         passed: 1,
         over: false,
@@ -307,13 +351,21 @@ fn take(tape: &[u8], tones: &[u64], r: Block, f: Phase, full: bool, t: u64, d: u
     }
     match f {
         Phase::Start => one_step(size, tones, r, f, t),
-        Phase::Tones { index, pulse, last_half } => {
+        Phase::Tones {
+            index,
+            pulse,
+            last_half,
+        } => {
             if last_half {
                 return one_step(size, tones, r, f, t);
             }
             take_cycles(size, tones, r, index, pulse, t, d)
         }
-        Phase::Data { pos, bit, last_half } => {
+        Phase::Data {
+            pos,
+            bit,
+            last_half,
+        } => {
             if last_half {
                 return one_step(size, tones, r, f, t);
             }
@@ -373,7 +425,14 @@ fn stops(block: u64, phase: Phase, passed: u64) -> Reached
 }
 
 // The measured walk of n T-states from a position that its callers know to be valid, below the count, in a well-formed row.
-pub fn walk(tape: &[u8], tones: &[u64], blocks: &[u64], count: u64, pos: Position, n: u64) -> Reached
+pub fn walk(
+    tape: &[u8],
+    tones: &[u64],
+    blocks: &[u64],
+    count: u64,
+    pos: Position,
+    n: u64,
+) -> Reached
     requires { ⌜ Walkable (tapeOf (now tape) (now tones) (now blocks) count) pos ⌝ }
     ensures { λ r. ⌜ r ≡ walkFrom (tapeOf (now (tape .entry)) (now (tones .entry)) (now (blocks .entry)) count) pos n ⌝ }
 {
@@ -468,7 +527,11 @@ fn drop_cycles(tape: &[u8], tones: &[u64], r: Block, i: u64, p: u64, d: u64) -> 
     ensures { λ s. ⌜ s ≡ dropOf (now (tape .entry)) (now (tones .entry)) r (Tones i p false) d ⌝ }
 {
     let x = tone_at(tones, (r.tone + i) as usize);
-    let f = Phase::Tones { index: i, pulse: p, last_half: false };
+    let f = Phase::Tones {
+        index: i,
+        pulse: p,
+        last_half: false,
+    };
     if d < x.len1 {
         return drop_entry(tape, tones, r, f, d);
     }
@@ -490,7 +553,11 @@ fn drop_byte(tape: &[u8], tones: &[u64], r: Block, pos: u64, d: u64) -> Step
     requires { ⌜ hasEntry (now tones) r (Data pos 0 false) ≡ true ⌝ }
     ensures { λ s. ⌜ s ≡ dropOf (now (tape .entry)) (now (tones .entry)) r (Data pos 0 false) d ⌝ }
 {
-    let f = Phase::Data { pos, bit: 0, last_half: false };
+    let f = Phase::Data {
+        pos,
+        bit: 0,
+        last_half: false,
+    };
     if d < r.zero {
         return drop_entry(tape, tones, r, f, d);
     }
@@ -513,13 +580,21 @@ fn drop(tape: &[u8], tones: &[u64], r: Block, f: Phase, d: u64) -> Step
 {
     match f {
         Phase::Start => drop_entry(tape, tones, r, f, d),
-        Phase::Tones { index, pulse, last_half } => {
+        Phase::Tones {
+            index,
+            pulse,
+            last_half,
+        } => {
             if last_half {
                 return drop_entry(tape, tones, r, f, d);
             }
             drop_cycles(tape, tones, r, index, pulse, d)
         }
-        Phase::Data { pos, bit, last_half } => {
+        Phase::Data {
+            pos,
+            bit,
+            last_half,
+        } => {
             if last_half {
                 return drop_entry(tape, tones, r, f, d);
             }
@@ -533,7 +608,14 @@ fn drop(tape: &[u8], tones: &[u64], r: Block, f: Phase, d: u64) -> Step
 }
 
 // What the source's play drops in a call of n from a position that its callers know to be valid, below the count, in a well-formed row.
-pub fn ran_ahead(tape: &[u8], tones: &[u64], blocks: &[u64], count: u64, pos: Position, n: u64) -> u64
+pub fn ran_ahead(
+    tape: &[u8],
+    tones: &[u64],
+    blocks: &[u64],
+    count: u64,
+    pos: Position,
+    n: u64,
+) -> u64
     requires { ⌜ Walkable (tapeOf (now tape) (now tones) (now blocks) count) pos ⌝ }
     ensures { λ s. ⌜ s ≡ droppedFrom (tapeOf (now (tape .entry)) (now (tones .entry)) (now (blocks .entry)) count) pos n ⌝ }
 {

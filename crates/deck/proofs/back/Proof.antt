@@ -1,19 +1,15 @@
+-- `back` meets its contract. Assumes nothing.
 use Rattle.deck.proofs.Sourced.{back-bad, back-none, back-here, back-on}
 use Rattle.deck.specs.Deck.{backTo}
 use Rattle.walks.proofs.Turns.{well-of, bad-of}
 use Rattle.walks.specs.Heads.{wellRow}
 use Rattle.rows.specs.declared.Block.{Block}
 use Rattle.walks.specs.Heads.{tapeOf}
-use Rattle.walks.specs.declared.Position.{Position}
 use mathlib.Core.Path.{_≡_, refl, sym, ap, _∙_}
 use native.Mathlib.Omega.{arith}
-use Prim.Native.Nat.{ℕ, _+_, _-_, _≤_, _<_}
+use Prim.Native.Nat.{ℕ, _-_, _≤_}
 use Rattle.deck.proofs.back.Statement.{statement}
 use Rattle.deck.proofs.back.Tie as tie
-use Rattle.deck.proofs.back.Reads as reads
-use Rattle.deck.proofs.back.Lts as lts
-use Rattle.rows.proofs.block_at.Reads as block-at-reads
-use Rattle.walks.proofs.row_well.Reads as row-well-reads
 
 abbrev Inv-loop : tie.InvT-loop
 Inv-loop tape tones blocks from b₀ b =
@@ -22,50 +18,41 @@ Inv-loop tape tones blocks from b₀ b =
 abbrev μ-loop : tie.MeasureT-loop
 μ-loop tape tones blocks from b₀ b = b
 
--- src/lib.rt:252:5
 loop-holds : tie.Need-loop-holds Inv-loop μ-loop
 loop-holds c =
     (omega arith, λ n. refl)
 
--- src/lib.rt:253:13
 row-well-requires : tie.Need-row-well-requires Inv-loop μ-loop
 row-well-requires c κs =
     let a = c .before .before .before .before .args in let L = c .loop in omega (arith, L .inv .0, c .before .before .before .before .pre)
 
--- src/lib.rt:254:13
 returns : tie.Need-returns Inv-loop μ-loop
 unfolding wellRow
 returns c =
     let a = c .before .before .before .before .before .before .args in let L = c .before .before .loop in λ n. back-bad (tapeOf (a .tape .now) (a .tones .now) (a .blocks .now) n) (L .b) (bad-of (c .before .row-well .ensures) (c .if1 .taken)) ∙ L .inv .1 n
 
--- src/lib.rt:257:13
 returns-2 : tie.Need-returns-2 Inv-loop μ-loop
 unfolding wellRow
 returns-2 c =
     let a = c .before .before .before .before .before .before .before .args in let L = c .before .before .before .loop in λ n. back-none (tapeOf (a .tape .now) (a .tones .now) (a .blocks .now) n) (L .b) (well-of (c .before .before .row-well .ensures) (c .before .if1 .left)) (c .if2 .taken) ∙ L .inv .1 n
 
--- src/lib.rt:259:13
 block-at-requires : tie.Need-block-at-requires Inv-loop μ-loop
 block-at-requires c κs =
     let a = c .before .before .before .before .before .before .before .args in let L = c .before .before .before .loop in omega (arith, L .inv .0, c .before .before .before .before .before .before .before .pre)
 
--- src/lib.rt:261:13
 returns-3 : tie.Need-returns-3 Inv-loop μ-loop
 unfolding wellRow
 returns-3 c =
     let a = c .before .before .before .before .before .before .before .before .before .before .args in let L = c .before .before .before .before .before .before .loop in λ n. back-here (tapeOf (a .tape .now) (a .tones .now) (a .blocks .now) n) (L .b) (well-of (c .before .before .before .before .before .row-well .ensures) (c .before .before .before .before .if1 .left)) (c .before .before .before .if2 .left) (sym (ap (λ (r : Block). r .selectable) (c .before .before .block-at .ensures)) ∙ c .if3 .taken) ∙ L .inv .1 n
 
--- src/lib.rt:263:9
 sub-b : tie.Need-sub-b Inv-loop μ-loop
 sub-b c =
     omega (arith, c .before .before .before .if2 .left)
 
--- src/lib.rt:252:5
 loop-less : tie.Need-loop-less Inv-loop μ-loop
 loop-less c =
     omega (arith, c .before .before .before .if2 .left)
 
--- src/lib.rt:252:5
 loop-again : tie.Need-loop-again Inv-loop μ-loop
 unfolding wellRow
 loop-again c =

@@ -1,3 +1,4 @@
+-- `has_entry` meets its contract. Assumes nothing.
 use Rattle.walks.proofs.Facts as facts
 use Rattle.entries.specs.Places.{hasEntry}
 use Rattle.entries.specs.Entries.{cyclesOf}
@@ -6,77 +7,58 @@ use native.Mathlib.Omega.{arith}
 use borrow.Author.Needs.{needs}
 use Rattle.deck.proofs.has_entry.Statement.{statement}
 use Rattle.deck.proofs.has_entry.Tie as tie
-use Rattle.deck.proofs.has_entry.Reads as reads
-use Rattle.deck.proofs.has_entry.Lts as lts
-use Rattle.entries.proofs.at_least_one.Reads as at-least-one-reads
-use Rattle.entries.proofs.bits_at.Reads as bits-at-reads
-use Rattle.rows.proofs.tone_at.Reads as tone-at-reads
 
--- src/lib.rt:103:25
 enum-told : tie.Need-enum-told
 enum-told c = search needs
 
--- src/lib.rt:104:24
 enum-known-f : tie.Need-enum-known-f
 enum-known-f c = search needs
 
--- src/lib.rt:106:17
 returns : tie.Need-returns
 unfolding hasEntry
 returns c =
     rw (c .before .before .before .f .given .1, le-ltb _ _ (c .if1 .taken))
 
--- src/lib.rt:108:37
 add-tone-at : tie.Need-add-tone-at
 add-tone-at c =
     let a = c .before .before .before .before .before .before .before .before .args in let l = facts.tone-lent _ _ (a .r) (c .before .before .before .before .before .before .before .before .pre) _ (c .before .if1 .left) in omega (arith, l, c .before .if1 .left)
 
--- src/lib.rt:108:17
 tone-at-requires : tie.Need-tone-at-requires
 tone-at-requires c κs =
     let a = c .before .before .before .before .before .before .before .before .args in facts.tone-lent _ _ (a .r) (c .before .before .before .before .before .before .before .before .pre) _ (c .before .if1 .left) .0
 
--- src/lib.rt:109:21
 at-least-one-requires : tie.Need-at-least-one-requires
 at-least-one-requires c κs = search needs
 
--- src/lib.rt:111:23
 enum-known-f-2 : tie.Need-enum-known-f-2
 enum-known-f-2 c = search needs
 
--- src/lib.rt:113:17
 returns-2 : tie.Need-returns-2
 unfolding hasEntry
 returns-2 c =
     rw (c .before .before .before .f2 .given .1, le-ltb _ _ (c .if2 .taken))
 
--- src/lib.rt:115:19
 bits-at-requires : tie.Need-bits-at-requires
 bits-at-requires c κs = search needs
 
--- src/lib.rt:117:25
 enum-told-2 : tie.Need-enum-told-2
 enum-told-2 c = search needs
 
--- src/lib.rt:98:1
 returns-3 : tie.Need-returns-3
 unfolding hasEntry
 returns-3 c =
     rw (c .enum-told .given .1)
 
--- src/lib.rt:98:1
 returns-4 : tie.Need-returns-4
 unfolding hasEntry cyclesOf
 returns-4 c =
     rw (c .before .before .before .before .before .before .f .given .1, lt-ltb _ _ (c .before .before .before .if1 .left), c .at-least-one .ensures, c .before .tone-at .ensures)
 
--- src/lib.rt:98:1
 returns-5 : tie.Need-returns-5
 unfolding hasEntry
 returns-5 c =
     rw (c .before .before .before .before .f2 .given .1, lt-ltb _ _ (c .before .if2 .left), c .bits-at .ensures)
 
--- src/lib.rt:98:1
 returns-6 : tie.Need-returns-6
 unfolding hasEntry
 returns-6 c =

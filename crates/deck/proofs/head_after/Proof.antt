@@ -1,55 +1,44 @@
+-- `head_after` meets its contract. Assumes nothing.
 use Rattle.deck.specs.Deck.{headAfter}
 use borrow.Author.Needs.{needs}
 use Rattle.deck.proofs.head_after.Statement.{statement}
 use Rattle.deck.proofs.head_after.Tie as tie
-use Rattle.deck.proofs.head_after.Reads as reads
-use Rattle.deck.proofs.head_after.Lts as lts
 
--- src/lib.rt:301:21
 enum-known-r : tie.Need-enum-known-r
 enum-known-r c = search needs
 
--- src/lib.rt:305:26
 enum-known-r-2 : tie.Need-enum-known-r-2
 enum-known-r-2 c = search needs
 
--- src/lib.rt:309:24
 enum-known-r-3 : tie.Need-enum-known-r-3
 enum-known-r-3 c = search needs
 
--- src/lib.rt:313:30
 enum-told : tie.Need-enum-told
 enum-told c = search needs
 
--- src/lib.rt:314:31
 enum-told-2 : tie.Need-enum-told-2
 enum-told-2 c = search needs
 
--- src/lib.rt:297:1
 returns : tie.Need-returns
 unfolding headAfter
 returns c =
     rw (c .before .before .r .given .1)
 
--- src/lib.rt:297:1
 returns-2 : tie.Need-returns-2
 unfolding headAfter
 returns-2 c =
     rw (c .before .before .r2 .given .1)
 
--- src/lib.rt:297:1
 returns-3 : tie.Need-returns-3
 unfolding headAfter
 returns-3 c =
     rw (c .before .before .r3 .given .1)
 
--- src/lib.rt:297:1
 returns-4 : tie.Need-returns-4
 unfolding headAfter
 returns-4 c =
     rw (c .enum-told .given .1)
 
--- src/lib.rt:297:1
 returns-5 : tie.Need-returns-5
 unfolding headAfter
 returns-5 c =

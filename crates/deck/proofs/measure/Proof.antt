@@ -1,47 +1,36 @@
+-- `measure` meets its contract. Assumes nothing.
 use mathlib.Core.Bool.{false}
 use Rattle.walks.specs.Heads.{stand}
 use Rattle.walks.specs.declared.Reached.the-variants.{Ended}
 use borrow.Author.Tests.{eq-eqb, ne-eqb}
 use Rattle.deck.proofs.Checks as checks
-use Rattle.walks.proofs.Turns.{well-of, bad-of}
 use Rattle.walks.specs.Heads.{tapeOf}
 use Rattle.walks.specs.declared.Position.{Position}
-use mathlib.Core.Path.{_≡_, refl, sym, ap, _∙_}
+use mathlib.Core.Path.{sym, ap, _∙_}
 use native.Mathlib.Omega.{arith}
-use Prim.Native.Nat.{ℕ, _+_, _-_, _≤_, _<_}
+use Prim.Native.Nat.{_-_}
 use borrow.Author.Needs.{needs}
 use Rattle.deck.proofs.measure.Statement.{statement}
 use Rattle.deck.proofs.measure.Tie as tie
-use Rattle.deck.proofs.measure.Reads as reads
-use Rattle.deck.proofs.measure.Lts as lts
-use Rattle.deck.proofs.stay.Reads as stay-reads
-use Rattle.walks.proofs.Position.new_at_block.Reads as new-at-block-reads
-use Rattle.walks.proofs.walk.Reads as walk-reads
 
--- src/lib.rt:182:9
 stay-requires : tie.Need-stay-requires
 stay-requires c κs = search needs
 
--- src/lib.rt:182:9
 returns : tie.Need-returns
 returns c =
     rw (eq-eqb _ _ (c .before .if1 .taken)) (c .stay .ensures)
 
--- src/lib.rt:186:23
 new-at-block-requires : tie.Need-new-at-block-requires
 new-at-block-requires c κs = search needs
 
--- src/lib.rt:185:9
 returns-2 : tie.Need-returns-2
 returns-2 c =
     let a = c .before .before .before .before .before .before .before .args in let w = tapeOf (a .tape .now) (a .tones .now) (a .blocks .now) (a .count) in let q : Position = a .pos in rw (ne-eqb _ _ (c .before .before .before .if1 .left)) (ap (λ (y : Position). Ended (stand y 0 false)) (c .new-at-block .ensures) ∙ sym (checks.past-ends w q (c .before .before .before .before .before .before .before .pre) (c .before .if2 .taken) (a .n) (omega (arith, c .before .before .before .if1 .left))))
 
--- src/lib.rt:191:5
 walk-requires : tie.Need-walk-requires
 walk-requires c κs =
     let a = c .before .before .before .before .before .before .args in let w = tapeOf (a .tape .now) (a .tones .now) (a .blocks .now) (a .count) in let q : Position = a .pos in checks.fine-below w q (c .before .before .before .before .before .before .pre) (c .if2 .left)
 
--- src/lib.rt:176:1
 returns-3 : tie.Need-returns-3
 returns-3 c =
     rw (ne-eqb _ _ (c .before .before .before .if1 .left)) (c .walk .ensures)

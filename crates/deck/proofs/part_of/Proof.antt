@@ -1,3 +1,4 @@
+-- `part_of` meets its contract. Assumes nothing.
 use Rattle.deck.proofs.Checks.{part-none, part-some, part-not}
 use Rattle.entries.specs.declared.Duration.the-variants.{T}
 use Rattle.entries.specs.Places.{remains}
@@ -5,33 +6,25 @@ use mathlib.Core.Path.{sym, ap, _∙_}
 use borrow.Author.Needs.{needs}
 use Rattle.deck.proofs.part_of.Statement.{statement}
 use Rattle.deck.proofs.part_of.Tie as tie
-use Rattle.deck.proofs.part_of.Reads as reads
-use Rattle.deck.proofs.part_of.Lts as lts
 
--- src/lib.rt:78:21
 enum-known-length : tie.Need-enum-known-length
 enum-known-length c = search needs
 
--- src/lib.rt:80:17
 returns : tie.Need-returns
 returns c =
     part-none _ _ (c .if1 .taken) ∙ ap (remains (T _)) (sym (c .before .before .length .given .1))
 
--- src/lib.rt:84:30
 enum-told : tie.Need-enum-told
 enum-told c = search needs
 
--- src/lib.rt:74:1
 returns-2 : tie.Need-returns-2
 returns-2 c =
     part-some _ _ (c .before .if1 .left) (c .if2 .taken) ∙ ap (remains (T _)) (sym (c .before .before .before .length .given .1))
 
--- src/lib.rt:74:1
 returns-3 : tie.Need-returns-3
 returns-3 c =
     part-not _ _ (c .before .if1 .left) (c .if2 .left) ∙ ap (remains (T _)) (sym (c .before .before .before .length .given .1))
 
--- src/lib.rt:74:1
 returns-4 : tie.Need-returns-4
 unfolding remains
 returns-4 c =

@@ -1,17 +1,14 @@
+-- `data_from` meets its contract. Assumes nothing.
 use Rattle.walks.specs.Steps.{dataFrom}
 use borrow.Author.Tests.{lt-ltb, le-ltb}
 use Rattle.walks.proofs.data_from.Statement.{statement}
 use Rattle.walks.proofs.data_from.Tie as tie
-use Rattle.walks.proofs.data_from.Reads as reads
-use Rattle.walks.proofs.data_from.Lts as lts
 
--- src/lib.rt:103:9
 returns : tie.Need-returns
 unfolding dataFrom
 returns c =
     rw (lt-ltb _ _ (c .if1 .taken))
 
--- src/lib.rt:99:1
 returns-2 : tie.Need-returns-2
 unfolding dataFrom
 returns-2 c =

@@ -1,103 +1,81 @@
+-- `drop` meets its contract. Assumes nothing.
 use Prim.Native.Nat.{ℕ}
 use Rattle.walks.proofs.Facts as facts
 use Rattle.walks.specs.Steps.{dropOf}
 use Rattle.entries.specs.declared.Phase.the-variants.{Tones, Data}
 use mathlib.Core.Bool.{false}
-use mathlib.Core.Path.{_≡_, refl, sym, ap, _∙_}
-use borrow.Author.Tests.{eq-eqb, ne-eqb}
+use mathlib.Core.Path.{ap, _∙_}
+use borrow.Author.Tests.{ne-eqb}
 use borrow.Author.Needs.{needs}
 use Rattle.walks.proofs.drop.Statement.{statement}
 use Rattle.walks.proofs.drop.Tie as tie
-use Rattle.walks.proofs.drop.Reads as reads
-use Rattle.walks.proofs.drop.Lts as lts
-use Rattle.walks.proofs.drop_byte.Reads as drop-byte-reads
-use Rattle.walks.proofs.drop_cycles.Reads as drop-cycles-reads
-use Rattle.walks.proofs.drop_entry.Reads as drop-entry-reads
 
--- src/lib.rt:515:25
 enum-told : tie.Need-enum-told
 enum-told c = search needs
 
--- src/lib.rt:515:25
 drop-entry-requires : tie.Need-drop-entry-requires
 drop-entry-requires c κs = search needs
 
--- src/lib.rt:516:24
 enum-known-f : tie.Need-enum-known-f
 enum-known-f c = search needs
 
--- src/lib.rt:518:17
 drop-entry-requires-2 : tie.Need-drop-entry-requires-2
 drop-entry-requires-2 c κs =
     let a = c .before .before .before .before .before .before .args in (c .before .before .before .before .before .before .pre .0, facts.has-by _ (a .r) (c .before .before .f .given .1) (c .before .before .before .before .before .before .pre .1))
 
--- src/lib.rt:518:17
 returns : tie.Need-returns
 unfolding dropOf
 returns c =
     c .drop-entry2 .ensures ∙ rw (c .before .before .before .f .given .1, c .before .if1 .taken)
 
--- src/lib.rt:520:13
 drop-cycles-requires : tie.Need-drop-cycles-requires
 drop-cycles-requires c κs =
     let a = c .before .before .before .before .before .before .args in (c .before .before .before .before .before .before .pre .0, facts.has-by _ (a .r) (c .before .before .f .given .1 ∙ ap (Tones (c .before .before .f .given .0 .0) (c .before .before .f .given .0 .1 .0)) (c .if1 .left)) (c .before .before .before .before .before .before .pre .1))
 
--- src/lib.rt:522:23
 enum-known-f-2 : tie.Need-enum-known-f-2
 enum-known-f-2 c = search needs
 
--- src/lib.rt:524:17
 drop-entry-requires-3 : tie.Need-drop-entry-requires-3
 drop-entry-requires-3 c κs =
     let a = c .before .before .before .before .before .before .args in (c .before .before .before .before .before .before .pre .0, facts.has-by _ (a .r) (c .before .before .f2 .given .1) (c .before .before .before .before .before .before .pre .1))
 
--- src/lib.rt:524:17
 returns-2 : tie.Need-returns-2
 unfolding dropOf
 returns-2 c =
     c .drop-entry3 .ensures ∙ rw (c .before .before .before .f2 .given .1, c .before .if2 .taken)
 
--- src/lib.rt:527:17
 drop-byte-requires : tie.Need-drop-byte-requires
 drop-byte-requires c κs =
     let a = c .before .before .before .before .before .before .before .args in (c .before .before .before .before .before .before .before .pre .0, facts.has-by _ (a .r) (c .before .before .before .f2 .given .1 ∙ ap (Data (c .before .before .before .f2 .given .0 .0) (c .before .before .before .f2 .given .0 .1 .0)) (c .before .if2 .left) ∙ ap (λ (x : ℕ). Data (c .before .before .before .f2 .given .0 .0) x false) (c .if3 .taken)) (c .before .before .before .before .before .before .before .pre .1))
 
--- src/lib.rt:527:17
 returns-3 : tie.Need-returns-3
 returns-3 c =
     c .drop-byte .ensures ∙ rw (c .before .before .before .before .f2 .given .1, c .before .before .if2 .left, c .before .if3 .taken)
 
--- src/lib.rt:529:13
 drop-entry-requires-4 : tie.Need-drop-entry-requires-4
 drop-entry-requires-4 c κs =
     let a = c .before .before .before .before .before .before .before .args in (c .before .before .before .before .before .before .before .pre .0, facts.has-by _ (a .r) (c .before .before .before .f2 .given .1) (c .before .before .before .before .before .before .before .pre .1))
 
--- src/lib.rt:531:25
 enum-told-2 : tie.Need-enum-told-2
 enum-told-2 c = search needs
 
--- src/lib.rt:531:25
 drop-entry-requires-5 : tie.Need-drop-entry-requires-5
 drop-entry-requires-5 c κs = search needs
 
--- src/lib.rt:509:1
 returns-4 : tie.Need-returns-4
 unfolding dropOf
 returns-4 c =
     c .drop-entry .ensures ∙ rw (c .before .enum-told .given .1)
 
--- src/lib.rt:509:1
 returns-5 : tie.Need-returns-5
 returns-5 c =
     c .drop-cycles .ensures ∙ rw (c .before .before .before .f .given .1, c .before .if1 .left)
 
--- src/lib.rt:509:1
 returns-6 : tie.Need-returns-6
 unfolding dropOf
 returns-6 c =
     c .drop-entry4 .ensures ∙ rw (c .before .before .before .before .f2 .given .1, c .before .before .if2 .left, ne-eqb _ _ (c .before .if3 .left))
 
--- src/lib.rt:509:1
 returns-7 : tie.Need-returns-7
 unfolding dropOf
 returns-7 c =

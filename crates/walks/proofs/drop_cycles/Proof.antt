@@ -1,88 +1,66 @@
+-- `drop_cycles` meets its contract. Assumes nothing.
 use Rattle.walks.proofs.Facts as facts
-use Rattle.walks.specs.Steps.{dropOf, cycleFrom, stepTo}
-use Rattle.entries.specs.Entries.{cyclesOf, toneAt}
-use Rattle.entries.specs.declared.Phase.the-variants.{Tones}
+use Rattle.entries.specs.Entries.{cyclesOf}
 use Rattle.rows.specs.declared.Tone.{Tone}
-use mathlib.Core.Bool.{false}
-use mathlib.Core.Path.{_≡_, refl, sym, ap, _∙_}
+use mathlib.Core.Path.{refl, ap}
 use native.Mathlib.Nat.{mul-le-mul}
 use native.Mathlib.Omega.{arith}
-use Prim.Native.Nat.{ℕ, _+_, _-_, _*_, _≤_}
+use Prim.Native.Nat.{_+_, _-_, _*_, _≤_}
 use borrow.Author.Needs.{needs}
 use Rattle.walks.proofs.drop_cycles.Statement.{statement}
 use Rattle.walks.proofs.drop_cycles.Tie as tie
-use Rattle.walks.proofs.drop_cycles.Reads as reads
-use Rattle.walks.proofs.drop_cycles.Lts as lts
-use Rattle.entries.proofs.at_least_one.Reads as at-least-one-reads
-use Rattle.rows.proofs.tone_at.Reads as tone-at-reads
-use Rattle.walks.proofs.cycle_from.Reads as cycle-from-reads
-use Rattle.walks.proofs.drop_entry.Reads as drop-entry-reads
 
--- src/lib.rt:470:29
 add-tone-at : tie.Need-add-tone-at
 add-tone-at c =
     let a = c .before .before .before .args in let h = facts.in-tones (a .tones .now) (a .r) refl (c .before .before .before .pre .1) in let l = facts.tone-lent _ _ (a .r) (c .before .before .before .pre .0) _ (h .0) in omega (arith, l, h)
 
--- src/lib.rt:470:9
 tone-at-requires : tie.Need-tone-at-requires
 tone-at-requires c κs =
     let a = c .before .before .before .args in let h = facts.in-tones (a .tones .now) (a .r) refl (c .before .before .before .pre .1) in facts.tone-lent _ _ (a .r) (c .before .before .before .pre .0) _ (h .0) .0
 
--- src/lib.rt:473:9
 drop-entry-requires : tie.Need-drop-entry-requires
 drop-entry-requires c κs = search needs
 
--- src/lib.rt:473:9
 returns : tie.Need-returns
 returns c =
     let a = c .before .before .before .before .before .before .before .args in facts.drops-first (a .tape .now) (a .tones .now) (a .r) (a .i) (a .p) (a .d) (c .before .before .before .tone-at .result) (c .before .before .before .tone-at .ensures) _ (c .before .if1 .taken) (c .drop-entry .ensures)
 
--- src/lib.rt:476:9
 drop-entry-requires-2 : tie.Need-drop-entry-requires-2
 drop-entry-requires-2 c κs = search needs
 
--- src/lib.rt:476:9
 returns-2 : tie.Need-returns-2
 returns-2 c =
     let a = c .before .before .before .before .before .before .before .before .before .args in facts.drops-second (a .tape .now) (a .tones .now) (a .r) (a .i) (a .p) (a .d) (c .before .before .before .before .before .tone-at .result) (c .before .before .before .before .before .tone-at .ensures) _ (c .before .before .before .if1 .left) (c .before .if2 .taken) (c .drop-entry2 .ensures)
 
--- src/lib.rt:478:13
 at-least-one-requires : tie.Need-at-least-one-requires
 at-least-one-requires c κs = search needs
 
--- src/lib.rt:478:13
 sub-k : tie.Need-sub-k
 unfolding cyclesOf
 sub-k c =
     let a = c .before .before .before .before .before .before .before .before .before .args in let h = facts.in-tones (a .tones .now) (a .r) refl (c .before .before .before .before .before .before .before .before .before .pre .1) in let e = ap cyclesOf (c .before .before .before .before .before .tone-at .ensures) in omega (arith, c .at-least-one .ensures, e, h .1)
 
--- src/lib.rt:480:36
 add-cycle-from : tie.Need-add-cycle-from
 add-cycle-from c = search needs
 
--- src/lib.rt:480:16
 cycle-from-requires : tie.Need-cycle-from-requires
 cycle-from-requires c κs =
     let a = c .before .before .before .before .before .before .before .before .before .args in let h = facts.in-tones (a .tones .now) (a .r) refl (c .before .before .before .before .before .before .before .before .before .pre .1) in h .0
 
--- src/lib.rt:481:20
 add-t14 : tie.Need-add-t14
 add-t14 c =
     let a = c .before .before .before .before .before .before .before .before .before .before .before .args in let h = facts.in-tones (a .tones .now) (a .r) refl (c .before .before .before .before .before .before .before .before .before .before .before .pre .1) in let l = facts.tone-small _ _ (a .r) (c .before .before .before .before .before .before .before .before .before .before .before .pre .0) _ (h .0) in omega (arith, l, ap (λ (x : Tone). x .len1) (c .before .before .before .before .before .before .before .tone-at .ensures), ap (λ (x : Tone). x .len2) (c .before .before .before .before .before .before .before .tone-at .ensures))
 
--- src/lib.rt:481:15
 mul-t15 : tie.Need-mul-t15
 unfolding cyclesOf
 mul-t15 c =
     let a = c .before .before .before .before .before .before .before .before .before .before .before .args in let h = facts.in-tones (a .tones .now) (a .r) refl (c .before .before .before .before .before .before .before .before .before .before .before .pre .1) in let l = facts.tone-small _ _ (a .r) (c .before .before .before .before .before .before .before .before .before .before .before .pre .0) _ (h .0) in let e = ap cyclesOf (c .before .before .before .before .before .before .before .tone-at .ensures) in let x = c .before .before .before .before .before .before .before .tone-at .result in let m : c .before .before .at-least-one .result - a .p ≤ 65535 = omega (arith, c .before .before .at-least-one .ensures, e, l .cycles) in let n : x .len1 + x .len2 ≤ 131070 = omega (arith, l, ap (λ (x : Tone). x .len1) (c .before .before .before .before .before .before .before .tone-at .ensures), ap (λ (x : Tone). x .len2) (c .before .before .before .before .before .before .before .tone-at .ensures)) in let z : (c .before .before .at-least-one .result - a .p) * (x .len1 + x .len2) ≤ 65535 * 131070 = mul-le-mul m n in omega (arith, z)
 
--- src/lib.rt:482:17
 mul-t16 : tie.Need-mul-t16
 unfolding cyclesOf
 mul-t16 c =
     let a = c .before .before .before .before .before .before .before .before .before .before .before .args in let h = facts.in-tones (a .tones .now) (a .r) refl (c .before .before .before .before .before .before .before .before .before .before .before .pre .1) in let l = facts.tone-small _ _ (a .r) (c .before .before .before .before .before .before .before .before .before .before .before .pre .0) _ (h .0) in let e = ap cyclesOf (c .before .before .before .before .before .before .before .tone-at .ensures) in omega (arith, c .before .before .at-least-one .ensures, e, l .cycles)
 
--- src/lib.rt:465:1
 returns-3 : tie.Need-returns-3
 returns-3 c =
     let a = c .before .before .before .before .before .before .before .before .before .before .before .args in rw (c .before .cycle-from .ensures) (facts.drops-cycles (a .tape .now) (a .tones .now) (a .r) (a .i) (a .p) (a .d) (c .before .before .before .before .before .before .before .tone-at .result) (c .before .before .before .before .before .before .before .tone-at .ensures) (c .before .before .at-least-one .result) (c .before .before .at-least-one .ensures) (c .before .before .before .before .before .if1 .left) (c .before .before .before .if2 .left))

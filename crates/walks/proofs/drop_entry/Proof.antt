@@ -1,27 +1,19 @@
-use mathlib.Core.Path.{_≡_, sym, ap, _∙_}
+-- `drop_entry` meets its contract. Assumes nothing.
+use mathlib.Core.Path.{_∙_}
 use borrow.Author.Needs.{needs}
 use Rattle.walks.proofs.drop_entry.Statement.{statement}
 use Rattle.walks.proofs.drop_entry.Tie as tie
-use Rattle.walks.proofs.drop_entry.Reads as reads
-use Rattle.walks.proofs.drop_entry.Lts as lts
-use Rattle.walks.proofs.drop_one.Reads as drop-one-reads
-use Rattle.walks.proofs.length_at.Reads as length-at-reads
-use Rattle.walks.proofs.size_of.Reads as size-of-reads
 
--- src/lib.rt:461:14
 size-of-requires : tie.Need-size-of-requires
 size-of-requires c κs = search needs
 
--- src/lib.rt:461:42
 length-at-requires : tie.Need-length-at-requires
 length-at-requires c κs = search needs
 
--- src/lib.rt:461:5
 drop-one-requires : tie.Need-drop-one-requires
 drop-one-requires c κs =
     (rw (c .before .size-of .ensures) (c .before .before .before .before .pre .0), c .before .before .before .before .pre .1)
 
--- src/lib.rt:456:1
 returns : tie.Need-returns
 returns c =
     c .drop-one .ensures ∙ rw (c .before .length-at .ensures)

@@ -1,37 +1,29 @@
+-- `drop_one` meets its contract. Assumes nothing.
 use Rattle.walks.specs.Steps.{dropOne}
 use borrow.Author.Tests.{le-leb, lt-leb}
 use borrow.Author.Needs.{needs}
 use Rattle.walks.proofs.drop_one.Statement.{statement}
 use Rattle.walks.proofs.drop_one.Tie as tie
-use Rattle.walks.proofs.drop_one.Reads as reads
-use Rattle.walks.proofs.drop_one.Lts as lts
-use Rattle.walks.proofs.one_step.Reads as one-step-reads
 
--- src/lib.rt:435:21
 enum-known-length : tie.Need-enum-known-length
 enum-known-length c = search needs
 
--- src/lib.rt:437:17
 one-step-requires : tie.Need-one-step-requires
 one-step-requires c κs = search needs
 
--- src/lib.rt:437:17
 returns : tie.Need-returns
 unfolding dropOne
 returns c =
     rw (c .before .before .before .length .given .1, le-leb _ _ (c .before .if1 .taken)) (c .one-step .ensures)
 
--- src/lib.rt:446:30
 enum-told : tie.Need-enum-told
 enum-told c = search needs
 
--- src/lib.rt:429:1
 returns-2 : tie.Need-returns-2
 unfolding dropOne
 returns-2 c =
     rw (c .before .before .length .given .1, lt-leb _ _ (c .if1 .left))
 
--- src/lib.rt:429:1
 returns-3 : tie.Need-returns-3
 unfolding dropOne
 returns-3 c =

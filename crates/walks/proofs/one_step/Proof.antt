@@ -1,97 +1,75 @@
+-- `one_step` meets its contract. Assumes nothing.
 use Rattle.walks.proofs.Facts as facts
 use Rattle.walks.specs.Steps.{oneStep}
 use native.Mathlib.Omega.{arith}
 use borrow.Author.Needs.{needs}
 use Rattle.walks.proofs.one_step.Statement.{statement}
 use Rattle.walks.proofs.one_step.Tie as tie
-use Rattle.walks.proofs.one_step.Reads as reads
-use Rattle.walks.proofs.one_step.Lts as lts
-use Rattle.rows.proofs.tone_at.Reads as tone-at-reads
-use Rattle.walks.proofs.bit_from.Reads as bit-from-reads
-use Rattle.walks.proofs.cycle_from.Reads as cycle-from-reads
-use Rattle.walks.proofs.tone_from.Reads as tone-from-reads
 
--- src/lib.rt:178:20
 enum-told : tie.Need-enum-told
 enum-told c = search needs
 
--- src/lib.rt:178:20
 tone-from-requires : tie.Need-tone-from-requires
 tone-from-requires c κs = search needs
 
--- src/lib.rt:183:24
 enum-known-f : tie.Need-enum-known-f
 enum-known-f c = search needs
 
--- src/lib.rt:185:41
 add-tone-at : tie.Need-add-tone-at
 add-tone-at c =
     let a = c .before .before .before .before .before .before .args in let h = facts.in-tones _ (a .r) (c .before .before .before .f .given .1) (c .before .before .before .before .before .before .pre .1) in let l = facts.tone-lent _ _ (a .r) (c .before .before .before .before .before .before .pre .0) _ (h .0) in omega (arith, l, h)
 
--- src/lib.rt:185:21
 tone-at-requires : tie.Need-tone-at-requires
 tone-at-requires c κs =
     let a = c .before .before .before .before .before .before .args in let h = facts.in-tones _ (a .r) (c .before .before .before .f .given .1) (c .before .before .before .before .before .before .pre .1) in facts.tone-lent _ _ (a .r) (c .before .before .before .before .before .before .pre .0) _ (h .0) .0
 
--- src/lib.rt:187:52
 add-cycle-from : tie.Need-add-cycle-from
 add-cycle-from c =
     let a = c .before .before .before .before .before .before .before .args in let h = facts.in-tones _ (a .r) (c .before .before .before .before .f .given .1) (c .before .before .before .before .before .before .before .pre .1) in let l = facts.tone-small _ _ (a .r) (c .before .before .before .before .before .before .before .pre .0) _ (h .0) in omega (arith, h, l .cycles)
 
--- src/lib.rt:187:28
 cycle-from-requires : tie.Need-cycle-from-requires
 cycle-from-requires c κs =
     let a = c .before .before .before .before .before .before .before .args in facts.in-tones _ (a .r) (c .before .before .before .before .f .given .1) (c .before .before .before .before .before .before .before .pre .1) .0
 
--- src/lib.rt:186:17
 returns : tie.Need-returns
 unfolding oneStep
 returns c =
     rw (c .before .before .before .before .before .f .given .1, c .before .before .before .if1 .taken, c .cycle-from .ensures, c .before .tone-at .ensures)
 
--- src/lib.rt:200:23
 enum-known-f-2 : tie.Need-enum-known-f-2
 enum-known-f-2 c = search needs
 
--- src/lib.rt:203:45
 add-bit-from : tie.Need-add-bit-from
 add-bit-from c =
     let a = c .before .before .before .before .before .args in let h = facts.in-data _ (a .r) (c .before .before .f2 .given .1) (c .before .before .before .before .before .pre .1) in let l = facts.bits-few _ _ (a .r) (c .before .before .before .before .before .pre .0) _ (h .0) in omega (arith, h, l)
 
--- src/lib.rt:203:28
 bit-from-requires : tie.Need-bit-from-requires
 bit-from-requires c κs =
     let a = c .before .before .before .before .before .args in facts.in-data _ (a .r) (c .before .before .f2 .given .1) (c .before .before .before .before .before .pre .1) .0
 
--- src/lib.rt:202:17
 returns-2 : tie.Need-returns-2
 unfolding oneStep
 returns-2 c =
     rw (c .before .before .before .f2 .given .1, c .before .if2 .taken, c .bit-from .ensures)
 
--- src/lib.rt:217:20
 enum-told-2 : tie.Need-enum-told-2
 enum-told-2 c = search needs
 
--- src/lib.rt:171:1
 returns-3 : tie.Need-returns-3
 unfolding oneStep
 returns-3 c =
     rw (c .before .enum-told .given .1, c .tone-from .ensures)
 
--- src/lib.rt:171:1
 returns-4 : tie.Need-returns-4
 unfolding oneStep
 returns-4 c =
     rw (c .before .before .f .given .1, c .if1 .left)
 
--- src/lib.rt:171:1
 returns-5 : tie.Need-returns-5
 unfolding oneStep
 returns-5 c =
     rw (c .before .before .f2 .given .1, c .if2 .left)
 
--- src/lib.rt:171:1
 returns-6 : tie.Need-returns-6
 unfolding oneStep
 returns-6 c =

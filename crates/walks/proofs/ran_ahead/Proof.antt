@@ -1,25 +1,18 @@
+-- `ran_ahead` meets its contract. Assumes nothing.
 use Rattle.walks.proofs.Sheds.{cur, cur-out, drops-nil, Off, off-first, off-start, start-cur, shed-goes, shed-less, shed-rests, shed-off, dropped-stop, dropped-short, dropped-behind}
 use Rattle.walks.proofs.Turns.{on-has, on-first, asks, asks-has, well-of, bad-of}
 use Rattle.walks.proofs.Needed.{needed, well-before, bad-there}
-use Rattle.walks.specs.Heads.{wellRow, firstBad, cutTo, tapeOf, droppedFrom}
+use Rattle.walks.specs.Heads.{wellRow, firstBad, cutTo, tapeOf}
 use Rattle.walks.specs.declared.Position.{Position}
 use Rattle.entries.proofs.Follows.{list-out}
 use Rattle.pulses.specs.Ahead.{drops}
 use lib.ListN.{length}
-use mathlib.Core.Bool.{false}
 use mathlib.Core.Path.{_≡_, refl, sym, ap, _∙_}
 use borrow.Author.Needs.{needs}
 use native.Mathlib.Omega.{arith}
 use Prim.Native.Nat.{ℕ, _+_, _-_, _≤_}
 use Rattle.walks.proofs.ran_ahead.Statement.{statement}
 use Rattle.walks.proofs.ran_ahead.Tie as tie
-use Rattle.walks.proofs.ran_ahead.Reads as reads
-use Rattle.walks.proofs.ran_ahead.Lts as lts
-use Rattle.rows.proofs.block_at.Reads as block-at-reads
-use Rattle.walks.proofs.drop.Reads as drop-reads
-use Rattle.walks.proofs.one_step.Reads as one-step-reads
-use Rattle.walks.proofs.row_well.Reads as row-well-reads
-use Rattle.walks.proofs.size_of.Reads as size-of-reads
 
 abbrev Inv-entries : tie.InvT-entries
 Inv-entries tape tones blocks count n t d block phase₀ over₀ sum₀ r phase over sum =
@@ -40,37 +33,30 @@ abbrev μ-blocks2 : tie.MeasureT-blocks2
 μ-blocks2 tape tones blocks count n t d block₀ phase₀ over₀ sum₀ block phase over sum =
     count - block
 
--- src/lib.rt:541:21
 enum-known-own : tie.Need-enum-known-own Inv-entries μ-entries Inv-blocks2 μ-blocks2
 enum-known-own c =
     search needs
 
--- src/lib.rt:542:9
 enum-told : tie.Need-enum-told Inv-entries μ-entries Inv-blocks2 μ-blocks2
 enum-told c =
     search needs
 
--- src/lib.rt:542:9
 returns : tie.Need-returns Inv-entries μ-entries Inv-blocks2 μ-blocks2
 returns c =
     let a = c .before .before .before .before .before .args in let w = tapeOf (a .tape .now) (a .tones .now) (a .blocks .now) (a .count) in dropped-stop w (a .pos) (c .before .before .before .before .before .pre) (a .n) (c .enum-told .given .1)
 
--- src/lib.rt:545:9
 returns-2 : tie.Need-returns-2 Inv-entries μ-entries Inv-blocks2 μ-blocks2
 returns-2 c =
     let a = c .before .before .before .before .before .before .before .args in let w = tapeOf (a .tape .now) (a .tones .now) (a .blocks .now) (a .count) in dropped-short w (a .pos) (c .before .before .before .before .before .before .before .pre) (a .n) _ (c .before .before .own .given .1) (c .if1 .taken)
 
--- src/lib.rt:550:26
 size-of-requires : tie.Need-size-of-requires Inv-entries μ-entries Inv-blocks2 μ-blocks2
 size-of-requires c κs =
     search needs
 
--- src/lib.rt:550:48
 block-at-requires : tie.Need-block-at-requires Inv-entries μ-entries Inv-blocks2 μ-blocks2
 block-at-requires c κs =
     let a = c .before .before .before .before .before .before .before .before .args in omega (arith, c .before .before .before .before .before .before .before .before .pre .below, c .before .before .before .before .before .before .before .before .pre .lent)
 
--- src/lib.rt:550:9
 one-step-requires : tie.Need-one-step-requires Inv-entries μ-entries Inv-blocks2 μ-blocks2
 one-step-requires c κs =
     let a = c .before .before .before .before .before .before .before .before .before .args in
@@ -81,7 +67,6 @@ one-step-requires c κs =
     let o = on-first w q k (c .before .before .before .before .before .before .before .before .before .pre) x in
     (rw (c .before .size-of .ensures) (asks x (q .block) (omega arith) (o .below) (c .block-at .result) (c .block-at .ensures)), asks-has w (q .block) (q .phase) (c .block-at .result) (c .block-at .ensures) (on-has o))
 
--- src/lib.rt:554:5
 blocks2-holds : tie.Need-blocks2-holds Inv-entries μ-entries Inv-blocks2 μ-blocks2
 blocks2-holds c =
     let a = c .before .before .before .before .before .before .before .before .before .before .args in
@@ -91,7 +76,6 @@ blocks2-holds c =
     let x = needed w (q .block) (omega (arith, c .before .before .before .before .before .before .before .before .before .before .pre .below)) in
     (refl, (off-first w q (c .before .before .before .before .before .before .before .before .before .before .pre) (a .n) _ (c .before .before .before .before .before .own .given .1) (omega (arith, c .before .before .before .if1 .left)) (c .before .block-at .result) (c .before .block-at .ensures) (c .one-step .result) (c .one-step .ensures), omega arith))
 
--- src/lib.rt:555:13
 block-at-requires-2 : tie.Need-block-at-requires-2 Inv-entries μ-entries Inv-blocks2 μ-blocks2
 block-at-requires-2 c κs =
     let a = c .before .before .before .before .before .before .before .before .before .before .before .args in
@@ -102,12 +86,10 @@ block-at-requires-2 c κs =
     let B = c .blocks2 in
     omega (arith, B .inv .1 .0 .below, x .most, c .before .before .before .before .before .before .before .before .before .before .before .pre .lent)
 
--- src/lib.rt:556:9
 entries-holds : tie.Need-entries-holds Inv-entries μ-entries Inv-blocks2 μ-blocks2
 entries-holds c =
     λ k o. (refl, o)
 
--- src/lib.rt:560:17
 drop-requires : tie.Need-drop-requires Inv-entries μ-entries Inv-blocks2 μ-blocks2
 drop-requires c κs =
     let a = c .before .before .before .before .before .before .before .before .before .before .before .before .before .before .args in
@@ -120,7 +102,6 @@ drop-requires c κs =
     let i = E .inv k (B .inv .1 .0) in
     (asks x (B .block) (B .inv .1 .1) (i .1 .below) (c .before .before .block-at2 .result) (c .before .before .block-at2 .ensures), asks-has w (B .block) (E .phase) (c .before .before .block-at2 .result) (c .before .before .block-at2 .ensures) (i .1 .has (c .entries-test .left)))
 
--- src/lib.rt:564:13
 add-sum : tie.Need-add-sum Inv-entries μ-entries Inv-blocks2 μ-blocks2
 add-sum c =
     let a = c .before .before .before .before .before .before .before .before .before .before .before .before .before .before .before .before .before .before .args in
@@ -133,7 +114,6 @@ add-sum c =
     let i = E .inv k (B .inv .1 .0) in
     omega (arith, shed-goes w (B .block) (E .phase) (E .over) (a .n - c .before .before .before .before .before .before .before .before .before .before .before .before .before .own .given .0 .0) (i .1 .has) (c .before .before .before .before .entries-test .left) (c .before .before .before .before .before .before .block-at2 .result) (c .before .before .before .before .before .before .block-at2 .ensures) (c .before .before .before .drop .result) (c .before .before .before .drop .ensures) k (i .1 .below) (c .before .if2 .left) (E .sum), i .1 .few)
 
--- src/lib.rt:556:9
 entries-less : tie.Need-entries-less Inv-entries μ-entries Inv-blocks2 μ-blocks2
 entries-less c =
     let a = c .before .before .before .before .before .before .before .before .before .before .before .before .before .before .before .before .before .before .args in
@@ -146,7 +126,6 @@ entries-less c =
     let i = E .inv k (B .inv .1 .0) in
     shed-less w (B .block) (E .phase) (E .over) (a .n - c .before .before .before .before .before .before .before .before .before .before .before .before .before .own .given .0 .0) (i .1 .has) (c .before .before .before .before .entries-test .left) (c .before .before .before .before .before .before .block-at2 .result) (c .before .before .before .before .before .before .block-at2 .ensures) (c .before .before .before .drop .result) (c .before .before .before .drop .ensures) (c .before .if2 .left)
 
--- src/lib.rt:556:9
 entries-again : tie.Need-entries-again Inv-entries μ-entries Inv-blocks2 μ-blocks2
 entries-again c =
     let a = c .before .before .before .before .before .before .before .before .before .before .before .before .before .before .before .before .before .before .args in
@@ -161,7 +140,6 @@ entries-again c =
     let g = E .inv j o in
     (g .0 ∙ shed-goes w (B .block) (E .phase) (E .over) (a .n - c .before .before .before .before .before .before .before .before .before .before .before .before .before .own .given .0 .0) (g .1 .has) (c .before .before .before .before .entries-test .left) (c .before .before .before .before .before .before .block-at2 .result) (c .before .before .before .before .before .before .block-at2 .ensures) (c .before .before .before .drop .result) (c .before .before .before .drop .ensures) j (g .1 .below) (c .before .if2 .left) (E .sum), shed-off w (B .block) (E .phase) (E .over) (a .n - c .before .before .before .before .before .before .before .before .before .before .before .before .before .own .given .0 .0) (g .1 .has) (c .before .before .before .before .entries-test .left) (c .before .before .before .before .before .before .block-at2 .result) (c .before .before .before .before .before .before .block-at2 .ensures) (c .before .before .before .drop .result) (c .before .before .before .drop .ensures) j (E .sum) (g .1) (c .before .if2 .left))
 
--- src/lib.rt:568:9
 add-block : tie.Need-add-block Inv-entries μ-entries Inv-blocks2 μ-blocks2
 add-block c =
     let a = c .before .before .before .before .before .before .before .before .before .before .before .before .before .before .args in
@@ -174,7 +152,6 @@ add-block c =
     let i = E .inv k (B .inv .1 .0) in
     omega (arith, i .1 .below, x .most, c .before .before .before .before .before .before .before .before .before .before .before .before .before .before .pre .lent)
 
--- src/lib.rt:572:13
 row-well-requires : tie.Need-row-well-requires Inv-entries μ-entries Inv-blocks2 μ-blocks2
 row-well-requires c κs =
     let a = c .before .before .before .before .before .before .before .before .before .before .before .before .before .before .before .args in
@@ -187,7 +164,6 @@ row-well-requires c κs =
     let i = E .inv k (B .inv .1 .0) in
     omega (arith, i .1 .below, x .most, c .before .before .before .before .before .before .before .before .before .before .before .before .before .before .before .pre .lent, c .if3 .left)
 
--- src/lib.rt:554:5
 blocks2-less : tie.Need-blocks2-less Inv-entries μ-entries Inv-blocks2 μ-blocks2
 blocks2-less c =
     let a = c .before .before .before .before .before .before .before .before .before .before .before .before .before .before .before .before .before .args in
@@ -200,7 +176,6 @@ blocks2-less c =
     let i = E .inv k (B .inv .1 .0) in
     omega (arith, i .1 .below, x .most, c .before .before .if3 .left)
 
--- src/lib.rt:554:5
 blocks2-again : tie.Need-blocks2-again Inv-entries μ-entries Inv-blocks2 μ-blocks2
 unfolding wellRow
 blocks2-again c =
@@ -215,7 +190,6 @@ blocks2-again c =
     let o = off-start x (B .block) (E .phase) (E .over) (a .n - c .before .before .before .before .before .before .before .before .before .before .before .before .own .given .0 .0) (E .sum) (c .before .before .before .entries-test .taken) (i .1) (well-before x (B .block + 1) (omega (arith, i .1 .below)) (omega (arith, i .1 .below, x .most, c .before .before .if3 .left)) (well-of (c .before .row-well .ensures) (c .if4 .left))) in
     (B .inv .0 ∙ i .0 ∙ ap (λ (y : ℕ). E .sum + y) (cur-out (cutTo w k) (B .block) (E .phase) (E .over) (a .n - c .before .before .before .before .before .before .before .before .before .before .before .before .own .given .0 .0) (c .before .before .before .entries-test .taken) ∙ ap (λ y. drops y (a .n - c .before .before .before .before .before .before .before .before .before .before .before .before .own .given .0 .0)) (sym (start-cur (cutTo w k) (B .block + 1)))), (o, omega (arith, B .inv .1 .1)))
 
--- src/lib.rt:536:1
 returns-3 : tie.Need-returns-3 Inv-entries μ-entries Inv-blocks2 μ-blocks2
 returns-3 c =
     let a = c .before .before .before .before .before .before .before .before .before .before .before .before .before .before .before .before .before .args in
@@ -228,7 +202,6 @@ returns-3 c =
     let i = E .inv k (B .inv .1 .0) in
     omega (arith, dropped-behind w q (c .before .before .before .before .before .before .before .before .before .before .before .before .before .before .before .before .before .pre) (a .n) _ (c .before .before .before .before .before .before .before .before .before .before .before .before .own .given .1) (omega (arith, c .before .before .before .before .before .before .before .before .before .before .if1 .left)) (c .before .before .before .before .before .before .before .before .block-at .result) (c .before .before .before .before .before .before .before .before .block-at .ensures) (c .before .before .before .before .before .before .before .one-step .result) (c .before .before .before .before .before .before .before .one-step .ensures), B .inv .0, i .0, shed-rests w (B .block) (E .phase) (E .over) (a .n - c .before .before .before .before .before .before .before .before .before .before .before .before .own .given .0 .0) (i .1 .has) (c .before .before .before .entries-test .left) (c .before .before .before .before .before .block-at2 .result) (c .before .before .before .before .before .block-at2 .ensures) (c .before .before .drop .result) (c .before .before .drop .ensures) k (i .1 .below) (c .if2 .taken))
 
--- src/lib.rt:536:1
 returns-4 : tie.Need-returns-4 Inv-entries μ-entries Inv-blocks2 μ-blocks2
 returns-4 c =
     let a = c .before .before .before .before .before .before .before .before .before .before .before .before .before .before .before .args in
@@ -241,7 +214,6 @@ returns-4 c =
     let i = E .inv k (B .inv .1 .0) in
     omega (arith, dropped-behind w q (c .before .before .before .before .before .before .before .before .before .before .before .before .before .before .before .pre) (a .n) _ (c .before .before .before .before .before .before .before .before .before .before .own .given .1) (omega (arith, c .before .before .before .before .before .before .before .before .if1 .left)) (c .before .before .before .before .before .before .block-at .result) (c .before .before .before .before .before .before .block-at .ensures) (c .before .before .before .before .before .one-step .result) (c .before .before .before .before .before .one-step .ensures), B .inv .0, i .0, cur-out (cutTo w k) (B .block) (E .phase) (E .over) (a .n - c .before .before .before .before .before .before .before .before .before .before .own .given .0 .0) (c .before .entries-test .taken), drops-nil (cutTo w k) (B .block + 1) (a .n - c .before .before .before .before .before .before .before .before .before .before .own .given .0 .0) (list-out (cutTo w k) (B .block + 1) (omega (arith, c .if3 .taken, x .most))))
 
--- src/lib.rt:536:1
 returns-5 : tie.Need-returns-5 Inv-entries μ-entries Inv-blocks2 μ-blocks2
 unfolding wellRow
 returns-5 c =

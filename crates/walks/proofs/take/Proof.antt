@@ -1,123 +1,94 @@
+-- `take` meets its contract. Assumes nothing.
 use Rattle.walks.proofs.Facts as facts
-use Rattle.walks.specs.Steps.{oneStep, takeOf}
-use Rattle.rows.specs.Well.{wellBlock}
+use Rattle.walks.specs.Steps.{takeOf}
 use borrow.Author.Tests.{eq-eqb, ne-eqb}
-use Prim.Native.Nat.{ℕ}
-use mathlib.Core.Bool.{true, false, not}
-use mathlib.Core.Path.{_≡_, sym, ap, subst, _∙_}
+use mathlib.Core.Path.{_∙_}
 use borrow.Author.Needs.{needs}
 use Rattle.walks.proofs.take.Statement.{statement}
 use Rattle.walks.proofs.take.Tie as tie
-use Rattle.walks.proofs.take.Reads as reads
-use Rattle.walks.proofs.take.Lts as lts
-use Rattle.walks.proofs.one_step.Reads as one-step-reads
-use Rattle.walks.proofs.size_of.Reads as size-of-reads
-use Rattle.walks.proofs.take_byte.Reads as take-byte-reads
-use Rattle.walks.proofs.take_cycles.Reads as take-cycles-reads
 
--- src/lib.rt:303:9
 size-of-requires : tie.Need-size-of-requires
 size-of-requires c κs = search needs
 
--- src/lib.rt:305:9
 one-step-requires : tie.Need-one-step-requires
 one-step-requires c κs =
     let a = c .before .before .before .before .args in (rw (c .before .size-of .ensures) (c .before .before .before .before .pre .0), c .before .before .before .before .pre .1 .0)
 
--- src/lib.rt:305:9
 returns : tie.Need-returns
 unfolding takeOf
 returns c =
     let a = c .before .before .before .before .before .args in c .one-step .ensures ∙ rw (facts.not-true (a .full) (c .before .if1 .taken))
 
--- src/lib.rt:308:25
 enum-told : tie.Need-enum-told
 enum-told c = search needs
 
--- src/lib.rt:308:25
 one-step-requires-2 : tie.Need-one-step-requires-2
 one-step-requires-2 c κs =
     let a = c .before .before .before .before .before .before .args in (rw (c .before .before .before .size-of .ensures) (c .before .before .before .before .before .before .pre .0), c .before .before .before .before .before .before .pre .1 .0)
 
--- src/lib.rt:309:24
 enum-known-f : tie.Need-enum-known-f
 enum-known-f c = search needs
 
--- src/lib.rt:311:17
 one-step-requires-3 : tie.Need-one-step-requires-3
 one-step-requires-3 c κs =
     let a = c .before .before .before .before .before .before .before .before .args in (rw (c .before .before .before .before .before .size-of .ensures) (c .before .before .before .before .before .before .before .before .pre .0), facts.has-by _ (a .r) (c .before .before .f .given .1) (c .before .before .before .before .before .before .before .before .pre .1 .0))
 
--- src/lib.rt:311:17
 returns-2 : tie.Need-returns-2
 unfolding takeOf
 returns-2 c =
     let a = c .before .before .before .before .before .before .before .before .before .args in c .one-step3 .ensures ∙ rw (facts.not-false (a .full) (c .before .before .before .before .before .if1 .left), c .before .before .before .f .given .1, c .before .if2 .taken)
 
--- src/lib.rt:313:13
 take-cycles-requires : tie.Need-take-cycles-requires
 take-cycles-requires c κs =
     let a = c .before .before .before .before .before .before .before .before .args in (rw (c .before .before .before .before .before .size-of .ensures) (c .before .before .before .before .before .before .before .before .pre .0), (facts.in-tones _ (a .r) (c .before .before .f .given .1) (c .before .before .before .before .before .before .before .before .pre .1 .0), c .before .before .before .before .before .before .before .before .pre .1 .1))
 
--- src/lib.rt:315:23
 enum-known-f-2 : tie.Need-enum-known-f-2
 enum-known-f-2 c = search needs
 
--- src/lib.rt:317:17
 one-step-requires-4 : tie.Need-one-step-requires-4
 one-step-requires-4 c κs =
     let a = c .before .before .before .before .before .before .before .before .args in (rw (c .before .before .before .before .before .size-of .ensures) (c .before .before .before .before .before .before .before .before .pre .0), facts.has-by _ (a .r) (c .before .before .f2 .given .1) (c .before .before .before .before .before .before .before .before .pre .1 .0))
 
--- src/lib.rt:317:17
 returns-3 : tie.Need-returns-3
 unfolding takeOf
 returns-3 c =
     let a = c .before .before .before .before .before .before .before .before .before .args in c .one-step4 .ensures ∙ rw (facts.not-false (a .full) (c .before .before .before .before .before .if1 .left), c .before .before .before .f2 .given .1, c .before .if3 .taken)
 
--- src/lib.rt:320:17
 take-byte-requires : tie.Need-take-byte-requires
 take-byte-requires c κs =
     let a = c .before .before .before .before .before .before .before .before .before .args in (c .before .before .before .before .before .before .before .before .before .pre .0, facts.in-data _ (a .r) (c .before .before .before .f2 .given .1) (c .before .before .before .before .before .before .before .before .before .pre .1 .0) .0)
 
--- src/lib.rt:320:17
 returns-4 : tie.Need-returns-4
 unfolding takeOf
 returns-4 c =
     let a = c .before .before .before .before .before .before .before .before .before .before .args in c .take-byte .ensures ∙ rw (facts.not-false (a .full) (c .before .before .before .before .before .before .if1 .left), c .before .before .before .before .f2 .given .1, c .before .before .if3 .left, eq-eqb _ _ (c .before .if4 .taken))
 
--- src/lib.rt:322:13
 one-step-requires-5 : tie.Need-one-step-requires-5
 one-step-requires-5 c κs =
     let a = c .before .before .before .before .before .before .before .before .before .args in (rw (c .before .before .before .before .before .before .size-of .ensures) (c .before .before .before .before .before .before .before .before .before .pre .0), facts.has-by _ (a .r) (c .before .before .before .f2 .given .1) (c .before .before .before .before .before .before .before .before .before .pre .1 .0))
 
--- src/lib.rt:324:25
 enum-told-2 : tie.Need-enum-told-2
 enum-told-2 c = search needs
 
--- src/lib.rt:324:25
 one-step-requires-6 : tie.Need-one-step-requires-6
 one-step-requires-6 c κs =
     let a = c .before .before .before .before .before .before .args in (rw (c .before .before .before .size-of .ensures) (c .before .before .before .before .before .before .pre .0), c .before .before .before .before .before .before .pre .1 .0)
 
--- src/lib.rt:297:1
 returns-5 : tie.Need-returns-5
 unfolding takeOf
 returns-5 c =
     let a = c .before .before .before .before .before .before .before .args in c .one-step2 .ensures ∙ rw (facts.not-false (a .full) (c .before .before .before .if1 .left), c .before .enum-told .given .1)
 
--- src/lib.rt:297:1
 returns-6 : tie.Need-returns-6
 unfolding takeOf
 returns-6 c =
     let a = c .before .before .before .before .before .before .before .before .before .args in c .take-cycles .ensures ∙ rw (facts.not-false (a .full) (c .before .before .before .before .before .if1 .left), c .before .before .before .f .given .1, c .before .if2 .left)
 
--- src/lib.rt:297:1
 returns-7 : tie.Need-returns-7
 unfolding takeOf
 returns-7 c =
     let a = c .before .before .before .before .before .before .before .before .before .before .args in c .one-step5 .ensures ∙ rw (facts.not-false (a .full) (c .before .before .before .before .before .before .if1 .left), c .before .before .before .before .f2 .given .1, c .before .before .if3 .left, ne-eqb _ _ (c .before .if4 .left))
 
--- src/lib.rt:297:1
 returns-8 : tie.Need-returns-8
 unfolding takeOf
 returns-8 c =

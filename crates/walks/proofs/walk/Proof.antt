@@ -1,3 +1,4 @@
+-- `walk` meets its contract. Assumes nothing.
 use Rattle.walks.specs.Heads.{startAt, stand, wellRow, firstBad, cutTo, formed, tapeOf, walkFrom}
 use mathlib.Core.Bool.{false}
 use Rattle.walks.proofs.Turns.{On, on-has, on-first, on-start, asks, asks-has, leaves-at, leaves-stopped, less-none, well-of, bad-of, step-most, step-few, step-has, turn-lead, turn-on, turn-less, turn-out}
@@ -11,21 +12,12 @@ use Rattle.rows.specs.declared.Block.{Block}
 use Rattle.pulses.specs.Lead.{Leads, lead-here, lead-on, lead-by}
 use lib.ListN.{length}
 use mathlib.Core.Logic.{inl, inr}
-use mathlib.Core.Path.{_≡_, refl, sym, ap, _∙_}
+use mathlib.Core.Path.{_≡_, sym, ap, _∙_}
 use borrow.Author.Needs.{needs}
 use native.Mathlib.Omega.{arith}
 use Prim.Native.Nat.{ℕ, _+_, _-_, _≤_}
 use Rattle.walks.proofs.walk.Statement.{statement}
 use Rattle.walks.proofs.walk.Tie as tie
-use Rattle.walks.proofs.walk.Reads as reads
-use Rattle.walks.proofs.walk.Lts as lts
-use Rattle.rows.proofs.block_at.Reads as block-at-reads
-use Rattle.walks.proofs.Position.new_at_block.Reads as new-at-block-reads
-use Rattle.walks.proofs.length_at.Reads as length-at-reads
-use Rattle.walks.proofs.row_well.Reads as row-well-reads
-use Rattle.walks.proofs.stands.Reads as stands-reads
-use Rattle.walks.proofs.stops.Reads as stops-reads
-use Rattle.walks.proofs.take.Reads as take-reads
 
 abbrev Inv-entries : tie.InvT-entries
 Inv-entries tape tones blocks count n block phase₀ left₀ full₀ d₀ passed₀ r phase left full d passed =
@@ -46,7 +38,6 @@ abbrev μ-blocks2 : tie.MeasureT-blocks2
 μ-blocks2 tape tones blocks count n block₀ phase₀ left₀ full₀ d₀ passed₀ block phase left full d passed =
     count - block
 
--- src/lib.rt:385:5
 blocks2-holds : tie.Need-blocks2-holds Inv-entries μ-entries Inv-blocks2 μ-blocks2
 blocks2-holds c =
     let a = c .before .before .before .args in
@@ -56,7 +47,6 @@ blocks2-holds c =
     let x = needed w (q .block) (omega (arith, c .before .before .before .pre .below)) in
     (lead-here _ _ _, (on-first w q k (c .before .before .before .pre) x, omega arith))
 
--- src/lib.rt:386:13
 block-at-requires : tie.Need-block-at-requires Inv-entries μ-entries Inv-blocks2 μ-blocks2
 block-at-requires c κs =
     let a = c .before .before .before .before .args in
@@ -67,42 +57,34 @@ block-at-requires c κs =
     let B = c .blocks2 in
     omega (arith, B .inv .1 .0 .below, x .most, c .before .before .before .before .pre .lent)
 
--- src/lib.rt:387:9
 entries-holds : tie.Need-entries-holds Inv-entries μ-entries Inv-blocks2 μ-blocks2
 entries-holds c =
     λ k o. (lead-here _ _ _, o)
 
--- src/lib.rt:388:29
 enum-known-left : tie.Need-enum-known-left Inv-entries μ-entries Inv-blocks2 μ-blocks2
 enum-known-left c =
     search needs
 
--- src/lib.rt:389:31
 enum-told : tie.Need-enum-told Inv-entries μ-entries Inv-blocks2 μ-blocks2
 enum-told c =
     search needs
 
--- src/lib.rt:389:31
 stops-requires : tie.Need-stops-requires Inv-entries μ-entries Inv-blocks2 μ-blocks2
 stops-requires c κs =
     search needs
 
--- src/lib.rt:392:31
 stands-requires : tie.Need-stands-requires Inv-entries μ-entries Inv-blocks2 μ-blocks2
 stands-requires c κs =
     search needs
 
--- src/lib.rt:395:52
 sub-stands : tie.Need-sub-stands Inv-entries μ-entries Inv-blocks2 μ-blocks2
 sub-stands c =
     omega (arith, c .if2 .taken)
 
--- src/lib.rt:395:31
 stands-requires-2 : tie.Need-stands-requires-2 Inv-entries μ-entries Inv-blocks2 μ-blocks2
 stands-requires-2 c κs =
     search needs
 
--- src/lib.rt:397:17
 take-requires : tie.Need-take-requires Inv-entries μ-entries Inv-blocks2 μ-blocks2
 take-requires c κs =
     let a = c .before .before .before .before .before .before .before .before .before .before .before .args in
@@ -115,7 +97,6 @@ take-requires c κs =
     let i = E .inv k (B .inv .1 .0) in
     (asks x (B .block) (B .inv .1 .1) (i .1 .below) (c .before .before .before .before .before .before .block-at .result) (c .before .before .before .before .before .before .block-at .ensures), (asks-has w (B .block) (E .phase) (c .before .before .before .before .before .before .block-at .result) (c .before .before .before .before .before .before .block-at .ensures) (on-has (i .1)), omega (arith, c .before .if1 .left)))
 
--- src/lib.rt:398:13
 sub-d : tie.Need-sub-d Inv-entries μ-entries Inv-blocks2 μ-blocks2
 sub-d c =
     let a = c .before .before .before .before .before .before .before .before .before .before .before .before .before .args in
@@ -128,7 +109,6 @@ sub-d c =
     let i = E .inv k (B .inv .1 .0) in
     step-most w k (B .block) (E .phase) (E .left) (E .full) (E .passed) (i .1) (E .d) _ (c .before .before .before .before .before .left .given .1) (omega (arith, c .before .before .before .if1 .left)) (omega (arith, c .before .before .if2 .left)) (c .before .before .before .before .before .before .before .before .block-at .result) (c .before .before .before .before .before .before .before .before .block-at .ensures) (c .before .take .result) (c .before .take .ensures)
 
--- src/lib.rt:399:13
 add-passed : tie.Need-add-passed Inv-entries μ-entries Inv-blocks2 μ-blocks2
 add-passed c =
     let a = c .before .before .before .before .before .before .before .before .before .before .before .before .before .before .args in
@@ -141,7 +121,6 @@ add-passed c =
     let i = E .inv k (B .inv .1 .0) in
     omega (arith, step-few w k (B .block) (E .phase) (E .left) (E .full) (E .passed) (i .1) (E .d) _ (c .before .before .before .before .before .before .left .given .1) (omega (arith, c .before .before .before .before .if1 .left)) (omega (arith, c .before .before .before .if2 .left)) (c .before .before .before .before .before .before .before .before .before .block-at .result) (c .before .before .before .before .before .before .before .before .before .block-at .ensures) (c .before .before .take .result) (c .before .before .take .ensures))
 
--- src/lib.rt:404:13
 length-at-requires : tie.Need-length-at-requires Inv-entries μ-entries Inv-blocks2 μ-blocks2
 length-at-requires c κs =
     let a = c .before .before .before .before .before .before .before .before .before .before .before .before .before .before .before .args in
@@ -154,7 +133,6 @@ length-at-requires c κs =
     let i = E .inv k (B .inv .1 .0) in
     (asks x (B .block) (B .inv .1 .1) (i .1 .below) (c .before .before .before .before .before .before .before .before .before .before .block-at .result) (c .before .before .before .before .before .before .before .before .before .before .block-at .ensures), asks-has w (B .block) (c .before .before .before .take .result .phase) (c .before .before .before .before .before .before .before .before .before .before .block-at .result) (c .before .before .before .before .before .before .before .before .before .before .block-at .ensures) (step-has w k (B .block) (E .phase) (E .left) (E .full) (E .passed) (i .1) (E .d) _ (c .before .before .before .before .before .before .before .left .given .1) (omega (arith, c .before .before .before .before .before .if1 .left)) (omega (arith, c .before .before .before .before .if2 .left)) (c .before .before .before .before .before .before .before .before .before .before .block-at .result) (c .before .before .before .before .before .before .before .before .before .before .block-at .ensures) (c .before .before .before .take .result) (c .before .before .before .take .ensures) (c .if3 .left)))
 
--- src/lib.rt:387:9
 entries-less : tie.Need-entries-less Inv-entries μ-entries Inv-blocks2 μ-blocks2
 entries-less c =
     let a = c .before .before .before .before .before .before .before .before .before .before .before .before .before .before .before .before .args in
@@ -167,7 +145,6 @@ entries-less c =
     let i = E .inv k (B .inv .1 .0) in
     turn-less w k (B .block) (E .phase) (E .left) (E .full) (E .passed) (i .1) (E .d) _ (c .before .before .before .before .before .before .before .before .left .given .1) (omega (arith, c .before .before .before .before .before .before .if1 .left)) (omega (arith, c .before .before .before .before .before .if2 .left)) (c .before .before .before .before .before .before .before .before .before .before .before .block-at .result) (c .before .before .before .before .before .before .before .before .before .before .before .block-at .ensures) (c .before .before .before .before .take .result) (c .before .before .before .before .take .ensures) (c .before .if3 .left) (c .length-at .result) (c .length-at .ensures ∙ ap (λ (y : Block). lengthAt (w .bytes) (w .tones) y (c .before .before .before .before .take .result .phase)) (c .before .before .before .before .before .before .before .before .before .before .before .block-at .ensures))
 
--- src/lib.rt:387:9
 entries-again : tie.Need-entries-again Inv-entries μ-entries Inv-blocks2 μ-blocks2
 entries-again c =
     let a = c .before .before .before .before .before .before .before .before .before .before .before .before .before .before .before .before .args in
@@ -182,7 +159,6 @@ entries-again c =
     let g = E .inv j o in
     (lead-on (g .0) (turn-lead w j (B .block) (E .phase) (E .left) (E .full) (E .passed) (g .1) (E .d) _ (c .before .before .before .before .before .before .before .before .left .given .1) (omega (arith, c .before .before .before .before .before .before .if1 .left)) (omega (arith, c .before .before .before .before .before .if2 .left)) (c .before .before .before .before .before .before .before .before .before .before .before .block-at .result) (c .before .before .before .before .before .before .before .before .before .before .before .block-at .ensures) (c .before .before .before .before .take .result) (c .before .before .before .before .take .ensures) j (g .1 .below) (c .before .if3 .left) (c .length-at .result) (c .length-at .ensures ∙ ap (λ (y : Block). lengthAt (w .bytes) (w .tones) y (c .before .before .before .before .take .result .phase)) (c .before .before .before .before .before .before .before .before .before .before .before .block-at .ensures))), turn-on w j (B .block) (E .phase) (E .left) (E .full) (E .passed) (g .1) (E .d) _ (c .before .before .before .before .before .before .before .before .left .given .1) (omega (arith, c .before .before .before .before .before .before .if1 .left)) (omega (arith, c .before .before .before .before .before .if2 .left)) (c .before .before .before .before .before .before .before .before .before .before .before .block-at .result) (c .before .before .before .before .before .before .before .before .before .before .before .block-at .ensures) (c .before .before .before .before .take .result) (c .before .before .before .before .take .ensures) (c .before .if3 .left) (c .length-at .result) (c .length-at .ensures ∙ ap (λ (y : Block). lengthAt (w .bytes) (w .tones) y (c .before .before .before .before .take .result .phase)) (c .before .before .before .before .before .before .before .before .before .before .before .block-at .ensures)))
 
--- src/lib.rt:407:9
 add-block : tie.Need-add-block Inv-entries μ-entries Inv-blocks2 μ-blocks2
 add-block c =
     let a = c .before .before .before .before .before .before .before .before .before .before .before .before .before .before .before .args in
@@ -195,17 +171,14 @@ add-block c =
     let i = E .inv k (B .inv .1 .0) in
     omega (arith, i .1 .below, x .most, c .before .before .before .before .before .before .before .before .before .before .before .before .before .before .before .pre .lent)
 
--- src/lib.rt:409:27
 stands-requires-3 : tie.Need-stands-requires-3 Inv-entries μ-entries Inv-blocks2 μ-blocks2
 stands-requires-3 c κs =
     search needs
 
--- src/lib.rt:413:27
 new-at-block-requires : tie.Need-new-at-block-requires Inv-entries μ-entries Inv-blocks2 μ-blocks2
 new-at-block-requires c κs =
     search needs
 
--- src/lib.rt:418:13
 row-well-requires : tie.Need-row-well-requires Inv-entries μ-entries Inv-blocks2 μ-blocks2
 row-well-requires c κs =
     let a = c .before .before .before .before .before .before .before .before .before .before .before .before .before .before .before .before .before .args in
@@ -218,7 +191,6 @@ row-well-requires c κs =
     let i = E .inv k (B .inv .1 .0) in
     omega (arith, i .1 .below, x .most, c .before .before .before .before .before .before .before .before .before .before .before .before .before .before .before .before .before .pre .lent, c .if5 .left)
 
--- src/lib.rt:385:5
 blocks2-less : tie.Need-blocks2-less Inv-entries μ-entries Inv-blocks2 μ-blocks2
 blocks2-less c =
     let a = c .before .before .before .before .before .before .before .before .before .before .before .before .before .before .before .before .before .before .before .args in
@@ -231,7 +203,6 @@ blocks2-less c =
     let i = E .inv k (B .inv .1 .0) in
     omega (arith, i .1 .below, x .most, c .before .before .if5 .left)
 
--- src/lib.rt:385:5
 blocks2-again : tie.Need-blocks2-again Inv-entries μ-entries Inv-blocks2 μ-blocks2
 unfolding leftAt wellRow
 blocks2-again c =
@@ -247,7 +218,6 @@ blocks2-again c =
     let o = on-start w k (B .block + 1) (E .passed + c .before .before .before .before .before .before .before .take .result .passed) (well-before x (B .block + 1) (omega (arith, i .1 .below)) (omega (arith, i .1 .below, x .most, c .before .before .if5 .left)) (well-of (c .before .row-well .ensures) (c .if6 .left))) (omega (arith, l .counts, i .1 .few)) in
     (lead-on (lead-on (B .inv .0) (i .0)) l, (o, omega (arith, B .inv .1 .1)))
 
--- src/lib.rt:375:1
 returns : tie.Need-returns Inv-entries μ-entries Inv-blocks2 μ-blocks2
 unfolding walkFrom formed
 returns c =
@@ -261,7 +231,6 @@ returns c =
     let i = E .inv k (B .inv .1 .0) in
     c .stops .ensures ∙ sym (leaves-stopped w k (B .block) (E .phase) (E .left) (E .full) (E .passed) (i .1) (lead-on (B .inv .0) (i .0)) (c .before .enum-told .given .1))
 
--- src/lib.rt:375:1
 returns-2 : tie.Need-returns-2 Inv-entries μ-entries Inv-blocks2 μ-blocks2
 unfolding walkFrom formed
 returns-2 c =
@@ -276,7 +245,6 @@ returns-2 c =
     let z : _ ≡ _ = leaves-at w k (B .block) (E .phase) (E .left) (E .full) (E .passed) (i .1) (lead-on (B .inv .0) (i .0)) _ (c .before .before .before .left .given .1) (inl (c .before .if1 .taken)) in
     c .stands .ensures ∙ less-none _ _ _ _ (c .before .if1 .taken) ∙ sym z
 
--- src/lib.rt:375:1
 returns-3 : tie.Need-returns-3 Inv-entries μ-entries Inv-blocks2 μ-blocks2
 unfolding walkFrom formed
 returns-3 c =
@@ -290,7 +258,6 @@ returns-3 c =
     let i = E .inv k (B .inv .1 .0) in
     c .stands2 .ensures ∙ sym (leaves-at w k (B .block) (E .phase) (E .left) (E .full) (E .passed) (i .1) (lead-on (B .inv .0) (i .0)) _ (c .before .before .before .before .left .given .1) (inr (c .before .if2 .taken)))
 
--- src/lib.rt:375:1
 returns-4 : tie.Need-returns-4 Inv-entries μ-entries Inv-blocks2 μ-blocks2
 unfolding walkFrom formed levelOf
 returns-4 c =
@@ -304,7 +271,6 @@ returns-4 c =
     let i = E .inv k (B .inv .1 .0) in
     c .stands3 .ensures ∙ sym (tells-next w (cutTo w k) (B .block) _ _ (lead-on (lead-on (B .inv .0) (i .0)) (turn-out w k (B .block) (E .phase) (E .left) (E .full) (E .passed) (i .1) (E .d) _ (c .before .before .before .before .before .before .before .before .before .left .given .1) (omega (arith, c .before .before .before .before .before .before .before .if1 .left)) (omega (arith, c .before .before .before .before .before .before .if2 .left)) (c .before .before .before .before .before .before .before .before .before .before .before .before .block-at .result) (c .before .before .before .before .before .before .before .before .before .before .before .before .block-at .ensures) (c .before .before .before .before .before .take .result) (c .before .before .before .before .before .take .ensures) (c .before .before .if3 .taken))) (c .before .if4 .taken) (i .1 .below))
 
--- src/lib.rt:375:1
 returns-5 : tie.Need-returns-5 Inv-entries μ-entries Inv-blocks2 μ-blocks2
 unfolding walkFrom formed
 returns-5 c =
@@ -320,7 +286,6 @@ returns-5 c =
     let l = lead-by (list-out (cutTo w k) (B .block + 1) (omega (arith, c .before .if5 .taken, x .most))) (lead-on (lead-on (B .inv .0) (i .0)) (turn-out w k (B .block) (E .phase) (E .left) (E .full) (E .passed) (i .1) (E .d) _ (c .before .before .before .before .before .before .before .before .before .before .left .given .1) (omega (arith, c .before .before .before .before .before .before .before .before .if1 .left)) (omega (arith, c .before .before .before .before .before .before .before .if2 .left)) (c .before .before .before .before .before .before .before .before .before .before .before .before .before .block-at .result) (c .before .before .before .before .before .before .before .before .before .before .before .before .before .block-at .ensures) (c .before .before .before .before .before .before .take .result) (c .before .before .before .before .before .before .take .ensures) (c .before .before .before .if3 .taken))) in
     ap (λ (y : Position). Ended (stand y (E .passed + c .before .before .before .before .before .before .take .result .passed) false)) (c .new-at-block .ensures ∙ ap startAt e) ∙ sym (tells-end w (cutTo w k) _ _ l (omega (arith, c .before .before .if4 .left)) (omega (arith, e)))
 
--- src/lib.rt:375:1
 returns-6 : tie.Need-returns-6 Inv-entries μ-entries Inv-blocks2 μ-blocks2
 unfolding walkFrom formed wellRow
 returns-6 c =

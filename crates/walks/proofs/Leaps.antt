@@ -58,7 +58,7 @@ module _ (w : Tape) (b : ℕ) where
 
   lands-bit-in : (pos k : ℕ) → pos < blockIn w b .size → k < bitsAt (blockIn w b) pos → Lands w b (Data pos k false) (fromBit w b pos k)
   unfolding leftAt lengthAt entryOf
-  lands-bit-in pos k l g = record { to = bit-in w b pos k g; has = has-data w b pos k false l g }
+  lands-bit-in pos k l g = record { to = bit-in w b pos k g; has = has-data (w .tones) (blockIn w b) pos k false l g }
 
   pub lands-byte : (pos : ℕ) → Lands w b (dataFrom (blockIn w b) pos) (fromByte w b pos)
   unfolding dataFrom
@@ -78,7 +78,7 @@ module _ (w : Tape) (b : ℕ) where
 
   lands-cycle-in : (i p : ℕ) → i < blockIn w b .tones → p < cyclesOf (toneIn w b i) → Lands w b (Tones i p false) (fromCycle w b i p)
   unfolding leftAt lengthAt entryOf
-  lands-cycle-in i p l g = record { to = cycle-in w b i p g; has = has-tone w b i p false l g }
+  lands-cycle-in i p l g = record { to = cycle-in w b i p g; has = has-tone (w .tones) (blockIn w b) i p false l g }
 
   pub lands-tone : (i : ℕ) → Lands w b (toneFrom (blockIn w b) i) (fromTone w b i)
   unfolding toneFrom
@@ -134,16 +134,16 @@ module _ (w : Tape) (b : ℕ) (below : b < w .count) where
       let l = lands-tone w b 0 in
       record { label = spot b Start; level = false; split = list-in w b below ∙ ap (λ (x : List (Entry Spot)). startOf b ∷ x) (l .to); many = refl; has = λ z. l .has }
   leap-one (Tones i p false) t h =
-      let e = tone-entry w b i p false h in
-      record { label = spot b (Tones i p false); level = false; split = refl; many = refl; has = λ z. has-tone w b i p true (e .0) (e .1) }
+      let e = tone-entry (w .tones) (blockIn w b) i p false h in
+      record { label = spot b (Tones i p false); level = false; split = refl; many = refl; has = λ z. has-tone (w .tones) (blockIn w b) i p true (e .0) (e .1) }
   leap-one (Tones i p true) t h =
-      let l = lands-cycle w b i (p + 1) (tone-entry w b i p true h .0) in
+      let l = lands-cycle w b i (p + 1) (tone-entry (w .tones) (blockIn w b) i p true h .0) in
       record { label = spot b (Tones i p true); level = true; split = ap (λ (x : List (Entry Spot)). pulse (spot b (Tones i p true)) true t ∷ x) (l .to); many = refl; has = λ z. l .has }
   leap-one (Data pos k false) t h =
-      let e = data-entry w b pos k false h in
-      record { label = spot b (Data pos k false); level = false; split = refl; many = refl; has = λ z. has-data w b pos k true (e .0) (e .1) }
+      let e = data-entry (w .tones) (blockIn w b) pos k false h in
+      record { label = spot b (Data pos k false); level = false; split = refl; many = refl; has = λ z. has-data (w .tones) (blockIn w b) pos k true (e .0) (e .1) }
   leap-one (Data pos k true) t h =
-      let l = lands-bit w b pos (k + 1) (data-entry w b pos k true h .0) in
+      let l = lands-bit w b pos (k + 1) (data-entry (w .tones) (blockIn w b) pos k true h .0) in
       record { label = spot b (Data pos k true); level = true; split = ap (λ (x : List (Entry Spot)). pulse (spot b (Data pos k true)) true t ∷ x) (l .to); many = refl; has = λ z. l .has }
   leap-one Pause t h = record { label = spot b Pause; level = false; split = refl; many = refl; has = λ z. absurd (no z) }
     where
@@ -242,7 +242,7 @@ module _ (w : Tape) (b : ℕ) (below : b < w .count) (d j : ℕ) (p : 0 < d) whe
   unfolding takeCycles cyclesStep
   took-cycles i q t h e l =
       let x = toneIn w b i in
-      let n = tone-entry w b i q false h in
+      let n = tone-entry (w .tones) (blockIn w b) i q false h in
       let k = fitting (x .len1 + x .len2) (cyclesOf x - q) d in
       let z = fit (x .len1 + x .len2) (cyclesOf x - q) d p in
       ⊎-elim
@@ -258,7 +258,7 @@ module _ (w : Tape) (b : ℕ) (below : b < w .count) (d j : ℕ) (p : 0 < d) whe
   unfolding takeByte byteStep
   took-byte pos t h e l =
       let r = blockIn w b in
-      let n = data-entry w b pos 0 false h in
+      let n = data-entry (w .tones) (blockIn w b) pos 0 false h in
       ⊎-elim
       (λ g.
       rw (lt-ltb (byteTime (w .bytes) r pos) d g)

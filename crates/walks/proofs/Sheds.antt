@@ -122,7 +122,7 @@ module _ (w : Tape) (b : ℕ) (below : b < w .count) (d : ℕ) where
   unfolding dropOf Within
   shed-cycles i p h =
       let x = toneIn w b i in
-      let n = tone-entry w b i p false h in
+      let n = tone-entry (w .tones) (blockIn w b) i p false h in
       let k = cyclesOf x - p in
       ⊎-elim
       (λ l. rw (lt-leb (x .len1) d l) (shed-entry (Tones i p false) h))
@@ -141,7 +141,7 @@ module _ (w : Tape) (b : ℕ) (below : b < w .count) (d : ℕ) where
   unfolding dropOf
   shed-byte pos h =
       let r = blockIn w b in
-      let n = data-entry w b pos 0 false h in
+      let n = data-entry (w .tones) (blockIn w b) pos 0 false h in
       ⊎-elim
       (λ l. rw (lt-leb (r .zero) d l) (shed-entry (Data pos 0 false) h))
       (λ g.

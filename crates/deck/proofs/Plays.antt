@@ -9,10 +9,10 @@ use mathlib.Core.List.{List, [], _∷_}
 use lib.Dec.{ltb, leb, eqb}
 use Rattle.laws.specs.Numbers.{lt-or-ge}
 use Rattle.laws.specs.Rules.{_⇒_, _∣_}
-use Rattle.pulses.specs.Play.{Level, Entry, Status, standing, stopped, ended, Answer, made, rest, answer, counted, calls, sum, Positive, time, Demanded}
+use Rattle.pulses.specs.Play.{Level, low, Entry, pulse, endless, Status, standing, stopped, ended, Answer, made, rest, answer, counted, calls, sum, Positive, time, Demanded}
 use Rattle.pulses.specs.Demand.{conserved, any-cut, demanded}
-use Rattle.pulses.specs.Source.{isEnded, source, dropped, heard, Agrees}
-use Rattle.pulses.specs.Agreement.{agrees}
+use Rattle.pulses.specs.Source.{Outcome, isEnded, source, dropped, sources, heard, Short, Agrees}
+use Rattle.pulses.specs.Agreement.{source-heard, agrees, agrees-short}
 use Rattle.rows.specs.Table.{capacityOf}
 use Rattle.rows.specs.Rows.{block, blockMost}
 use Rattle.entries.specs.Entries.{Spot}
@@ -129,6 +129,50 @@ place-of : (w : Tape) (es : List (Entry Spot)) (n m : ℕ) (ms : List ℕ)
 unfolding answer
 place-of w es n m ms = refl
 
+-- the level of a list's head is its phase's, at the end too
+level-head : (w : Tape) (es : List (Entry Spot)) → Levels es → levelHere es ≡ levelOf (headOf w es .phase)
+unfolding levelHere headOf Levels levelOf
+level-head w [] l = refl
+level-head w (pulse a v t ∷ es) l = l .0
+level-head w (endless a v ∷ es) l = l .0
+
+-- the level in an answer; low where it is refused
+unfoldable pub levelIn : Reached → Level
+levelIn (At s) = s .level
+levelIn (Stopped s) = s .level
+levelIn (Ended s) = s .level
+levelIn NotValid = low
+levelIn NotFormed = low
+
+told-level : (st : Status) (s : Stand) → levelIn (toldAs st s) ≡ s .level
+unfolding toldAs levelIn
+told-level standing s = refl
+told-level stopped s = refl
+told-level ended s = refl
+
+level-told : (w : Tape) (a : Answer Spot) → levelIn (told w a) ≡ levelHere (a .place)
+unfolding told
+level-told w a = told-level (a .tells) _
+
+-- a call of n of the source's play and then of each of ms: the last's answer
+unfoldable pub runSources : Tape → Position → ℕ → List ℕ → Reached
+runSources w q n [] = playSource w q n
+runSources w q n (m ∷ ms) = runSources w (positionIn q (playSource w q n)) m ms
+
+-- both have ended or neither has
+unfoldable pub endedIn : Reached → Bool
+endedIn (At s) = false
+endedIn (Stopped s) = false
+endedIn (Ended s) = true
+endedIn NotValid = false
+endedIn NotFormed = false
+
+told-ended : (st : Status) (s : Stand) → endedIn (toldAs st s) ≡ isEnded st
+unfolding toldAs endedIn
+told-ended standing s = refl
+told-ended stopped s = refl
+told-ended ended s = refl
+
 module _ (w : Tape) (whole : Whole w) where
   -- nothing is cut
   whole-count : (b : ℕ) → firstBad w b (w .count - b) ≡ w .count
@@ -222,3 +266,63 @@ module _ (w : Tape) (whole : Whole w) where
     source-told q n v p ∙ ap (told w) (source-answer (ahead w q) n) ∙ sym (play-told q (n + dropped (ahead w q) n) v (omega arith)),
     agrees (ahead w q) n,
   )
+
+  -- the level answered is the one of the position answered
+  pub play-level : (q : Position) (n : ℕ) → validAt w q ≡ true → 0 < n → levelIn (playMeasured w q n) ≡ levelOf (positionIn q (playMeasured w q n) .phase)
+  unfolding answer
+  play-level q n v p =
+      ap levelIn (play-told q n v p)
+      ∙ level-told w (answer (ahead w q) n)
+      ∙ level-head w (rest (ahead w q) n) (levels-rest (ahead w q) n (levels-left w (q .block) (q .phase) (q .left) v))
+      ∙ ap (λ (x : Position). levelOf (x .phase)) (sym (play-position q n v p))
+
+  -- where the source's play leaves the head: what is left to play from there is what its turns leave, and the position is valid
+  pub source-place : (q : Position) (n : ℕ) → validAt w q ≡ true → 0 < n
+      → (ahead w (positionIn q (playSource w q n)) ≡ source (ahead w q) n .place) × (validAt w (positionIn q (playSource w q n)) ≡ true)
+  unfolding heard answer
+  source-place q n v p =
+      let m = n + dropped (ahead w q) n in
+      let e = source-agrees q n v p .0 in
+      let x = play-place q m v (omega arith) in
+      (ap (λ (r : Reached). ahead w (positionIn q r)) e ∙ x .0 ∙ sym (ap (λ (o : Outcome Spot). o .place) (source-heard (ahead w q) n)),
+      ap (λ (r : Reached). validAt w (positionIn q r)) e ∙ x .1)
+
+  -- and whether it has ended
+  source-ended : (q : Position) (n : ℕ) → validAt w q ≡ true → 0 < n → endedIn (playSource w q n) ≡ source (ahead w q) n .done
+  unfolding heard told
+  source-ended q n v p =
+      let m = n + dropped (ahead w q) n in
+      ap endedIn (source-agrees q n v p .0 ∙ play-told q m v (omega arith))
+      ∙ told-ended (answer (ahead w q) m .tells) _
+      ∙ sym (ap (λ (o : Outcome Spot). o .done) (source-heard (ahead w q) n))
+
+  -- ANY CALLS of the source's play come to what the turns over the list come to
+  pub sources-told : (q : Position) (n : ℕ) (ms : List ℕ) → validAt w q ≡ true → 0 < n → Positive ms → endedIn (runSources w q n ms) ≡ sources (ahead w q) n ms .done
+  unfolding runSources sources Positive
+  sources-told q n [] v p h = source-ended q n v p
+  sources-told q n (m ∷ ms) v p h =
+      let x = source-place q n v p in
+      sources-told (positionIn q (playSource w q n)) m ms (x .1) (h .0) (h .1) ∙ ap (λ (r : List (Entry Spot)). sources r m ms .done) (x .0)
+
+  -- (not refused, so whatever the head's old place was)
+  any-old : (q o : Position) (n : ℕ) → validAt w q ≡ true → 0 < n → positionIn o (playSource w q n) ≡ positionIn q (playSource w q n)
+  unfolding told
+  any-old q o n v p =
+      let e = source-told q n v p in
+      ap (positionIn o) e ∙ told-position o _ _ ∙ sym (ap (positionIn q) e ∙ told-position q _ _)
+
+  pub sources-place : (q o : Position) (n : ℕ) (ms : List ℕ) → validAt w q ≡ true → 0 < n → Positive ms
+      → ahead w (positionIn o (runSources w q n ms)) ≡ sources (ahead w q) n ms .place
+  unfolding runSources sources Positive
+  sources-place q o n [] v p h = ap (ahead w) (any-old q o n v p) ∙ source-place q n v p .0
+  sources-place q o n (m ∷ ms) v p h =
+      let x = source-place q n v p in
+      sources-place (positionIn q (playSource w q n)) o m ms (x .1) (h .0) (h .1) ∙ ap (λ (r : List (Entry Spot)). sources r m ms .place) (x .0)
+
+  -- DEMAND 3's CLAUSE on the source's play: calls below every finite duration but 0 agree with the measured player's
+  pub short-agrees : (q : Position) (n : ℕ) (ms : List ℕ) → Short (ahead w q) (n ∷ ms) → Agrees (sources (ahead w q) n ms) (heard (calls (ahead w q) n ms))
+  short-agrees q n ms h = agrees-short (ahead w q) n ms h
+
+-- ONE OUTCOME: what each contract permits is one answer
+pub one-answer : {A : Type 0} {x y z : A} → x ≡ z → y ≡ z → x ≡ y
+one-answer e f = e ∙ sym f

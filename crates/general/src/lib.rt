@@ -9,14 +9,13 @@ ghost use mathlib.Core.Bool.{true, _&&_, _||_};
 ghost use Prim.Native.Nat.{_+_, _*_, _-_, _/_, _%_, _^_, _≤_, _<_};
 ghost use lib.ListN.{length, getD};
 ghost use lib.Dec.{leb, ltb, eqb};
-ghost use Rattle.laws.specs.Rules.{_⇒_, _∣_};
 ghost use Rattle.fields.specs.Field.{leAt};
 ghost use Rattle.rows.specs.Table.{putAll, capacityOf};
 ghost use Rattle.rows.specs.Rows.{tone, toneMost};
 ghost use Rattle.general.specs.declared.Row.the-variants.{Gives};
 ghost use Rattle.general.specs.declared.Judged.the-variants.{Rows};
 ghost use Rattle.general.specs.declared.Made.the-variants.{Data};
-ghost use Rattle.general.specs.General.{symbolAt, toneOf, cycles, entryRow, singleRow, pairRow, rowsFrom, refused, pilotOf, equalHalves, ordinary, lastBits, numberAt, singlesOf, pairsOf, dataOf, withData, withPilot, generalOf};
+ghost use Rattle.general.specs.General.{symbolAt, toneOf, cycles, entryRow, singleRow, pairRow, rowsFrom, pilotOf, equalHalves, ordinary, lastBits, numberAt, singlesOf, pairsOf, dataOf, withData, withPilot, generalOf};
 ghost use Rattle.general.specs.Made.{judgedOf, isGiven, putGiven, isTones, tonesOf, Done};
 ghost use Rattle.general.specs.Ways.{Held, Kept, Ready, rowAt, countOf, placeFor, sizeFor, pulsesFor, pulsesOf, symbolOf};
 
@@ -478,7 +477,14 @@ fn data_block(tape: &[u8], g: GeneralizedData, tones: &mut [u64], used: usize, n
 }
 
 // The block of tones alone, n of the pilot and m of the data.
-fn tone_block(tape: &[u8], g: GeneralizedData, tones: &mut [u64], used: usize, n: u32, m: u32) -> Made
+fn tone_block(
+    tape: &[u8],
+    g: GeneralizedData,
+    tones: &mut [u64],
+    used: usize,
+    n: u32,
+    m: u32,
+) -> Made
     requires { ⌜ Held (now tape) g × (judgedOf (pilotOf (now tape) g) ≡ Rows n) × (judgedOf (dataOf (now tape) g) ≡ Rows m) ⌝ }
     ensures { λ r. ⌜ Done (withData (tonesOf (pilotOf (now (tape .entry)) g)) (dataOf (now (tape .entry)) g)) used (now (tones .entry)) (now (tones .exit)) r ⌝ }
 {

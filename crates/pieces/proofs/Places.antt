@@ -1,5 +1,5 @@
 -- A whole 19 has its tables where its places say, inside the tape, and no other kind gives one. Assumes nothing.
-use Prim.Native.Nat.{ℕ, zero, suc, _+_, _*_, _-_, _/_, _≤_, _<_}
+use Prim.Native.Nat.{ℕ, _+_, _*_, _-_, _/_, _≤_, _<_}
 use mathlib.Core.Path.{_≡_, refl, sym, ap, subst, _∙_}
 use mathlib.Core.Bool.{Bool, true, false, cond}
 use mathlib.Core.List.{List, [], _∷_}
@@ -23,9 +23,8 @@ use Rattle.pieces.specs.declared.Piece.{Piece}
 use Rattle.pieces.specs.declared.Piece.the-variants as piece
 use Rattle.pieces.specs.declared.Body.{Body}
 use Rattle.pieces.specs.declared.Body.the-variants.{Whole, Unknown, Short, Overflow}
-use Rattle.pieces.specs.declared.Taken.{Taken}
 use Rattle.pieces.specs.declared.Taken.the-variants as taken
-use Rattle.pieces.specs.Grammar.{Passed, Layout, number, counted, here, pass, within, fitting, whole, unknown, countedAt, passAt, wholeAt, sealed, enclosed, fittingAt, readAt, bitsOf, orFull, heldIf}
+use Rattle.pieces.specs.Grammar.{Layout, number, counted, here, pass, within, fitting, whole, unknown, countedAt, passAt, wholeAt, sealed, enclosed, fittingAt, readAt, bitsOf, orFull, heldIf}
 use Rattle.pieces.specs.Kinds.{kind10, kind11, kind12, kind13, kind14, stream19, kind19, kind20, kind21, kind22, kind24, kind25, kind2A, kind30, kind31, info32, kind32, kind33, kind35, kind5A, unread, kinds, kindOf}
 use Rattle.pieces.specs.Cut.{named, cutAt}
 use Rattle.pieces.specs.Steps.{head19}
@@ -197,16 +196,17 @@ unfolding readAt kind19 passAt head19
 general-placed full s c = tables full s _ _ _ (head19 s c .cursor) _ _ _ refl refl refl refl refl refl refl refl refl refl refl
 
 -- what holds of every row of a table holds of what is found there
-abbrev Every : {A : Type 0} → (A → Type 0) → List (Arm A) → Type 0
-Every P [] = Unit {0}
-Every P (a ∷ more) = P (a .val) × Every P more
+infixr 20 _also_
+data Every {A : Type 0} (P : A → Type 0) : List (Arm A) → Type 0 where
+  none : Every P []
+  _also_ : {a : Arm A} {more : List (Arm A)} → P (a .val) → Every P more → Every P (a ∷ more)
 
 found-every : {A : Type 0} (P : A → Type 0) (arms : List (Arm A)) (x : ℕ) (d : A) → Every P arms → P d → P (lookup arms x d)
-found-every P [] x d h k = k
-found-every P (a ∷ more) x d h k = by-cases (eqb x (a .key)) (found-every P more x d (h .1) k)
+found-every P [] x d none k = k
+found-every P (a ∷ more) x d (h also hs) k = by-cases (eqb x (a .key)) (found-every P more x d hs k)
   where
     by-cases : (t : Bool) → P (lookup more x d) → P (cond t (a .val) (lookup more x d))
-    by-cases true r = h .0
+    by-cases true r = h
     by-cases false r = r
 
 -- a body under its name
@@ -226,28 +226,28 @@ module _ (full : ℕ) where
   unfolding isGeneral kindOf kinds kind10 kind11 kind12 kind13 kind14 kind20 kind21 kind22 kind24 kind25 kind2A kind30 kind31 info32 kind32 kind33 kind35 kind5A
   rows-placed kind =
       found-every Row (kinds full) kind (unknown _)
-      (other-placed kind10 (λ _ _ _. refl), (
-      other-placed kind11 (λ _ _ _ _ _ _ _ _ _ _. refl), (
-      other-placed kind12 (λ _ _. refl), (
-      other-placed kind13 (λ _ _. refl), (
-      other-placed kind14 (λ _ _ _ _ _ _. refl), (
-      general-placed full, (
-      other-placed kind20 (λ _. refl), (
-      other-placed kind21 (λ _ _. refl), (
-      other-placed kind22 refl, (
-      other-placed unread tt, (
-      other-placed kind24 (λ _. refl), (
-      other-placed kind25 refl, (
-      other-placed kind2A (λ _. refl), (
-      other-placed unread tt, (
-      other-placed kind30 (λ _ _. refl), (
-      other-placed kind31 (λ _ _ _. refl), (
-      other-placed kind32 (λ _ _ _. refl), (
-      other-placed kind33 (λ _ _. refl), (
-      other-placed unread tt, (
-      other-placed kind35 (λ _ _ _. refl), (
-      other-placed unread tt, (
-      other-placed kind5A refl, tt))))))))))))))))))))))
+      (other-placed kind10 (λ _ _ _. refl) also
+      other-placed kind11 (λ _ _ _ _ _ _ _ _ _ _. refl) also
+      other-placed kind12 (λ _ _. refl) also
+      other-placed kind13 (λ _ _. refl) also
+      other-placed kind14 (λ _ _ _ _ _ _. refl) also
+      general-placed full also
+      other-placed kind20 (λ _. refl) also
+      other-placed kind21 (λ _ _. refl) also
+      other-placed kind22 refl also
+      other-placed unread tt also
+      other-placed kind24 (λ _. refl) also
+      other-placed kind25 refl also
+      other-placed kind2A (λ _. refl) also
+      other-placed unread tt also
+      other-placed kind30 (λ _ _. refl) also
+      other-placed kind31 (λ _ _ _. refl) also
+      other-placed kind32 (λ _ _ _. refl) also
+      other-placed kind33 (λ _ _. refl) also
+      other-placed unread tt also
+      other-placed kind35 (λ _ _ _. refl) also
+      other-placed unread tt also
+      other-placed kind5A refl also none)
       (other-placed (unknown _) tt)
 
 -- a whole 19 has its tables where its places say

@@ -1,4 +1,4 @@
--- `all_given` meets its contract. Assumes nothing.
+-- `all_given` meets its contract: what is judged of the rows from i on is what is judged of all. Assumes nothing.
 use Prim.Native.Nat.{_-_, _≤_}
 use mathlib.Core.Path.{_≡_, refl, sym, _∙_}
 use native.Mathlib.Omega.{arith}

@@ -1,4 +1,4 @@
--- `alphabet` meets its contract. Assumes nothing.
+-- `alphabet` meets its contract: the first i symbols are kept. Assumes nothing.
 use Prim.Native.Nat.{_+_, _*_, _-_, _≤_}
 use mathlib.Core.Path.{_≡_, refl}
 use native.Mathlib.Omega.{arith}

@@ -1,4 +1,4 @@
--- `put_rows` meets its contract. Assumes nothing.
+-- `put_rows` meets its contract: with the rows from i on put, the table is what it is to become. Assumes nothing.
 use borrow.Author.Needs.{needs}
 use Prim.Native.Nat.{_+_, _-_, _≤_}
 use mathlib.Core.Path.{_≡_, refl, sym, _∙_}

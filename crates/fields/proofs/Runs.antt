@@ -10,7 +10,6 @@ use borrow.Author.Tests.{le-leb, lt-leb}
 use Rattle.laws.specs.Numbers.{lt-or-ge}
 use Rattle.fields.specs.declared.Cursor.{Cursor}
 use Rattle.fields.specs.declared.Cursor.the-variants.{At, Short}
-use Rattle.fields.specs.declared.Read.{Read}
 use Rattle.fields.specs.Field.{numberAt, fieldAt, placeOf}
 use Rattle.fields.specs.Run.{times, eachAt, groupsAt, Wholes}
 

@@ -1,9 +1,8 @@
 -- What the piece gives, from what its parts are, and the answer and the tone table that go with it. Assumes nothing.
-use Prim.Native.Nat.{ℕ, zero, suc, _+_, _-_, _≤_, _<_}
-use mathlib.Core.Path.{_≡_, refl, sym, ap, _∙_}
+use Prim.Native.Nat.{ℕ, zero, suc, _+_, _-_, _<_}
+use mathlib.Core.Path.{_≡_, refl, sym, _∙_}
 use mathlib.Core.Bool.{Bool, true, false, _&&_}
 use mathlib.Core.List.{List, _++_}
-use native.Mathlib.Omega.{arith}
 use lib.ListN.{length, length-append}
 use lib.Dec.{leb, ltb, eqb, eqb·suc-zero, leb·suc-zero}
 use borrow.Author.Tests.{ltb-true, eqb-true}
@@ -12,9 +11,8 @@ use Rattle.rows.specs.Rows.{tone, toneMost}
 use Rattle.rows.specs.declared.Tone.{Tone}
 use Rattle.rows.proofs.Tables.{put-all-append}
 use Rattle.pieces.specs.declared.GeneralizedData.{GeneralizedData}
-use Rattle.general.specs.declared.Made.{Made}
 use Rattle.general.specs.declared.Made.the-variants as made
-use Rattle.general.specs.General.{Part, refused, stops, tones, symbolAt, ordinary, lastBits, dataOf, pilotOf, Given, refused4, stop, plain, toned, withData, withPilot, generalOf}
+use Rattle.general.specs.General.{Part, refused, stops, tones, symbolAt, ordinary, lastBits, dataOf, pilotOf, refused4, stop, plain, toned, withData, withPilot, generalOf}
 use Rattle.general.specs.Made.{madeOf, leaves, Done}
 use Rattle.general.proofs.Parts.{differ}
 

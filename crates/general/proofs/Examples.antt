@@ -6,9 +6,7 @@ use mathlib.Core.List.{List, [], _∷_, _++_, map}
 use lib.ListN.{length, replicate}
 use Rattle.fields.specs.Field.{leAt}
 use Rattle.rows.specs.Table.{putAll}
-use Rattle.pieces.specs.declared.GeneralizedData.{GeneralizedData}
 use Rattle.pieces.specs.Grammar.{digits, bitsOf}
-use Rattle.general.specs.declared.Made.{Made}
 use Rattle.general.specs.declared.Made.the-variants.{Refused, Full, Stop, Data, Tones}
 use Rattle.general.specs.General.{symbolAt, toneOf, before, rowsFrom, cycles, entrySymbol, entryRepeat, entryRow, pilotOf, equalHalves, ordinary, lastBits, numberAt, singleRow, pairRow, singlesOf, pairsOf, dataOf, Given, refused4, stop, plain, toned, withData, withPilot, generalOf}
 use Rattle.general.specs.Made.{madeOf, leaves}

@@ -1,23 +1,21 @@
 -- The rows of a part: judged one by one, counted, and put one after the other. Assumes nothing.
-use Prim.Native.Nat.{ℕ, zero, suc, _+_, _*_, _-_, _/_, _≤_, _<_}
+use Prim.Native.Nat.{ℕ, zero, suc, _+_, _-_, _≤_, _<_}
 use mathlib.Core.Path.{_≡_, refl, sym, ap, _∙_}
 use mathlib.Core.Bool.{Bool, true, false, _&&_, _||_}
-use mathlib.Core.List.{List, [], _∷_}
+use mathlib.Core.List.{List}
 use native.Mathlib.Omega.{arith}
-use native.Mathlib.Nat.{div-mul-le-self}
 use lib.ListN.{length}
 use lib.Dec.{eqb, ltb, leb}
-use borrow.Author.Tests.{ltb-false, leb-false, ne-eqb, eq-eqb, eqb-true, eqb-false, lt-leb}
+use borrow.Author.Tests.{ltb-false, leb-false, ne-eqb, eq-eqb, eqb-true, eqb-false}
 use Rattle.laws.specs.Rules.{_⇒_, _∣_}
 use Rattle.pieces.specs.declared.GeneralizedData.{GeneralizedData}
-use Rattle.rows.specs.Table.{putAll, capacityOf}
-use Rattle.rows.specs.Rows.{tone, toneMost}
+use Rattle.rows.specs.Table.{putAll}
+use Rattle.rows.specs.Rows.{tone}
 use Rattle.rows.specs.declared.Tone.{Tone}
 use Rattle.general.specs.declared.Row.{Row}
 use Rattle.general.specs.declared.Row.the-variants.{Refused, Gives}
-use Rattle.general.specs.declared.Judged.{Judged}
 use Rattle.general.specs.declared.Judged.the-variants as judged
-use Rattle.general.specs.General.{Part, refused, stops, tones, before, rowsFrom, entrySymbol, entryRow, pilotOf, singleRow, pairRow, singlesOf, pairsOf, dataOf}
+use Rattle.general.specs.General.{Part, refused, stops, tones, before, rowsFrom, entrySymbol, entryRow, pilotOf, singlesOf, pairsOf, dataOf}
 use Rattle.general.specs.Made.{isGiven, putGiven, judgedOf, isTones, tonesOf}
 use Rattle.general.specs.Ways.{Ready, rowAt, countOf}
 use Rattle.general.specs.declared.Way.{Way}

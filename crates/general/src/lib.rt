@@ -9,14 +9,13 @@ ghost use mathlib.Core.Bool.{true, _&&_, _||_};
 ghost use Prim.Native.Nat.{_+_, _*_, _-_, _/_, _%_, _^_, _≤_, _<_};
 ghost use lib.ListN.{length, getD};
 ghost use lib.Dec.{leb, ltb, eqb};
-ghost use Rattle.laws.specs.Rules.{_⇒_, _∣_};
 ghost use Rattle.fields.specs.Field.{leAt};
 ghost use Rattle.rows.specs.Table.{putAll, capacityOf};
 ghost use Rattle.rows.specs.Rows.{tone, toneMost};
 ghost use Rattle.general.specs.declared.Row.the-variants.{Gives};
 ghost use Rattle.general.specs.declared.Judged.the-variants.{Rows};
 ghost use Rattle.general.specs.declared.Made.the-variants.{Data};
-ghost use Rattle.general.specs.General.{symbolAt, toneOf, cycles, entryRow, singleRow, pairRow, rowsFrom, refused, pilotOf, equalHalves, ordinary, lastBits, numberAt, singlesOf, pairsOf, dataOf, withData, withPilot, generalOf};
+ghost use Rattle.general.specs.General.{symbolAt, toneOf, cycles, entryRow, singleRow, pairRow, rowsFrom, pilotOf, equalHalves, ordinary, lastBits, numberAt, singlesOf, pairsOf, dataOf, withData, withPilot, generalOf};
 ghost use Rattle.general.specs.Made.{judgedOf, isGiven, putGiven, isTones, tonesOf, Done};
 ghost use Rattle.general.specs.Ways.{Held, Kept, Ready, rowAt, countOf, placeFor, sizeFor, pulsesFor, pulsesOf, symbolOf};
 

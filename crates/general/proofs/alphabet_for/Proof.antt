@@ -1,49 +1,38 @@
+-- `alphabet_for` meets its contract. Assumes nothing.
 use Rattle.general.proofs.Symbols.{pilot-inside, data-inside}
 use borrow.Author.Needs.{needs}
 use Rattle.general.proofs.alphabet_for.Statement.{statement}
 use Rattle.general.proofs.alphabet_for.Tie as tie
-use Rattle.general.proofs.alphabet_for.Reads as reads
-use Rattle.general.proofs.alphabet_for.Lts as lts
-use Rattle.general.proofs.alphabet.Reads as alphabet-reads
 
--- src/lib.rt:112:23
 enum-told : tie.Need-enum-told
 enum-told c = search needs
 
--- src/lib.rt:112:23
 alphabet-requires : tie.Need-alphabet-requires
 alphabet-requires c κs =
     let p = c .before .before .before .pre in let r = rw (c .enum-told .given .1) at (p .1) in (p .0 .asp, r .1, pilot-inside (c .before .before .before .args .tape .now) (c .before .before .before .args .g) (p .0 .places) (r .0))
 
--- src/lib.rt:113:25
 enum-told-2 : tie.Need-enum-told-2
 enum-told-2 c = search needs
 
--- src/lib.rt:113:25
 alphabet-requires-2 : tie.Need-alphabet-requires-2
 alphabet-requires-2 c κs =
     let p = c .before .before .before .pre in let r = rw (c .enum-told2 .given .1) at (p .1) in (p .0 .asd, r .1, data-inside (c .before .before .before .args .tape .now) (c .before .before .before .args .g) (p .0 .places) (r .0))
 
--- src/lib.rt:114:23
 enum-told-3 : tie.Need-enum-told-3
 enum-told-3 c = search needs
 
--- src/lib.rt:114:23
 alphabet-requires-3 : tie.Need-alphabet-requires-3
 alphabet-requires-3 c κs =
     let p = c .before .before .before .pre in let r = rw (c .enum-told3 .given .1) at (p .1) in (p .0 .asd, r .1, data-inside (c .before .before .before .args .tape .now) (c .before .before .before .args .g) (p .0 .places) (r .0))
 
--- src/lib.rt:107:1
 returns : tie.Need-returns
 returns c =
     rw (c .before .enum-told .given .1) (c .alphabet .ensures)
 
--- src/lib.rt:107:1
 returns-2 : tie.Need-returns-2
 returns-2 c =
     rw (c .before .enum-told2 .given .1) (c .alphabet2 .ensures)
 
--- src/lib.rt:107:1
 returns-3 : tie.Need-returns-3
 returns-3 c =
     rw (c .before .enum-told3 .given .1) (c .alphabet3 .ensures)

@@ -1,20 +1,16 @@
+-- `byte_at` meets its contract. Assumes nothing.
 use native.Mathlib.Omega.{arith}
 use borrow.Author.Needs.{needs}
 use Rattle.general.proofs.byte_at.Statement.{statement}
 use Rattle.general.proofs.byte_at.Tie as tie
-use Rattle.general.proofs.byte_at.Reads as reads
-use Rattle.general.proofs.byte_at.Lts as lts
 
--- src/lib.rt:66:5
 shared-slice-read-result : tie.Need-shared-slice-read-result
 shared-slice-read-result c = search needs
 
--- src/lib.rt:66:5
 cast-result : tie.Need-cast-result
 cast-result c =
     omega (arith, c .shared-slice-known .given (c .before .args .at))
 
--- src/lib.rt:62:1
 returns : tie.Need-returns
 returns c = search needs
 

@@ -1,58 +1,45 @@
+-- `cycles` meets its contract. Assumes nothing.
 use Rattle.general.specs.Ways.{symbolOf}
 use Rattle.general.specs.General.{cycles}
 use borrow.Author.Tests.{eq-eqb, ne-eqb}
 use borrow.Author.Needs.{needs}
 use Rattle.general.proofs.cycles.Statement.{statement}
 use Rattle.general.proofs.cycles.Tie as tie
-use Rattle.general.proofs.cycles.Reads as reads
-use Rattle.general.proofs.cycles.Lts as lts
-use Rattle.general.proofs.gives.Reads as gives-reads
 
--- src/lib.rt:134:8
 array-read-if1 : tie.Need-array-read-if1
 array-read-if1 c = search needs
 
--- src/lib.rt:136:13
 returns : tie.Need-returns
 unfolding cycles symbolOf
 returns c =
     rw (eq-eqb _ _ (c .before .if1 .taken), eq-eqb _ _ (c .if2 .taken))
 
--- src/lib.rt:138:23
 add-gives : tie.Need-add-gives
 add-gives c = search needs
 
--- src/lib.rt:138:40
 array-read-gives : tie.Need-array-read-gives
 array-read-gives c = search needs
 
--- src/lib.rt:138:46
 array-read-gives-2 : tie.Need-array-read-gives-2
 array-read-gives-2 c = search needs
 
--- src/lib.rt:138:9
 gives-requires : tie.Need-gives-requires
 gives-requires c κs = search needs
 
--- src/lib.rt:138:9
 returns-2 : tie.Need-returns-2
 unfolding cycles symbolOf
 returns-2 c =
     rw (c .gives .ensures, eq-eqb _ _ (c .before .before .if1 .taken), ne-eqb _ _ (c .before .if2 .left))
 
--- src/lib.rt:140:19
 array-read-gives-3 : tie.Need-array-read-gives-3
 array-read-gives-3 c = search needs
 
--- src/lib.rt:140:25
 array-read-gives-4 : tie.Need-array-read-gives-4
 array-read-gives-4 c = search needs
 
--- src/lib.rt:140:5
 gives-requires-2 : tie.Need-gives-requires-2
 gives-requires-2 c κs = search needs
 
--- src/lib.rt:130:1
 returns-3 : tie.Need-returns-3
 unfolding cycles symbolOf
 returns-3 c =

@@ -1,3 +1,4 @@
+-- `data_block` meets its contract. Assumes nothing.
 use Rattle.rows.specs.Rows.{tone, toneMost}
 use Rattle.rows.specs.Table.{capacityOf}
 use Prim.Native.Nat.{_-_, _≤_}
@@ -9,68 +10,49 @@ use Rattle.general.specs.Made.{tonesOf}
 use Rattle.general.specs.General.{pilotOf, symbolAt, lastBits}
 use borrow.Author.Tests.{leb-true}
 use native.Mathlib.Omega.{arith}
-use mathlib.Core.Path.{_≡_, refl, sym, ap, _∙_}
+use mathlib.Core.Path.{sym, _∙_}
 use borrow.Author.Needs.{needs}
 use Rattle.general.proofs.data_block.Statement.{statement}
 use Rattle.general.proofs.data_block.Tie as tie
-use Rattle.general.proofs.data_block.Reads as reads
-use Rattle.general.proofs.data_block.Lts as lts
-use Rattle.general.proofs.data_made.Reads as data-made-reads
-use Rattle.general.proofs.last_bits.Reads as last-bits-reads
-use Rattle.general.proofs.put_pilot.Reads as put-pilot-reads
-use Rattle.general.proofs.room_for.Reads as room-for-reads
-use Rattle.general.proofs.symbol.Reads as symbol-reads
 
--- src/lib.rt:455:8
 room-for-requires : tie.Need-room-for-requires
 room-for-requires c κs = search needs
 
--- src/lib.rt:456:9
 put-pilot-requires : tie.Need-put-pilot-requires
 put-pilot-requires c κs =
     let a = c .before .before .before .before .before .before .args in let p = c .before .before .before .before .before .before .pre in let q = pilotOf (a .tape .now) (a .g) in let f : a .n ≤ capacityOf tone toneMost (a .tones .now) - a .used = leb-true _ _ (sym (c .before .before .room-for .ensures) ∙ c .before .if1 .taken) in (p .0, told-tones q (p .1), omega (arith, told-rows q (p .1) .1))
 
--- src/lib.rt:457:20
 symbol-requires : tie.Need-symbol-requires
 symbol-requires c κs =
     let a = c .before .before .before .before .before .before .before .before .before .args in let p = c .before .before .before .before .before .before .before .before .before .pre in let t = plain-two (a .tape .now) (a .g) (p .2) in (omega arith, omega (arith, two-inside (a .tape .now) (a .g) (p .0 .places) (t .used) (t .asd) (t .npd)))
 
--- src/lib.rt:458:19
 symbol-requires-2 : tie.Need-symbol-requires-2
 symbol-requires-2 c κs =
     let a = c .before .before .before .before .before .before .before .before .before .before .args in let p = c .before .before .before .before .before .before .before .before .before .before .pre in let t = plain-two (a .tape .now) (a .g) (p .2) in (omega arith, omega (arith, two-inside (a .tape .now) (a .g) (p .0 .places) (t .used) (t .asd) (t .npd)))
 
--- src/lib.rt:459:22
 array-read-data-made : tie.Need-array-read-data-made
 array-read-data-made c = search needs
 
--- src/lib.rt:459:31
 array-read-data-made-2 : tie.Need-array-read-data-made-2
 array-read-data-made-2 c = search needs
 
--- src/lib.rt:459:39
 last-bits-requires : tie.Need-last-bits-requires
 last-bits-requires c κs = search needs
 
--- src/lib.rt:459:9
 data-made-requires : tie.Need-data-made-requires
 data-made-requires c κs = search needs
 
--- src/lib.rt:451:1
 same-length : tie.Need-same-length
 same-length c = search needs
 
--- src/lib.rt:451:1
 returns : tie.Need-returns
 unfolding pulsesOf
 returns c =
     let a = c .before .before .before .before .before .before .before .before .before .before .before .before .before .args in let s = a .tape .now in let g = a .g in let p = c .before .before .before .before .before .before .before .before .before .before .before .before .before .pre in let q = pilotOf s g in let o = told-rows q (p .1) in rw (c .data-made .ensures, c .before .before .before .symbol .ensures, c .before .before .symbol2 .ensures, c .before .last-bits .ensures, c .before .before .before .before .before .before .put-pilot .ensures, pilot-plain s g (tonesOf q) (o .0) (p .2)) (plain-fits (a .used) (a .tones .now) (tonesOf q) (symbolAt s (g .symbols) 2 0 .first) (symbolAt s (g .symbols) 2 1 .first) (lastBits (g .totd)) (a .n) (o .1) (sym (c .before .before .before .before .before .before .before .before .before .room-for .ensures) ∙ c .before .before .before .before .before .before .before .before .if1 .taken))
 
--- src/lib.rt:451:1
 same-length-2 : tie.Need-same-length-2
 same-length-2 c = search needs
 
--- src/lib.rt:451:1
 returns-2 : tie.Need-returns-2
 returns-2 c =
     let a = c .before .before .before .before .before .args in let s = a .tape .now in let g = a .g in let p = c .before .before .before .before .before .pre in let q = pilotOf s g in let o = told-rows q (p .1) in rw (pilot-plain s g (tonesOf q) (o .0) (p .2)) (plain-full (a .used) (a .tones .now) (tonesOf q) (symbolAt s (g .symbols) 2 0 .first) (symbolAt s (g .symbols) 2 1 .first) (lastBits (g .totd)) (a .n) (o .1) (sym (c .before .room-for .ensures) ∙ c .if1 .left))

@@ -1,47 +1,37 @@
+-- `data_part` meets its contract. Assumes nothing.
 use Rattle.general.specs.Made.{judgedOf}
 use Rattle.general.specs.General.{dataOf}
 use borrow.Author.Tests.{eq-eqb, ne-eqb, le-leb, lt-leb}
 use borrow.Author.Needs.{needs}
 use Rattle.general.proofs.data_part.Statement.{statement}
 use Rattle.general.proofs.data_part.Tie as tie
-use Rattle.general.proofs.data_part.Reads as reads
-use Rattle.general.proofs.data_part.Lts as lts
-use Rattle.general.proofs.pairs_part.Reads as pairs-part-reads
-use Rattle.general.proofs.singles_part.Reads as singles-part-reads
 
--- src/lib.rt:357:9
 returns : tie.Need-returns
 unfolding dataOf judgedOf
 returns c =
     rw (eq-eqb _ _ (c .if1 .taken))
 
--- src/lib.rt:360:9
 returns-2 : tie.Need-returns-2
 unfolding dataOf judgedOf
 returns-2 c =
     rw (ne-eqb _ _ (c .before .before .if1 .left), le-leb _ _ (c .if2 .taken))
 
--- src/lib.rt:363:9
 singles-part-requires : tie.Need-singles-part-requires
 singles-part-requires c κs = search needs
 
--- src/lib.rt:363:9
 returns-3 : tie.Need-returns-3
 unfolding dataOf
 returns-3 c =
     rw (ne-eqb _ _ (c .before .before .before .before .before .if1 .left), lt-leb _ _ (c .before .before .before .if2 .left), eq-eqb _ _ (c .before .if3 .taken)) (c .singles-part .ensures)
 
--- src/lib.rt:366:9
 pairs-part-requires : tie.Need-pairs-part-requires
 pairs-part-requires c κs = search needs
 
--- src/lib.rt:366:9
 returns-4 : tie.Need-returns-4
 unfolding dataOf
 returns-4 c =
     rw (ne-eqb _ _ (c .before .before .before .before .before .before .before .if1 .left), lt-leb _ _ (c .before .before .before .before .before .if2 .left), ne-eqb _ _ (c .before .before .before .if3 .left), eq-eqb _ _ (c .before .if4 .taken)) (c .pairs-part .ensures)
 
--- src/lib.rt:352:1
 returns-5 : tie.Need-returns-5
 unfolding dataOf judgedOf
 returns-5 c =

@@ -1,3 +1,4 @@
+-- `entry_row` meets its contract. Assumes nothing.
 use Rattle.general.proofs.Symbols.{kept-symbol}
 use Rattle.general.specs.General.{entryRow, entrySymbol, entryRepeat}
 use Rattle.fields.proofs.Le.{le-small}
@@ -7,56 +8,40 @@ use native.Mathlib.Omega.{arith}
 use borrow.Author.Needs.{needs}
 use Rattle.general.proofs.entry_row.Statement.{statement}
 use Rattle.general.proofs.entry_row.Tie as tie
-use Rattle.general.proofs.entry_row.Reads as reads
-use Rattle.general.proofs.entry_row.Lts as lts
-use Rattle.fields.proofs.low_first.Reads as low-first-reads
-use Rattle.general.proofs.byte_at.Reads as byte-at-reads
-use Rattle.general.proofs.cycles.Reads as cycles-reads
 
--- src/lib.rt:148:26
 mul-at : tie.Need-mul-at
 mul-at c = search needs
 
--- src/lib.rt:148:14
 add-at : tie.Need-add-at
 add-at c = search needs
 
--- src/lib.rt:149:9
 byte-at-requires : tie.Need-byte-at-requires
 byte-at-requires c κs = search needs
 
--- src/lib.rt:151:9
 returns : tie.Need-returns
 unfolding entryRow entrySymbol
 returns c =
     rw (← c .before .before .byte-at .ensures, le-leb _ _ (c .if1 .taken))
 
--- src/lib.rt:153:14
 cast-cycles : tie.Need-cast-cycles
 cast-cycles c = search needs
 
--- src/lib.rt:153:12
 mul-cycles : tie.Need-mul-cycles
 mul-cycles c = search needs
 
--- src/lib.rt:153:12
 element-copy-out-cycles : tie.Need-element-copy-out-cycles
 element-copy-out-cycles c = search needs
 
--- src/lib.rt:153:43
 add-low-first : tie.Need-add-low-first
 add-low-first c = search needs
 
--- src/lib.rt:153:27
 low-first-requires : tie.Need-low-first-requires
 low-first-requires c κs = search needs
 
--- src/lib.rt:153:5
 cycles-requires : tie.Need-cycles-requires
 cycles-requires c κs =
     omega (arith, c .low-first .ensures, le-small (c .before .before .before .before .before .before .before .args .tape .now) (λ i. c .before .before .before .before .before .before .shared-slice-known .given i .fits) (c .before .before .before .before .before .before .before .args .g .entries + c .before .before .before .before .before .before .before .args .i * 3 + 1) 2)
 
--- src/lib.rt:144:1
 returns-2 : tie.Need-returns-2
 unfolding entryRow entrySymbol entryRepeat
 returns-2 c =

@@ -1,21 +1,17 @@
+-- `equal_halves` meets its contract. Assumes nothing.
 use mathlib.Core.Path.{refl}
 use Rattle.general.specs.Ways.{symbolOf}
 use Rattle.general.specs.General.{equalHalves}
 use borrow.Author.Needs.{needs}
 use Rattle.general.proofs.equal_halves.Statement.{statement}
 use Rattle.general.proofs.equal_halves.Tie as tie
-use Rattle.general.proofs.equal_halves.Reads as reads
-use Rattle.general.proofs.equal_halves.Lts as lts
 
--- src/lib.rt:297:5
 array-read-result : tie.Need-array-read-result
 array-read-result c = search needs
 
--- src/lib.rt:297:13
 array-read-result-2 : tie.Need-array-read-result-2
 array-read-result-2 c = search needs
 
--- src/lib.rt:294:1
 returns : tie.Need-returns
 unfolding equalHalves symbolOf
 returns c =

@@ -1,25 +1,20 @@
+-- `is_given` meets its contract. Assumes nothing.
 use Rattle.general.specs.Made.{isGiven}
 use borrow.Author.Needs.{needs}
 use Rattle.general.proofs.is_given.Statement.{statement}
 use Rattle.general.proofs.is_given.Tie as tie
-use Rattle.general.proofs.is_given.Reads as reads
-use Rattle.general.proofs.is_given.Lts as lts
 
--- src/lib.rt:234:25
 enum-told : tie.Need-enum-told
 enum-told c = search needs
 
--- src/lib.rt:235:26
 enum-told-2 : tie.Need-enum-told-2
 enum-told-2 c = search needs
 
--- src/lib.rt:230:1
 returns : tie.Need-returns
 unfolding isGiven
 returns c =
     rw (c .enum-told .given .1)
 
--- src/lib.rt:230:1
 returns-2 : tie.Need-returns-2
 unfolding isGiven
 returns-2 c =

@@ -1,17 +1,14 @@
+-- `last_bits` meets its contract. Assumes nothing.
 use Rattle.general.specs.General.{lastBits}
 use borrow.Author.Tests.{eq-eqb, ne-eqb}
 use Rattle.general.proofs.last_bits.Statement.{statement}
 use Rattle.general.proofs.last_bits.Tie as tie
-use Rattle.general.proofs.last_bits.Reads as reads
-use Rattle.general.proofs.last_bits.Lts as lts
 
--- src/lib.rt:432:1
 returns : tie.Need-returns
 unfolding lastBits
 returns c =
     rw (eq-eqb _ _ (c .if1 .taken))
 
--- src/lib.rt:432:1
 returns-2 : tie.Need-returns-2
 unfolding lastBits
 returns-2 c =

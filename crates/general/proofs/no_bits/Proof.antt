@@ -1,15 +1,12 @@
+-- `no_bits` meets its contract. Assumes nothing.
 use borrow.Author.Tests.{eq-eqb, ne-eqb}
 use Rattle.general.proofs.no_bits.Statement.{statement}
 use Rattle.general.proofs.no_bits.Tie as tie
-use Rattle.general.proofs.no_bits.Reads as reads
-use Rattle.general.proofs.no_bits.Lts as lts
 
--- src/lib.rt:321:1
 returns : tie.Need-returns
 returns c =
     rw (eq-eqb _ _ (c .before .if1 .taken))
 
--- src/lib.rt:321:1
 returns-2 : tie.Need-returns-2
 returns-2 c =
     rw (ne-eqb _ _ (c .if1 .left))

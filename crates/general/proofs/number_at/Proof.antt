@@ -1,46 +1,34 @@
+-- `number_at` meets its contract. Assumes nothing.
 use Rattle.general.specs.General.{numberAt}
 use native.Mathlib.Nat.{one-le-pow}
 use native.Mathlib.Omega.{arith}
 use borrow.Author.Needs.{needs}
 use Rattle.general.proofs.number_at.Statement.{statement}
 use Rattle.general.proofs.number_at.Tie as tie
-use Rattle.general.proofs.number_at.Reads as reads
-use Rattle.general.proofs.number_at.Lts as lts
-use Rattle.general.proofs.byte_at.Reads as byte-at-reads
-use Rattle.general.proofs.power.Reads as power-reads
-use Rattle.general.proofs.shift.Reads as shift-reads
 
--- src/lib.rt:179:30
 add-byte-at : tie.Need-add-byte-at
 add-byte-at c = search needs
 
--- src/lib.rt:179:9
 byte-at-requires : tie.Need-byte-at-requires
 byte-at-requires c κs = search needs
 
--- src/lib.rt:180:18
 shift-requires : tie.Need-shift-requires
 shift-requires c κs = search needs
 
--- src/lib.rt:180:12
 power-requires : tie.Need-power-requires
 power-requires c κs = search needs
 
--- src/lib.rt:180:5
 div-result : tie.Need-div-result
 div-result c =
     omega (arith, c .power .ensures, one-le-pow (c .before .shift .result) 2 (omega arith))
 
--- src/lib.rt:180:38
 power-requires-2 : tie.Need-power-requires-2
 power-requires-2 c κs = search needs
 
--- src/lib.rt:180:5
 rem-result : tie.Need-rem-result
 rem-result c =
     omega (arith, c .power2 .ensures, one-le-pow (c .before .before .before .before .before .before .args .g .nb) 2 (omega arith))
 
--- src/lib.rt:175:1
 returns : tie.Need-returns
 unfolding numberAt
 returns c =

@@ -1,15 +1,12 @@
+-- `one_or_two` meets its contract. Assumes nothing.
 use borrow.Author.Tests.{eq-eqb, ne-eqb}
 use Rattle.general.proofs.one_or_two.Statement.{statement}
 use Rattle.general.proofs.one_or_two.Tie as tie
-use Rattle.general.proofs.one_or_two.Reads as reads
-use Rattle.general.proofs.one_or_two.Lts as lts
 
--- src/lib.rt:269:1
 returns : tie.Need-returns
 returns c =
     rw (eq-eqb _ _ (c .if1 .taken))
 
--- src/lib.rt:269:1
 returns-2 : tie.Need-returns-2
 returns-2 c =
     rw (ne-eqb _ _ (c .if1 .left))

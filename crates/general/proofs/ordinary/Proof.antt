@@ -1,59 +1,46 @@
+-- `ordinary` meets its contract. Assumes nothing.
 use Rattle.general.proofs.Symbols.{two-inside, symbol-back}
-use Rattle.general.specs.Ways.{symbolOf, pulsesOf}
-use Rattle.general.specs.General.{ordinary, symbolAt}
+use Rattle.general.specs.General.{ordinary}
 use Rattle.rows.proofs.Clauses.{failed, passed}
 use borrow.Author.Tests.{eq-eqb, ne-eqb, lt-ltb, le-ltb}
 use native.Mathlib.Omega.{arith}
 use borrow.Author.Needs.{needs}
 use Rattle.general.proofs.ordinary.Statement.{statement}
 use Rattle.general.proofs.ordinary.Tie as tie
-use Rattle.general.proofs.ordinary.Reads as reads
-use Rattle.general.proofs.ordinary.Lts as lts
-use Rattle.general.proofs.equal_halves.Reads as equal-halves-reads
-use Rattle.general.proofs.symbol.Reads as symbol-reads
 
--- src/lib.rt:306:9
 returns : tie.Need-returns
 returns c =
     rw (le-ltb 0 (c .before .before .before .args .g .totd) (omega arith))
 
--- src/lib.rt:309:9
 returns-2 : tie.Need-returns-2
 unfolding ordinary
 returns-2 c =
     rw (lt-ltb 0 (c .before .before .before .before .before .args .g .totd) (omega arith), ne-eqb _ _ (c .if2 .taken))
 
--- src/lib.rt:312:9
 returns-3 : tie.Need-returns-3
 unfolding ordinary
 returns-3 c =
     rw (lt-ltb 0 (c .before .before .before .before .before .before .before .args .g .totd) (omega arith), eq-eqb _ _ (c .before .before .if2 .left), ne-eqb _ _ (c .if3 .taken))
 
--- src/lib.rt:314:22
 symbol-requires : tie.Need-symbol-requires
 symbol-requires c κs =
     (omega arith, omega (arith, two-inside (c .before .before .before .before .before .before .before .args .tape .now) (c .before .before .before .before .before .before .before .args .g) (c .before .before .before .before .before .before .before .pre .places) (omega arith) (c .before .before .if2 .left) (c .if3 .left)))
 
--- src/lib.rt:314:9
 equal-halves-requires : tie.Need-equal-halves-requires
 equal-halves-requires c κs = search needs
 
--- src/lib.rt:315:9
 returns-4 : tie.Need-returns-4
 unfolding ordinary
 returns-4 c =
     rw (lt-ltb 0 (c .before .before .before .before .before .before .before .before .before .before .args .g .totd) (omega arith), eq-eqb _ _ (c .before .before .before .before .before .if2 .left), eq-eqb _ _ (c .before .before .before .if3 .left), ← symbol-back (c .before .before .symbol .ensures), failed (c .before .equal-halves .ensures) (c .if4 .taken))
 
--- src/lib.rt:317:18
 symbol-requires-2 : tie.Need-symbol-requires-2
 symbol-requires-2 c κs =
     (omega arith, omega (arith, two-inside (c .before .before .before .before .before .before .before .before .before .before .args .tape .now) (c .before .before .before .before .before .before .before .before .before .before .args .g) (c .before .before .before .before .before .before .before .before .before .before .pre .places) (omega arith) (c .before .before .before .before .before .if2 .left) (c .before .before .before .if3 .left)))
 
--- src/lib.rt:317:5
 equal-halves-requires-2 : tie.Need-equal-halves-requires-2
 equal-halves-requires-2 c κs = search needs
 
--- src/lib.rt:301:1
 returns-5 : tie.Need-returns-5
 unfolding ordinary
 returns-5 c =

@@ -1,3 +1,4 @@
+-- `pair_row` meets its contract. Assumes nothing.
 use Rattle.general.proofs.Symbols.{pair-bit, pair-even, kept-first}
 use Rattle.general.specs.General.{pairRow}
 use borrow.Author.Tests.{le-leb, lt-leb}
@@ -5,79 +6,59 @@ use native.Mathlib.Omega.{arith}
 use borrow.Author.Needs.{needs}
 use Rattle.general.proofs.pair_row.Statement.{statement}
 use Rattle.general.proofs.pair_row.Tie as tie
-use Rattle.general.proofs.pair_row.Reads as reads
-use Rattle.general.proofs.pair_row.Lts as lts
-use Rattle.general.proofs.gives.Reads as gives-reads
-use Rattle.general.proofs.number_at.Reads as number-at-reads
 
--- src/lib.rt:192:15
 mul-bit : tie.Need-mul-bit
 mul-bit c = search needs
 
--- src/lib.rt:192:15
 mul-bit-2 : tie.Need-mul-bit-2
 mul-bit-2 c =
     let p = c .before .before .pre in omega (arith, pair-bit (c .before .before .args .i) (c .before .before .args .g .nb) (c .before .before .args .g .totd) (p .4) (p .2), p .0 .places .fits)
 
--- src/lib.rt:193:9
 number-at-requires : tie.Need-number-at-requires
 number-at-requires c κs =
     let p = c .before .before .pre in (p .0, p .3, pair-bit (c .before .before .args .i) (c .before .before .args .g .nb) (c .before .before .args .g .totd) (p .4) (p .2), omega arith)
 
--- src/lib.rt:195:9
 returns : tie.Need-returns
 unfolding pairRow
 returns c =
     rw (← c .before .before .number-at .ensures, le-leb _ _ (c .if1 .taken))
 
--- src/lib.rt:197:9
 number-at-requires-2 : tie.Need-number-at-requires-2
 number-at-requires-2 c κs =
     let p = c .before .before .before .before .before .pre in (p .0, p .3, pair-bit (c .before .before .before .before .before .args .i) (c .before .before .before .before .before .args .g .nb) (c .before .before .before .before .before .args .g .totd) (p .4) (p .2), pair-even (c .before .before .before .before .before .args .i) (c .before .before .before .before .before .args .g .nb))
 
--- src/lib.rt:199:9
 returns-2 : tie.Need-returns-2
 unfolding pairRow
 returns-2 c =
     rw (← c .before .before .before .before .before .number-at .ensures, lt-leb _ _ (c .before .before .before .if1 .left), ← c .before .before .number-at2 .ensures, le-leb _ _ (c .if2 .taken))
 
--- src/lib.rt:201:15
 cast-y : tie.Need-cast-y
 cast-y c = search needs
 
--- src/lib.rt:201:13
 mul-y : tie.Need-mul-y
 mul-y c = search needs
 
--- src/lib.rt:201:13
 element-copy-out-y : tie.Need-element-copy-out-y
 element-copy-out-y c = search needs
 
--- src/lib.rt:202:15
 cast-z : tie.Need-cast-z
 cast-z c = search needs
 
--- src/lib.rt:202:13
 mul-z : tie.Need-mul-z
 mul-z c = search needs
 
--- src/lib.rt:202:13
 element-copy-out-z : tie.Need-element-copy-out-z
 element-copy-out-z c = search needs
 
--- src/lib.rt:203:14
 array-read-gives : tie.Need-array-read-gives
 array-read-gives c = search needs
 
--- src/lib.rt:203:20
 array-read-gives-2 : tie.Need-array-read-gives-2
 array-read-gives-2 c = search needs
 
--- src/lib.rt:203:5
 gives-requires : tie.Need-gives-requires
 gives-requires c κs = search needs
 
--- src/lib.rt:188:1
 returns-3 : tie.Need-returns-3
 unfolding pairRow
 returns-3 c =

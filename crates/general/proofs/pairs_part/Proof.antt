@@ -1,3 +1,4 @@
+-- `pairs_part` meets its contract. Assumes nothing.
 use Rattle.general.proofs.Parts.{some-bits}
 use Rattle.general.specs.Made.{judgedOf}
 use Rattle.general.specs.General.{pairsOf}
@@ -6,27 +7,19 @@ use mathlib.Core.Path.{sym, _∙_}
 use borrow.Author.Needs.{needs}
 use Rattle.general.proofs.pairs_part.Statement.{statement}
 use Rattle.general.proofs.pairs_part.Tie as tie
-use Rattle.general.proofs.pairs_part.Reads as reads
-use Rattle.general.proofs.pairs_part.Lts as lts
-use Rattle.general.proofs.no_bits.Reads as no-bits-reads
-use Rattle.general.proofs.part_of.Reads as part-of-reads
 
--- src/lib.rt:344:8
 no-bits-requires : tie.Need-no-bits-requires
 no-bits-requires c κs = search needs
 
--- src/lib.rt:347:9
 part-of-requires : tie.Need-part-of-requires
 part-of-requires c κs =
     let p = c .before .before .before .pre in (p .0, (p .1, omega arith, some-bits _ _ (sym (c .before .no-bits .ensures) ∙ c .if1 .left), p .3))
 
--- src/lib.rt:340:1
 returns : tie.Need-returns
 unfolding pairsOf judgedOf
 returns c =
     rw (← c .before .no-bits .ensures, c .if1 .taken)
 
--- src/lib.rt:340:1
 returns-2 : tie.Need-returns-2
 unfolding pairsOf
 returns-2 c =

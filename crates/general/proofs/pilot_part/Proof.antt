@@ -1,3 +1,4 @@
+-- `pilot_part` meets its contract. Assumes nothing.
 use Rattle.general.proofs.Parts.{some-pulses}
 use Rattle.general.specs.Made.{judgedOf}
 use Rattle.general.specs.General.{pilotOf, entrySymbol}
@@ -8,44 +9,32 @@ use Prim.Native.Nat.{_+_, _*_}
 use borrow.Author.Needs.{needs}
 use Rattle.general.proofs.pilot_part.Statement.{statement}
 use Rattle.general.proofs.pilot_part.Tie as tie
-use Rattle.general.proofs.pilot_part.Reads as reads
-use Rattle.general.proofs.pilot_part.Lts as lts
-use Rattle.general.proofs.byte_at.Reads as byte-at-reads
-use Rattle.general.proofs.one_or_two.Reads as one-or-two-reads
-use Rattle.general.proofs.part_of.Reads as part-of-reads
 
--- src/lib.rt:281:9
 returns : tie.Need-returns
 unfolding pilotOf judgedOf
 returns c =
     rw (eq-eqb _ _ (c .if1 .taken))
 
--- src/lib.rt:283:8
 one-or-two-requires : tie.Need-one-or-two-requires
 one-or-two-requires c κs = search needs
 
--- src/lib.rt:284:9
 part-of-requires : tie.Need-part-of-requires
 part-of-requires c κs =
     (c .before .before .before .before .before .pre, (omega arith, some-pulses _ (sym (c .before .one-or-two .ensures) ∙ c .if2 .taken)))
 
--- src/lib.rt:284:9
 returns-2 : tie.Need-returns-2
 unfolding pilotOf
 returns-2 c =
     rw (ne-eqb _ _ (c .before .before .before .if1 .left), ← c .before .before .one-or-two .ensures, c .before .if2 .taken) (c .part-of .ensures)
 
--- src/lib.rt:286:17
 byte-at-requires : tie.Need-byte-at-requires
 byte-at-requires c κs = search needs
 
--- src/lib.rt:276:1
 returns-3 : tie.Need-returns-3
 unfolding pilotOf entrySymbol judgedOf
 returns-3 c =
     let e : c .before .before .before .before .before .before .before .before .args .g .entries + 0 * 3 ≡ c .before .before .before .before .before .before .before .before .args .g .entries = omega arith in rw (ne-eqb _ _ (c .before .before .before .before .before .if1 .left), ← c .before .before .before .before .one-or-two .ensures, c .before .before .before .if2 .left, e, ← c .before .before .byte-at .ensures, le-leb _ _ (c .if3 .taken))
 
--- src/lib.rt:276:1
 returns-4 : tie.Need-returns-4
 unfolding pilotOf entrySymbol judgedOf
 returns-4 c =

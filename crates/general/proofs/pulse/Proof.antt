@@ -1,22 +1,17 @@
+-- `pulse` meets its contract. Assumes nothing.
 use Rattle.fields.proofs.Le.{le-small}
 use native.Mathlib.Omega.{arith}
 use borrow.Author.Needs.{needs}
 use Rattle.general.proofs.pulse.Statement.{statement}
 use Rattle.general.proofs.pulse.Tie as tie
-use Rattle.general.proofs.pulse.Reads as reads
-use Rattle.general.proofs.pulse.Lts as lts
-use Rattle.fields.proofs.low_first.Reads as low-first-reads
 
--- src/lib.rt:65:5
 low-first-requires : tie.Need-low-first-requires
 low-first-requires c κs = search needs
 
--- src/lib.rt:65:5
 cast-result : tie.Need-cast-result
 cast-result c =
     omega (arith, c .low-first .ensures, le-small (c .before .before .args .tape .now) (λ i. c .before .shared-slice-known .given i .fits) (c .before .before .args .at) 2)
 
--- src/lib.rt:61:1
 returns : tie.Need-returns
 returns c = search needs
 

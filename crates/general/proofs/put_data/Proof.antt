@@ -1,36 +1,27 @@
+-- `put_data` meets its contract. Assumes nothing.
 use Rattle.general.proofs.Parts.{singles-sorted, pairs-sorted, sorted-tones, sorted-count}
-use mathlib.Core.Path.{_≡_, refl, sym, ap, _∙_}
 use borrow.Author.Needs.{needs}
 use Rattle.general.proofs.put_data.Statement.{statement}
 use Rattle.general.proofs.put_data.Tie as tie
-use Rattle.general.proofs.put_data.Reads as reads
-use Rattle.general.proofs.put_data.Lts as lts
-use Rattle.general.proofs.put_rows.Reads as put-rows-reads
 
--- src/lib.rt:425:9
 put-rows-requires : tie.Need-put-rows-requires
 put-rows-requires c κs =
     let a = c .before .before .before .before .before .args in let p = c .before .before .before .before .before .pre in let o = singles-sorted (a .tape .now) (a .g) (p .1) (c .before .if1 .taken) in (p .0, o .ready, sorted-tones o (p .1), sorted-count o (p .1) (p .2))
 
--- src/lib.rt:427:9
 put-rows-requires-2 : tie.Need-put-rows-requires-2
 put-rows-requires-2 c κs =
     let a = c .before .before .before .before .before .args in let p = c .before .before .before .before .before .pre in let o = pairs-sorted (a .tape .now) (a .g) (p .1) (c .before .if1 .left) in (p .0, o .ready, sorted-tones o (p .1), sorted-count o (p .1) (p .2))
 
--- src/lib.rt:420:1
 same-length : tie.Need-same-length
 same-length c = search needs
 
--- src/lib.rt:420:1
 returns : tie.Need-returns
 returns c =
     let a = c .before .before .before .before .before .before .before .before .args in let o = singles-sorted (a .tape .now) (a .g) (c .before .before .before .before .before .before .before .before .pre .1) (c .before .before .before .before .if1 .taken) in rw (o .rows) (c .before .before .put-rows .ensures)
 
--- src/lib.rt:420:1
 same-length-2 : tie.Need-same-length-2
 same-length-2 c = search needs
 
--- src/lib.rt:420:1
 returns-2 : tie.Need-returns-2
 returns-2 c =
     let a = c .before .before .before .before .before .before .before .before .args in let o = pairs-sorted (a .tape .now) (a .g) (c .before .before .before .before .before .before .before .before .pre .1) (c .before .before .before .before .if1 .left) in rw (o .rows) (c .before .before .put-rows2 .ensures)

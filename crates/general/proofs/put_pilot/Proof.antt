@@ -1,34 +1,25 @@
+-- `put_pilot` meets its contract. Assumes nothing.
 use Rattle.general.proofs.Parts.{pilot-sorted, sorted-tones, sorted-count}
-use Rattle.general.specs.Ways.{rowAt, countOf}
 use Rattle.general.specs.Made.{tonesOf}
 use Rattle.general.specs.General.{pilotOf}
-use Rattle.general.specs.declared.Way.the-variants.{Pilot}
 use Rattle.rows.specs.Table.{putAll}
 use borrow.Author.Tests.{eq-eqb}
 use native.Mathlib.Omega.{arith}
-use mathlib.Core.Path.{_≡_, refl, sym, ap, _∙_}
 use borrow.Author.Needs.{needs}
 use Rattle.general.proofs.put_pilot.Statement.{statement}
 use Rattle.general.proofs.put_pilot.Tie as tie
-use Rattle.general.proofs.put_pilot.Reads as reads
-use Rattle.general.proofs.put_pilot.Lts as lts
-use Rattle.general.proofs.put_rows.Reads as put-rows-reads
 
--- src/lib.rt:415:9
 put-rows-requires : tie.Need-put-rows-requires
 put-rows-requires c κs =
     let a = c .before .before .before .before .before .args in let p = c .before .before .before .before .before .pre in let o = pilot-sorted (a .tape .now) (a .g) (c .before .if1 .taken) (p .1) in (p .0, o .ready, sorted-tones o (p .1), sorted-count o (p .1) (p .2))
 
--- src/lib.rt:410:1
 same-length : tie.Need-same-length
 same-length c = search needs
 
--- src/lib.rt:410:1
 returns : tie.Need-returns
 returns c =
     let a = c .before .before .before .before .before .before .before .before .args in let o = pilot-sorted (a .tape .now) (a .g) (c .before .before .before .before .if1 .taken) (c .before .before .before .before .before .before .before .before .pre .1) in rw (o .rows) (c .before .before .put-rows .ensures)
 
--- src/lib.rt:410:1
 returns-2 : tie.Need-returns-2
 unfolding pilotOf tonesOf putAll
 returns-2 c =

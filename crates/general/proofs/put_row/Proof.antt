@@ -1,33 +1,26 @@
+-- `put_row` meets its contract. Assumes nothing.
 use Rattle.general.specs.Made.{putGiven}
 use borrow.Author.Needs.{needs}
 use Rattle.general.proofs.put_row.Statement.{statement}
 use Rattle.general.proofs.put_row.Tie as tie
-use Rattle.general.proofs.put_row.Reads as reads
-use Rattle.general.proofs.put_row.Lts as lts
-use Rattle.rows.proofs.put_tone.Reads as put-tone-reads
 
 enum-told : tie.Need-enum-told
 enum-told c = search needs
 
--- src/lib.rt:378:20
 enum-known-r : tie.Need-enum-known-r
 enum-known-r c = search needs
 
--- src/lib.rt:378:26
 put-tone-requires : tie.Need-put-tone-requires
 put-tone-requires c κs = search needs
 
--- src/lib.rt:372:1
 returns : tie.Need-returns
 unfolding putGiven
 returns c =
     rw (c .enum-told .given .1)
 
--- src/lib.rt:372:1
 same-length : tie.Need-same-length
 same-length c = search needs
 
--- src/lib.rt:372:1
 returns-2 : tie.Need-returns-2
 unfolding putGiven
 returns-2 c =

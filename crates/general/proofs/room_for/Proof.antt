@@ -1,3 +1,4 @@
+-- `room_for` meets its contract. Assumes nothing.
 use Rattle.general.proofs.Answers.{none-fits}
 use Rattle.rows.specs.Rows.{tone, toneMost}
 use Rattle.rows.specs.Table.{capacityOf}
@@ -7,20 +8,14 @@ use Prim.Native.Nat.{_-_}
 use borrow.Author.Needs.{needs}
 use Rattle.general.proofs.room_for.Statement.{statement}
 use Rattle.general.proofs.room_for.Tie as tie
-use Rattle.general.proofs.room_for.Reads as reads
-use Rattle.general.proofs.room_for.Lts as lts
-use Rattle.rows.proofs.tone_capacity.Reads as tone-capacity-reads
 
--- src/lib.rt:401:9
 tone-capacity-requires : tie.Need-tone-capacity-requires
 tone-capacity-requires c κs = search needs
 
--- src/lib.rt:398:1
 returns : tie.Need-returns
 returns c =
     rw (c .before .tone-capacity .ensures)
 
--- src/lib.rt:398:1
 returns-2 : tie.Need-returns-2
 returns-2 c =
     let e : capacityOf tone toneMost (c .before .before .before .args .tones .now) - c .before .before .before .args .used ≡ 0 = omega (arith, c .before .tone-capacity .ensures) in rw e (none-fits (c .before .before .before .args .rows))

@@ -1,51 +1,38 @@
+-- `row_at` meets its contract. Assumes nothing.
 use native.Mathlib.Omega.{arith}
 use borrow.Author.Needs.{needs}
 use Rattle.general.proofs.row_at.Statement.{statement}
 use Rattle.general.proofs.row_at.Tie as tie
-use Rattle.general.proofs.row_at.Reads as reads
-use Rattle.general.proofs.row_at.Lts as lts
-use Rattle.general.proofs.entry_row.Reads as entry-row-reads
-use Rattle.general.proofs.pair_row.Reads as pair-row-reads
-use Rattle.general.proofs.single_row.Reads as single-row-reads
 
--- src/lib.rt:212:23
 enum-told : tie.Need-enum-told
 enum-told c = search needs
 
--- src/lib.rt:212:23
 entry-row-requires : tie.Need-entry-row-requires
 entry-row-requires c κs =
     let p = c .before .before .before .pre in let e = c .enum-told .given .1 in (p .0, rw e at (p .2), rw e at (p .3))
 
--- src/lib.rt:213:25
 enum-told-2 : tie.Need-enum-told-2
 enum-told-2 c = search needs
 
--- src/lib.rt:213:25
 single-row-requires : tie.Need-single-row-requires
 single-row-requires c κs =
     let p = c .before .before .before .pre in let e = c .enum-told2 .given .1 in let r = rw e at (p .1) in (p .0, rw e at (p .2), r .2, r .3, rw e at (p .3))
 
--- src/lib.rt:214:23
 enum-told-3 : tie.Need-enum-told-3
 enum-told-3 c = search needs
 
--- src/lib.rt:214:23
 pair-row-requires : tie.Need-pair-row-requires
 pair-row-requires c κs =
     let p = c .before .before .before .pre in let e = c .enum-told3 .given .1 in let r = rw e at (p .1) in let i = rw e at (p .3) in (p .0, rw e at (p .2), r .2 (omega arith), r .3, i)
 
--- src/lib.rt:207:1
 returns : tie.Need-returns
 returns c =
     rw (c .before .enum-told .given .1) (c .entry-row .ensures)
 
--- src/lib.rt:207:1
 returns-2 : tie.Need-returns-2
 returns-2 c =
     rw (c .before .enum-told2 .given .1) (c .single-row .ensures)
 
--- src/lib.rt:207:1
 returns-3 : tie.Need-returns-3
 returns-3 c =
     rw (c .before .enum-told3 .given .1) (c .pair-row .ensures)

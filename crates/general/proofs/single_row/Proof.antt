@@ -1,3 +1,4 @@
+-- `single_row` meets its contract. Assumes nothing.
 use Rattle.general.proofs.Symbols.{single-bit, kept-first, kept-second}
 use Rattle.general.specs.General.{singleRow}
 use borrow.Author.Tests.{le-leb, lt-leb}
@@ -5,52 +6,38 @@ use native.Mathlib.Omega.{arith}
 use borrow.Author.Needs.{needs}
 use Rattle.general.proofs.single_row.Statement.{statement}
 use Rattle.general.proofs.single_row.Tie as tie
-use Rattle.general.proofs.single_row.Reads as reads
-use Rattle.general.proofs.single_row.Lts as lts
-use Rattle.general.proofs.gives.Reads as gives-reads
-use Rattle.general.proofs.number_at.Reads as number-at-reads
 
--- src/lib.rt:179:32
 mul-number-at : tie.Need-mul-number-at
 mul-number-at c =
     let p = c .before .before .pre in omega (arith, single-bit (c .before .before .args .i) (c .before .before .args .g .nb) (c .before .before .args .g .totd) (p .4) (p .2), p .0 .places .fits)
 
--- src/lib.rt:179:9
 number-at-requires : tie.Need-number-at-requires
 number-at-requires c κs =
     let p = c .before .before .pre in (p .0, p .3, single-bit (c .before .before .args .i) (c .before .before .args .g .nb) (c .before .before .args .g .totd) (p .4) (p .2), omega arith)
 
--- src/lib.rt:181:9
 returns : tie.Need-returns
 unfolding singleRow
 returns c =
     rw (← c .before .before .number-at .ensures, le-leb _ _ (c .if1 .taken))
 
--- src/lib.rt:183:15
 cast-y : tie.Need-cast-y
 cast-y c = search needs
 
--- src/lib.rt:183:13
 mul-y : tie.Need-mul-y
 mul-y c = search needs
 
--- src/lib.rt:183:13
 element-copy-out-y : tie.Need-element-copy-out-y
 element-copy-out-y c = search needs
 
--- src/lib.rt:184:14
 array-read-gives : tie.Need-array-read-gives
 array-read-gives c = search needs
 
--- src/lib.rt:184:20
 array-read-gives-2 : tie.Need-array-read-gives-2
 array-read-gives-2 c = search needs
 
--- src/lib.rt:184:5
 gives-requires : tie.Need-gives-requires
 gives-requires c κs = search needs
 
--- src/lib.rt:175:1
 returns-2 : tie.Need-returns-2
 unfolding singleRow
 returns-2 c =

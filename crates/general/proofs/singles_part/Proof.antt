@@ -1,24 +1,19 @@
+-- `singles_part` meets its contract. Assumes nothing.
 use Rattle.general.specs.Made.{judgedOf}
 use Rattle.general.specs.General.{singlesOf}
 use borrow.Author.Tests.{eq-eqb, ne-eqb}
 use borrow.Author.Needs.{needs}
 use Rattle.general.proofs.singles_part.Statement.{statement}
 use Rattle.general.proofs.singles_part.Tie as tie
-use Rattle.general.proofs.singles_part.Reads as reads
-use Rattle.general.proofs.singles_part.Lts as lts
-use Rattle.general.proofs.part_of.Reads as part-of-reads
 
--- src/lib.rt:335:9
 part-of-requires : tie.Need-part-of-requires
 part-of-requires c κs = search needs
 
--- src/lib.rt:328:1
 returns : tie.Need-returns
 unfolding singlesOf judgedOf
 returns c =
     rw (eq-eqb _ _ (c .if1 .taken))
 
--- src/lib.rt:328:1
 returns-2 : tie.Need-returns-2
 unfolding singlesOf
 returns-2 c =

@@ -74,6 +74,6 @@ pub fn load(tape: &[u8], model: u32, blocks: &mut [u64], tones: &mut [u64]) -> L
             }
         }
         Reading::Failed(_f) => load_tap(tape, blocks, tones),
-        Reading::Refused(k) => refuse(blocks, tones, k),
+        Reading::Refused(j) => refuse(blocks, tones, j),
     }
 }

@@ -1,33 +1,33 @@
 -- DEMAND 3 OVER TAPES: on well-formed rows both players are the list's, from every valid position, for any cutting into calls. Assumes nothing.
 use Prim.Native.Nat.{ℕ, _+_, _-_, _≤_, _<_}
 use native.Mathlib.Omega.{arith}
-use borrow.Author.Tests.{lt-ltb, le-ltb, le-leb, lt-leb, leb-true, ltb-true, ne-eqb}
-use mathlib.Core.Path.{_≡_, refl, sym, ap, ap₂, subst, _∙_}
-use mathlib.Core.Bool.{Bool, true, false, not, _&&_, _||_}
+use borrow.Author.Tests.{le-ltb, lt-leb, ne-eqb}
+use mathlib.Core.Path.{_≡_, refl, sym, ap, ap₂, _∙_}
+use mathlib.Core.Bool.{Bool, true, false, _&&_, _||_}
 use mathlib.Core.Logic.{⊎-elim}
 use mathlib.Core.List.{List, [], _∷_}
-use lib.Dec.{ltb, leb, eqb}
+use lib.Dec.{ltb, leb}
 use Rattle.laws.specs.Numbers.{lt-or-ge}
 use Rattle.laws.specs.Rules.{_⇒_, _∣_}
-use Rattle.pulses.specs.Play.{Level, low, Entry, pulse, endless, Status, standing, stopped, ended, Answer, made, rest, answer, counted, calls, sum, Positive, time, Demanded}
+use Rattle.pulses.specs.Play.{Level, low, Entry, pulse, endless, Status, standing, stopped, ended, Answer, rest, answer, counted, calls, sum, Positive, time, Demanded}
 use Rattle.pulses.specs.Demand.{conserved, any-cut, demanded}
 use Rattle.pulses.specs.Source.{Outcome, isEnded, source, dropped, sources, heard, Short, Agrees}
 use Rattle.pulses.specs.Agreement.{source-heard, agrees, agrees-short}
 use Rattle.rows.specs.Table.{capacityOf}
 use Rattle.rows.specs.Rows.{block, blockMost}
 use Rattle.entries.specs.Entries.{Spot}
-use Rattle.entries.specs.Places.{Tape, isStart, isNone, leftAt, levelOf, valid, headOf, leftOf, hasIn, lengthIn, remains}
-use Rattle.entries.proofs.Tails.{Tail, tail-left, tail-rest}
+use Rattle.entries.specs.Places.{Tape, levelOf, valid, headOf, hasIn, lengthIn, remains}
+use Rattle.entries.proofs.Tails.{tail-left, tail-rest}
 use Rattle.entries.proofs.Levels.{Levels, levels-left, levels-rest}
 use Rattle.walks.specs.declared.Position.{Position}
 use Rattle.walks.specs.declared.Stand.{Stand}
 use Rattle.walks.specs.declared.Reached.{Reached}
 use Rattle.walks.specs.declared.Reached.the-variants.{At, Stopped, Ended, NotValid, NotFormed}
-use Rattle.walks.specs.Heads.{stand, placeOf, ahead, levelHere, toldAs, told, wellRow, firstBad, cutTo, formed, walked, walkFrom, droppedFrom}
-use Rattle.walks.proofs.Needed.{Needs, needed}
+use Rattle.walks.specs.Heads.{stand, placeOf, ahead, levelHere, toldAs, told, wellRow, firstBad, cutTo, formed, walked, walkFrom}
+use Rattle.walks.proofs.Needed.{needed}
 use Rattle.deck.specs.declared.Check.the-variants.{Fine}
-use Rattle.deck.specs.Deck.{overfull, atStart, ruledOut, badRow, validAt, judged, unless, stays, playMeasured, sourceAnswer, sourceFrom, playSource}
-use Rattle.deck.proofs.Sourced.{source-answer, source-walk}
+use Rattle.deck.specs.Deck.{atStart, ruledOut, badRow, validAt, judged, unless, playMeasured, sourceAnswer, sourceFrom, playSource}
+use Rattle.deck.proofs.Sourced.{source-answer}
 
 -- a tape whose counted rows are all well formed
 pub record Whole (w : Tape) : Type 0 where

@@ -283,9 +283,10 @@ module _ (w : Tape) (whole : Whole w) where
   source-place q n v p =
       let m = n + dropped (ahead w q) n in
       let e = source-agrees q n v p .0 in
-      let x = play-place q m v (omega arith) in
-      (ap (λ (r : Reached). ahead w (positionIn q r)) e ∙ x .0 ∙ sym (ap (λ (o : Outcome Spot). o .place) (source-heard (ahead w q) n)),
-      ap (λ (r : Reached). validAt w (positionIn q r)) e ∙ x .1)
+      let x = play-place q m v (omega arith) in (
+        ap (λ (r : Reached). ahead w (positionIn q r)) e ∙ x .0 ∙ sym (ap (λ (o : Outcome Spot). o .place) (source-heard (ahead w q) n)),
+        ap (λ (r : Reached). validAt w (positionIn q r)) e ∙ x .1,
+      )
 
   -- and whether it has ended
   source-ended : (q : Position) (n : ℕ) → validAt w q ≡ true → 0 < n → endedIn (playSource w q n) ≡ source (ahead w q) n .done

@@ -1,18 +1,17 @@
 -- The checks of a position, and what a fine one is. Assumes nothing.
-use Prim.Native.Nat.{ℕ, zero, suc, _+_, _-_, _≤_, _<_, min}
+use Prim.Native.Nat.{ℕ, zero, suc, _-_, _≤_, _<_, min}
 use native.Mathlib.Omega.{arith}
 use native.Mathlib.Nat.{eq-zero-or-pos}
-use borrow.Author.Tests.{lt-ltb, le-ltb, ltb-false, le-leb, lt-leb, leb-true, eq-eqb, ne-eqb}
-use mathlib.Core.Path.{_≡_, refl, sym, ap, subst, _∙_}
+use borrow.Author.Tests.{lt-ltb, le-ltb, ltb-false, le-leb, lt-leb, eq-eqb, ne-eqb}
+use mathlib.Core.Path.{_≡_, refl, sym, ap, _∙_}
 use mathlib.Core.Bool.{Bool, true, false, not, _&&_, _||_}
 use mathlib.Core.Logic.{⊎-elim}
 use mathlib.Core.List.{List, [], _∷_}
 use lib.Dec.{ltb, leb, eqb}
-use lib.ListN.{length}
 use Rattle.laws.specs.Numbers.{lt-or-ge}
 use Rattle.laws.specs.Rules.{_⇒_, _∣_}
 use Rattle.laws.specs.Tests.{first, second}
-use Rattle.pulses.specs.Play.{Entry, pulse, endless, shown, answer}
+use Rattle.pulses.specs.Play.{Entry, shown}
 use Rattle.pulses.specs.Lead.{lead-here, lead-by}
 use Rattle.rows.specs.Table.{capacityOf}
 use Rattle.rows.specs.Rows.{block, blockMost}
@@ -21,15 +20,14 @@ use Rattle.entries.specs.declared.Phase.the-variants.{Start, Tones, Data, Pause
 use Rattle.entries.specs.declared.Duration.{Duration}
 use Rattle.entries.specs.declared.Duration.the-variants.{T, Endless}
 use Rattle.entries.specs.Entries.{Spot, spot, entryOf}
-use Rattle.entries.specs.Places.{Tape, listFrom, leftAt, levelOf, remains, isStart, isNone, valid, hasIn, lengthIn}
+use Rattle.entries.specs.Places.{Tape, leftAt, levelOf, remains, isStart, isNone, valid, hasIn, lengthIn}
 use Rattle.entries.proofs.Follows.{list-out}
-use Rattle.entries.proofs.Valid.{remains-within, stands-valid, below-stands}
+use Rattle.entries.proofs.Valid.{stands-valid, below-stands}
 use Rattle.entries.proofs.Parts.{left-part}
 use Rattle.walks.specs.declared.Position.{Position}
 use Rattle.walks.specs.declared.Reached.the-variants.{At, Stopped, Ended}
 use Rattle.walks.specs.Heads.{startAt, stand, ahead, levelHere, toldAs, wellRow, firstBad, cutTo, formed, walkFrom, Walkable}
 use Rattle.walks.proofs.Ends.{tells-end}
-use Rattle.deck.specs.declared.Check.{Check}
 use Rattle.deck.specs.declared.Check.the-variants.{Fine, NotValid, NotFormed}
 use Rattle.deck.specs.Deck.{overfull, atStart, ruledOut, badRow, validAt, judged, stays}
 

@@ -7,14 +7,14 @@ use Rattle.pulses.specs.Play.{low, high, answer, rest, over, shown, status}
 use Rattle.pulses.specs.Runs.{run}
 use Rattle.pulses.specs.Source.{after, turn, turns, sourced, reached}
 use Rattle.rows.specs.Well.{wellRanges, wellTone, wellNumbers, wellCases, wellTones, wellBlock}
-use Rattle.entries.specs.declared.Phase.the-variants.{Start, Tones, Pause}
+use Rattle.entries.specs.declared.Phase.the-variants.{Tones, Pause}
 use Rattle.entries.specs.declared.Duration.the-variants.{T, Endless}
-use Rattle.entries.specs.Entries.{entryOf, cyclesOf, toneOf, tonesOf, bitsAt, halfOf, byteOf, dataOf, pauseOf, soundOf, entriesOf}
-use Rattle.entries.specs.Places.{Tape, listFrom, fromPause, fromByte, fromBit, fromTone, fromCycle, leftAt, hasEntry, lengthAt, remains, valid, headOf, leftOf}
-use Rattle.walks.specs.declared.Reached.the-variants.{At, Stopped, Ended, NotValid, NotFormed}
-use Rattle.walks.specs.Heads.{numberOf, refused, placed, startAt, stand, levelHere, toldAs, told, wellRow, firstBad, formed, walked, walkFrom, tapeOf}
+use Rattle.entries.specs.Entries.{entryOf, cyclesOf, toneOf, tonesOf, dataOf, pauseOf, soundOf, entriesOf}
+use Rattle.entries.specs.Places.{Tape, listFrom, leftAt, hasEntry, lengthAt, remains, valid, headOf, leftOf}
+use Rattle.walks.specs.declared.Reached.the-variants.{At, Stopped, Ended, NotFormed}
+use Rattle.walks.specs.Heads.{numberOf, placed, startAt, stand, levelHere, toldAs, told, wellRow, firstBad, formed, walked, walkFrom, tapeOf}
 use Rattle.deck.specs.Deck.{ruledOut, badRow, judged, unless, stays, playMeasured, sourceAnswer, sourceFrom, playSource, backTo, blockOf, blockAt}
-use Rattle.deck.specs.declared.Selected.the-variants.{Block, BadPosition, BadRow}
+use Rattle.deck.specs.declared.Selected.the-variants.{Block, BadRow}
 
 -- a 12 of 100 and 4: two cycles, no data, no pause; a stop; and a row whose endless flag is 2
 abbrev pulses : List ℕ

@@ -1,4 +1,5 @@
 pub mod Checks
 pub mod Sourced
 pub mod Plays
+pub mod Unreached
 pub mod Examples

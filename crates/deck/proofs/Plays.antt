@@ -1,33 +1,36 @@
 -- DEMAND 3 OVER TAPES: on well-formed rows both players are the list's, from every valid position, for any cutting into calls. Assumes nothing.
 use Prim.Native.Nat.{ℕ, _+_, _-_, _≤_, _<_}
 use native.Mathlib.Omega.{arith}
-use borrow.Author.Tests.{lt-ltb, le-ltb, le-leb, lt-leb, leb-true, ltb-true, ne-eqb}
-use mathlib.Core.Path.{_≡_, refl, sym, ap, ap₂, subst, _∙_}
-use mathlib.Core.Bool.{Bool, true, false, not, _&&_, _||_}
+use borrow.Author.Tests.{le-ltb, lt-leb, ne-eqb}
+use mathlib.Core.Path.{_≡_, refl, sym, ap, ap₂, _∙_}
+use mathlib.Core.Bool.{Bool, true, false, _&&_, _||_}
 use mathlib.Core.Logic.{⊎-elim}
 use mathlib.Core.List.{List, [], _∷_}
-use lib.Dec.{ltb, leb, eqb}
+use lib.Dec.{ltb, leb}
 use Rattle.laws.specs.Numbers.{lt-or-ge}
 use Rattle.laws.specs.Rules.{_⇒_, _∣_}
-use Rattle.pulses.specs.Play.{Level, low, Entry, pulse, endless, Status, standing, stopped, ended, Answer, made, rest, answer, counted, calls, sum, Positive, time, Demanded}
-use Rattle.pulses.specs.Demand.{conserved, any-cut, demanded}
+use Rattle.pulses.specs.Play.{Level, low, Entry, pulse, endless, Status, standing, stopped, ended, Answer, rest, over, answer, counted, calls, sum, Positive, time, Demanded}
+use native.Mathlib.Nat.{eq-zero-or-pos}
+use lib.ListN.{length}
+use Rattle.pulses.specs.Steps.{over-zero, over-rest}
+use Rattle.pulses.specs.Demand.{status-over, conserved, any-cut, demanded}
 use Rattle.pulses.specs.Source.{Outcome, isEnded, source, dropped, sources, heard, Short, Agrees}
 use Rattle.pulses.specs.Agreement.{source-heard, agrees, agrees-short}
 use Rattle.rows.specs.Table.{capacityOf}
 use Rattle.rows.specs.Rows.{block, blockMost}
 use Rattle.entries.specs.Entries.{Spot}
-use Rattle.entries.specs.Places.{Tape, isStart, isNone, leftAt, levelOf, valid, headOf, leftOf, hasIn, lengthIn, remains}
-use Rattle.entries.proofs.Tails.{Tail, tail-left, tail-rest}
+use Rattle.entries.specs.Places.{Tape, levelOf, valid, headOf, leftOf, hasIn, lengthIn, remains}
+use Rattle.entries.proofs.Tails.{tail-left, tail-rest}
 use Rattle.entries.proofs.Levels.{Levels, levels-left, levels-rest}
 use Rattle.walks.specs.declared.Position.{Position}
 use Rattle.walks.specs.declared.Stand.{Stand}
 use Rattle.walks.specs.declared.Reached.{Reached}
 use Rattle.walks.specs.declared.Reached.the-variants.{At, Stopped, Ended, NotValid, NotFormed}
-use Rattle.walks.specs.Heads.{stand, placeOf, ahead, levelHere, toldAs, told, wellRow, firstBad, cutTo, formed, walked, walkFrom, droppedFrom}
-use Rattle.walks.proofs.Needed.{Needs, needed}
+use Rattle.walks.specs.Heads.{startAt, stand, placeOf, ahead, levelHere, toldAs, told, wellRow, firstBad, cutTo, formed, walked, walkFrom}
+use Rattle.walks.proofs.Needed.{needed}
 use Rattle.deck.specs.declared.Check.the-variants.{Fine}
-use Rattle.deck.specs.Deck.{overfull, atStart, ruledOut, badRow, validAt, judged, unless, stays, playMeasured, sourceAnswer, sourceFrom, playSource}
-use Rattle.deck.proofs.Sourced.{source-answer, source-walk}
+use Rattle.deck.specs.Deck.{atStart, ruledOut, badRow, validAt, judged, unless, playMeasured, sourceAnswer, sourceFrom, playSource}
+use Rattle.deck.proofs.Sourced.{source-answer}
 
 -- a tape whose counted rows are all well formed
 pub record Whole (w : Tape) : Type 0 where
@@ -128,6 +131,9 @@ place-of : (w : Tape) (es : List (Entry Spot)) (n m : ℕ) (ms : List ℕ)
     → told w (counted (answer es n .passed) (calls (rest es n) m ms)) ≡ told w (counted (answer es n .passed) (calls (answer es n .place) m ms))
 unfolding answer
 place-of w es n m ms = refl
+
+over-some : (es : List (Entry Spot)) (n : ℕ) → 0 < over es n → 0 < n
+over-some es n h = ⊎-elim (λ z. let y : over es n ≡ 0 = ap (over es) z ∙ over-zero es in absurd (omega arith)) (λ p. p) (eq-zero-or-pos n)
 
 -- the level of a list's head is its phase's, at the end too
 level-head : (w : Tape) (es : List (Entry Spot)) → Levels es → levelHere es ≡ levelOf (headOf w es .phase)
@@ -323,6 +329,18 @@ module _ (w : Tape) (whole : Whole w) where
   -- DEMAND 3's CLAUSE on the source's play: calls below every finite duration but 0 agree with the measured player's
   pub short-agrees : (q : Position) (n : ℕ) (ms : List ℕ) → Short (ahead w q) (n ∷ ms) → Agrees (sources (ahead w q) n ms) (heard (calls (ahead w q) n ms))
   short-agrees q n ms h = agrees-short (ahead w q) n ms h
+
+  -- AT THE END the head rests at the count's start, with all that remained passed
+  pub ends-at : (q : Position) (n : ℕ) → validAt w q ≡ true → 0 < over (ahead w q) n → playMeasured w q n ≡ Ended (stand (startAt (w .count)) (length (ahead w q)) low)
+  unfolding told answer toldAs headOf leftOf levelHere over
+  ends-at q n v h =
+      let some : 0 < n = over-some (ahead w q) n h in
+      let r = over-rest (ahead w q) n h in
+      let k : length (ahead w q) - 0 ≡ length (ahead w q) = omega arith in
+      play-told q n v some
+      ∙ ap (λ (s : Status). toldAs s (stand (placeOf w (rest (ahead w q) n)) (length (ahead w q) - length (rest (ahead w q) n)) (levelHere (rest (ahead w q) n)))) (status-over (rest (ahead w q) n) (over (ahead w q) n) h)
+      ∙ ap (λ (r : List (Entry Spot)). Ended (stand (placeOf w r) (length (ahead w q) - length r) (levelHere r))) r
+      ∙ ap (λ (x : ℕ). Ended (stand (startAt (w .count)) x low)) k
 
 -- ONE OUTCOME: what each contract permits is one answer
 pub one-answer : {A : Type 0} {x y z : A} → x ≡ z → y ≡ z → x ≡ y

@@ -1,25 +1,22 @@
 -- THE SOURCE'S WALK is the measured walk of the count and the sum that it drops; and the walk back to a block. Assumes nothing.
-use Prim.Native.Nat.{ℕ, zero, suc, _+_, _-_, _≤_, _<_}
+use Prim.Native.Nat.{ℕ, zero, suc, _+_, _-_}
 use native.Mathlib.Omega.{arith}
 use native.Mathlib.Nat.{eq-zero-or-pos}
 use borrow.Author.Tests.{eq-eqb, ne-eqb}
-use mathlib.Core.Path.{_≡_, refl, sym, ap, ap₂, subst, _∙_}
-use mathlib.Core.Bool.{Bool, true, false, not}
+use mathlib.Core.Path.{_≡_, refl, sym, ap, _∙_}
+use mathlib.Core.Bool.{true, false}
 use mathlib.Core.Logic.{⊎-elim}
 use mathlib.Core.List.{List, [], _∷_}
-use lib.Dec.{eqb}
 use lib.ListN.{length}
 use Rattle.laws.specs.Rules.{_⇒_, _∣_}
 use Rattle.pulses.specs.Play.{Entry, pulse, endless, Status, ended, Answer, made, rest, over, shown, status, answer}
 use Rattle.pulses.specs.Demand.{status-left, status-over}
-use Rattle.pulses.specs.Source.{Outcome, isEnded, source, dropped, heard}
+use Rattle.pulses.specs.Source.{Outcome, isEnded, dropped, heard}
 use Rattle.pulses.specs.Agreement.{source-heard}
 use Rattle.entries.specs.Entries.{Spot}
 use Rattle.entries.specs.Places.{Tape, blockIn}
 use Rattle.walks.specs.declared.Position.{Position}
-use Rattle.walks.specs.declared.Reached.{Reached}
 use Rattle.walks.specs.Heads.{ahead, wellRow, formed, walked, walkFrom, droppedFrom}
-use Rattle.deck.specs.declared.Selected.{Selected}
 use Rattle.deck.specs.declared.Selected.the-variants.{Block, BadRow}
 use Rattle.deck.specs.Deck.{sourceAnswer, sourceFrom, backTo}
 

@@ -1,12 +1,12 @@
 -- What both players answer, in document 01's words. Definitions alone; assumes nothing.
 use Prim.Native.Nat.{ℕ, zero, suc, _-_}
-use mathlib.Core.Bool.{Bool, true, false, not, _&&_, _||_}
+use mathlib.Core.Bool.{Bool, not, _&&_}
 use mathlib.Core.List.{List}
 use lib.Dec.{ltb, leb, eqb}
 use lib.ListN.{length}
 use Rattle.laws.specs.Rules.{_⇒_, _∣_}
-use Rattle.pulses.specs.Play.{Entry, Status, ended, Answer, made, shown, answer}
-use Rattle.pulses.specs.Source.{Outcome, source}
+use Rattle.pulses.specs.Play.{Entry, ended, Answer, made, shown, answer}
+use Rattle.pulses.specs.Source.{source}
 use Rattle.rows.specs.Table.{capacityOf}
 use Rattle.rows.specs.Rows.{block, blockMost}
 use Rattle.entries.specs.Entries.{Spot}

@@ -1,31 +1,25 @@
 -- WHERE A WALK LEAVES: what the list's answer is there, and which rows a walk needs. Assumes nothing.
-use Prim.Native.Nat.{ℕ, zero, suc, _+_, _-_, _*_, _≤_, _<_}
+use Prim.Native.Nat.{ℕ, _+_, _-_, _≤_, _<_}
 use native.Mathlib.Omega.{arith}
 use borrow.Author.Tests.{lt-ltb, le-ltb}
-use mathlib.Core.Path.{_≡_, refl, sym, ap, ap₂, subst, _∙_}
-use mathlib.Core.Bool.{Bool, true, false, _&&_}
-use mathlib.Core.Logic.{_⊎_, inl, inr, ⊎-elim}
-use mathlib.Core.List.{List, [], _∷_, _++_}
+use mathlib.Core.Path.{_≡_, refl, ap, ap₂, _∙_}
+use mathlib.Core.Bool.{false}
+use mathlib.Core.Logic.{_⊎_, inl, ⊎-elim}
+use mathlib.Core.List.{List, [], _∷_}
 use lib.ListN.{length}
-use lib.Dec.{ltb}
 use Rattle.laws.specs.Numbers.{lt-or-ge}
-use Rattle.laws.specs.Rules.{_⇒_, _∣_}
-use Rattle.pulses.specs.Play.{Level, Entry, pulse, endless, Status, standing, stopped, ended, made, rest, over, shown, status, answer}
+use Rattle.pulses.specs.Play.{Level, Entry, pulse, endless, Status, standing, stopped, made, rest, over, shown, status, answer}
 use Rattle.pulses.specs.Steps.{rest-nil, rest-stop, rest-zero, rest-here, over-zero, over-pulse}
 use Rattle.pulses.specs.Demand.{status-left, status-over}
 use Rattle.pulses.specs.Lead.{Leads, lead-by, lead-as}
-use Rattle.pulses.specs.Source.{isEnded}
 use Rattle.entries.specs.declared.Phase.{Phase}
-use Rattle.entries.specs.declared.Phase.the-variants.{Start, Tones, Data, Pause}
-use Rattle.entries.specs.declared.Duration.{Duration}
+use Rattle.entries.specs.declared.Phase.the-variants.{Start}
 use Rattle.entries.specs.declared.Duration.the-variants.{T, Endless}
-use Rattle.entries.specs.Entries.{Spot, spot, entryOf, startOf}
-use Rattle.entries.specs.Places.{Tape, listFrom, fromTone, leftAt, lengthAt, levelOf, remains, lengthIn, headOf, leftOf}
+use Rattle.entries.specs.Entries.{Spot, spot}
+use Rattle.entries.specs.Places.{Tape, listFrom, fromTone, headOf, leftOf}
 use Rattle.entries.proofs.Follows.{list-in, list-out}
-use Rattle.entries.proofs.Valid.{Stands, within-remains}
-use Rattle.walks.specs.declared.Reached.{Reached}
 use Rattle.walks.specs.declared.Reached.the-variants.{At, Stopped, Ended, NotFormed}
-use Rattle.walks.specs.Heads.{placed, startAt, stand, levelHere, toldAs, told, wellRow, firstBad, cutTo, formed, walked}
+use Rattle.walks.specs.Heads.{placed, startAt, stand, levelHere, toldAs, told, walked}
 
 over-nil : (A : Type 0) (m : ℕ) → over {A = A} [] m ≡ m
 unfolding over

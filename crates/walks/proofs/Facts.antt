@@ -4,23 +4,22 @@ use native.Mathlib.Nat.{mul-le-mul, div-mul-le-self, mul-zero}
 use native.Mathlib.Omega.{arith}
 use borrow.Author.Tests.{ltb-true, lt-ltb, le-ltb, le-leb, lt-leb, eq-eqb, ne-eqb}
 use native.Mathlib.Decide.{ℕ-discrete}
-use mathlib.Core.Path.{_≡_, refl, sym, ap, subst}
+use mathlib.Core.Path.{_≡_, refl, sym, subst}
 use mathlib.Core.Bool.{Bool, true, false, not}
 use mathlib.Core.List.{List}
-use lib.Dec.{ltb, eqb}
+use lib.Dec.{ltb}
 use lib.ListN.{length}
 use Rattle.laws.specs.Tests.{first, second}
-use Rattle.laws.specs.Rules.{_⇒_, _∣_}
 use Rattle.rows.specs.declared.Tone.{Tone}
 use Rattle.rows.specs.declared.Block.{Block}
 use Rattle.rows.specs.Rows.{tone}
-use Rattle.rows.specs.Well.{wellTone, wellBlock}
-use Rattle.rows.proofs.WellLaws.{block-clauses, ranges-inside, numbers-most, tone-most, tones-each, tones-lent}
+use Rattle.rows.specs.Well.{wellBlock}
+use Rattle.rows.proofs.WellLaws.{block-clauses, ranges-inside, tone-most, tones-each, tones-lent}
 use Rattle.entries.specs.declared.Phase.{Phase}
 use Rattle.entries.specs.declared.Phase.the-variants.{Tones, Data}
 use Rattle.entries.specs.Entries.{cyclesOf, toneAt, bitsAt}
 use Rattle.entries.specs.Places.{hasEntry}
-use Rattle.entries.proofs.Bounds.{bits-most, bits-some}
+use Rattle.entries.proofs.Bounds.{bits-most}
 use Rattle.walks.specs.declared.Step.{Step}
 use Rattle.walks.specs.Steps.{stepTo, cycleFrom, cyclesStep, oneStep, fitting, takeCycles, dropEntry, dropOf}
 use Rattle.walks.specs.Heads.{sizeOf}

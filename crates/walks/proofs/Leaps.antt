@@ -1,14 +1,12 @@
 -- EACH STEP of a walk leads to what is left behind it: an entry, whole cycles, a byte. Assumes nothing.
-use Prim.Native.Nat.{ℕ, zero, suc, _+_, _-_, _*_, _≤_, _<_}
+use Prim.Native.Nat.{ℕ, zero, suc, _+_, _-_, _≤_, _<_}
 use native.Mathlib.Omega.{arith}
-use borrow.Author.Tests.{lt-ltb, le-ltb, eq-eqb, ne-eqb}
-use native.Mathlib.Decide.{ℕ-discrete}
+use borrow.Author.Tests.{lt-ltb, le-ltb, ne-eqb}
 use mathlib.Core.Path.{_≡_, refl, sym, ap, ap₂, subst, _∙_}
 use mathlib.Core.Bool.{Bool, true, false}
 use mathlib.Core.Logic.{⊎-elim}
-use mathlib.Core.List.{List, [], _∷_, _++_, append-assoc}
+use mathlib.Core.List.{List, _∷_, _++_, append-assoc}
 use lib.ListN.{length}
-use lib.Dec.{ltb, eqb}
 use Rattle.laws.specs.Numbers.{lt-or-ge}
 use Rattle.laws.specs.Rules.{_⇒_, _∣_}
 use Rattle.pulses.specs.Play.{Level, Entry, pulse, time, Finite}
@@ -20,15 +18,15 @@ use Rattle.rows.specs.declared.Block.{Block}
 use Rattle.entries.specs.declared.Phase.{Phase}
 use Rattle.entries.specs.declared.Phase.the-variants.{Start, Tones, Data, Pause}
 use Rattle.entries.specs.declared.Duration.{Duration}
-use Rattle.entries.specs.declared.Duration.the-variants.{T, Endless}
-use Rattle.entries.specs.Entries.{Spot, spot, entryOf, startOf, cyclesOf, cycleOf, bitsAt, bitOf, halfOf, bitEntries, byteOf, byteEntries, pauseEntry}
-use Rattle.entries.specs.Places.{Tape, blockIn, toneIn, byteIn, listFrom, fromPause, fromByte, fromBit, fromTone, fromCycle, leftAt, hasEntry, lengthAt, levelOf, hasIn, lengthIn}
+use Rattle.entries.specs.declared.Duration.the-variants.{T}
+use Rattle.entries.specs.Entries.{Spot, spot, entryOf, startOf, cyclesOf, cycleOf, bitsAt, bitEntries, byteOf, byteEntries}
+use Rattle.entries.specs.Places.{Tape, blockIn, toneIn, byteIn, listFrom, fromPause, fromByte, fromBit, fromTone, fromCycle, leftAt, hasEntry, lengthAt, hasIn, lengthIn}
 use Rattle.entries.proofs.Runs.{cycle-finite, bit-finite, byte-finite, byte-length, bit-time}
 use Rattle.entries.proofs.Bounds.{bits-some}
 use Rattle.entries.proofs.Follows.{list-in, tone-in, tone-out, cycle-in, cycle-out, byte-in, byte-out, bit-in, bit-out}
 use Rattle.entries.proofs.Valid.{tone-entry, has-tone, data-entry, has-data}
 use Rattle.walks.specs.declared.Step.{Step}
-use Rattle.walks.specs.Steps.{dataFrom, bitFrom, toneFrom, cycleFrom, stepTo, cyclesStep, byteTime, byteStep, oneStep, fitting, takeCycles, takeByte, takeOf}
+use Rattle.walks.specs.Steps.{dataFrom, bitFrom, toneFrom, cycleFrom, cyclesStep, byteTime, byteStep, oneStep, fitting, takeCycles, takeByte, takeOf}
 use Rattle.walks.proofs.Facts.{fit}
 
 -- what is left from an entry, full

@@ -2,21 +2,21 @@
 use Prim.Native.Nat.{ℕ, zero, suc, _+_, _-_, _*_, _≤_, _<_}
 use native.Mathlib.Omega.{arith}
 use native.Mathlib.Nat.{suc-mul, zero-mul}
-use mathlib.Core.Path.{_≡_, refl, sym, ap, subst, _∙_}
+use mathlib.Core.Path.{_≡_, refl, sym, ap, _∙_}
 use mathlib.Core.Bool.{Bool, true, false}
-use mathlib.Core.Logic.{_⊎_, inl, inr, ⊎-elim}
+use mathlib.Core.Logic.{⊎-elim}
 use mathlib.Core.List.{List, [], _∷_, _++_}
 use lib.ListN.{length, length-append}
 use Rattle.laws.specs.Numbers.{lt-or-ge}
 use Rattle.laws.specs.Rules.{_⇒_, _∣_}
-use Rattle.pulses.specs.Play.{Entry, pulse}
+use Rattle.pulses.specs.Play.{Entry}
 use Rattle.pulses.specs.Runs.{run}
 use Rattle.rows.specs.declared.Block.{Block}
 use Rattle.rows.specs.Well.{wellBlock}
 use Rattle.rows.proofs.WellLaws.{block-clauses, ranges-inside}
 use Rattle.entries.specs.declared.Phase.{Phase}
 use Rattle.entries.specs.declared.Duration.{Duration}
-use Rattle.entries.specs.Entries.{Spot, spot, entryOf, startOf, cyclesOf, toneAt, rowOf, tonesOf, bitsAt, byteAt, byteEntries, dataOf, pauseEntry, soundOf, entriesOf}
+use Rattle.entries.specs.Entries.{spot, entryOf, startOf, toneAt, rowOf, tonesOf, byteAt, byteEntries, dataOf, pauseEntry, soundOf, entriesOf}
 use Rattle.entries.specs.Places.{Tape, blockIn, listFrom, leftAt, levelOf, valid, lengthIn}
 use Rattle.entries.proofs.Runs.{tone-length, byte-length}
 use Rattle.entries.proofs.Parts.{left-part}

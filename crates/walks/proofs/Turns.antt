@@ -1,14 +1,14 @@
 -- ONE TURN of the measured walk over a tape cut at its first bad row, and where it leaves. Assumes nothing.
-use Prim.Native.Nat.{ℕ, _+_, _-_, _*_, _≤_, _<_}
+use Prim.Native.Nat.{ℕ, _+_, _-_, _≤_, _<_}
 use native.Mathlib.Omega.{arith}
 use mathlib.Core.Path.{_≡_, refl, sym, ap, subst, _∙_}
 use mathlib.Core.Bool.{Bool, true, false, not}
-use mathlib.Core.Logic.{_⊎_, inl, inr, ⊎-elim}
-use mathlib.Core.List.{List, [], _∷_, _++_}
+use mathlib.Core.Logic.{_⊎_}
+use mathlib.Core.List.{List, _∷_}
 use lib.ListN.{length}
 use Rattle.laws.specs.Rules.{_⇒_, _∣_}
-use Rattle.pulses.specs.Play.{Entry, pulse, endless, answer}
-use Rattle.pulses.specs.Lead.{Leads, lead-on, lead-by}
+use Rattle.pulses.specs.Play.{Entry, answer}
+use Rattle.pulses.specs.Lead.{Leads, lead-by}
 use Rattle.rows.specs.declared.Block.{Block}
 use Rattle.rows.specs.Well.{wellBlock}
 use Rattle.entries.specs.declared.Phase.{Phase}
@@ -23,9 +23,9 @@ use Rattle.walks.specs.declared.Position.{Position}
 use Rattle.walks.specs.declared.Step.{Step}
 use Rattle.walks.specs.declared.Reached.the-variants.{At, Stopped}
 use Rattle.walks.specs.Steps.{takeOf}
-use Rattle.walks.specs.Heads.{placed, stand, sizeOf, wellRow, firstBad, cutTo, walked, Walkable}
+use Rattle.walks.specs.Heads.{placed, stand, sizeOf, wellRow, cutTo, walked, Walkable}
 use Rattle.walks.proofs.Facts.{not-true, not-false}
-use Rattle.walks.proofs.Leaps.{behind, Took, took}
+use Rattle.walks.proofs.Leaps.{Took, took}
 use Rattle.walks.proofs.Needed.{Needs, well-before, few-entries}
 use Rattle.walks.proofs.Ends.{tells-at, tells-stop}
 

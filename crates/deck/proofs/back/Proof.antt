@@ -7,7 +7,7 @@ use Rattle.rows.specs.declared.Block.{Block}
 use Rattle.walks.specs.Heads.{tapeOf}
 use mathlib.Core.Path.{_≡_, refl, sym, ap, _∙_}
 use native.Mathlib.Omega.{arith}
-use Prim.Native.Nat.{ℕ, _-_, _≤_}
+use Prim.Native.Nat.{ℕ, _≤_}
 use Rattle.deck.proofs.back.Statement.{statement}
 use Rattle.deck.proofs.back.Tie as tie
 

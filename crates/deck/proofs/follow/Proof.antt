@@ -10,7 +10,7 @@ use Rattle.walks.specs.Heads.{tapeOf}
 use Rattle.walks.specs.declared.Position.{Position}
 use mathlib.Core.Path.{sym, ap, _∙_}
 use native.Mathlib.Omega.{arith}
-use Prim.Native.Nat.{ℕ, _+_, _-_}
+use Prim.Native.Nat.{ℕ, _+_}
 use borrow.Author.Needs.{needs}
 use Rattle.deck.proofs.follow.Statement.{statement}
 use Rattle.deck.proofs.follow.Tie as tie

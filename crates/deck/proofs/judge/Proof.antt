@@ -10,7 +10,6 @@ use Rattle.walks.specs.Heads.{tapeOf}
 use Rattle.walks.specs.declared.Position.{Position}
 use mathlib.Core.Path.{sym, ap, _∙_}
 use native.Mathlib.Omega.{arith}
-use Prim.Native.Nat.{_-_}
 use borrow.Author.Needs.{needs}
 use Rattle.deck.proofs.judge.Statement.{statement}
 use Rattle.deck.proofs.judge.Tie as tie

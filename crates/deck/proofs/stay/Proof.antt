@@ -6,7 +6,6 @@ use Rattle.deck.proofs.Checks as checks
 use Rattle.walks.specs.Heads.{tapeOf}
 use Rattle.walks.specs.declared.Position.{Position}
 use mathlib.Core.Path.{sym, ap, _∙_}
-use Prim.Native.Nat.{_-_}
 use borrow.Author.Needs.{needs}
 use Rattle.deck.proofs.stay.Statement.{statement}
 use Rattle.deck.proofs.stay.Tie as tie

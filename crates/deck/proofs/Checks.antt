@@ -4,7 +4,7 @@ use native.Mathlib.Omega.{arith}
 use native.Mathlib.Nat.{eq-zero-or-pos}
 use borrow.Author.Tests.{lt-ltb, le-ltb, ltb-false, le-leb, lt-leb, eq-eqb, ne-eqb}
 use mathlib.Core.Path.{_≡_, refl, sym, ap, _∙_}
-use mathlib.Core.Bool.{Bool, true, false, not, _&&_, _||_}
+use mathlib.Core.Bool.{Bool, true, false, not, _&&_}
 use mathlib.Core.Logic.{⊎-elim}
 use mathlib.Core.List.{List, [], _∷_}
 use lib.Dec.{ltb, leb, eqb}
@@ -27,6 +27,7 @@ use Rattle.entries.proofs.Parts.{left-part}
 use Rattle.walks.specs.declared.Position.{Position}
 use Rattle.walks.specs.declared.Reached.the-variants.{At, Stopped, Ended}
 use Rattle.walks.specs.Heads.{startAt, stand, ahead, levelHere, toldAs, wellRow, firstBad, cutTo, formed, walkFrom, Walkable}
+use Rattle.walks.proofs.Facts.{not-false}
 use Rattle.walks.proofs.Ends.{tells-end}
 use Rattle.deck.specs.declared.Check.the-variants.{Fine, NotValid, NotFormed}
 use Rattle.deck.specs.Deck.{overfull, atStart, ruledOut, badRow, validAt, judged, stays}
@@ -61,10 +62,6 @@ valid-below w b f left h =
     (λ e.
     stands-valid w b f left
     (record { below = h; entry = first (hasIn w b f) (remains left (lengthIn w b f)) e; some = second (hasIn w b f) (remains left (lengthIn w b f)) e }))
-
-true-or : (a b : Bool) → a ≡ true → (a || b) ≡ true
-true-or true b e = refl
-true-or false b e = cc
 
 -- the checks, way by way
 module _ (w : Tape) (q : Position) where
@@ -114,10 +111,6 @@ passed false true c d e = let y : _≡_ {A = ℕ} 0 1 = cc in absurd (omega arit
 passed false false true d e = let y : _≡_ {A = ℕ} 0 1 = cc in absurd (omega arith)
 passed false false false true e = record { over = refl; ruled = refl; row = refl; valid = refl }
 passed false false false false e = let y : _≡_ {A = ℕ} 0 1 = cc in absurd (omega arith)
-
-not-false : (x : Bool) → not x ≡ false → x ≡ true
-not-false true e = refl
-not-false false e = cc
 
 start-is : (f : Phase) → isStart f ≡ true → f ≡ Start
 start-is Start e = refl

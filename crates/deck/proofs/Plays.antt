@@ -8,7 +8,6 @@ use mathlib.Core.Logic.{⊎-elim}
 use mathlib.Core.List.{List, [], _∷_}
 use lib.Dec.{ltb, leb}
 use Rattle.laws.specs.Numbers.{lt-or-ge}
-use Rattle.laws.specs.Rules.{_⇒_, _∣_}
 use Rattle.pulses.specs.Play.{Level, low, Entry, pulse, endless, Status, standing, stopped, ended, Answer, rest, over, answer, counted, calls, sum, Positive, time, Demanded}
 use native.Mathlib.Nat.{eq-zero-or-pos}
 use lib.ListN.{length}
@@ -27,7 +26,7 @@ use Rattle.walks.specs.declared.Stand.{Stand}
 use Rattle.walks.specs.declared.Reached.{Reached}
 use Rattle.walks.specs.declared.Reached.the-variants.{At, Stopped, Ended, NotValid, NotFormed}
 use Rattle.walks.specs.Heads.{startAt, stand, placeOf, ahead, levelHere, toldAs, told, wellRow, firstBad, cutTo, formed, walked, walkFrom}
-use Rattle.walks.proofs.Needed.{needed}
+use Rattle.walks.proofs.Needed.{not-both, needed}
 use Rattle.deck.specs.declared.Check.the-variants.{Fine}
 use Rattle.deck.specs.Deck.{atStart, ruledOut, badRow, validAt, judged, unless, playMeasured, sourceAnswer, sourceFrom, playSource}
 use Rattle.deck.proofs.Sourced.{source-answer}
@@ -84,9 +83,6 @@ unfolding toldAs counting
 told-counted j standing s = refl
 told-counted j stopped s = refl
 told-counted j ended s = refl
-
-not-both : {x : Bool} → x ≡ true → x ≡ false → ⊥
-not-both {x} e f = let y : _≡_ {A = ℕ} 0 1 = ap (λ (t : Bool). t ⇒ 0 ∣ 1) (sym e ∙ f) in absurd (omega arith)
 
 or-false : (a b : Bool) → (a || b) ≡ true → b ≡ false → a ≡ true
 or-false true b e f = refl

@@ -48,7 +48,7 @@ needs-of w b (suc m) e = by-cases (wellRow w b) refl (needs-of w (b + 1) m (omeg
 pub needed : (w : Tape) (b : ℕ) → b ≤ w .count → Needs w b (firstBad w b (w .count - b))
 needed w b h = needs-of w b (w .count - b) (omega arith)
 
-not-both : {x : Bool} → x ≡ true → x ≡ false → ⊥
+pub not-both : {x : Bool} → x ≡ true → x ≡ false → ⊥
 not-both {x} e f = let y : _≡_ {A = ℕ} 0 1 = ap (λ (t : Bool). t ⇒ 0 ∣ 1) (sym e ∙ f) in absurd (omega arith)
 
 -- a well-formed row up to the bad one stands before it

@@ -26,11 +26,13 @@ use Rattle.entries.proofs.Valid.{stands-valid, below-stands}
 use Rattle.entries.proofs.Parts.{left-part}
 use Rattle.walks.specs.declared.Position.{Position}
 use Rattle.walks.specs.declared.Reached.the-variants.{At, Stopped, Ended}
-use Rattle.walks.specs.Heads.{startAt, stand, ahead, levelHere, toldAs, wellRow, firstBad, cutTo, formed, walkFrom, Walkable}
+use Rattle.entries.specs.Mounted.{wellRow, firstBad, cutTo, formed}
+use Rattle.walks.specs.Heads.{startAt, stand, ahead, levelHere, toldAs, walkFrom, Walkable}
 use Rattle.walks.proofs.Facts.{not-false}
 use Rattle.walks.proofs.Ends.{tells-end}
 use Rattle.deck.specs.declared.Check.the-variants.{Fine, NotValid, NotFormed}
-use Rattle.deck.specs.Deck.{overfull, atStart, ruledOut, badRow, validAt, judged, stays}
+use Rattle.entries.specs.Mounted.{overfull}
+use Rattle.deck.specs.Deck.{atStart, ruledOut, badRow, validAt, judged, stays}
 
 -- two tests that hold together are one
 pub same-test : (a b : Bool) → (a ≡ true → b ≡ true) → (b ≡ true → a ≡ true) → a ≡ b

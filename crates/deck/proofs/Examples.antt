@@ -12,7 +12,8 @@ use Rattle.entries.specs.declared.Duration.the-variants.{T, Endless}
 use Rattle.entries.specs.Entries.{entryOf, cyclesOf, toneOf, tonesOf, dataOf, pauseOf, soundOf, entriesOf}
 use Rattle.entries.specs.Places.{Tape, listFrom, leftAt, hasEntry, lengthAt, remains, valid, headOf, leftOf}
 use Rattle.walks.specs.declared.Reached.the-variants.{At, Stopped, Ended, NotFormed}
-use Rattle.walks.specs.Heads.{numberOf, placed, startAt, stand, levelHere, toldAs, told, wellRow, firstBad, formed, walked, walkFrom, tapeOf}
+use Rattle.entries.specs.Mounted.{wellRow, firstBad, formed, tapeOf}
+use Rattle.walks.specs.Heads.{numberOf, placed, startAt, stand, levelHere, toldAs, told, walked, walkFrom}
 use Rattle.deck.specs.Deck.{ruledOut, badRow, judged, unless, stays, playMeasured, sourceAnswer, sourceFrom, playSource, backTo, blockOf, blockAt}
 use Rattle.deck.specs.declared.Selected.the-variants.{Block, BadRow}
 

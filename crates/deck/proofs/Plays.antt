@@ -25,7 +25,8 @@ use Rattle.walks.specs.declared.Position.{Position}
 use Rattle.walks.specs.declared.Stand.{Stand}
 use Rattle.walks.specs.declared.Reached.{Reached}
 use Rattle.walks.specs.declared.Reached.the-variants.{At, Stopped, Ended, NotValid, NotFormed}
-use Rattle.walks.specs.Heads.{startAt, stand, placeOf, ahead, levelHere, toldAs, told, wellRow, firstBad, cutTo, formed, walked, walkFrom}
+use Rattle.entries.specs.Mounted.{wellRow, firstBad, cutTo, formed}
+use Rattle.walks.specs.Heads.{startAt, stand, placeOf, ahead, levelHere, toldAs, told, walked, walkFrom}
 use Rattle.walks.proofs.Needed.{not-both, needed}
 use Rattle.deck.specs.declared.Check.the-variants.{Fine}
 use Rattle.deck.specs.Deck.{atStart, ruledOut, badRow, validAt, judged, unless, playMeasured, sourceAnswer, sourceFrom, playSource}

@@ -21,7 +21,8 @@ use Rattle.entries.specs.Places.{Tape, blockIn, toneIn, byteIn, listFrom, fromP
 use Rattle.entries.proofs.Follows.{list-in, list-out}
 use Rattle.walks.specs.declared.Position.{Position}
 use Rattle.walks.specs.declared.Reached.{Reached}
-use Rattle.walks.specs.Heads.{stand, placeOf, ahead, levelHere, toldAs, told, firstBad, cutTo, formed, walked, walkFrom, Walkable}
+use Rattle.entries.specs.Mounted.{firstBad, cutTo, formed}
+use Rattle.walks.specs.Heads.{stand, placeOf, ahead, levelHere, toldAs, told, walked, walkFrom, Walkable}
 use Rattle.walks.proofs.Needed.{needed, well-before}
 
 module _ {A : Type 0} where

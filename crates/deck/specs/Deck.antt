@@ -7,8 +7,6 @@ use lib.ListN.{length}
 use Rattle.laws.specs.Rules.{_⇒_, _∣_}
 use Rattle.pulses.specs.Play.{Entry, ended, Answer, made, shown, answer}
 use Rattle.pulses.specs.Source.{source}
-use Rattle.rows.specs.Table.{capacityOf}
-use Rattle.rows.specs.Rows.{block, blockMost}
 use Rattle.entries.specs.Entries.{Spot}
 use Rattle.entries.specs.Places.{Tape, blockIn, isStart, isNone, valid}
 use Rattle.walks.specs.declared.Position.{Position}
@@ -20,11 +18,8 @@ use Rattle.deck.specs.declared.Head.{Head}
 use Rattle.deck.specs.declared.Played.{Played}
 use Rattle.deck.specs.declared.Selected.{Selected}
 use Rattle.deck.specs.declared.Selected.the-variants.{Block, BadPosition, BadRow}
-use Rattle.walks.specs.Heads.{refused, stand, ahead, levelHere, toldAs, wellRow, formed, walked, walkFrom}
-
--- the count exceeds the capacity
-abbrev pub overfull : Tape → Bool
-overfull w = ltb (capacityOf block blockMost (w .blocks)) (w .count)
+use Rattle.entries.specs.Mounted.{overfull, wellRow, formed}
+use Rattle.walks.specs.Heads.{refused, stand, ahead, levelHere, toldAs, walked, walkFrom}
 
 -- a start with 0 left
 abbrev pub atStart : Position → Bool

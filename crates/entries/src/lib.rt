@@ -1,19 +1,22 @@
 // What a block's entries are, and their times, each a step a tone row and a data byte.
 use rows::Block;
 use rows::Tone;
+use rows::block_at;
+use rows::block_well;
 use rows::tone_at;
 ghost use mathlib.Core.Path.{_≡_};
 ghost use mathlib.Core.Bool.{true, _&&_};
-ghost use Prim.Native.Nat.{ℕ, _+_, _<_, _≤_, max, min};
+ghost use Prim.Native.Nat.{ℕ, _+_, _*_, _<_, _≤_, max, min};
 ghost use lib.Dec.{leb};
 ghost use lib.ListN.{length};
 ghost use Rattle.pulses.specs.Play.{time};
 ghost use Rattle.pulses.specs.Runs.{run};
-ghost use Rattle.rows.specs.Table.{capacityOf};
-ghost use Rattle.rows.specs.Rows.{tone, toneMost};
+ghost use Rattle.rows.specs.Table.{get, capacityOf};
+ghost use Rattle.rows.specs.Rows.{tone, block, toneMost};
 ghost use Rattle.rows.specs.Well.{wellTone, wellTones, wellNumbers, wellBlock};
 ghost use Rattle.entries.specs.Entries.{cyclesOf, toneOf, toneAt, tonesOf, bitsAt, bitOf, halfOf, bitEntries, byteEntries, dataOf, pauseOf, soundOf, entriesOf, lastsOf};
 ghost use Rattle.entries.specs.Places.{cycleHalf, hasEntry, lengthAt, remains, levelOf};
+ghost use Rattle.entries.specs.Mounted.{sizeOf};
 
 // Where an entry stands in its block; the Rust's `TapePhase`.
 pub enum Phase {
@@ -214,6 +217,22 @@ pub fn length_at(tape: &[u8], tones: &[u64], r: Block, f: Phase) -> Duration
         }
         Phase::Pause => pause_of(r),
     }
+}
+
+// A tape's bytes, at most 1,048,576.
+pub fn size_of(tape: &[u8]) -> u64
+    ensures { λ n. ⌜ n ≡ sizeOf (now (tape .entry)) ⌝ }
+{
+    let n = tape.len() as u64;
+    if 1048576 <= n { 1048576 } else { n }
+}
+
+// Whether block b's row is well formed; its callers know the row to be lent.
+pub fn row_well(tape: &[u8], tones: &[u64], blocks: &[u64], b: u64) -> bool
+    requires { ⌜ b * block .width + block .width ≤ length (now blocks) ⌝ }
+    ensures { λ v. ⌜ v ≡ wellBlock (sizeOf (now (tape .entry))) (now (tones .entry)) (get block (now (blocks .entry)) b) ⌝ }
+{
+    block_well(size_of(tape), tones, block_at(blocks, b as usize))
 }
 
 // Whether so much may be left of an entry of this length.

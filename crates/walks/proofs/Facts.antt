@@ -22,7 +22,7 @@ use Rattle.entries.specs.Places.{hasEntry}
 use Rattle.entries.proofs.Bounds.{bits-most}
 use Rattle.walks.specs.declared.Step.{Step}
 use Rattle.walks.specs.Steps.{stepTo, cycleFrom, cyclesStep, oneStep, fitting, takeCycles, dropEntry, dropOf}
-use Rattle.walks.specs.Heads.{sizeOf}
+use Rattle.entries.specs.Mounted.{sizeOf}
 
 -- a phase that a match told
 pub in-tones : (tones : List ℕ) (r : Block) {f : Phase} {i p : ℕ} {h : Bool} → f ≡ Tones i p h → hasEntry tones r f ≡ true

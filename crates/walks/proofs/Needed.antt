@@ -20,7 +20,7 @@ use Rattle.entries.specs.Entries.{spot, entryOf, startOf, toneAt, rowOf, tonesO
 use Rattle.entries.specs.Places.{Tape, blockIn, listFrom, leftAt, levelOf, valid, lengthIn}
 use Rattle.entries.proofs.Runs.{tone-length, byte-length}
 use Rattle.entries.proofs.Parts.{left-part}
-use Rattle.walks.specs.Heads.{sizeOf, wellRow, firstBad, cutTo}
+use Rattle.entries.specs.Mounted.{sizeOf, wellRow, firstBad, cutTo}
 use Rattle.walks.proofs.Facts.{tone-small, bits-few}
 
 -- of the m rows from b on to the count

@@ -31,7 +31,8 @@ use Rattle.entries.proofs.Parts.{left-part}
 use Rattle.walks.specs.declared.Step.{Step}
 use Rattle.walks.specs.Steps.{cyclesStep, byteStep, oneStep, noStep, dropOne, dropEntry, dropOf}
 use Rattle.walks.specs.declared.Position.{Position}
-use Rattle.walks.specs.Heads.{sizeOf, wellRow, firstBad, cutTo, formed, droppedFrom, Walkable}
+use Rattle.entries.specs.Mounted.{sizeOf, wellRow, firstBad, cutTo, formed}
+use Rattle.walks.specs.Heads.{droppedFrom, Walkable}
 use Rattle.walks.proofs.Leaps.{fullAt, behind, One, Leap, leap-one, leap-cycles, leap-byte, one-time}
 use Rattle.walks.proofs.Needed.{Needs, needed}
 use Rattle.walks.proofs.Turns.{On, on-has, on-first}

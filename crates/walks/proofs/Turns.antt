@@ -23,7 +23,8 @@ use Rattle.walks.specs.declared.Position.{Position}
 use Rattle.walks.specs.declared.Step.{Step}
 use Rattle.walks.specs.declared.Reached.the-variants.{At, Stopped}
 use Rattle.walks.specs.Steps.{takeOf}
-use Rattle.walks.specs.Heads.{placed, stand, sizeOf, wellRow, cutTo, walked, Walkable}
+use Rattle.entries.specs.Mounted.{sizeOf, wellRow, cutTo}
+use Rattle.walks.specs.Heads.{placed, stand, walked, Walkable}
 use Rattle.walks.proofs.Facts.{not-true, not-false}
 use Rattle.walks.proofs.Leaps.{Took, took}
 use Rattle.walks.proofs.Needed.{Needs, well-before, few-entries}

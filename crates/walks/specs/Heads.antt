@@ -1,22 +1,21 @@
--- Where a head stands, what a player answers of a list, and the rows that a walk needs. Definitions alone; assumes nothing.
-use Prim.Native.Nat.{ℕ, zero, suc, _+_, _-_, _≤_, _<_, min}
+-- Where a head stands, and what a player answers of a list. Definitions alone; assumes nothing.
+use Prim.Native.Nat.{ℕ, _≤_, _<_}
 use mathlib.Core.Path.{_≡_}
 use mathlib.Core.Bool.{Bool, true, _&&_}
 use mathlib.Core.List.{List, [], _∷_}
 use lib.Dec.{ltb, eqb}
-use lib.ListN.{length}
 use Rattle.laws.specs.Rules.{_⇒_, _∣_}
 use Rattle.pulses.specs.Play.{Level, low, Entry, pulse, endless, Status, standing, stopped, ended, Answer, answer}
 use Rattle.pulses.specs.Source.{isEnded, dropped}
 use Rattle.rows.specs.Table.{capacityOf}
 use Rattle.rows.specs.Rows.{block, blockMost}
-use Rattle.rows.specs.Well.{wellBlock}
 use Rattle.entries.specs.declared.Phase.{Phase}
 use Rattle.entries.specs.declared.Phase.the-variants.{Start}
 use Rattle.entries.specs.declared.Duration.{Duration}
 use Rattle.entries.specs.declared.Duration.the-variants.{T}
 use Rattle.entries.specs.Entries.{Spot}
-use Rattle.entries.specs.Places.{Tape, blockIn, leftAt, valid, headOf, leftOf}
+use Rattle.entries.specs.Places.{Tape, leftAt, valid, headOf, leftOf}
+use Rattle.entries.specs.Mounted.{wellRow, formed}
 use Rattle.walks.specs.declared.Position.{Position}
 use Rattle.walks.specs.declared.Stand.{Stand}
 use Rattle.walks.specs.declared.Reached.{Reached}
@@ -66,33 +65,9 @@ toldAs ended s = Ended s
 unfoldable pub told : Tape → Answer Spot → Reached
 told w a = toldAs (a .tells) (stand (placeOf w (a .place)) (a .passed) (levelHere (a .place)))
 
--- a tape is at most 1,048,576 bytes: places behind them are outside it
-abbrev pub sizeOf : List ℕ → ℕ
-sizeOf bytes = min 1048576 (length bytes)
-
--- block b's row is well formed
-unfoldable pub wellRow : Tape → ℕ → Bool
-wellRow w b = wellBlock (sizeOf (w .bytes)) (w .tones) (blockIn w b)
-
--- of the m rows from b on, the first that is not well formed, else the count
-unfoldable pub firstBad : Tape → ℕ → ℕ → ℕ
-firstBad w b zero = w .count
-firstBad w b (suc m) = wellRow w b ⇒ firstBad w (b + 1) m ∣ b
-
--- the tape, its count cut to n
-abbrev pub cutTo : Tape → ℕ → Tape
-cutTo w n = record { bytes = w .bytes; tones = w .tones; blocks = w .blocks; count = n }
-
--- the tape that a walk from block b can play: up to the first row that is not well formed
-unfoldable pub formed : Tape → ℕ → Tape
-formed w b = cutTo w (firstBad w b (w .count - b))
-
 -- a walk that reaches a bad row answers 11: it came to the end of v, which is cut there, with T-states left
 unfoldable pub walked : Tape → Tape → Answer Spot → Reached
 walked w v a = (isEnded (a .tells) && ltb (v .count) (w .count)) ⇒ refused 11 ∣ told v a
-
-abbrev pub tapeOf : List ℕ → List ℕ → List ℕ → ℕ → Tape
-tapeOf bytes tones blocks count = record { bytes = bytes; tones = tones; blocks = blocks; count = count }
 
 -- THE MEASURED WALK of n T-states from a position
 unfoldable pub walkFrom : Tape → Position → ℕ → Reached

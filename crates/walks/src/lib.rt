@@ -6,10 +6,11 @@ use entries::bits_at;
 use entries::bits_time;
 use entries::mic;
 use entries::pause_of;
+use entries::row_well;
+use entries::size_of;
 use rows::Block;
 use rows::Tone;
 use rows::block_at;
-use rows::block_well;
 use rows::tone_at;
 ghost use mathlib.Core.Path.{_≡_};
 ghost use mathlib.Core.Bool.{true, false};
@@ -21,7 +22,8 @@ ghost use Rattle.rows.specs.Well.{wellBlock};
 ghost use Rattle.entries.specs.Entries.{cyclesOf, toneAt, byteAt, halfOf, bitOf};
 ghost use Rattle.entries.specs.Places.{levelOf, hasEntry, lengthAt};
 ghost use Rattle.walks.specs.Steps.{dataFrom, bitFrom, toneFrom, cycleFrom, fitting, byteTime, oneStep, takeCycles, takeByte, takeOf, dropOne, dropEntry, dropOf};
-ghost use Rattle.walks.specs.Heads.{placed, startAt, stand, sizeOf, tapeOf, Walkable, walkFrom, droppedFrom};
+ghost use Rattle.entries.specs.Mounted.{sizeOf, tapeOf};
+ghost use Rattle.walks.specs.Heads.{placed, startAt, stand, Walkable, walkFrom, droppedFrom};
 ghost use Rattle.entries.specs.declared.Duration.the-variants.{T, Endless};
 ghost use Rattle.entries.specs.declared.Phase.the-variants.{Tones, Data};
 ghost use Rattle.walks.specs.declared.Reached.the-variants.{At, Stopped};
@@ -375,22 +377,6 @@ fn take(tape: &[u8], tones: &[u64], r: Block, f: Phase, full: bool, t: u64, d: u
         }
         Phase::Pause => one_step(size, tones, r, f, t),
     }
-}
-
-// A tape's bytes, at most 1,048,576.
-fn size_of(tape: &[u8]) -> u64
-    ensures { λ n. ⌜ n ≡ sizeOf (now (tape .entry)) ⌝ }
-{
-    let n = tape.len() as u64;
-    if 1048576 <= n { 1048576 } else { n }
-}
-
-// Whether block b's row is well formed; its callers know the row to be lent.
-pub fn row_well(tape: &[u8], tones: &[u64], blocks: &[u64], b: u64) -> bool
-    requires { ⌜ b * block .width + block .width ≤ length (now blocks) ⌝ }
-    ensures { λ v. ⌜ v ≡ wellBlock (sizeOf (now (tape .entry))) (now (tones .entry)) (get block (now (blocks .entry)) b) ⌝ }
-{
-    block_well(size_of(tape), tones, block_at(blocks, b as usize))
 }
 
 // The head stands in this entry.

@@ -2,9 +2,9 @@
 use Rattle.deck.proofs.Sourced.{back-bad, back-none, back-here, back-on}
 use Rattle.deck.specs.Deck.{backTo}
 use Rattle.walks.proofs.Turns.{well-of, bad-of}
-use Rattle.walks.specs.Heads.{wellRow}
+use Rattle.entries.specs.Mounted.{wellRow}
 use Rattle.rows.specs.declared.Block.{Block}
-use Rattle.walks.specs.Heads.{tapeOf}
+use Rattle.entries.specs.Mounted.{tapeOf}
 use mathlib.Core.Path.{_≡_, refl, sym, ap, _∙_}
 use native.Mathlib.Omega.{arith}
 use Prim.Native.Nat.{ℕ, _≤_}

@@ -1,7 +1,7 @@
 -- `block` meets its contract. Assumes nothing.
 use Rattle.deck.proofs.Checks as checks
 use Rattle.deck.specs.Deck.{blockOf}
-use Rattle.walks.specs.Heads.{tapeOf}
+use Rattle.entries.specs.Mounted.{tapeOf}
 use mathlib.Core.Path.{sym, _∙_}
 use borrow.Author.Tests.{le-leb, lt-leb}
 use native.Mathlib.Omega.{arith}

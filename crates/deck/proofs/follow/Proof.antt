@@ -6,7 +6,7 @@ use Rattle.walks.specs.Heads.{stand, walkFrom}
 use Rattle.walks.specs.declared.Reached.the-variants.{Ended}
 use mathlib.Core.Bool.{false}
 use borrow.Author.Tests.{eq-eqb, ne-eqb}
-use Rattle.walks.specs.Heads.{tapeOf}
+use Rattle.entries.specs.Mounted.{tapeOf}
 use Rattle.walks.specs.declared.Position.{Position}
 use mathlib.Core.Path.{sym, ap, _∙_}
 use native.Mathlib.Omega.{arith}

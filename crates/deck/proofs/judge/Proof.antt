@@ -3,10 +3,10 @@ use mathlib.Core.Bool.{_&&_}
 use Rattle.rows.specs.declared.Block.{Block}
 use Rattle.rows.specs.Well.{wellBlock}
 use Rattle.entries.specs.Places.{hasEntry, lengthAt, remains}
-use Rattle.walks.specs.Heads.{wellRow}
+use Rattle.entries.specs.Mounted.{wellRow}
 use Rattle.deck.proofs.Checks as checks
 use Rattle.walks.proofs.Turns.{well-of, bad-of}
-use Rattle.walks.specs.Heads.{tapeOf}
+use Rattle.entries.specs.Mounted.{tapeOf}
 use Rattle.walks.specs.declared.Position.{Position}
 use mathlib.Core.Path.{sym, ap, _∙_}
 use native.Mathlib.Omega.{arith}

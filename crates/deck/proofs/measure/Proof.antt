@@ -4,7 +4,7 @@ use Rattle.walks.specs.Heads.{stand}
 use Rattle.walks.specs.declared.Reached.the-variants.{Ended}
 use borrow.Author.Tests.{eq-eqb, ne-eqb}
 use Rattle.deck.proofs.Checks as checks
-use Rattle.walks.specs.Heads.{tapeOf}
+use Rattle.entries.specs.Mounted.{tapeOf}
 use Rattle.walks.specs.declared.Position.{Position}
 use mathlib.Core.Path.{sym, ap, _∙_}
 use native.Mathlib.Omega.{arith}

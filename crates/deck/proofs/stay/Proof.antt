@@ -3,7 +3,7 @@ use mathlib.Core.Bool.{Bool}
 use Rattle.walks.specs.Heads.{stand}
 use Rattle.walks.specs.declared.Reached.the-variants.{At, Stopped}
 use Rattle.deck.proofs.Checks as checks
-use Rattle.walks.specs.Heads.{tapeOf}
+use Rattle.entries.specs.Mounted.{tapeOf}
 use Rattle.walks.specs.declared.Position.{Position}
 use mathlib.Core.Path.{sym, ap, _∙_}
 use borrow.Author.Needs.{needs}

@@ -1,5 +1,6 @@
 -- `walk` meets its contract. Assumes nothing.
-use Rattle.walks.specs.Heads.{startAt, stand, wellRow, firstBad, cutTo, formed, tapeOf, walkFrom}
+use Rattle.entries.specs.Mounted.{wellRow, firstBad, cutTo, formed, tapeOf}
+use Rattle.walks.specs.Heads.{startAt, stand, walkFrom}
 use mathlib.Core.Bool.{false}
 use Rattle.walks.proofs.Turns.{On, on-has, on-first, on-start, asks, asks-has, leaves-at, leaves-stopped, less-none, well-of, bad-of, step-most, step-few, step-has, turn-lead, turn-on, turn-less, turn-out}
 use Rattle.walks.proofs.Ends.{tells-next, tells-end, tells-bad}

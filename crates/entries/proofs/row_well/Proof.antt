@@ -1,8 +1,8 @@
 -- `row_well` meets its contract. Assumes nothing.
 use mathlib.Core.Path.{_∙_}
 use borrow.Author.Needs.{needs}
-use Rattle.walks.proofs.row_well.Statement.{statement}
-use Rattle.walks.proofs.row_well.Tie as tie
+use Rattle.entries.proofs.row_well.Statement.{statement}
+use Rattle.entries.proofs.row_well.Tie as tie
 
 size-of-requires : tie.Need-size-of-requires
 size-of-requires c κs = search needs

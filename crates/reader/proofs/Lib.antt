@@ -1,4 +1,2 @@
-mod Laws
 mod Rest
-mod Generals
 pub mod Judged

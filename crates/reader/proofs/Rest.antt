@@ -22,7 +22,8 @@ use Rattle.pieces.specs.Cut.{cutAt, tapAt}
 use Rattle.reader.specs.declared.Failure.{Failure}
 use Rattle.reader.specs.declared.Failure.the-variants.{Length}
 use Rattle.reader.specs.declared.Reading.the-variants.{Done, Failed, Refused}
-use Rattle.reader.specs.Source.{Lent, See, over, bad, refuses as sees4, thing, Read, seeing, after, foldFrom, stopLength, full, act, tzxOf, tzxSee, tapOf, tapSee}
+use Rattle.blocks.specs.Adds.{Lent}
+use Rattle.reader.specs.Source.{See, over, bad, refuses as sees4, thing, Read, seeing, after, foldFrom, stopLength, full, act, tzxOf, tzxSee, tapOf, tapSee}
 use Rattle.reader.specs.Does.{Fit, Blank, Finds, ends, fails, refuses}
 
 -- a tape that the state holds, and fuel enough for the bytes left, with which the rest gives the goal

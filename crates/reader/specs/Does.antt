@@ -1,4 +1,4 @@
--- The shape of contracts inside a load: what a step does to every tape that its state and tables hold. Assumes nothing.
+-- What the run takes a piece to be, and what its answer says of the tables. Assumes nothing.
 use Prim.Native.Nat.{ℕ, _+_, _*_, _≤_}
 use mathlib.Core.Path.{_≡_}
 use mathlib.Core.List.{List}
@@ -8,24 +8,12 @@ use Rattle.general.specs.Ways.{Held}
 use Rattle.pieces.specs.declared.Piece.{Piece}
 use Rattle.pieces.specs.declared.Piece.the-variants.{Standard, Turbo, Tone, Pulses, Pure, Generalized, Pause, GroupStart, GroupEnd, LoopStart, LoopEnd, Stop48, Text, Message, Archive, Hardware, Custom, Glue}
 use Rattle.parser.specs.declared.State.{State}
-use Rattle.parser.specs.declared.Step.{Step}
-use Rattle.parser.specs.Parser.{Tape, Out}
-use Rattle.parser.specs.Holds.{Holds, Gives, blockRoom, toneRoom}
+use Rattle.parser.specs.Parser.{Tape}
+use Rattle.parser.specs.Holds.{Holds}
 use Rattle.reader.specs.declared.Failure.{Failure}
 use Rattle.reader.specs.declared.Reading.{Reading}
 use Rattle.reader.specs.declared.Reading.the-variants.{Done, Failed, Refused}
-use Rattle.reader.specs.Source.{Lent, Read, done, failed, refused}
-
--- tables of B and N words have room for so many rows
-abbrev pub lentOf : ℕ → ℕ → Lent
-lentOf B N = record { blocks = blockRoom B; tones = toneRoom N }
-
-abbrev pub Does : (Lent → Tape → Out) → State → Step → List ℕ → List ℕ → List ℕ → List ℕ → Type 0
-Does f s a bt tt bt′ tt′ = (B N : ℕ) (t : Tape) → Holds B N s bt tt t → Gives B N a bt′ tt′ (f (lentOf B N) t)
-
--- a state with another count of tone rows
-abbrev pub withUsed : ℕ → State → State
-withUsed tones s = record { blocks = s .blocks; tones = tones; pending = s .pending; body = s .body }
+use Rattle.reader.specs.Source.{Read, done, failed, refused}
 
 -- what the code takes a piece of this tape to be: its pulses inside the tape, a 19 as `Held` says
 abbrev pub Fit : List ℕ → Piece → Type 0

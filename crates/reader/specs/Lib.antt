@@ -1,3 +1,2 @@
-pub mod Blocks
 pub mod Source
 pub mod Does

@@ -1,15 +1,13 @@
 -- The source reading, document 01's 'Reading order and TAP' and 'Piece kinds': what each piece does to the tape read so far, the run over
 -- a TZX, the run over a TAP. Refusals stand where document 01 puts them: within one piece short bytes, 4, then block by block 5, 6; 7 last.
 -- Assumes nothing.
-use Prim.Native.Nat.{ℕ, zero, suc, _+_, _*_, _/_}
+use Prim.Native.Nat.{ℕ, zero, suc, _+_, _/_}
 use mathlib.Core.Bool.{Bool, true, false, _&&_}
-use mathlib.Core.List.{List, [], _∷_, _++_}
+use mathlib.Core.List.{List, [], _∷_}
 use lib.ListN.{length}
 use lib.Dec.{ltb, leb, eqb}
 use Rattle.laws.specs.Rules.{_⇒_, _∣_}
 use Rattle.rows.specs.declared.Block.{Block}
-use Rattle.rows.specs.declared.Tone.{Tone}
-use Rattle.pieces.specs.declared.GeneralizedData.{GeneralizedData}
 use Rattle.pieces.specs.declared.Piece.{Piece}
 use Rattle.pieces.specs.declared.Piece.the-variants.{Standard, Turbo, Tone as PureTone, Pulses, Pure, Generalized, Pause, GroupStart, GroupEnd, LoopStart, LoopEnd, Stop48, Text, Message, Archive, Hardware, Custom, Glue}
 use Rattle.pieces.specs.declared.Taken.{Taken}
@@ -19,57 +17,28 @@ use Rattle.pieces.specs.declared.TakenTap.the-variants as tap
 use Rattle.pieces.specs.declared.Heading.{Heading}
 use Rattle.pieces.specs.declared.Heading.the-variants as heading
 use Rattle.pieces.specs.Cut.{cutAt, tapAt, headAt}
-use Rattle.general.specs.General.{Given, refused4, stop, plain, toned, generalOf}
-use Rattle.parser.specs.Parser.{Tape, Out, on, no as refuse, _⟫_, empty, addTones, addBlock, startGroup, noteText, endGroup, openLoop, closeLoop}
+use Rattle.general.specs.General.{generalOf}
+use Rattle.parser.specs.Parser.{Tape, Out, on, no as refuse, empty, startGroup, noteText, endGroup, openLoop, closeLoop}
 use Rattle.reader.specs.declared.Failure.{Failure}
 use Rattle.reader.specs.declared.Failure.the-variants as failure
-use Rattle.reader.specs.Blocks.{ms, toneOf, born, stopBlock, isHeader, standardTones, standardBlock, standardPause, turboTones, turboBlock, pureTones, pureBlock, pureToneTones, soundOnly, pulseAt, pauseOrStop}
-
--- how many rows are lent
-pub record Lent : Type 0 where
-  pub blocks : ℕ
-  pub tones : ℕ
+use Rattle.blocks.specs.Blocks.{ms, isHeader, standardTones, standardBlock, standardPause, turboTones, turboBlock, pureTones, pureBlock, pureToneTones, soundOnly, pauseOrStop}
+use Rattle.blocks.specs.Adds.{Lent, add, addPairs, addGeneral, stopOn48}
 
 module _ (lent : Lent) where
-  -- a block that needs these tone rows: 5, then 6
-  unfoldable pub addRows : List Tone → Block → Tape → Out
-  addRows ts r t = addTones (lent .tones) ts t ⟫ addBlock (lent .blocks) r
-
-  -- its row stands over the first of them
-  unfoldable pub add : List Tone → (ℕ → Block) → Tape → Out
-  add ts row t = addRows ts (row (length (t .tones))) t
-
-  -- 13: one block for each of n pairs from pulse i on
-  unfoldable pub addPairs : List ℕ → ℕ → ℕ → ℕ → Tape → Out
-  addPairs s from i zero t = on t
-  addPairs s from i (suc n) t =
-      add (toneOf 1 (pulseAt s from i) (pulseAt s from (i + 1)) ∷ []) (soundOnly 1) t ⟫ addPairs s from (i + 2) n
-
-  -- 19: 4, a stop, ordinary data, or tones
-  unfoldable pub addGeneral : GeneralizedData → Given → Tape → Out
-  addGeneral g refused4 t = refuse 4
-  addGeneral g stop t = add [] stopBlock t
-  addGeneral g (plain ts nil one last) t = add ts (λ tone. born 1 tone (length ts) (g .from) (g .size) nil one last (ms (g .pause))) t
-  addGeneral g (toned ts) t = add ts (λ tone. born 1 tone (length ts) 0 0 0 0 0 (ms (g .pause))) t
-
-  -- 2A: a stop block on 48K only
-  unfoldable pub stopOn48 : ℕ → Tape → Out
-  stopOn48 model t = eqb model 0 ⇒ add [] stopBlock t ∣ on t
-
   -- what a piece does; a 2A of another length than 0 does not come here
   unfoldable pub act : List ℕ → ℕ → Piece → Tape → Out
-  act s model (Standard pause from size) t = add (standardTones (isHeader s from size)) (standardBlock from size (ms pause)) t
-  act s model (Turbo d) t = add (turboTones d) (turboBlock d) t
-  act s model (PureTone half count) t = add (pureToneTones half count) (soundOnly (length (pureToneTones half count))) t
-  act s model (Pulses count from) t = addPairs s from 0 (count / 2) t
-  act s model (Pure nil one last pause from size) t = add pureTones (pureBlock nil one last pause from size) t
-  act s model (Generalized g) t = addGeneral g (generalOf s g) t
-  act s model (Pause n) t = add [] (pauseOrStop n) t
+  act s model (Standard pause from size) t = add lent (standardTones (isHeader s from size)) (standardBlock from size (ms pause)) t
+  act s model (Turbo d) t = add lent (turboTones d) (turboBlock d) t
+  act s model (PureTone half count) t = add lent (pureToneTones half count) (soundOnly (length (pureToneTones half count))) t
+  act s model (Pulses count from) t = addPairs lent s from 0 (count / 2) t
+  act s model (Pure nil one last pause from size) t = add lent pureTones (pureBlock nil one last pause from size) t
+  act s model (Generalized g) t = addGeneral lent g (generalOf s g) t
+  act s model (Pause n) t = add lent [] (pauseOrStop n) t
   act s model (GroupStart from size) t = startGroup from size t
   act s model GroupEnd t = endGroup t
   act s model (LoopStart times) t = openLoop times t
   act s model LoopEnd t = closeLoop (lent .blocks) t
-  act s model (Stop48 length) t = stopOn48 model t
+  act s model (Stop48 length) t = stopOn48 lent model t
   act s model (Text from size) t = noteText from size t
   act s model (Message seconds from size) t = on t
   act s model (Archive count from) t = on t

@@ -15,8 +15,9 @@ use Rattle.pieces.specs.Kinds.{kind10, kind11, kind12, kind13, kind14, stream19
 use Rattle.pieces.specs.Cut.{signature, startsAt, headAt, named, cutAt, blockOf, tapAt}
 use Rattle.general.specs.General.{pilotOf, dataOf, withPilot, generalOf}
 use Rattle.parser.specs.Parser.{empty, _⟫_, addTones, addBlock, startGroup, noteText, endGroup, openLoop, copyRows, copies, closed, closeLoop, paused, lastPaused}
-use Rattle.reader.specs.Blocks.{born, stopBlock, isHeader, standardCycles, standardTones, standardBlock, standardPause, turboTones, turboBlock, pureTones, pureBlock, pureToneTones, pulseAt, pauseBlock, pauseOrStop}
-use Rattle.reader.specs.Source.{Lent, addRows, add, addPairs, addGeneral, stopOn48, act, after, seeing, foldFrom, stopLength, tooManyBits, judged, tzxOf, tzxSee, headed, readTzx, tapOf, tapSee, readTap, Loaded, tzx, tapped, no, orTap, orElse, loadOf}
+use Rattle.blocks.specs.Blocks.{born, stopBlock, isHeader, standardCycles, standardTones, standardBlock, standardPause, turboTones, turboBlock, pureTones, pureBlock, pureToneTones, pulseAt, pauseBlock, pauseOrStop}
+use Rattle.blocks.specs.Adds.{Lent, addRows, add, addPairs, addGeneral, stopOn48}
+use Rattle.reader.specs.Source.{act, after, seeing, foldFrom, stopLength, tooManyBits, judged, tzxOf, tzxSee, headed, readTzx, tapOf, tapSee, readTap, Loaded, tzx, tapped, no, orTap, orElse, loadOf}
 
 -- room for three blocks and four tone rows
 abbrev room : Lent

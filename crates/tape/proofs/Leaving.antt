@@ -10,8 +10,10 @@ use Rattle.parser.specs.declared.State.{State}
 use Rattle.reader.specs.declared.Failure.{Failure}
 use Rattle.reader.specs.declared.Reading.{Reading}
 use Rattle.reader.specs.declared.Reading.the-variants.{Done, Failed, Refused}
-use Rattle.reader.specs.Source.{Lent, Read, Loaded as Load, no, orTap, orElse, readTzx, readTap, loadOf}
-use Rattle.reader.specs.Does.{lentOf, Blank, Finds}
+use Rattle.blocks.specs.Adds.{Lent}
+use Rattle.reader.specs.Source.{Read, Loaded as Load, no, orTap, orElse, readTzx, readTap, loadOf}
+use Rattle.blocks.specs.Does.{lentOf}
+use Rattle.reader.specs.Does.{Blank, Finds}
 use Rattle.reader.proofs.Judged.{found-done, found-failed, found-refused}
 use Rattle.tape.specs.declared.Format.the-variants.{Tap, Tzx}
 use Rattle.tape.specs.declared.Loaded.{Loaded}

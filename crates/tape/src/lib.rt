@@ -5,7 +5,7 @@ use reader::read_tzx;
 use rows::blank;
 ghost use lib.ListN.{length};
 ghost use Rattle.reader.specs.Source.{no, orTap, readTap, loadOf};
-ghost use Rattle.reader.specs.Does.{lentOf};
+ghost use Rattle.blocks.specs.Does.{lentOf};
 ghost use Rattle.tape.specs.Load.{Leaves};
 
 pub enum Format {

@@ -1,6 +1,6 @@
 -- `read_pieces` meets its contract. Assumes nothing.
 use Rattle.reader.proofs.Rest.{Rest, rest-begins, rest-over, rest-bad, rest-refuses, rest-no, rest-on, tzx-stops, tzx-sees, sees-piece, sees-length, blank-holds, cut-fit}
-use Rattle.reader.specs.Does.{lentOf}
+use Rattle.blocks.specs.Does.{lentOf}
 use Rattle.reader.specs.Source.{tzxOf, tzxSee, foldFrom}
 use Rattle.pieces.proofs.Cutting.{cut-forward}
 use Rattle.parser.specs.Holds.{goes}

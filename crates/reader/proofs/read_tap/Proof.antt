@@ -1,6 +1,6 @@
 -- `read_tap` meets its contract. Assumes nothing.
 use Rattle.reader.proofs.Rest.{Rest, rest-begins, rest-over, rest-bad, rest-no, rest-on, tap-stops, tap-sees, blank-holds}
-use Rattle.reader.specs.Does.{lentOf}
+use Rattle.blocks.specs.Does.{lentOf}
 use Rattle.reader.specs.Source.{tapOf, tapSee, foldFrom, readTap}
 use Rattle.pieces.proofs.CuttingTap.{tap-forward}
 use Rattle.parser.specs.Parser.{empty}

@@ -1,6 +1,7 @@
 -- `read_tzx` meets its contract. Assumes nothing.
 use Rattle.reader.proofs.Judged.{done-room, judged-seven, judged-done, judged-failed, judged-refused, tzx-headed}
-use Rattle.reader.specs.Does.{lentOf, fails}
+use Rattle.blocks.specs.Does.{lentOf}
+use Rattle.reader.specs.Does.{fails}
 use Rattle.reader.specs.Source.{headed}
 use lib.ListN.{length}
 use mathlib.Core.Path.{sym, _∙_}

@@ -1,6 +1,6 @@
 -- `load` meets its contract. Assumes nothing.
 use Rattle.tape.proofs.Leaving.{blanked, finds-tzx, tzx-leaves, tzx-fails, tzx-refuses, leaves-no, leaves-tap, load-reads}
-use Rattle.reader.specs.Does.{lentOf}
+use Rattle.blocks.specs.Does.{lentOf}
 use Rattle.reader.specs.Source.{readTap, loadOf}
 use borrow.Author.Tests.{le-leb, lt-leb, le-ltb, lt-ltb}
 use lib.ListN.{length}

@@ -1,10 +1,11 @@
 -- Text as a list of bytes, and what writing it into lent bytes leaves. Assumes nothing.
 use Prim.Native.Nat.{ℕ, zero, suc, _+_, _/_, _%_}
 use mathlib.Core.Path.{_≡_}
+use mathlib.Core.Bool.{Bool}
 use mathlib.Core.List.{List, [], _∷_, _++_}
-use lib.ListN.{length}
+use lib.ListN.{length, drop}
 use lib.Seq.{sets}
-use lib.Dec.{ltb}
+use lib.Dec.{ltb, leb}
 use Rattle.laws.specs.Rules.{_⇒_, _∣_}
 
 -- `dst′` and `next` are what writing `text` into `dst` from `at` on leaves: bytes past the end of dst are not written, and counted
@@ -31,3 +32,11 @@ each f (b ∷ bs) = f b ++ each f bs
 
 abbrev pub latin : List ℕ → List ℕ
 latin bs = each latin1 bs
+
+-- lent bytes that are not shorter than a text
+abbrev pub fits : List ℕ → List ℕ → Bool
+fits text out = leb (length text) (length out)
+
+-- a text told into lent bytes: nothing is written where they are shorter, and bytes past the text stay
+unfoldable pub told : List ℕ → List ℕ → List ℕ
+told text out = fits text out ⇒ text ++ drop (length text) out ∣ out

@@ -1,0 +1,139 @@
+// The queries of a mounted tape: its count, and of a block its name, size, mark and time; the loading time.
+use entries::Duration;
+use entries::row_well;
+use rows::block_at;
+use rows::block_capacity;
+ghost use mathlib.Core.Path.{_≡_};
+ghost use Rattle.entries.specs.Mounted.{tapeOf};
+ghost use Rattle.queries.specs.Queries.{refusalOf, lenOf, sizeOf, selectableOf, timeOf, nameAnswer, nameBytes, loadingOf};
+
+// A number, or the refusal's alone.
+pub enum Number {
+    Is(u64),
+    Refused(u32),
+}
+
+// A selectable mark, or the refusal's number alone.
+pub enum Mark {
+    Is(bool),
+    Refused(u32),
+}
+
+// What a block lasts, or the refusal's number alone.
+pub enum Time {
+    Lasts(Duration),
+    Refused(u32),
+}
+
+// The refusal of a query about block i, in document 01's order; 0 where there is none.
+fn refusal(tape: &[u8], tones: &[u64], blocks: &[u64], count: u64, i: u64) -> u32
+    ensures { λ k. ⌜ k ≡ refusalOf (tapeOf (now (tape .entry)) (now (tones .entry)) (now (blocks .entry)) count) i ⌝ }
+{
+    if (block_capacity(blocks) as u64) < count {
+        return 11;
+    }
+    if count <= i {
+        return 8;
+    }
+    if row_well(tape, tones, blocks, i) {
+        0
+    } else {
+        11
+    }
+}
+
+// How many blocks the tape has.
+pub fn len(blocks: &[u64], count: u64) -> Number
+    ensures { λ r. ⌜ ((bytes tones : List ℕ) → r ≡ lenOf (tapeOf bytes tones (now (blocks .entry)) count)) ⌝ }
+{
+    if (block_capacity(blocks) as u64) < count {
+        return Number::Refused(11);
+    }
+    Number::Is(count)
+}
+
+// A block's data size.
+pub fn block_size(tape: &[u8], tones: &[u64], blocks: &[u64], count: u64, i: u64) -> Number
+    ensures { λ r. ⌜ r ≡ sizeOf (tapeOf (now (tape .entry)) (now (tones .entry)) (now (blocks .entry)) count) i ⌝ }
+{
+    let k = refusal(tape, tones, blocks, count, i);
+    if k != 0 {
+        return Number::Refused(k);
+    }
+    let r = block_at(blocks, i as usize);
+    Number::Is(r.size)
+}
+
+// Its selectable mark.
+pub fn block_selectable(tape: &[u8], tones: &[u64], blocks: &[u64], count: u64, i: u64) -> Mark
+    ensures { λ r. ⌜ r ≡ selectableOf (tapeOf (now (tape .entry)) (now (tones .entry)) (now (blocks .entry)) count) i ⌝ }
+{
+    let k = refusal(tape, tones, blocks, count, i);
+    if k != 0 {
+        return Mark::Refused(k);
+    }
+    let r = block_at(blocks, i as usize);
+    Mark::Is(r.selectable == 1)
+}
+
+// Its T-states with its pause, or that it never ends.
+pub fn block_time(tape: &[u8], tones: &[u64], blocks: &[u64], count: u64, i: u64) -> Time
+    ensures { λ r. ⌜ r ≡ timeOf (tapeOf (now (tape .entry)) (now (tones .entry)) (now (blocks .entry)) count) i ⌝ }
+{
+    let k = refusal(tape, tones, blocks, count, i);
+    if k != 0 {
+        return Time::Refused(k);
+    }
+    let r = block_at(blocks, i as usize);
+    Time::Lasts(entries::block_time(tape, tones, r))
+}
+
+// Its name as UTF-8 into `out`, and the name's length; a refusal writes no byte.
+pub fn block_name(
+    tape: &[u8],
+    tones: &[u64],
+    blocks: &[u64],
+    count: u64,
+    i: u64,
+    out: &mut [u8],
+) -> Number
+    ensures { λ r. ⌜ r ≡ nameAnswer (tapeOf (now (tape .entry)) (now (tones .entry)) (now (blocks .entry)) count) i (now (out .entry)) ⌝ }
+    ensures { λ _. ⌜ now (out .exit) ≡ nameBytes (tapeOf (now (tape .entry)) (now (tones .entry)) (now (blocks .entry)) count) i (now (out .entry)) ⌝ }
+{
+    let k = refusal(tape, tones, blocks, count, i);
+    if k != 0 {
+        return Number::Refused(k);
+    }
+    let r = block_at(blocks, i as usize);
+    let mut none = [0u8; 1];
+    let n = names::put_name(&mut none, 0, tape, r);
+    if out.len() < n {
+        return Number::Refused(10);
+    }
+    names::put_name(out, 0, tape, r);
+    Number::Is(n as u64)
+}
+
+// All entries up to the first stop or the end.
+pub fn loading_time(tape: &[u8], tones: &[u64], blocks: &[u64], count: u64) -> Number
+    ensures { λ r. ⌜ r ≡ loadingOf (tapeOf (now (tape .entry)) (now (tones .entry)) (now (blocks .entry)) count) ⌝ }
+{
+    if (block_capacity(blocks) as u64) < count {
+        return Number::Refused(11);
+    }
+    let mut sum = 0;
+    let mut b = 0;
+    while b < count {
+        if !row_well(tape, tones, blocks, b) {
+            return Number::Refused(11);
+        }
+        let r = block_at(blocks, b as usize);
+        sum += entries::sound_time(tape, tones, r);
+        if r.endless == 1 {
+            return Number::Is(sum);
+        }
+        sum += r.pause;
+        b += 1;
+    }
+    Number::Is(sum)
+}

@@ -15,7 +15,7 @@ use Rattle.text.proofs.Writing.{decimal-length}
 use Rattle.entries.specs.declared.Duration.{Duration}
 use Rattle.entries.specs.declared.Duration.the-variants.{T, Endless}
 use Rattle.views.specs.View.{tonesFrom}
-use Rattle.views.specs.Dump.{hex, toneText, tonesText, pauseText, flag, field, markText, bitsText}
+use Rattle.views.specs.Dump.{hex, toneText, tonesText, pauseText, flag, field, markText, bitsText, endText, headText}
 
 pub hex-length : (b : ℕ) → length (hex b) ≤ 2
 unfolding hex
@@ -25,6 +25,11 @@ pub tone-length : (t : Tone) → length (toneText t) ≤ 63
 unfolding toneText
 tone-length t =
     simp length-append (omega (arith, decimal-length (t .num), decimal-length (t .len1), decimal-length (t .len2)))
+
+pause-length : (d : Duration) → length (pauseText d) ≤ 20
+unfolding pauseText
+pause-length (T n) = decimal-length n
+pause-length Endless = omega arith
 
 -- how far a part may reach
 module _ {d d1 : List ℕ} {at r : ℕ} where
@@ -41,9 +46,7 @@ module _ {d d1 : List ℕ} {at r : ℕ} where
   flag-next false w = omega (arith, w .count)
 
   pub pause-next : (p : Duration) → Wrote d at (pauseText p) d1 r → r ≤ at + 20
-  unfolding pauseText
-  pause-next (T n) w = omega (arith, w .count, decimal-length n)
-  pause-next Endless w = omega (arith, w .count)
+  pause-next p w = omega (arith, w .count, pause-length p)
 
 mark-length : (i : ℕ) (b : Bool) → length (markText i b) ≤ 26
 unfolding markText flag
@@ -53,6 +56,15 @@ mark-length i false = simp length-append (omega (arith, decimal-length i))
 bits-length : (nil one last : ℕ) → length (bitsText nil one last) ≤ 77
 unfolding bitsText field
 bits-length nil one last = simp length-append (omega (arith, decimal-length nil, decimal-length one, decimal-length last))
+
+end-length : (p : Duration) → length (endText p) ≤ 33
+unfolding endText
+end-length p = simp length-append (omega (arith, pause-length p))
+
+pub head-length : (i : ℕ) (b : Bool) (nil one last : ℕ) (p : Duration) → length (headText i b nil one last p) ≤ 136
+unfolding headText
+head-length i b nil one last p =
+    simp length-append (omega (arith, mark-length i b, bits-length nil one last, end-length p))
 
 module _ {d d1 : List ℕ} {at r : ℕ} where
   pub mark-next : (i : ℕ) (b : Bool) → Wrote d at (markText i b) d1 r → r ≤ at + 26

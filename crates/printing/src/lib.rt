@@ -1,8 +1,8 @@
 // A loaded tape on standard output, in the words of `views`, from a small buffer: 512 copies of a block of 48 KB are 50 MB of text.
+use entries::row_well;
 use rows::Block;
 use rows::block_at;
 use rows::block_capacity;
-use entries::row_well;
 use tape::Format;
 use tape::Loaded;
 use text::put;
@@ -144,7 +144,12 @@ pub fn print_loaded(tape: &[u8], tones: &[u64], blocks: &[u64], loaded: Loaded)
             tones: _,
         } => {
             print_format(format, n);
-            print_blocks(tape, tones, blocks, least(n as usize, block_capacity(blocks)));
+            print_blocks(
+                tape,
+                tones,
+                blocks,
+                least(n as usize, block_capacity(blocks)),
+            );
         }
         Loaded::Refused(k) => print_refused(k),
     }

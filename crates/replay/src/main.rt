@@ -1,54 +1,66 @@
 // Loads the tapes on standard input one after the other and prints each answer: 4 bytes give how many there are; each has a model's number (1 byte), how many
 // words of block table and of tone table are lent (4 bytes each), the tape's length (4 bytes), and the tape. Numbers are little-endian.
+use fields::Cursor;
+use fields::field;
 use printing::print_loaded;
 use tape::load;
 ghost use mathlib.Core.Path.{_≡_};
-ghost use Prim.Native.Nat.{_+_, _≤_, min};
+ghost use Prim.Native.Nat.{_≤_, min};
 ghost use lib.ListN.{length};
 
-// More words than the limits of 4,096 and 65,536 rows, so that a table may be longer.
+// More words than 4,096 and 65,536 rows have, so that a table may be longer than its limit.
 const BLOCK_WORDS: usize = 53300;
+
 const TONE_WORDS: usize = 196700;
 
-// The number at a place of a record's head.
-fn number(head: &[u8; 13], at: usize) -> usize
-    requires { ⌜ at + 4 ≤ 13 ⌝ }
+// The number of w bytes at a place, at most `most`.
+fn number(head: &[u8], at: u64, w: u64, most: usize) -> usize
+    ensures { λ r. ⌜ r ≤ most ⌝ }
 {
-    let a = head[at] as usize;
-    let b = head[at + 1] as usize;
-    let c = head[at + 2] as usize;
-    let d = head[at + 3] as usize;
-    a + 256 * b + 65536 * c + 16777216 * d
+    let read = field(head, Cursor::At(at), w);
+    let n = read.value as usize;
+    if n <= most { n } else { most }
 }
 
-// The smaller of two numbers.
-fn least(a: usize, b: usize) -> usize
-    ensures { λ r. ⌜ r ≡ min a b ⌝ }
+// A tape that fills `tape`, and its answer.
+fn answer(tape: &mut [u8], model: u32, blocks: &mut [u64], tones: &mut [u64])
+    requires { ⌜ length (now tape) ≤ 1048576 ⌝ }
 {
-    if a <= b { a } else { b }
+    io::read_full(0, tape);
+    let loaded = load(tape, model, blocks, tones);
+    print_loaded(tape, tones, blocks, loaded);
 }
 
 // One tape.
-fn replay(bytes: &mut [u8], blocks: &mut [u64], tones: &mut [u64]) {
+fn replay(bytes: &mut [u8], blocks: &mut [u64], tones: &mut [u64])
+    requires { ⌜ length (now bytes) ≤ 1048576 ⌝ }
+{
     let mut head = [0u8; 13];
     io::read_full(0, &mut head);
-    let b = least(number(&head, 1), blocks.len());
-    let t = least(number(&head, 5), tones.len());
-    let n = least(number(&head, 9), bytes.len());
-    let got = io::read_full(0, &mut bytes[..n]);
-    let loaded = load(&bytes[..n], head[0] as u32, &mut blocks[..b], &mut tones[..t]);
-    print_loaded(&bytes[..n], &tones[..t], &blocks[..b], loaded);
+    let model = number(&head, 0, 1, 255) as u32;
+    let b = number(&head, 1, 4, blocks.len());
+    let t = number(&head, 5, 4, tones.len());
+    let n = number(&head, 9, 4, bytes.len());
+    answer(&mut bytes[..n], model, &mut blocks[..b], &mut tones[..t]);
+}
+
+// n tapes.
+fn replay_all(bytes: &mut [u8], blocks: &mut [u64], tones: &mut [u64], n: usize)
+    requires { ⌜ length (now bytes) ≤ 1048576 ⌝ }
+{
+    let mut left = n;
+    while 0 < left {
+        replay(bytes, blocks, tones);
+        left -= 1;
+    }
 }
 
 fn main() {
-    let mut head = [0u8; 13];
-    io::read_full(0, &mut head[..4]);
-    let mut left = number(&head, 0);
+    let mut head = [0u8; 4];
+    io::read_full(0, &mut head);
+    let n = number(&head, 0, 4, 1000000);
     let mut bytes = io::large_buffer();
     let mut blocks = [0u64; BLOCK_WORDS];
     let mut tones = [0u64; TONE_WORDS];
-    while 0 < left {
-        replay(&mut bytes, &mut blocks, &mut tones);
-        left -= 1;
-    }
+    replay_all(&mut bytes, &mut blocks, &mut tones, n);
 }

@@ -1,3 +1,4 @@
+-- `print_hex` meets its contract. Assumes nothing.
 use Rattle.printing.proofs.Room.{part-most}
 use borrow.Author.Needs.{needs}
 use native.Mathlib.Omega.{arith}
@@ -5,10 +6,6 @@ use lib.ListN.{length}
 use Prim.Native.Nat.{_+_, _-_, _≤_}
 use Rattle.printing.proofs.print_hex.Statement.{statement}
 use Rattle.printing.proofs.print_hex.Tie as tie
-use Rattle.printing.proofs.print_hex.Reads as reads
-use Rattle.printing.proofs.print_hex.Lts as lts
-use Rattle.printing.proofs.least.Reads as least-reads
-use Rattle.printing.proofs.print_few.Reads as print-few-reads
 
 abbrev Inv-loop : tie.InvT-loop
 Inv-loop s i₀ i = i ≤ length s
@@ -16,62 +13,50 @@ Inv-loop s i₀ i = i ≤ length s
 abbrev μ-loop : tie.MeasureT-loop
 μ-loop s i₀ i = length s - i
 
--- src/lib.rt:39:5
 loop-holds : tie.Need-loop-holds Inv-loop μ-loop
 loop-holds c =
     omega arith
 
--- src/lib.rt:40:23
 sub-least : tie.Need-sub-least Inv-loop μ-loop
 sub-least c =
     omega arith
 
--- src/lib.rt:40:13
 least-requires : tie.Need-least-requires Inv-loop μ-loop
 least-requires c κs =
     search needs
 
--- src/lib.rt:41:25
 add-print-few : tie.Need-add-print-few Inv-loop μ-loop
 add-print-few c =
     omega (arith, c .least .ensures)
 
--- src/lib.rt:41:19
 sub-print-few : tie.Need-sub-print-few Inv-loop μ-loop
 sub-print-few c =
     omega (arith, c .least .ensures)
 
--- src/lib.rt:41:19
 part-print-few-start : tie.Need-part-print-few-start Inv-loop μ-loop
 part-print-few-start c =
     omega (arith, c .least .ensures)
 
--- src/lib.rt:41:19
 part-print-few-end : tie.Need-part-print-few-end Inv-loop μ-loop
 part-print-few-end c =
     omega (arith, c .least .ensures)
 
--- src/lib.rt:41:9
 print-few-requires : tie.Need-print-few-requires Inv-loop μ-loop
 print-few-requires c κs =
     omega (arith, c .before .least .ensures, part-most (c .before .before .before .loop .i + c .before .least .result - c .before .before .before .loop .i) (c .before .before .before .loop .i) (c .before .before .before .before .before .args .s .now))
 
--- src/lib.rt:42:9
 add-i : tie.Need-add-i Inv-loop μ-loop
 add-i c =
     omega (arith, c .before .before .least .ensures)
 
--- src/lib.rt:39:5
 loop-less : tie.Need-loop-less Inv-loop μ-loop
 loop-less c =
     omega (arith, c .before .before .least .ensures)
 
--- src/lib.rt:39:5
 loop-again : tie.Need-loop-again Inv-loop μ-loop
 loop-again c =
     omega (arith, c .before .before .least .ensures)
 
--- src/lib.rt:37:1
 returns : tie.Need-returns Inv-loop μ-loop
 returns c =
     search needs

@@ -1,61 +1,44 @@
+-- `print_line` meets its contract. Assumes nothing.
 use Rattle.printing.proofs.Room.{counted, line-room}
 use Rattle.text.proofs.Writing.{then, decimal-length}
 use native.Mathlib.Omega.{arith}
 use borrow.Author.Needs.{needs}
 use Rattle.printing.proofs.print_line.Statement.{statement}
 use Rattle.printing.proofs.print_line.Tie as tie
-use Rattle.printing.proofs.print_line.Reads as reads
-use Rattle.printing.proofs.print_line.Lts as lts
-use Rattle.io.proofs.buffer.Reads as buffer-reads
-use Rattle.io.proofs.write_all.Reads as write-all-reads
-use Rattle.text.proofs.put.Reads as put-reads
-use Rattle.text.proofs.put_all.Reads as put-all-reads
-use Rattle.text.proofs.put_decimal.Reads as put-decimal-reads
 
--- src/lib.rt:116:19
 buffer-requires : tie.Need-buffer-requires
 buffer-requires c κs = search needs
 
--- src/lib.rt:117:21
 slice-aggregate-put-all : tie.Need-slice-aggregate-put-all
 slice-aggregate-put-all c = search needs
 
--- src/lib.rt:117:9
 put-all-requires : tie.Need-put-all-requires
 put-all-requires c κs = search needs
 
--- src/lib.rt:118:25
 slice-aggregate-put-decimal : tie.Need-slice-aggregate-put-decimal
 slice-aggregate-put-decimal c = search needs
 
--- src/lib.rt:118:9
 put-decimal-requires : tie.Need-put-decimal-requires
 put-decimal-requires c κs = search needs
 
--- src/lib.rt:119:17
 slice-aggregate-put : tie.Need-slice-aggregate-put
 slice-aggregate-put c = search needs
 
--- src/lib.rt:119:9
 put-requires : tie.Need-put-requires
 put-requires c κs =
     omega (arith, c .before .before .before .before .before .before .before .before .before .pre, c .before .before .before .before .before .put-all .ensures .count, c .before .before .put-decimal .ensures .count, decimal-length (c .before .before .before .before .before .before .before .before .before .args .n))
 
--- src/lib.rt:120:22
 array-share-prefix-out : tie.Need-array-share-prefix-out
 array-share-prefix-out c =
     line-room (c .before .before .before .before .before .before .before .before .before .before .before .args .word .now) (c .before .before .before .before .before .before .before .before .before .before .before .args .n) (then (then (c .before .before .before .before .before .before .before .put-all .ensures) (c .before .before .before .before .put-decimal .ensures)) (c .before .put .ensures)) (c .before .before .before .before .before .before .before .before .before .before .before .pre) (c .before .before .before .before .before .before .before .before .before .buffer .ensures)
 
--- src/lib.rt:120:22
 slice-aggregate-write-all : tie.Need-slice-aggregate-write-all
 slice-aggregate-write-all c =
     counted _ _ (line-room (c .before .before .before .before .before .before .before .before .before .before .before .before .args .word .now) (c .before .before .before .before .before .before .before .before .before .before .before .before .args .n) (then (then (c .before .before .before .before .before .before .before .before .put-all .ensures) (c .before .before .before .before .before .put-decimal .ensures)) (c .before .before .put .ensures)) (c .before .before .before .before .before .before .before .before .before .before .before .before .pre) (c .before .before .before .before .before .before .before .before .before .before .buffer .ensures))
 
--- src/lib.rt:120:5
 write-all-requires : tie.Need-write-all-requires
 write-all-requires c κs = search needs
 
--- src/lib.rt:113:1
 returns : tie.Need-returns
 returns c = search needs
 

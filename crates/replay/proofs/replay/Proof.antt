@@ -1,0 +1,103 @@
+-- `replay` meets its contract. Assumes nothing.
+use Rattle.replay.proofs.Parts.{counted}
+use native.Mathlib.Omega.{arith}
+use borrow.Author.Needs.{needs}
+use Rattle.replay.proofs.replay.Statement.{statement}
+use Rattle.replay.proofs.replay.Tie as tie
+
+slice-aggregate-read-full : tie.Need-slice-aggregate-read-full
+slice-aggregate-read-full c = search needs
+
+read-full-requires : tie.Need-read-full-requires
+read-full-requires c κs = search needs
+
+slice-aggregate-number : tie.Need-slice-aggregate-number
+slice-aggregate-number c = search needs
+
+number-requires : tie.Need-number-requires
+number-requires c κs = search needs
+
+cast-model : tie.Need-cast-model
+cast-model c = search needs
+
+slice-aggregate-number-2 : tie.Need-slice-aggregate-number-2
+slice-aggregate-number-2 c = search needs
+
+number-requires-2 : tie.Need-number-requires-2
+number-requires-2 c κs = search needs
+
+slice-aggregate-number-3 : tie.Need-slice-aggregate-number-3
+slice-aggregate-number-3 c = search needs
+
+number-requires-3 : tie.Need-number-requires-3
+number-requires-3 c κs = search needs
+
+slice-aggregate-number-4 : tie.Need-slice-aggregate-number-4
+slice-aggregate-number-4 c = search needs
+
+number-requires-4 : tie.Need-number-requires-4
+number-requires-4 c κs = search needs
+
+slice-relend-prefix-answer : tie.Need-slice-relend-prefix-answer
+slice-relend-prefix-answer c = search needs
+
+slice-aggregate-answer : tie.Need-slice-aggregate-answer
+slice-aggregate-answer c =
+    counted _ _ (c .before .number4 .ensures)
+
+slice-relend-prefix-answer-2 : tie.Need-slice-relend-prefix-answer-2
+slice-relend-prefix-answer-2 c = search needs
+
+slice-aggregate-answer-2 : tie.Need-slice-aggregate-answer-2
+slice-aggregate-answer-2 c =
+    counted _ _ (c .before .before .before .before .before .before .number2 .ensures)
+
+slice-relend-prefix-answer-3 : tie.Need-slice-relend-prefix-answer-3
+slice-relend-prefix-answer-3 c = search needs
+
+slice-aggregate-answer-3 : tie.Need-slice-aggregate-answer-3
+slice-aggregate-answer-3 c =
+    counted _ _ (c .before .before .before .before .before .number3 .ensures)
+
+answer-requires : tie.Need-answer-requires
+answer-requires c κs =
+    omega (arith, c .before .before .before .before .before .before .before .before .before .before .before .before .before .before .before .before .before .pre, c .before .before .before .number4 .ensures, counted (c .before .before .before .before .before .before .before .before .before .before .before .before .before .before .before .before .before .args .bytes .now) (c .before .before .before .number4 .result) (c .before .before .before .number4 .ensures))
+
+same-length : tie.Need-same-length
+same-length c = search needs
+
+same-length-2 : tie.Need-same-length-2
+same-length-2 c = search needs
+
+same-length-3 : tie.Need-same-length-3
+same-length-3 c = search needs
+
+returns : tie.Need-returns
+returns c = search needs
+
+pub replay-spec : {M : Type 1} → statement M
+replay-spec =
+    tie.close
+    (tie.spec
+    slice-aggregate-read-full
+    read-full-requires
+    slice-aggregate-number
+    number-requires
+    cast-model
+    slice-aggregate-number-2
+    number-requires-2
+    slice-aggregate-number-3
+    number-requires-3
+    slice-aggregate-number-4
+    number-requires-4
+    slice-relend-prefix-answer
+    slice-aggregate-answer
+    slice-relend-prefix-answer-2
+    slice-aggregate-answer-2
+    slice-relend-prefix-answer-3
+    slice-aggregate-answer-3
+    answer-requires
+    same-length
+    same-length-2
+    same-length-3
+    returns)

@@ -29,7 +29,7 @@ fn refuse(blocks: &mut [u64], tones: &mut [u64], k: u32) -> Loaded
     ensures { λ a. ⌜ Leaves (length (now (blocks .entry))) (length (now (tones .entry))) (no k) a (now (blocks .exit)) (now (tones .exit)) ⌝ }
 {
     blank(blocks);
-    blank(tones);
+    blank(tones); // a reading may have written rows
     Loaded::Refused(k)
 }
 

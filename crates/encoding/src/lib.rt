@@ -308,7 +308,7 @@ fn put_code(out: &mut [u8], at: usize, code: u8) -> usize
     put_part(out, at, a, e)
 }
 
-// The texts of codes, one after the other; the Rust's `string_from_zx`.
+// The texts of codes, one after the other; the Rust's `string_from_zx`; our crates alone call it.
 pub fn put_spelled(out: &mut [u8], at: usize, s: &[u8]) -> usize
     requires { ⌜ at + 9 * length (now s) < 2 ^ 63 ⌝ }
     ensures { λ r. ⌜ Wrote (now (out .entry)) at (spelled (now (s .entry))) (now (out .exit)) r ⌝ }

@@ -165,7 +165,7 @@ pub fn block_time(tape: &[u8], tones: &[u64], r: Block) -> Duration
     }
 }
 
-// T-states of either half of bit k, one of 8, of a byte.
+// T-states of either half of bit k, one of 8, of a byte; our crates alone call it.
 pub fn half_of(v: u8, k: u64, r: Block) -> u64
     requires { ⌜ k < 8 ⌝ }
     ensures { λ n. ⌜ n ≡ halfOf r (bitOf v k) ⌝ }

@@ -119,7 +119,7 @@ fn name_row(header: bool, prefixed: bool, r: Block) -> Block
     row
 }
 
-// The naming pass over the first n rows.
+// The naming pass over the first n rows; our crates alone call it.
 pub fn name_blocks(tape: &[u8], blocks: &mut [u64], n: usize)
     requires { ⌜ n * block .width ≤ length (now blocks) ⌝ }
     ensures { λ _. ⌜ now (blocks .exit) ≡ step block n (nameAll (now (tape .entry)) false) (now (blocks .entry)) ⌝ }

@@ -3,3 +3,4 @@ pub mod Kept
 pub mod Adds
 pub mod Copies
 pub mod Examples
+pub mod Shares

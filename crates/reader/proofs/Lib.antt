@@ -1,2 +1,3 @@
 mod Rest
 pub mod Judged
+pub mod Models

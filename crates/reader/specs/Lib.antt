@@ -1,2 +1,3 @@
 pub mod Source
 pub mod Does
+pub mod Reached

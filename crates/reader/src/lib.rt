@@ -116,45 +116,10 @@ fn act(
 fn stop_length(piece: Piece) -> u32
     ensures { λ n. ⌜ n ≡ stopLength piece ⌝ }
 {
-    match piece {
-        Piece::Standard {
-            pause: _,
-            from: _,
-            size: _,
-        } => 0,
-        Piece::Turbo(_d) => 0,
-        Piece::Tone { half: _, count: _ } => 0,
-        Piece::Pulses { count: _, from: _ } => 0,
-        Piece::Pure {
-            zero: _,
-            one: _,
-            last: _,
-            pause: _,
-            from: _,
-            size: _,
-        } => 0,
-        Piece::Generalized(_g) => 0,
-        Piece::Pause { ms: _ } => 0,
-        Piece::GroupStart { from: _, size: _ } => 0,
-        Piece::GroupEnd => 0,
-        Piece::LoopStart { times: _ } => 0,
-        Piece::LoopEnd => 0,
-        Piece::Stop48 { length } => length,
-        Piece::Text { from: _, size: _ } => 0,
-        Piece::Message {
-            seconds: _,
-            from: _,
-            size: _,
-        } => 0,
-        Piece::Archive { count: _, from: _ } => 0,
-        Piece::Hardware { count: _, from: _ } => 0,
-        Piece::Custom {
-            id: _,
-            from: _,
-            size: _,
-        } => 0,
-        Piece::Glue => 0,
-    }
+    let Piece::Stop48 { length } = piece else {
+        return 0;
+    };
+    length
 }
 
 // The pieces of a TZX, from behind its head to the end.
@@ -223,7 +188,7 @@ fn too_many_bits(blocks: &[u64], n: u64) -> bool
     false
 }
 
-// A TZX.
+// A TZX; our crates alone call it, over blank tables.
 pub fn read_tzx(tape: &[u8], model: u32, blocks: &mut [u64], tones: &mut [u64]) -> Reading
     requires { ⌜ Blank (now blocks) × Blank (now tones) ⌝ }
     ensures { λ r. ⌜ Finds (length (now (blocks .entry))) (length (now (tones .entry))) r (now (blocks .exit)) (now (tones .exit)) (readTzx (lentOf (length (now (blocks .entry))) (length (now (tones .entry)))) (now (tape .entry)) model) ⌝ }
@@ -247,7 +212,7 @@ pub fn read_tzx(tape: &[u8], model: u32, blocks: &mut [u64], tones: &mut [u64]) 
     }
 }
 
-// A TAP.
+// A TAP; our crates alone call it, over blank tables.
 pub fn read_tap(tape: &[u8], blocks: &mut [u64], tones: &mut [u64]) -> Reading
     requires { ⌜ Blank (now blocks) × Blank (now tones) ⌝ }
     ensures { λ r. ⌜ Finds (length (now (blocks .entry))) (length (now (tones .entry))) r (now (blocks .exit)) (now (tones .exit)) (readTap (lentOf (length (now (blocks .entry))) (length (now (tones .entry)))) (now (tape .entry))) ⌝ }

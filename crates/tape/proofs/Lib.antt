@@ -1,2 +1,4 @@
-mod Leaving
+pub mod Leaving
+mod Naming
+pub mod Models
 mod Examples

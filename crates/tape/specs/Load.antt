@@ -1,14 +1,32 @@
--- What a load leaves: its answer, and every word of both lent tables. Assumes nothing.
+-- What a load is and what it leaves: the source reading, then the naming pass; its answer, and every word of both lent tables. Assumes nothing.
 use Prim.Native.Nat.{ℕ}
 use mathlib.Core.Path.{_≡_}
+use mathlib.Core.Bool.{false}
 use mathlib.Core.List.{List}
 use lib.ListN.{length}
 use Rattle.rows.specs.Table.{tableOf, zeros}
 use Rattle.rows.specs.Rows.{block, tone}
-use Rattle.reader.specs.Source.{Loaded as Load, tzx, tapped, no}
+use Rattle.parser.specs.Parser.{Tape as Rows, tapeOf}
+use Rattle.blocks.specs.Adds.{Lent}
+use Rattle.reader.specs.Source.{Loaded as Load, tzx, tapped, no, loadOf}
+use Rattle.names.specs.Names.{nameAll}
 use Rattle.tape.specs.declared.Format.the-variants.{Tap, Tzx}
 use Rattle.tape.specs.declared.Loaded.{Loaded}
 use Rattle.tape.specs.declared.Loaded.the-variants.{Tape, Refused}
+
+-- the naming pass of `Tape::new`, over the blocks of a tape that was read from the bytes s
+unfoldable pub namedTape : List ℕ → Rows → Rows
+namedTape s t = tapeOf (nameAll s false (t .blocks)) (t .tones) (t .pending) (t .body)
+
+-- a refusal stays as it is
+unfoldable pub named : List ℕ → Load → Load
+named s (tzx t) = tzx (namedTape s t)
+named s (tapped t) = tapped (namedTape s t)
+named s (no k) = no k
+
+-- document 01: `new_tap`, `new_tzx`, the naming pass of `Tape::new`
+unfoldable pub loadNamed : Lent → List ℕ → ℕ → Load
+loadNamed lent s model = named s (loadOf lent s model)
 
 -- document 01's values of a loaded tape, or a refusal's number alone
 unfoldable pub answerOf : Load → Loaded

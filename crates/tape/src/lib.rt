@@ -1,4 +1,5 @@
-// The public load: a tape read as TZX, and where that fails as TAP, into the lent tables.
+// The public load: a tape read as TZX, and where that fails as TAP, into the lent tables; then the naming pass.
+use names::name_blocks;
 use reader::Reading;
 use reader::read_tap;
 use reader::read_tzx;
@@ -6,7 +7,7 @@ use rows::blank;
 ghost use lib.ListN.{length};
 ghost use Rattle.reader.specs.Source.{no, orTap, readTap, loadOf};
 ghost use Rattle.blocks.specs.Does.{lentOf};
-ghost use Rattle.tape.specs.Load.{Leaves};
+ghost use Rattle.tape.specs.Load.{Leaves, loadNamed};
 
 pub enum Format {
     Tap,
@@ -28,7 +29,7 @@ fn refuse(blocks: &mut [u64], tones: &mut [u64], k: u32) -> Loaded
     ensures { λ a. ⌜ Leaves (length (now (blocks .entry))) (length (now (tones .entry))) (no k) a (now (blocks .exit)) (now (tones .exit)) ⌝ }
 {
     blank(blocks);
-    blank(tones);
+    blank(tones); // a reading may have written rows
     Loaded::Refused(k)
 }
 
@@ -52,8 +53,8 @@ fn load_tap(tape: &[u8], blocks: &mut [u64], tones: &mut [u64]) -> Loaded
     }
 }
 
-// Model 0 is the 48K, 1 the 128K, 2 the Plus3.
-pub fn load(tape: &[u8], model: u32, blocks: &mut [u64], tones: &mut [u64]) -> Loaded
+// The bytes read, before the naming pass.
+fn read(tape: &[u8], model: u32, blocks: &mut [u64], tones: &mut [u64]) -> Loaded
     ensures { λ a. ⌜ Leaves (length (now (blocks .entry))) (length (now (tones .entry))) (loadOf (lentOf (length (now (blocks .entry))) (length (now (tones .entry)))) (now (tape .entry)) model) a (now (blocks .exit)) (now (tones .exit)) ⌝ }
 {
     if 3 <= model {
@@ -76,4 +77,21 @@ pub fn load(tape: &[u8], model: u32, blocks: &mut [u64], tones: &mut [u64]) -> L
         Reading::Failed(_f) => load_tap(tape, blocks, tones),
         Reading::Refused(j) => refuse(blocks, tones, j),
     }
+}
+
+// Model 0 is the 48K, 1 the 128K, 2 the Plus3.
+pub fn load(tape: &[u8], model: u32, blocks: &mut [u64], tones: &mut [u64]) -> Loaded
+    ensures { λ a. ⌜ Leaves (length (now (blocks .entry))) (length (now (tones .entry))) (loadNamed (lentOf (length (now (blocks .entry))) (length (now (tones .entry)))) (now (tape .entry)) model) a (now (blocks .exit)) (now (tones .exit)) ⌝ }
+{
+    let loaded = read(tape, model, blocks, tones);
+    let Loaded::Tape {
+        format: _,
+        blocks: n,
+        tones: _,
+    } = loaded
+    else {
+        return loaded;
+    };
+    name_blocks(tape, blocks, n as usize);
+    loaded
 }

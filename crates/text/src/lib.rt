@@ -4,7 +4,7 @@ ghost use mathlib.Core.List.{[], _∷_};
 ghost use lib.ListN.{length};
 ghost use Rattle.text.specs.Out.{Wrote, decimal, latin1, latin};
 
-// The byte b at `at`, where `out` reaches so far.
+// The byte b at `at`, where `out` reaches so far; our crates alone call it.
 pub fn put(out: &mut [u8], at: usize, b: u8) -> usize
     requires { ⌜ at < 2 ^ 63 ⌝ }
     ensures { λ r. ⌜ Wrote (now (out .entry)) at (b ∷ []) (now (out .exit)) r ⌝ }
@@ -15,7 +15,7 @@ pub fn put(out: &mut [u8], at: usize, b: u8) -> usize
     at + 1
 }
 
-// All of s.
+// All of s; our crates alone call it.
 pub fn put_all(out: &mut [u8], at: usize, s: &[u8]) -> usize
     requires { ⌜ at + length (now s) < 2 ^ 63 ⌝ }
     ensures { λ r. ⌜ Wrote (now (out .entry)) at (now (s .entry)) (now (out .exit)) r ⌝ }
@@ -29,7 +29,7 @@ pub fn put_all(out: &mut [u8], at: usize, s: &[u8]) -> usize
     o
 }
 
-// n in decimal.
+// n in decimal; our crates alone call it.
 pub fn put_decimal(out: &mut [u8], at: usize, n: u64) -> usize
     requires { ⌜ at + 20 < 2 ^ 63 ⌝ }
     ensures { λ r. ⌜ Wrote (now (out .entry)) at (decimal n) (now (out .exit)) r ⌝ }
@@ -41,7 +41,7 @@ pub fn put_decimal(out: &mut [u8], at: usize, n: u64) -> usize
     put(out, next, b'0' + (n % 10) as u8)
 }
 
-// A Latin-1 byte as UTF-8.
+// A Latin-1 byte as UTF-8; our crates alone call it.
 pub fn put_latin1(out: &mut [u8], at: usize, b: u8) -> usize
     requires { ⌜ at + 1 < 2 ^ 63 ⌝ }
     ensures { λ r. ⌜ Wrote (now (out .entry)) at (latin1 b) (now (out .exit)) r ⌝ }
@@ -53,7 +53,7 @@ pub fn put_latin1(out: &mut [u8], at: usize, b: u8) -> usize
     put(out, next, 128 + b % 64)
 }
 
-// All of s, each byte a code point.
+// All of s, each byte a code point; our crates alone call it.
 pub fn put_latin(out: &mut [u8], at: usize, s: &[u8]) -> usize
     requires { ⌜ at + 2 * length (now s) < 2 ^ 63 ⌝ }
     ensures { λ r. ⌜ Wrote (now (out .entry)) at (latin (now (s .entry))) (now (out .exit)) r ⌝ }

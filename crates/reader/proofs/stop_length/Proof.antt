@@ -1,190 +1,51 @@
 -- `stop_length` meets its contract. Assumes nothing.
+use Prim.Native.Nat.{ℕ}
+use mathlib.Core.Path.{_≡_, refl}
+use mathlib.Core.List.{List, [], _∷_}
+use types.Run.{OneOf, miss}
+use denote.Enum.Declared.{tagOf}
+use Rattle.pieces.proofs.Piece.{the-type}
+use Rattle.pieces.specs.declared.Piece.{Piece}
+use Rattle.pieces.specs.declared.Piece.the-variants.{Standard, Turbo, Tone, Pulses, Pure, Generalized, Pause, GroupStart, GroupEnd, LoopStart, LoopEnd, Stop48, Text, Message, Archive, Hardware, Custom, Glue}
 use Rattle.reader.specs.Source.{stopLength}
 use borrow.Author.Needs.{needs}
 use Rattle.reader.proofs.stop_length.Statement.{statement}
 use Rattle.reader.proofs.stop_length.Tie as tie
 
-enum-told : tie.Need-enum-told
-enum-told c = search needs
+-- the pieces but the 2A, by their numbers in the order of the enum
+abbrev others : List ℕ
+others = 0 ∷ 1 ∷ 2 ∷ 3 ∷ 4 ∷ 5 ∷ 6 ∷ 7 ∷ 8 ∷ 9 ∷ 10 ∷ 12 ∷ 13 ∷ 14 ∷ 15 ∷ 16 ∷ 17 ∷ []
+
+none : (p : Piece) → OneOf others (tagOf the-type p) → 0 ≡ stopLength p
+unfolding stopLength
+none (Standard pause from size) k = refl
+none (Turbo d) k = refl
+none (Tone half count) k = refl
+none (Pulses count from) k = refl
+none (Pure nil one last pause from size) k = refl
+none (Generalized g) k = refl
+none (Pause n) k = refl
+none (GroupStart from size) k = refl
+none GroupEnd k = refl
+none (LoopStart times) k = refl
+none LoopEnd k = refl
+none (Stop48 length) k = absurd (miss others 11 tt k)
+none (Text from size) k = refl
+none (Message seconds from size) k = refl
+none (Archive count from) k = refl
+none (Hardware count from) k = refl
+none (Custom id from size) k = refl
+none Glue k = refl
 
 enum-known-piece : tie.Need-enum-known-piece
 enum-known-piece c = search needs
 
-enum-told-2 : tie.Need-enum-told-2
-enum-told-2 c = search needs
-
-enum-told-3 : tie.Need-enum-told-3
-enum-told-3 c = search needs
-
-enum-told-4 : tie.Need-enum-told-4
-enum-told-4 c = search needs
-
-enum-known-piece-2 : tie.Need-enum-known-piece-2
-enum-known-piece-2 c = search needs
-
-enum-told-5 : tie.Need-enum-told-5
-enum-told-5 c = search needs
-
-enum-told-6 : tie.Need-enum-told-6
-enum-told-6 c = search needs
-
-enum-told-7 : tie.Need-enum-told-7
-enum-told-7 c = search needs
-
-enum-told-8 : tie.Need-enum-told-8
-enum-told-8 c = search needs
-
-enum-told-9 : tie.Need-enum-told-9
-enum-told-9 c = search needs
-
-enum-known-piece-3 : tie.Need-enum-known-piece-3
-enum-known-piece-3 c = search needs
-
-enum-told-10 : tie.Need-enum-told-10
-enum-told-10 c = search needs
-
-enum-told-11 : tie.Need-enum-told-11
-enum-told-11 c = search needs
-
-enum-told-12 : tie.Need-enum-told-12
-enum-told-12 c = search needs
-
-enum-told-13 : tie.Need-enum-told-13
-enum-told-13 c = search needs
-
-enum-told-14 : tie.Need-enum-told-14
-enum-told-14 c = search needs
-
-enum-told-15 : tie.Need-enum-told-15
-enum-told-15 c = search needs
-
 returns : tie.Need-returns
-unfolding stopLength
-returns c =
-    rw (c .enum-told .given .1)
+returns c = none (c .before .args .piece) (c .match .keys2)
 
 returns-2 : tie.Need-returns-2
 unfolding stopLength
-returns-2 c =
-    rw (c .before .piece .given .1)
-
-returns-3 : tie.Need-returns-3
-unfolding stopLength
-returns-3 c =
-    rw (c .enum-told2 .given .1)
-
-returns-4 : tie.Need-returns-4
-unfolding stopLength
-returns-4 c =
-    rw (c .enum-told3 .given .1)
-
-returns-5 : tie.Need-returns-5
-unfolding stopLength
-returns-5 c =
-    rw (c .enum-told4 .given .1)
-
-returns-6 : tie.Need-returns-6
-unfolding stopLength
-returns-6 c =
-    rw (c .before .piece2 .given .1)
-
-returns-7 : tie.Need-returns-7
-unfolding stopLength
-returns-7 c =
-    rw (c .enum-told5 .given .1)
-
-returns-8 : tie.Need-returns-8
-unfolding stopLength
-returns-8 c =
-    rw (c .enum-told6 .given .1)
-
-returns-9 : tie.Need-returns-9
-unfolding stopLength
-returns-9 c =
-    rw (c .enum-told7 .given .1)
-
-returns-10 : tie.Need-returns-10
-unfolding stopLength
-returns-10 c =
-    rw (c .enum-told8 .given .1)
-
-returns-11 : tie.Need-returns-11
-unfolding stopLength
-returns-11 c =
-    rw (c .enum-told9 .given .1)
-
-returns-12 : tie.Need-returns-12
-unfolding stopLength
-returns-12 c =
-    rw (c .before .piece3 .given .1)
-
-returns-13 : tie.Need-returns-13
-unfolding stopLength
-returns-13 c =
-    rw (c .enum-told10 .given .1)
-
-returns-14 : tie.Need-returns-14
-unfolding stopLength
-returns-14 c =
-    rw (c .enum-told11 .given .1)
-
-returns-15 : tie.Need-returns-15
-unfolding stopLength
-returns-15 c =
-    rw (c .enum-told12 .given .1)
-
-returns-16 : tie.Need-returns-16
-unfolding stopLength
-returns-16 c =
-    rw (c .enum-told13 .given .1)
-
-returns-17 : tie.Need-returns-17
-unfolding stopLength
-returns-17 c =
-    rw (c .enum-told14 .given .1)
-
-returns-18 : tie.Need-returns-18
-unfolding stopLength
-returns-18 c =
-    rw (c .enum-told15 .given .1)
+returns-2 c = rw (c .before .piece .given .1)
 
 pub stop-length-spec : {M : Type 1} → statement M
-stop-length-spec =
-    tie.close
-    (tie.spec
-    enum-told
-    enum-known-piece
-    enum-told-2
-    enum-told-3
-    enum-told-4
-    enum-known-piece-2
-    enum-told-5
-    enum-told-6
-    enum-told-7
-    enum-told-8
-    enum-told-9
-    enum-known-piece-3
-    enum-told-10
-    enum-told-11
-    enum-told-12
-    enum-told-13
-    enum-told-14
-    enum-told-15
-    returns
-    returns-2
-    returns-3
-    returns-4
-    returns-5
-    returns-6
-    returns-7
-    returns-8
-    returns-9
-    returns-10
-    returns-11
-    returns-12
-    returns-13
-    returns-14
-    returns-15
-    returns-16
-    returns-17
-    returns-18)
+stop-length-spec = tie.close (tie.spec enum-known-piece returns returns-2)

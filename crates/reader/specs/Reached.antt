@@ -1,0 +1,75 @@
+-- Whether the reading of a TZX reaches a 2A: reads one whole with length 0, also in a reading that errs later. Assumes nothing.
+use Prim.Native.Nat.{ℕ, zero, suc}
+use mathlib.Core.Bool.{Bool, true, false, _&&_, _||_}
+use mathlib.Core.List.{List}
+use lib.ListN.{length}
+use lib.Dec.{ltb, eqb}
+use Rattle.laws.specs.Rules.{_⇒_, _∣_}
+use Rattle.pieces.specs.declared.Piece.{Piece}
+use Rattle.pieces.specs.declared.Piece.the-variants.{Standard, Turbo, Tone, Pulses, Pure, Generalized, Pause, GroupStart, GroupEnd, LoopStart, LoopEnd, Stop48, Text, Message, Archive, Hardware, Custom, Glue}
+use Rattle.pieces.specs.declared.Taken.{Taken}
+use Rattle.pieces.specs.declared.Taken.the-variants as taken
+use Rattle.pieces.specs.declared.Heading.{Heading}
+use Rattle.pieces.specs.declared.Heading.the-variants as heading
+use Rattle.pieces.specs.Cut.{cutAt, headAt}
+use Rattle.parser.specs.Parser.{Tape, Out, on, no as refuse, empty}
+use Rattle.blocks.specs.Adds.{Lent}
+use Rattle.reader.specs.Source.{See, over, bad, refuses, thing, stopLength, full, tzxSee}
+
+unfoldable pub isStop48 : Piece → Bool
+isStop48 (Standard pause from size) = false
+isStop48 (Turbo d) = false
+isStop48 (Tone half count) = false
+isStop48 (Pulses count from) = false
+isStop48 (Pure nil one last pause from size) = false
+isStop48 (Generalized g) = false
+isStop48 (Pause n) = false
+isStop48 (GroupStart from size) = false
+isStop48 GroupEnd = false
+isStop48 (LoopStart times) = false
+isStop48 LoopEnd = false
+isStop48 (Stop48 length) = true
+isStop48 (Text from size) = false
+isStop48 (Message seconds from size) = false
+isStop48 (Archive count from) = false
+isStop48 (Hardware count from) = false
+isStop48 (Custom id from size) = false
+isStop48 Glue = false
+
+-- a 2A that is whole, with length 0
+unfoldable pub stopsAt : Taken → Bool
+stopsAt taken.End = false
+stopsAt (taken.Whole kind from next piece) = isStop48 piece && eqb (stopLength piece) 0
+stopsAt (taken.Unknown kind described) = false
+stopsAt (taken.Short kind p w) = false
+stopsAt (taken.Overflow kind p) = false
+
+-- a reading that goes on goes on with what stands next: as `after` and `seeing` of Source do
+unfoldable pub goingOn : Out → (Tape → Bool) → Bool
+goingOn (on t) k = k t
+goingOn (refuse j) k = false
+
+unfoldable pub passing : See → Tape → (ℕ → Tape → Bool) → Bool
+passing over t k = false
+passing (bad f) t k = false
+passing (refuses j) t k = false
+passing (thing next does) t k = goingOn (does t) (k next)
+
+module _ (lent : Lent) (s : List ℕ) where
+  -- n things at the most, from a place on, as `foldFrom` takes them
+  unfoldable pub reachedFrom : ℕ → ℕ → ℕ → Tape → Bool
+  reachedFrom model zero at t = false
+  reachedFrom model (suc n) at t = stopsAt (cutAt s at full) || passing (tzxSee lent s model at) t (reachedFrom model n)
+
+  unfoldable pub reachedBehind : ℕ → Heading → Bool
+  reachedBehind model (heading.Version major minor) = reachedFrom model (length s) 10 empty
+  reachedBehind model heading.BadSignature = false
+  reachedBehind model (heading.Short p w) = false
+
+  -- a tape over 1,048,576 bytes is not read
+  unfoldable pub reachedBy : ℕ → Bool
+  reachedBy model = ltb 1048576 (length s) ⇒ false ∣ reachedBehind model (headAt s)
+
+  -- no matter of the model: the run followed is the 128K's, and up to the first 2A the runs are the same (`reached-any` of proofs/Models)
+  unfoldable pub reaches2A : Bool
+  reaches2A = reachedBy 1

@@ -1,2 +1,2 @@
-mod Rest
+pub mod Rest
 pub mod Judged

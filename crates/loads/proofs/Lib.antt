@@ -1,0 +1,5 @@
+pub mod Sizes
+pub mod Steps
+pub mod Loading
+pub mod Rows
+pub mod Tones

@@ -3,3 +3,6 @@ pub mod Steps
 pub mod Loading
 pub mod Rows
 pub mod Tones
+pub mod Formed
+pub mod Room
+pub mod Well

@@ -39,8 +39,8 @@ pub tap-count : {s : List ℕ} {ts : List Tone} {r : Block} → OfTap s ts r →
 unfolding standardTones standardBlock born
 tap-count (OfTap.standard f tone) = refl
 
--- what does not look at the pause is the same after 22's
-abbrev short : Block → Block
+-- a row with 22's pause; what does not look at the pause is the same
+abbrev pub short : Block → Block
 short r =
     record { tone = r .tone; tones = r .tones; start = r .start; size = r .size; zero = r .zero; one = r .one; last = r .last; pause = 3500; endless = r .endless; selectable = r .selectable; named = r .named; text = r .text; chars = r .chars }
 
@@ -99,7 +99,7 @@ module _ {P : List Tone → Block → Type 0} where
           }
 
 -- the naming pass keeps what it leaves of a row alone
-named-all : {Q : Block → Type 0} (s : List ℕ) → ((r : Block) → Q r → Q (unselected r)) → (p : Bool) {rs : List Block} → All Q rs → All Q (nameAll s p rs)
+pub named-all : {Q : Block → Type 0} (s : List ℕ) → ((r : Block) → Q r → Q (unselected r)) → (p : Bool) {rs : List Block} → All Q rs → All Q (nameAll s p rs)
 unfolding nameAll passed
 named-all s f p nil = nil
 named-all {Q} s f p (cons {x = r} h hs) = cons (by-cases (isHeader s r) p) (named-all s f (isHeader s r) hs)

@@ -1,0 +1,112 @@
+-- EVERY ROW OF EVERY LOAD IS WELL FORMED, so that no query or player of a loaded table answers 11. Assumes nothing but that bytes are below 256.
+use Prim.Native.Nat.{ℕ, zero, suc, _+_, _*_, _/_, _≤_, _<_, min}
+use native.Mathlib.Omega.{arith}
+use native.Mathlib.Numerals.{add-one}
+use mathlib.Core.Path.{_≡_, refl, sym, ap, subst, _∙_}
+use mathlib.Core.Bool.{Bool, true, false, _&&_, _||_, or-true}
+use mathlib.Core.List.{List, [], _∷_}
+use mathlib.Core.Logic.{⊎-elim}
+use lib.ListN.{length, getD, take, drop, length-replicate}
+use lib.Seq.{drop-cons}
+use lib.Dec.{leb, ltb, eqb}
+use borrow.Author.Tests.{le-leb, le-ltb, eq-eqb}
+use Rattle.laws.specs.Numbers.{lt-or-ge}
+use Rattle.rows.specs.declared.Block.{Block}
+use Rattle.rows.specs.declared.Tone.{Tone}
+use Rattle.rows.specs.Table.{Codec, get, tableOf, zeros, capacityOf}
+use Rattle.rows.specs.Rows.{tone, block, toneMost, blockMost}
+use Rattle.rows.specs.Well.{wellTone, wellTones, wellRanges, wellLast, wellNumbers, wellCases, wellBlock}
+use Rattle.rows.proofs.Tables.{over-length, get-row}
+use Rattle.rows.proofs.WellLaws.{Halves}
+use Rattle.parser.specs.Parser.{Tape}
+use Rattle.parser.specs.Holds.{toneRoom, blockRoom}
+use Rattle.parser.proofs.Kept.{All, nil, cons}
+use Rattle.blocks.specs.Does.{lentOf}
+use Rattle.reader.specs.Source.{loadOf}
+use Rattle.names.specs.Names.{nameAll}
+use Rattle.names.proofs.Selecting.{name-all-length}
+use Rattle.entries.specs.Mounted.{tapeOf, overfull, sizeOf, wellRow}
+use Rattle.loads.specs.Sizes.{Bytes}
+use Rattle.loads.specs.Made.{tonesIn, Row, Reads}
+use Rattle.loads.proofs.Rows.{every-row}
+use Rattle.loads.proofs.Formed.{Formed, formed}
+use Rattle.loads.proofs.Room.{Within, Bits, load-within, load-bits, load-length}
+
+-- element i of a list that has P throughout
+all-get : {A : Type 0} {P : A → Type 0} {xs : List A} → All P xs → (i : ℕ) (d : A) → i < length xs → P (getD xs i d)
+all-get nil i d h = absurd (omega arith)
+all-get (cons p ps) zero d h = p
+all-get (cons p ps) (suc i) d h = all-get ps i d (omega arith)
+
+all-both : {A : Type 0} {P Q R : A → Type 0} {xs : List A} → ((x : A) → P x → Q x → R x) → All P xs → All Q xs → All R xs
+all-both f nil nil = nil
+all-both f (cons {x = x} p ps) (cons q qs) = cons (f x p q) (all-both f ps qs)
+
+-- a table of N words that hold the rows is N words
+table-length : {R : Type 0} (C : Codec R) (rs : List R) (N : ℕ) → length rs * C .width ≤ N → length (tableOf C rs N) ≡ N
+table-length C rs N h = over-length C rs (zeros N) (rw length-replicate h) ∙ length-replicate N 0
+
+tone-well : (t : Tone) → Halves t → wellTone t ≡ true
+unfolding wellTone
+tone-well t h = rw (le-leb (t .num) 65535 (h .num), le-leb (t .len1) 65535 (h .len1), le-leb (t .len2) 65535 (h .len2))
+
+parts : {x : Tone} {xs : List Tone} → All Halves (x ∷ xs) → Halves x × All Halves xs
+parts (cons h hs) = (h, hs)
+
+tones-well : (all : List Tone) (N from n : ℕ) → from + n ≤ length all → All Halves (take n (drop from all)) → wellTones (tableOf tone all N) from n ≡ true
+unfolding wellTones
+tones-well all N from zero h p = refl
+tones-well all N from (suc n) h p =
+    let d = get tone (tableOf tone all N) from in
+    let e : take (suc n) (drop from all) ≡ getD all from d ∷ take n (drop (suc from) all) = ap (take (suc n)) (drop-cons all from d (omega arith)) in
+    let q = parts (rw e at p) in
+    let g : get tone (tableOf tone all N) from ≡ getD all from d = get-row tone all (zeros N) from d (omega arith) in
+    let w : wellTone (get tone (tableOf tone all N) from) ≡ true = ap wellTone g ∙ tone-well (getD all from d) (q .0) in
+    let l : wellTones (tableOf tone all N) (from + 1) n ≡ true = rw (add-one from) (tones-well all N (suc from) n (omega arith) (q .1)) in
+    rw (w, l)
+
+last-well : (r : Block) → Bits r → wellLast r ≡ true
+last-well r h =
+    ⊎-elim
+    (λ (k : 0 < r .size). rw (le-leb (r .last) 8 (h k)) (or-true (eqb (r .size) 0)))
+    (λ (k : r .size ≤ 0). let e : r .size ≡ 0 = omega arith in rw (eq-eqb (r .size) 0 e))
+    (lt-or-ge 0 (r .size))
+
+module _ (s : List ℕ) (all : List Tone) (N : ℕ) (room : length all ≤ toneRoom N) where
+  -- a formed row over tones of the table is well formed
+  row-well : (r : Block) → Row (Formed s) all r → Bits r → wellBlock (length s) (tableOf tone all N) r ≡ true
+  unfolding wellBlock wellRanges wellNumbers wellCases
+  row-well r h b =
+      let f = h .has in
+      let i = h .inside in
+      let n : length (tableOf tone all N) ≡ N = table-length tone all N (omega arith) in
+      let c : capacityOf tone toneMost (tableOf tone all N) ≡ toneRoom N = rw n in
+      rw (c, le-leb (r .tone + r .tones) (toneRoom N) (omega arith), le-leb (r .start + r .size) (length s) (f .bytes), le-leb (r .text + r .chars) (length s) (f .name), le-leb (r .zero) 65535 (f .zero), le-leb (r .one) 65535 (f .one), le-leb (r .pause) 229372500 (f .pause), or-true (eqb (r .endless) 1), last-well r b, le-leb (r .endless) 1 (f .endless), le-leb (r .selectable) 1 (f .selectable), le-leb (r .named) 4 (f .named), tones-well all N (r .tone) (r .tones) i (f .tones))
+
+module _ (B N : ℕ) (s : List ℕ) (model : ℕ) {t : Tape} where
+  -- every row of every load
+  pub every-well : Bytes s → Reads (loadOf (lentOf B N) s model) t → All (λ r. wellBlock (length s) (tableOf tone (t .tones) N) r ≡ true) (nameAll s false (t .blocks))
+  every-well b r =
+      all-both (row-well s (t .tones) N (load-within (lentOf B N) s model b r .tones)) (every-row (lentOf B N) s model (formed s b) b r) (load-bits (lentOf B N) s model b r)
+
+  -- THE COUNT FITS THE TABLE
+  pub loaded-fits : Bytes s → Reads (loadOf (lentOf B N) s model) t
+      → overfull (tapeOf s (tableOf tone (t .tones) N) (tableOf block (nameAll s false (t .blocks)) B) (length (t .blocks))) ≡ false
+  loaded-fits b r =
+      let w = load-within (lentOf B N) s model b r in
+      let l = name-all-length s false (t .blocks) in
+      let n : length (tableOf block (nameAll s false (t .blocks)) B) ≡ B = table-length block (nameAll s false (t .blocks)) B (rw l (omega (arith, w .blocks))) in
+      rw n (le-ltb (blockRoom B) (length (t .blocks)) (w .blocks))
+
+  -- EVERY ROW OF THE TABLE IS WELL FORMED
+  pub loaded-well : Bytes s → Reads (loadOf (lentOf B N) s model) t → (i : ℕ) → i < length (t .blocks)
+      → wellRow (tapeOf s (tableOf tone (t .tones) N) (tableOf block (nameAll s false (t .blocks)) B) (length (t .blocks))) i ≡ true
+  unfolding wellRow
+  loaded-well b r i h =
+      let named = nameAll s false (t .blocks) in
+      let tt = tableOf tone (t .tones) N in
+      let d = get block (tableOf block named B) i in
+      let k : i < length named = rw (name-all-length s false (t .blocks)) h in
+      let z : sizeOf s ≡ length s = let m = load-length (lentOf B N) s model r in omega arith in
+      let g : get block (tableOf block named B) i ≡ getD named i d = get-row block named (zeros B) i d k in
+      ap (λ (m : ℕ). wellBlock m tt d) z ∙ ap (wellBlock (length s) tt) g ∙ all-get (every-well b r) i d k

@@ -2,28 +2,26 @@
 -- Of 'well formed' this leaves the last bits (refusal 7) and the table. Assumes nothing but that bytes are below 256.
 use Prim.Native.Nat.{ℕ, _+_, _*_, _/_, _%_, _≤_, _<_}
 use native.Mathlib.Omega.{arith}
-use mathlib.Core.Path.{_≡_, refl}
+use mathlib.Core.Path.{_≡_}
 use mathlib.Core.Bool.{Bool, true, false, _&&_}
 use mathlib.Core.List.{List, [], _∷_}
 use lib.ListN.{length}
 use lib.Dec.{eqb}
 use Rattle.laws.specs.Rules.{_⇒_, _∣_}
-use Rattle.fields.specs.Field.{leAt}
 use Rattle.fields.proofs.Le.{le-small}
 use Rattle.rows.specs.declared.Block.{Block}
 use Rattle.rows.specs.declared.Tone.{Tone}
 use Rattle.rows.proofs.WellLaws.{Halves}
-use Rattle.pieces.specs.declared.GeneralizedData.{GeneralizedData}
 use Rattle.pieces.specs.declared.TurboData.{TurboData}
-use Rattle.pieces.specs.declared.Piece.the-variants.{Standard, Turbo, Tone as PureTone, Pure, Generalized, Pause}
+use Rattle.pieces.specs.declared.Piece.the-variants.{Turbo}
 use Rattle.general.specs.General as general
 use Rattle.parser.specs.Parser.{paused}
 use Rattle.parser.proofs.Kept.{All, nil, cons}
 use Rattle.blocks.specs.Blocks.{toneOf, born, stopBlock, standardCycles, standardTones, standardBlock, standardPause, turboTones, turboBlock, pureTones, pureBlock, pureToneTones, pulseAt, pauseBlock}
 use Rattle.names.specs.Names.{unselected}
-use Rattle.loads.specs.Sizes.{Bytes, Range}
+use Rattle.loads.specs.Sizes.{Bytes}
 use Rattle.loads.specs.Made as made
-use Rattle.loads.specs.Made.{From, Given, OfPiece, OfTap, Lasts, Everywhere}
+use Rattle.loads.specs.Made.{From, Given, OfPiece, OfTap, Everywhere}
 use Rattle.loads.proofs.Rows.{short}
 use Rattle.loads.proofs.Tones.{Fine, general-fine}
 

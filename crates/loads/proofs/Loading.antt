@@ -1,8 +1,8 @@
 -- ONE INDUCTION OVER THE LOAD: what its steps keep holds of every tape that a load reads. Assumes nothing but that bytes are below 256.
-use Prim.Native.Nat.{ℕ, zero, suc, _+_}
+use Prim.Native.Nat.{ℕ, zero, suc}
 use mathlib.Core.Path.{_≡_, refl}
 use mathlib.Core.Bool.{Bool, true, false}
-use mathlib.Core.List.{List, _∷_}
+use mathlib.Core.List.{List}
 use lib.ListN.{length}
 use lib.Dec.{leb, ltb, eqb}
 use Rattle.laws.specs.Rules.{_⇒_, _∣_}
@@ -14,7 +14,7 @@ use Rattle.pieces.specs.declared.TakenTap.the-variants as tap
 use Rattle.pieces.specs.declared.Heading.{Heading}
 use Rattle.pieces.specs.declared.Heading.the-variants as heading
 use Rattle.pieces.specs.Cut.{cutAt, tapAt, headAt}
-use Rattle.parser.specs.Parser.{Tape, Out, on, empty}
+use Rattle.parser.specs.Parser.{Tape, Out, empty}
 use Rattle.parser.proofs.Kept.{Sure, sure, none}
 use Rattle.blocks.specs.Adds.{Lent}
 use Rattle.reader.specs.declared.Failure.{Failure}
@@ -23,7 +23,7 @@ use Rattle.reader.specs.Source as source
 use Rattle.reader.specs.Source.{See, thing, Read, after, seeing, foldFrom, stopLength, full, act, tooManyBits, judged, tzxOf, tzxSee, headed, readTzx, tapOf, tapSee, readTap, Loaded, orTap, orElse, loadOf}
 use Rattle.loads.specs.Sizes.{Bytes}
 use Rattle.loads.specs.Made.{OfPiece, OfTap, Reads, as-tzx, as-tap}
-use Rattle.loads.proofs.Sizes.{cut-sized, tap-sized}
+use Rattle.loads.proofs.Sizes.{cut-named, cut-sized, tap-sized}
 use Rattle.loads.proofs.Steps.{Keeps, act-keeps, tap-keeps}
 
 -- what stands at a place keeps K
@@ -85,7 +85,7 @@ module _ {lent : Lent} {s : List ℕ} (b : Bytes s) where
     tzx-safe model at = by-cut (cutAt s at full) refl
       where
         by-length : {kind from next : ℕ} (piece : Piece) (z : Bool) → cutAt s at full ≡ taken.Whole kind from next piece → Safe K (z ⇒ thing next (act lent s model piece) ∣ source.bad (failure.Length (stopLength piece)))
-        by-length piece true e = does (act-keeps k model piece (record { at = at; kind = _; begin = _; next = _; cut = e; sized = cut-sized s b at e }))
+        by-length piece true e = does (act-keeps k model piece (record { at = at; next = _; cut = cut-named s at e; sized = cut-sized s at e b }))
         by-length piece false e = bad
 
         by-cut : (x : Taken) → cutAt s at full ≡ x → Safe K (tzxOf lent s model at x)
@@ -112,7 +112,7 @@ module _ {lent : Lent} {s : List ℕ} (b : Bytes s) where
         by-cut : (x : TakenTap) → tapAt s at ≡ x → Safe L (tapOf lent s x)
         by-cut tap.End e = over
         by-cut tap.Lone e = over
-        by-cut (tap.Block from size next) e = does (tap-keeps l (record { at = at; next = next; cut = e; range = tap-sized s b at e }))
+        by-cut (tap.Block from size next) e = does (tap-keeps l (record { at = at; next = next; cut = e; range = tap-sized s at e b }))
         by-cut (tap.Short p w) e = bad
 
     tap-read : Final L (readTap lent s)

@@ -1,18 +1,18 @@
 -- Every load's rows fit the lent rows, its data blocks have last bits of at most 8, and its tape is no longer than a tape may be.
 -- Assumes nothing but that bytes are below 256.
-use Prim.Native.Nat.{ℕ, suc, _+_, _≤_, _<_}
+use Prim.Native.Nat.{ℕ, _≤_, _<_}
 use native.Mathlib.Omega.{arith}
-use mathlib.Core.Path.{_≡_, refl, ap}
+use mathlib.Core.Path.{_≡_, refl}
 use mathlib.Core.Bool.{Bool, true, false, _&&_}
-use mathlib.Core.List.{List, [], _∷_, _++_}
+use mathlib.Core.List.{List, [], _∷_}
 use lib.ListN.{length, length-append}
 use lib.Dec.{leb, ltb}
-use borrow.Author.Tests.{lt-ltb, ltb-true, ltb-false}
-use Rattle.laws.specs.Numbers.{lt-or-ge}
+use borrow.Author.Tests.{ltb-false}
 use Rattle.laws.specs.Rules.{_⇒_, _∣_}
 use Rattle.rows.specs.declared.Block.{Block}
 use Rattle.rows.specs.declared.Tone.{Tone}
-use Rattle.parser.specs.Parser.{Tape, empty, paused, lastPaused}
+use Rattle.parser.specs.Parser.{Tape, empty}
+use Rattle.parser.proofs.Adds.{paused-length}
 use Rattle.parser.proofs.Kept.{All, nil, cons, all-also}
 use Rattle.blocks.specs.Blocks.{born, standardBlock}
 use Rattle.blocks.specs.Adds.{Lent}
@@ -22,19 +22,13 @@ use Rattle.names.specs.Names.{unselected, nameAll}
 use Rattle.loads.specs.Sizes.{Bytes}
 use Rattle.loads.specs.Made.{OfPiece, OfTap, Row, Lasts, Reads, as-tzx, as-tap}
 use Rattle.loads.proofs.Steps.{Keeps}
-use Rattle.loads.proofs.Loading.{Judged, load-keeps}
+use Rattle.loads.proofs.Loading.{load-keeps}
 use Rattle.loads.proofs.Rows.{paused-same, tap-count, rows-keep, named-all}
 
 -- no more rows than are lent
 pub record Within (lent : Lent) (t : Tape) : Type 0 where
   pub blocks : length (t .blocks) ≤ lent .blocks
   pub tones : length (t .tones) ≤ lent .tones
-
-paused-length : (rs : List Block) → length (lastPaused rs) ≡ length rs
-unfolding lastPaused
-paused-length [] = refl
-paused-length (r ∷ []) = refl
-paused-length (r ∷ q ∷ rs) = ap suc (paused-length (q ∷ rs))
 
 within-keeps : (lent : Lent) (s : List ℕ) (M : List Tone → Block → Type 0) → Keeps lent s M (Within lent)
 unfolding empty
@@ -108,11 +102,13 @@ module _ (lent : Lent) (s : List ℕ) (model : ℕ) {t : Tape} where
       load-keeps lent s model b (within-keeps lent s (OfPiece s)) (within-keeps lent s (OfTap s)) (λ u h. h .kept) (λ u h. h) r
 
   -- LAST BITS: for TZX by refusal 7, for TAP by the standard block's 8
+  pub read-bits : Bytes s → Reads (loadOf lent s model) t → All Bits (t .blocks)
+  read-bits b r =
+      load-keeps lent s model b (any-keeps lent s (OfPiece s)) (rows-keep (eight-lasts s) (λ ts r m. tap-count m) (λ ts r m. tap-eight m) lent) (λ u h. bits-all (u .blocks) (h .bits)) (λ u h. all-also eight-bits (h .rows)) r
+
   pub load-bits : Bytes s → Reads (loadOf lent s model) t → All Bits (nameAll s false (t .blocks))
   unfolding unselected
-  load-bits b r =
-      named-all s (λ q h. h) false
-      (load-keeps lent s model b (any-keeps lent s (OfPiece s)) (rows-keep (eight-lasts s) (λ ts r m. tap-count m) (λ ts r m. tap-eight m) lent) (λ u h. bits-all (u .blocks) (h .bits)) (λ u h. all-also eight-bits (h .rows)) r)
+  load-bits b r = named-all s (λ q h. h) false (read-bits b r)
 
   -- refusal 2
   pub load-length : Reads (loadOf lent s model) t → length s ≤ 1048576

@@ -3,16 +3,16 @@ use Prim.Native.Nat.{ℕ, _+_, _≤_}
 use native.Mathlib.Omega.{arith}
 use mathlib.Core.Path.{_≡_, refl, sym, ap, subst, _∙_}
 use mathlib.Core.Bool.{Bool, true, false, _&&_}
-use mathlib.Core.List.{List, [], _∷_, _++_}
+use mathlib.Core.List.{List, [], _++_}
 use lib.ListN.{length, take, drop, length-append, length-drop}
 use lib.Seq.{drop-at, take-all, take-append-le, drop-append-le}
 use lib.Dec.{eqb}
 use Rattle.laws.specs.Rules.{_⇒_, _∣_}
 use Rattle.rows.specs.declared.Block.{Block}
 use Rattle.rows.specs.declared.Tone.{Tone}
-use Rattle.parser.specs.Parser.{Tape, empty, withTones, withBlock, paused}
-use Rattle.parser.proofs.Kept.{All, nil, cons, all-also, Steps, Lasting, Kept, kept-empty, with-block, kept-steps}
-use Rattle.blocks.specs.Blocks.{born, stopBlock, standardTones, standardBlock, turboTones, turboBlock, pureTones, pureBlock, pureToneTones, pauseBlock}
+use Rattle.parser.specs.Parser.{Tape, empty, withTones, paused}
+use Rattle.parser.proofs.Kept.{All, nil, cons, all-also, Lasting, Kept, kept-empty, with-block, kept-steps}
+use Rattle.blocks.specs.Blocks.{born, stopBlock, standardTones, standardBlock, turboTones, turboBlock, pureTones, pureBlock, pauseBlock}
 use Rattle.blocks.specs.Adds.{Lent}
 use Rattle.reader.specs.Source.{loadOf}
 use Rattle.names.specs.Names.{isHeader, unselected, passed, nameAll}
@@ -20,7 +20,7 @@ use Rattle.loads.specs.Sizes.{Bytes}
 use Rattle.loads.specs.Made as made
 use Rattle.loads.specs.Made.{Given, OfPiece, OfTap, tonesIn, Row, Lasts, Everywhere, Reads}
 use Rattle.loads.proofs.Steps.{Keeps}
-use Rattle.loads.proofs.Loading.{Judged, load-keeps}
+use Rattle.loads.proofs.Loading.{load-keeps}
 
 -- a row that is made counts its own tone rows
 pub piece-count : {s : List ℕ} {ts : List Tone} {r : Block} → OfPiece s ts r → r .tones ≡ length ts

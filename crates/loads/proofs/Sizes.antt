@@ -1,6 +1,6 @@
 -- What is cut from a tape is sized: one induction over layouts, then each kind's layout. Assumes nothing but that bytes are below 256.
-use Prim.Native.Nat.{ℕ, zero, suc, _+_, _^_, _≤_, _<_}
-use mathlib.Core.Path.{_≡_, refl, sym, _∙_}
+use Prim.Native.Nat.{ℕ, zero, _+_, _^_, _≤_, _<_}
+use mathlib.Core.Path.{_≡_, refl, sym, ap, _∙_}
 use mathlib.Core.Bool.{Bool, true, false}
 use mathlib.Core.List.{List}
 use mathlib.Core.Logic.{⊎-elim}
@@ -16,7 +16,7 @@ use Rattle.fields.specs.declared.Cursor.the-variants.{At}
 use Rattle.fields.specs.declared.Cursor.the-variants as cursor
 use Rattle.fields.specs.Field.{leAt, numberAt, fieldAt, placeOf}
 use Rattle.fields.proofs.Le.{le-small}
-use Rattle.fields.proofs.Runs.{field-there, field-short, field-inside}
+use Rattle.fields.proofs.Runs.{field-there, field-short}
 use Rattle.pieces.specs.declared.Piece.{Piece}
 use Rattle.pieces.specs.declared.Body.{Body}
 use Rattle.pieces.specs.declared.Body.the-variants.{Whole, Unknown, Short, Overflow}
@@ -25,7 +25,7 @@ use Rattle.pieces.specs.declared.TakenTap.{TakenTap}
 use Rattle.pieces.specs.declared.TakenTap.the-variants as tap
 use Rattle.pieces.specs.Grammar.{Layout, number, counted, here, pass, within, fitting, whole, unknown, countedAt, passAt, wholeAt, sealed, enclosed, fittingAt, readAt}
 use Rattle.pieces.specs.Kinds.{kind10, kind11, kind12, kind13, kind14, stream19, kind19, kind20, kind21, kind22, kind24, kind25, kind2A, kind30, kind31, info32, kind32, kind33, kind35, kind5A, kinds, kindOf}
-use Rattle.pieces.specs.Cut.{cutAt, blockOf, tapAt}
+use Rattle.pieces.specs.Cut.{named, cutAt, blockOf, tapAt}
 use Rattle.pieces.proofs.Layouts.{Ends, ends, none, short, wide, stuck, forward}
 use Rattle.pieces.proofs.Cutting.{cut-there, cut-inside}
 use Rattle.pieces.proofs.Places.{found-every, unnamed}
@@ -218,13 +218,20 @@ kinds-allow most full kind =
     )
     tt
 
--- WHAT A CUT PIECE IS
-pub cut-sized : (s : List ℕ) → Bytes s → (at : ℕ) {k a next : ℕ} {piece : Piece} → cutAt s at full ≡ taken.Whole k a next piece → Sized s piece
-cut-sized s b at {piece = piece} e =
-    let l = kindOf full (getD s at 0) in
-    let g = allowed (Numbers (length s)) (length s) l (kinds-allow (length s) full (getD s at 0)) s b (le-refl (length s)) (At (at + 1)) in
-    let q = unnamed (getD s at 0) at (readAt l s (At (at + 1))) (sym (cut-there s at full (cut-inside s at full e)) ∙ e) in
-    record { numbers = gives-piece g q; fit = cut-fit s at piece b e }
+module _ (s : List ℕ) (at : ℕ) {k a next : ℕ} {piece : Piece} (e : cutAt s at full ≡ taken.Whole k a next piece) where
+  body : readAt (kindOf full (getD s at 0)) s (At (at + 1)) ≡ Whole piece next
+  body = unnamed (getD s at 0) at (readAt (kindOf full (getD s at 0)) s (At (at + 1))) (sym (cut-there s at full (cut-inside s at full e)) ∙ e)
+
+  -- a piece is named by its own byte and place
+  pub cut-named : cutAt s at full ≡ taken.Whole (getD s at 0) at next piece
+  unfolding named
+  cut-named = cut-there s at full (cut-inside s at full e) ∙ ap (named (getD s at 0) at) body
+
+  -- WHAT A CUT PIECE IS
+  pub cut-sized : Bytes s → Sized s piece
+  cut-sized b =
+      let g = allowed (Numbers (length s)) (length s) (kindOf full (getD s at 0)) (kinds-allow (length s) full (getD s at 0)) s b (le-refl (length s)) (At (at + 1)) in
+      record { numbers = gives-piece g body; fit = cut-fit s at piece b e }
 
 -- what a TAP gives of which a block has its range
 data GivesTap (most : ℕ) : TakenTap → Type 0 where
@@ -243,8 +250,9 @@ tap-gives s b at = by-cases (leb (length s) at) (eqb (at + 1) (length s)) (count
     by-cases false false (At e) q = block (counted-range s b (At at) 2 q (le-refl (length s)))
     by-cases false false (cursor.Short p w) q = too-few
 
-pub tap-sized : (s : List ℕ) → Bytes s → (at : ℕ) {from size next : ℕ} → tapAt s at ≡ tap.Block from size next → Range (length s) 65536 from size
-tap-sized s b at e = of (tap-gives s b at) e
+-- what a block of a TAP is
+pub tap-sized : (s : List ℕ) (at : ℕ) {from size next : ℕ} → tapAt s at ≡ tap.Block from size next → Bytes s → Range (length s) 65536 from size
+tap-sized s at e b = of (tap-gives s b at) e
   where
     of : {x : TakenTap} {from size next : ℕ} → GivesTap (length s) x → x ≡ tap.Block from size next → Range (length s) 65536 from size
     of {from = from} {size} (block {from = f} {size = n} r) q = let i : f ≡ from = cc in let j : n ≡ size = cc in rw (i, j) at r

@@ -4,7 +4,7 @@ use Prim.Native.Nat.{ℕ, zero, suc, _+_, _*_, _/_, _≤_, _<_}
 use native.Mathlib.Omega.{arith}
 use mathlib.Core.Path.{_≡_, refl, subst}
 use mathlib.Core.Bool.{Bool, true, false}
-use mathlib.Core.List.{List, [], _∷_}
+use mathlib.Core.List.{List, []}
 use lib.ListN.{length}
 use lib.Dec.{leb, ltb, eqb}
 use borrow.Author.Tests.{leb-true, ltb-true, eqb-true, eqb-false}
@@ -17,7 +17,7 @@ use Rattle.pieces.specs.declared.Piece.the-variants.{Standard, Turbo, Tone as P
 use Rattle.general.specs.General as general
 use Rattle.parser.specs.Parser.{Tape, on, no, _⟫_, empty, withTones, withBlock, addTones, addBlock}
 use Rattle.parser.proofs.Kept.{Sure, sure, none, sure-then, Steps, keeps-start, keeps-text, keeps-end, keeps-open, keeps-close}
-use Rattle.blocks.specs.Blocks.{toneOf, born, stopBlock, isHeader, standardTones, standardBlock, standardPause, turboTones, turboBlock, pureTones, pureBlock, pureToneTones, soundOnly, pulseAt, pauseBlock, pauseOrStop}
+use Rattle.blocks.specs.Blocks.{born, stopBlock, isHeader, standardTones, standardBlock, standardPause, turboBlock, pureBlock, pauseBlock, pauseOrStop}
 use Rattle.blocks.specs.Adds.{Lent, addRows, add, addPairs, addGeneral, stopOn48}
 use Rattle.reader.specs.Source.{act}
 use Rattle.loads.specs.Made as made

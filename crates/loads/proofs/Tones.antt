@@ -1,9 +1,8 @@
 -- The numbers of what a 19 gives: tone counts, halves, zero and one are at most 65,535. Assumes nothing but that bytes are below 256.
-use Prim.Native.Nat.{ℕ, zero, suc, _+_, _*_, _/_, _≤_, _<_}
+use Prim.Native.Nat.{ℕ, zero, suc, _+_, _*_, _/_, _≤_}
 use native.Mathlib.Omega.{arith}
-use mathlib.Core.Path.{_≡_, refl}
 use mathlib.Core.Bool.{Bool, true, false, _&&_, _||_}
-use mathlib.Core.List.{List, [], _∷_, _++_}
+use mathlib.Core.List.{List}
 use lib.Dec.{leb, ltb, eqb}
 use Rattle.laws.specs.Rules.{_⇒_, _∣_}
 use Rattle.fields.specs.Field.{leAt}
@@ -14,7 +13,7 @@ use Rattle.pieces.specs.declared.GeneralizedData.{GeneralizedData}
 use Rattle.general.specs.declared.Row.{Row}
 use Rattle.general.specs.declared.Row.the-variants.{Refused, Gives}
 use Rattle.general.specs.General as general
-use Rattle.general.specs.General.{Symbol, symbolAt, toneOf, Part, before, rowsFrom, cycles, entrySymbol, entryRepeat, entryRow, pilotOf, ordinary, lastBits, numberAt, dataSymbol, singleRow, pairRow, singlesOf, pairsOf, dataOf, withData, withPilot, generalOf}
+use Rattle.general.specs.General.{Symbol, symbolAt, Part, before, rowsFrom, cycles, entrySymbol, entryRepeat, entryRow, pilotOf, ordinary, lastBits, numberAt, singleRow, pairRow, singlesOf, pairsOf, dataOf, withData, withPilot, generalOf}
 use Rattle.parser.proofs.Kept.{All, nil, cons, all-append}
 use Rattle.loads.specs.Sizes.{Bytes}
 

@@ -1,46 +1,36 @@
 -- EVERY ROW OF EVERY LOAD IS WELL FORMED, so that no query or player of a loaded table answers 11. Assumes nothing but that bytes are below 256.
-use Prim.Native.Nat.{ℕ, zero, suc, _+_, _*_, _/_, _≤_, _<_, min}
+use Prim.Native.Nat.{ℕ, zero, suc, _+_, _*_, _≤_, _<_}
 use native.Mathlib.Omega.{arith}
 use native.Mathlib.Numerals.{add-one}
-use mathlib.Core.Path.{_≡_, refl, sym, ap, subst, _∙_}
-use mathlib.Core.Bool.{Bool, true, false, _&&_, _||_, or-true}
-use mathlib.Core.List.{List, [], _∷_}
+use mathlib.Core.Path.{_≡_, refl, ap, _∙_}
+use mathlib.Core.Bool.{true, false, or-true}
+use mathlib.Core.List.{List, _∷_}
 use mathlib.Core.Logic.{⊎-elim}
 use lib.ListN.{length, getD, take, drop, length-replicate}
 use lib.Seq.{drop-cons}
-use lib.Dec.{leb, ltb, eqb}
+use lib.Dec.{eqb}
 use borrow.Author.Tests.{le-leb, le-ltb, eq-eqb}
 use Rattle.laws.specs.Numbers.{lt-or-ge}
 use Rattle.rows.specs.declared.Block.{Block}
 use Rattle.rows.specs.declared.Tone.{Tone}
 use Rattle.rows.specs.Table.{Codec, get, tableOf, zeros, capacityOf}
-use Rattle.rows.specs.Rows.{tone, block, toneMost, blockMost}
+use Rattle.rows.specs.Rows.{tone, block, toneMost}
 use Rattle.rows.specs.Well.{wellTone, wellTones, wellRanges, wellLast, wellNumbers, wellCases, wellBlock}
 use Rattle.rows.proofs.Tables.{over-length, get-row}
 use Rattle.rows.proofs.WellLaws.{Halves}
 use Rattle.parser.specs.Parser.{Tape}
 use Rattle.parser.specs.Holds.{toneRoom, blockRoom}
-use Rattle.parser.proofs.Kept.{All, nil, cons}
+use Rattle.parser.proofs.Kept.{All, cons, all-get, all-both}
 use Rattle.blocks.specs.Does.{lentOf}
 use Rattle.reader.specs.Source.{loadOf}
 use Rattle.names.specs.Names.{nameAll}
 use Rattle.names.proofs.Selecting.{name-all-length}
 use Rattle.entries.specs.Mounted.{tapeOf, overfull, sizeOf, wellRow}
 use Rattle.loads.specs.Sizes.{Bytes}
-use Rattle.loads.specs.Made.{tonesIn, Row, Reads}
-use Rattle.loads.proofs.Rows.{every-row}
+use Rattle.loads.specs.Made.{Row, Reads}
+use Rattle.loads.proofs.Rows.{every-read, every-row}
 use Rattle.loads.proofs.Formed.{Formed, formed}
-use Rattle.loads.proofs.Room.{Within, Bits, load-within, load-bits, load-length}
-
--- element i of a list that has P throughout
-all-get : {A : Type 0} {P : A → Type 0} {xs : List A} → All P xs → (i : ℕ) (d : A) → i < length xs → P (getD xs i d)
-all-get nil i d h = absurd (omega arith)
-all-get (cons p ps) zero d h = p
-all-get (cons p ps) (suc i) d h = all-get ps i d (omega arith)
-
-all-both : {A : Type 0} {P Q R : A → Type 0} {xs : List A} → ((x : A) → P x → Q x → R x) → All P xs → All Q xs → All R xs
-all-both f nil nil = nil
-all-both f (cons {x = x} p ps) (cons q qs) = cons (f x p q) (all-both f ps qs)
+use Rattle.loads.proofs.Room.{Within, Bits, load-within, read-bits, load-bits, load-length}
 
 -- a table of N words that hold the rows is N words
 table-length : {R : Type 0} (C : Codec R) (rs : List R) (N : ℕ) → length rs * C .width ≤ N → length (tableOf C rs N) ≡ N
@@ -83,30 +73,50 @@ module _ (s : List ℕ) (all : List Tone) (N : ℕ) (room : length all ≤ toneR
       let c : capacityOf tone toneMost (tableOf tone all N) ≡ toneRoom N = rw n in
       rw (c, le-leb (r .tone + r .tones) (toneRoom N) (omega arith), le-leb (r .start + r .size) (length s) (f .bytes), le-leb (r .text + r .chars) (length s) (f .name), le-leb (r .zero) 65535 (f .zero), le-leb (r .one) 65535 (f .one), le-leb (r .pause) 229372500 (f .pause), or-true (eqb (r .endless) 1), last-well r b, le-leb (r .endless) 1 (f .endless), le-leb (r .selectable) 1 (f .selectable), le-leb (r .named) 4 (f .named), tones-well all N (r .tone) (r .tones) i (f .tones))
 
-module _ (B N : ℕ) (s : List ℕ) (model : ℕ) {t : Tape} where
-  -- every row of every load
-  pub every-well : Bytes s → Reads (loadOf (lentOf B N) s model) t → All (λ r. wellBlock (length s) (tableOf tone (t .tones) N) r ≡ true) (nameAll s false (t .blocks))
-  every-well b r =
-      all-both (row-well s (t .tones) N (load-within (lentOf B N) s model b r .tones)) (every-row (lentOf B N) s model (formed s b) b r) (load-bits (lentOf B N) s model b r)
+-- a mounted table of rows that are well formed
+module _ (B : ℕ) (s tones : List ℕ) (rows : List Block) where
+  table-fits : length rows ≤ blockRoom B → overfull (tapeOf s tones (tableOf block rows B) (length rows)) ≡ false
+  table-fits h =
+      let n : length (tableOf block rows B) ≡ B = table-length block rows B (omega arith) in
+      rw n (le-ltb (blockRoom B) (length rows) h)
+
+  table-well : length s ≤ 1048576 → All (λ r. wellBlock (length s) tones r ≡ true) rows → (i : ℕ) → i < length rows → wellRow (tapeOf s tones (tableOf block rows B) (length rows)) i ≡ true
+  unfolding wellRow
+  table-well m all i h =
+      let d = get block (tableOf block rows B) i in
+      let z : sizeOf s ≡ length s = omega arith in
+      let g : get block (tableOf block rows B) i ≡ getD rows i d = get-row block rows (zeros B) i d h in
+      ap (λ (n : ℕ). wellBlock n tones d) z ∙ ap (wellBlock (length s) tones) g ∙ all-get all i d h
+
+-- what a load of B and N words read, its names given out
+module _ (B N : ℕ) (s : List ℕ) (model : ℕ) {t : Tape} (b : Bytes s) (r : Reads (loadOf (lentOf B N) s model) t) where
+  within : Within (lentOf B N) t
+  within = load-within (lentOf B N) s model b r
+
+  -- EVERY ROW, before and after names are given out
+  pub read-well : All (λ q. wellBlock (length s) (tableOf tone (t .tones) N) q ≡ true) (t .blocks)
+  read-well =
+      all-both (row-well s (t .tones) N (within .tones)) (every-read (lentOf B N) s model (formed s b) b r) (read-bits (lentOf B N) s model b r)
+
+  pub every-well : All (λ q. wellBlock (length s) (tableOf tone (t .tones) N) q ≡ true) (nameAll s false (t .blocks))
+  every-well =
+      all-both (row-well s (t .tones) N (within .tones)) (every-row (lentOf B N) s model (formed s b) b r) (load-bits (lentOf B N) s model b r)
 
   -- THE COUNT FITS THE TABLE
-  pub loaded-fits : Bytes s → Reads (loadOf (lentOf B N) s model) t
-      → overfull (tapeOf s (tableOf tone (t .tones) N) (tableOf block (nameAll s false (t .blocks)) B) (length (t .blocks))) ≡ false
-  loaded-fits b r =
-      let w = load-within (lentOf B N) s model b r in
+  pub loaded-fits : overfull (tapeOf s (tableOf tone (t .tones) N) (tableOf block (nameAll s false (t .blocks)) B) (length (t .blocks))) ≡ false
+  loaded-fits =
       let l = name-all-length s false (t .blocks) in
-      let n : length (tableOf block (nameAll s false (t .blocks)) B) ≡ B = table-length block (nameAll s false (t .blocks)) B (rw l (omega (arith, w .blocks))) in
-      rw n (le-ltb (blockRoom B) (length (t .blocks)) (w .blocks))
+      rw (← l) (table-fits B s (tableOf tone (t .tones) N) (nameAll s false (t .blocks)) (rw l (within .blocks)))
 
   -- EVERY ROW OF THE TABLE IS WELL FORMED
-  pub loaded-well : Bytes s → Reads (loadOf (lentOf B N) s model) t → (i : ℕ) → i < length (t .blocks)
-      → wellRow (tapeOf s (tableOf tone (t .tones) N) (tableOf block (nameAll s false (t .blocks)) B) (length (t .blocks))) i ≡ true
-  unfolding wellRow
-  loaded-well b r i h =
-      let named = nameAll s false (t .blocks) in
-      let tt = tableOf tone (t .tones) N in
-      let d = get block (tableOf block named B) i in
-      let k : i < length named = rw (name-all-length s false (t .blocks)) h in
-      let z : sizeOf s ≡ length s = let m = load-length (lentOf B N) s model r in omega arith in
-      let g : get block (tableOf block named B) i ≡ getD named i d = get-row block named (zeros B) i d k in
-      ap (λ (m : ℕ). wellBlock m tt d) z ∙ ap (wellBlock (length s) tt) g ∙ all-get (every-well b r) i d k
+  pub loaded-well : (i : ℕ) → i < length (t .blocks) → wellRow (tapeOf s (tableOf tone (t .tones) N) (tableOf block (nameAll s false (t .blocks)) B) (length (t .blocks))) i ≡ true
+  loaded-well i h =
+      let l = name-all-length s false (t .blocks) in
+      rw (← l) (table-well B s (tableOf tone (t .tones) N) (nameAll s false (t .blocks)) (load-length (lentOf B N) s model r) every-well i (rw l h))
+
+  -- and so before the naming pass
+  pub read-fits : overfull (tapeOf s (tableOf tone (t .tones) N) (tableOf block (t .blocks) B) (length (t .blocks))) ≡ false
+  read-fits = table-fits B s (tableOf tone (t .tones) N) (t .blocks) (within .blocks)
+
+  pub read-rows : (i : ℕ) → i < length (t .blocks) → wellRow (tapeOf s (tableOf tone (t .tones) N) (tableOf block (t .blocks) B) (length (t .blocks))) i ≡ true
+  read-rows i h = table-well B s (tableOf tone (t .tones) N) (t .blocks) (load-length (lentOf B N) s model r) read-well i h

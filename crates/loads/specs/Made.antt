@@ -2,7 +2,7 @@
 use Prim.Native.Nat.{ℕ, _+_, _≤_, _<_}
 use mathlib.Core.Path.{_≡_}
 use mathlib.Core.List.{List, [], _∷_}
-use lib.ListN.{length, take, drop}
+use lib.ListN.{length, getD, take, drop}
 use Rattle.rows.specs.declared.Block.{Block}
 use Rattle.rows.specs.declared.Tone.{Tone}
 use Rattle.pieces.specs.declared.GeneralizedData.{GeneralizedData}
@@ -22,10 +22,8 @@ use Rattle.loads.specs.Sizes.{Range, Sized}
 -- a piece of the tape: where it was cut, and how large it is
 pub record From (s : List ℕ) (piece : Piece) : Type 0 where
   pub at : ℕ
-  pub kind : ℕ
-  pub begin : ℕ
   pub next : ℕ
-  pub cut : cutAt s at full ≡ Whole kind begin next piece
+  pub cut : cutAt s at full ≡ Whole (getD s at 0) at next piece
   pub sized : Sized s piece
 
 -- a block of the tape read as TAP

@@ -5,7 +5,7 @@ use native.Mathlib.Omega.{arith}
 use mathlib.Core.Path.{_≡_, refl}
 use mathlib.Core.Bool.{Bool, true, false}
 use mathlib.Core.List.{List, [], _∷_, _++_, List·Memᴰ, List·Memᴰ·head, List·Memᴰ·tail, Memᴰ·append-left}
-use lib.ListN.{length, drop}
+use lib.ListN.{length, getD, drop}
 use lib.Dec.{ltb, leb}
 use borrow.Author.Tests.{ltb-true}
 use Rattle.laws.specs.Rules.{_⇒_, _∣_}
@@ -57,6 +57,15 @@ module _ {A : Type 0} {P : A → Type 0} where
   pub all-at : {x : A} {xs : List A} → All P xs → List·Memᴰ x xs → P x
   all-at (cons {x = y} h p) (List·Memᴰ·head e) = rw e h
   all-at (cons h p) (List·Memᴰ·tail m) = all-at p m
+
+  pub all-get : {xs : List A} → All P xs → (i : ℕ) (d : A) → i < length xs → P (getD xs i d)
+  all-get nil i d h = absurd (omega arith)
+  all-get (cons x p) zero d h = x
+  all-get (cons x p) (suc i) d h = all-get p i d (omega arith)
+
+  pub all-both : {Q R : A → Type 0} {xs : List A} → ((x : A) → P x → Q x → R x) → All P xs → All Q xs → All R xs
+  all-both f nil nil = nil
+  all-both f (cons {x = x} h p) (cons g q) = cons (f x h g) (all-both f p q)
 
 -- each element is one of its list's
 pub members : {A : Type 0} (xs : List A) → All (λ x. List·Memᴰ x xs) xs

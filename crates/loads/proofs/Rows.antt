@@ -1,15 +1,18 @@
 -- EVERY ROW: what is so of every row that is made, and lasts, is so of every row of every load. Assumes nothing but that bytes are below 256.
-use Prim.Native.Nat.{ℕ, _+_, _≤_}
+use Prim.Native.Nat.{ℕ, _+_, _≤_, _<_}
 use native.Mathlib.Omega.{arith}
 use mathlib.Core.Path.{_≡_, refl, sym, ap, subst, _∙_}
 use mathlib.Core.Bool.{Bool, true, false, _&&_}
 use mathlib.Core.List.{List, [], _++_}
-use lib.ListN.{length, take, drop, length-append, length-drop}
-use lib.Seq.{drop-at, take-all, take-append-le, drop-append-le}
+use lib.ListN.{length, getD, take, drop, length-append, length-take, length-drop}
+use lib.Seq.{drop-at, take-all, take-append-le, drop-append-le, getD-take, getD-drop}
 use lib.Dec.{eqb}
 use Rattle.laws.specs.Rules.{_⇒_, _∣_}
 use Rattle.rows.specs.declared.Block.{Block}
 use Rattle.rows.specs.declared.Tone.{Tone}
+use Rattle.rows.specs.Table.{get, tableOf, zeros}
+use Rattle.rows.specs.Rows.{tone}
+use Rattle.rows.proofs.Tables.{get-row}
 use Rattle.parser.specs.Parser.{Tape, empty, withTones, paused}
 use Rattle.parser.proofs.Kept.{All, nil, cons, all-also, Lasting, Kept, kept-empty, with-block, kept-steps}
 use Rattle.blocks.specs.Blocks.{born, stopBlock, standardTones, standardBlock, turboTones, turboBlock, pureTones, pureBlock, pauseBlock}
@@ -51,6 +54,16 @@ paused-same f r e = by-cases (eqb (r .endless) 0 && eqb (r .pause) 0)
     by-cases : (b : Bool) → f (b ⇒ short r ∣ r) ≡ f r
     by-cases true = e
     by-cases false = refl
+
+-- a row's own tone rows are as many as it counts, and are those that the table holds from its first one on
+module _ (all : List Tone) (r : Block) (h : r .tone + r .tones ≤ length all) where
+  pub own-count : length (tonesIn all r) ≡ r .tones
+  own-count = rw (length-take, length-drop) (omega arith)
+
+  pub own-tone : (N i : ℕ) (d : Tone) → i < r .tones → get tone (tableOf tone all N) (r .tone + i) ≡ getD (tonesIn all r) i d
+  own-tone N i d k =
+      get-row tone all (zeros N) (r .tone + i) d (omega arith)
+      ∙ sym (getD-take (r .tones) (drop (r .tone) all) i d k ∙ getD-drop (r .tone) all i d)
 
 module _ {P : List Tone → Block → Type 0} where
   -- more tone rows behind

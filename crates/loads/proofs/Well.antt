@@ -1,13 +1,12 @@
 -- EVERY ROW OF EVERY LOAD IS WELL FORMED, so that no query or player of a loaded table answers 11. Assumes nothing but that bytes are below 256.
 use Prim.Native.Nat.{ℕ, zero, suc, _+_, _*_, _≤_, _<_}
 use native.Mathlib.Omega.{arith}
-use native.Mathlib.Numerals.{add-one}
+use native.Mathlib.Nat.{add-zero}
 use mathlib.Core.Path.{_≡_, refl, ap, _∙_}
 use mathlib.Core.Bool.{true, false, or-true}
-use mathlib.Core.List.{List, _∷_}
+use mathlib.Core.List.{List}
 use mathlib.Core.Logic.{⊎-elim}
-use lib.ListN.{length, getD, take, drop, length-replicate}
-use lib.Seq.{drop-cons}
+use lib.ListN.{length, getD, length-replicate}
 use lib.Dec.{eqb}
 use borrow.Author.Tests.{le-leb, le-ltb, eq-eqb}
 use Rattle.laws.specs.Numbers.{lt-or-ge}
@@ -20,15 +19,15 @@ use Rattle.rows.proofs.Tables.{over-length, get-row}
 use Rattle.rows.proofs.WellLaws.{Halves}
 use Rattle.parser.specs.Parser.{Tape}
 use Rattle.parser.specs.Holds.{toneRoom, blockRoom}
-use Rattle.parser.proofs.Kept.{All, cons, all-get, all-both}
+use Rattle.parser.proofs.Kept.{All, all-get, all-both}
 use Rattle.blocks.specs.Does.{lentOf}
 use Rattle.reader.specs.Source.{loadOf}
 use Rattle.names.specs.Names.{nameAll}
 use Rattle.names.proofs.Selecting.{name-all-length}
 use Rattle.entries.specs.Mounted.{tapeOf, overfull, sizeOf, wellRow}
 use Rattle.loads.specs.Sizes.{Bytes}
-use Rattle.loads.specs.Made.{Row, Reads}
-use Rattle.loads.proofs.Rows.{every-read, every-row}
+use Rattle.loads.specs.Made.{tonesIn, Row, Reads}
+use Rattle.loads.proofs.Rows.{own-count, own-tone, every-read, every-row}
 use Rattle.loads.proofs.Formed.{Formed, formed}
 use Rattle.loads.proofs.Room.{Within, Bits, load-within, read-bits, load-bits, load-length}
 
@@ -40,20 +39,15 @@ tone-well : (t : Tone) → Halves t → wellTone t ≡ true
 unfolding wellTone
 tone-well t h = rw (le-leb (t .num) 65535 (h .num), le-leb (t .len1) 65535 (h .len1), le-leb (t .len2) 65535 (h .len2))
 
-parts : {x : Tone} {xs : List Tone} → All Halves (x ∷ xs) → Halves x × All Halves xs
-parts (cons h hs) = (h, hs)
-
-tones-well : (all : List Tone) (N from n : ℕ) → from + n ≤ length all → All Halves (take n (drop from all)) → wellTones (tableOf tone all N) from n ≡ true
+-- tone rows that are well formed one by one
+tones-well : (tones : List ℕ) (from n : ℕ) → ((i : ℕ) → i < n → wellTone (get tone tones (from + i)) ≡ true) → wellTones tones from n ≡ true
 unfolding wellTones
-tones-well all N from zero h p = refl
-tones-well all N from (suc n) h p =
-    let d = get tone (tableOf tone all N) from in
-    let e : take (suc n) (drop from all) ≡ getD all from d ∷ take n (drop (suc from) all) = ap (take (suc n)) (drop-cons all from d (omega arith)) in
-    let q = parts (rw e at p) in
-    let g : get tone (tableOf tone all N) from ≡ getD all from d = get-row tone all (zeros N) from d (omega arith) in
-    let w : wellTone (get tone (tableOf tone all N) from) ≡ true = ap wellTone g ∙ tone-well (getD all from d) (q .0) in
-    let l : wellTones (tableOf tone all N) (from + 1) n ≡ true = rw (add-one from) (tones-well all N (suc from) n (omega arith) (q .1)) in
-    rw (w, l)
+tones-well tones from zero h = refl
+tones-well tones from (suc n) h =
+    let z : wellTone (get tone tones from) ≡ true = rw add-zero at (h 0 (omega arith)) in
+    let l : wellTones tones (from + 1) n ≡ true =
+    tones-well tones (from + 1) n (λ i k. let e : from + suc i ≡ from + 1 + i = omega arith in rw e at (h (suc i) (omega arith))) in
+    rw (z, l)
 
 last-well : (r : Block) → Bits r → wellLast r ≡ true
 last-well r h =
@@ -70,8 +64,13 @@ module _ (s : List ℕ) (all : List Tone) (N : ℕ) (room : length all ≤ toneR
       let f = h .has in
       let i = h .inside in
       let n : length (tableOf tone all N) ≡ N = table-length tone all N (omega arith) in
+      let tones : wellTones (tableOf tone all N) (r .tone) (r .tones) ≡ true =
+      tones-well (tableOf tone all N) (r .tone) (r .tones) (λ j k.
+      let d = get tone (tableOf tone all N) (r .tone + j) in
+      let g : d ≡ getD (tonesIn all r) j d = own-tone all r i N j d k in
+      ap wellTone g ∙ tone-well (getD (tonesIn all r) j d) (all-get (f .tones) j d (rw (own-count all r i) k))) in
       let c : capacityOf tone toneMost (tableOf tone all N) ≡ toneRoom N = rw n in
-      rw (c, le-leb (r .tone + r .tones) (toneRoom N) (omega arith), le-leb (r .start + r .size) (length s) (f .bytes), le-leb (r .text + r .chars) (length s) (f .name), le-leb (r .zero) 65535 (f .zero), le-leb (r .one) 65535 (f .one), le-leb (r .pause) 229372500 (f .pause), or-true (eqb (r .endless) 1), last-well r b, le-leb (r .endless) 1 (f .endless), le-leb (r .selectable) 1 (f .selectable), le-leb (r .named) 4 (f .named), tones-well all N (r .tone) (r .tones) i (f .tones))
+      rw (c, le-leb (r .tone + r .tones) (toneRoom N) (omega arith), le-leb (r .start + r .size) (length s) (f .bytes), le-leb (r .text + r .chars) (length s) (f .name), le-leb (r .zero) 65535 (f .zero), le-leb (r .one) 65535 (f .one), le-leb (r .pause) 229372500 (f .pause), or-true (eqb (r .endless) 1), last-well r b, le-leb (r .endless) 1 (f .endless), le-leb (r .selectable) 1 (f .selectable), le-leb (r .named) 4 (f .named), tones)
 
 -- a mounted table of rows that are well formed
 module _ (B : ℕ) (s tones : List ℕ) (rows : List Block) where

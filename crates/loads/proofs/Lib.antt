@@ -6,3 +6,4 @@ pub mod Tones
 pub mod Formed
 pub mod Room
 pub mod Well
+pub mod Left

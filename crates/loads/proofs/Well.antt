@@ -32,7 +32,7 @@ use Rattle.loads.proofs.Formed.{Formed, formed}
 use Rattle.loads.proofs.Room.{Within, Bits, load-within, read-bits, load-bits, load-length}
 
 -- a table of N words that hold the rows is N words
-table-length : {R : Type 0} (C : Codec R) (rs : List R) (N : ℕ) → length rs * C .width ≤ N → length (tableOf C rs N) ≡ N
+pub table-length : {R : Type 0} (C : Codec R) (rs : List R) (N : ℕ) → length rs * C .width ≤ N → length (tableOf C rs N) ≡ N
 table-length C rs N h = over-length C rs (zeros N) (rw length-replicate h) ∙ length-replicate N 0
 
 tone-well : (t : Tone) → Halves t → wellTone t ≡ true

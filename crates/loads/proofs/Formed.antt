@@ -15,7 +15,7 @@ use Rattle.rows.proofs.WellLaws.{Halves}
 use Rattle.pieces.specs.declared.TurboData.{TurboData}
 use Rattle.pieces.specs.declared.Piece.the-variants.{Turbo}
 use Rattle.general.specs.General as general
-use Rattle.parser.specs.Parser.{paused}
+use Rattle.parser.specs.Parser.{renamed, paused}
 use Rattle.parser.proofs.Kept.{All, nil, cons}
 use Rattle.blocks.specs.Blocks.{toneOf, born, stopBlock, standardCycles, standardTones, standardBlock, standardPause, turboTones, turboBlock, pureTones, pureBlock, pureToneTones, pulseAt, pauseBlock}
 use Rattle.names.specs.Names.{unselected}
@@ -35,6 +35,18 @@ pub record Formed (s : List ℕ) (ts : List Tone) (r : Block) : Type 0 where
   pub selectable : r .selectable ≤ 1
   pub named : r .named ≤ 4
   pub tones : All Halves ts
+
+-- a name that is given
+record Named (s : List ℕ) (mark case text chars : ℕ) : Type 0 where
+  name : text + chars ≤ length s
+  small : mark ≤ 1
+  told : case ≤ 4
+
+given-small : {s : List ℕ} {mark case text chars : ℕ} → Given s mark case text chars → Named s mark case text chars
+given-small Given.none = record { name = omega arith; small = omega arith; told = omega arith }
+given-small (Given.first f) = record { name = f .sized .numbers .inside; small = omega arith; told = omega arith }
+given-small (Given.later f) = record { name = f .sized .numbers .inside; small = omega arith; told = omega arith }
+given-small (Given.text f) = record { name = f .sized .numbers .inside; small = omega arith; told = omega arith }
 
 -- 22's pause
 paused-formed : {s : List ℕ} (ts : List Tone) (r : Block) → Formed s ts r → Formed s ts (paused r)
@@ -139,10 +151,10 @@ module _ (s : List ℕ) (b : Bytes s) where
   tap-formed (OfTap.standard {from = from} {size} f tone) =
       born-formed 1 tone 2 from size 855 1710 8 _ (omega arith) (f .range .inside) (omega arith) (omega arith) (pause-small _) (standard-small _)
 
-  given-inside : {text chars : ℕ} → Given s text chars → text + chars ≤ length s
-  given-inside made.none = omega arith
-  given-inside (made.group f) = f .sized .numbers .inside
-  given-inside (made.text f) = f .sized .numbers .inside
+  named-formed : {mark case text chars : ℕ} (ts : List Tone) (r : Block) → Given s mark case text chars → Formed s ts r → Formed s ts (renamed mark case text chars r)
+  named-formed {mark} {case} {text} {chars} ts r g h =
+      let n = given-small g in
+      record { bytes = h .bytes; name = n .name; zero = h .zero; one = h .one; pause = h .pause; endless = h .endless; selectable = n .small; named = n .told; tones = h .tones }
 
   -- EVERY ROW IS FORMED
   pub formed : Everywhere s (Formed s)
@@ -152,8 +164,7 @@ module _ (s : List ℕ) (b : Bytes s) where
         pieces = λ m. piece-formed m;
         taps = λ m. tap-formed m;
         lasts = record {
-          naming = λ mark case text chars ts r m c g h.
-              record { bytes = h .bytes; name = given-inside g; zero = h .zero; one = h .one; pause = h .pause; endless = h .endless; selectable = m; named = c; tones = h .tones };
+          naming = λ mark case text chars ts r g h. named-formed ts r g h;
           pausing = λ ts r h. paused-formed ts r h;
           passing = λ ts r h.
               record { bytes = h .bytes; name = h .name; zero = h .zero; one = h .one; pause = h .pause; endless = h .endless; selectable = omega arith; named = h .named; tones = h .tones };

@@ -76,7 +76,7 @@ Eight ts r = r .last ≡ 8
 eight-lasts : (s : List ℕ) → Lasts s Eight
 unfolding unselected
 eight-lasts s =
-    record { naming = λ mark case text chars ts r m c g h. h; pausing = λ ts r h. rw (paused-same (λ q. q .last) r refl) h; passing = λ ts r h. h }
+    record { naming = λ mark case text chars ts r g h. h; pausing = λ ts r h. rw (paused-same (λ q. q .last) r refl) h; passing = λ ts r h. h }
 
 tap-eight : {s : List ℕ} {ts : List Tone} {r : Block} → OfTap s ts r → Eight ts r
 unfolding standardBlock born

@@ -13,7 +13,8 @@ use Rattle.rows.specs.declared.Tone.{Tone}
 use Rattle.rows.specs.Table.{get, tableOf, zeros}
 use Rattle.rows.specs.Rows.{tone}
 use Rattle.rows.proofs.Tables.{get-row}
-use Rattle.parser.specs.Parser.{Tape, empty, withTones, paused}
+use Rattle.parser.specs.declared.Pending.{Pending}
+use Rattle.parser.specs.Parser.{named, used, Tape, empty, withTones, paused}
 use Rattle.parser.proofs.Kept.{All, nil, cons, all-also, Lasting, Kept, kept-empty, with-block, kept-steps}
 use Rattle.blocks.specs.Blocks.{born, stopBlock, standardTones, standardBlock, turboTones, turboBlock, pureTones, pureBlock, pauseBlock}
 use Rattle.blocks.specs.Adds.{Lent}
@@ -21,7 +22,7 @@ use Rattle.reader.specs.Source.{loadOf}
 use Rattle.names.specs.Names.{isHeader, unselected, passed, nameAll}
 use Rattle.loads.specs.Sizes.{Bytes}
 use Rattle.loads.specs.Made as made
-use Rattle.loads.specs.Made.{Given, OfPiece, OfTap, tonesIn, Row, Lasts, Everywhere, Reads}
+use Rattle.loads.specs.Made.{Pends, Given, OfPiece, OfTap, tonesIn, Row, Lasts, Everywhere, Reads}
 use Rattle.loads.proofs.Steps.{Keeps}
 use Rattle.loads.proofs.Loading.{load-keeps}
 
@@ -65,6 +66,13 @@ module _ (all : List Tone) (r : Block) (h : r .tone + r .tones ≤ length all) w
       get-row tone all (zeros N) (r .tone + i) d (omega arith)
       ∙ sym (getD-take (r .tones) (drop (r .tone) all) i d k ∙ getD-drop (r .tone) all i d)
 
+-- a name once used is a group's later one, or none
+used-pends : {s : List ℕ} {p : Pending} → Pends s p → Pends s (used p)
+used-pends Pends.nothing = Pends.nothing
+used-pends (Pends.first f) = Pends.later f
+used-pends (Pends.later f) = Pends.later f
+used-pends (Pends.text f) = Pends.nothing
+
 module _ {P : List Tone → Block → Type 0} where
   -- more tone rows behind
   row-longer : (all ts : List Tone) (r : Block) → Row P all r → Row P (all ++ ts) r
@@ -82,20 +90,31 @@ module _ {P : List Tone → Block → Type 0} where
       record { inside = rw length-append (omega arith); has = rw q h }
 
   module _ {s : List ℕ} (k : Lasts s P) where
-    lasting : (all : List Tone) → Lasting (Row P all) (Given s)
+    row-named : (all : List Tone) {p : Pending} (r : Block) → Pends s p → Row P all r → Row P all (named p r)
+    row-named all r Pends.nothing h = h
+    row-named all r (Pends.first {from = from} {size} f) h = record { inside = h .inside; has = k .naming 1 3 from size (tonesIn all r) r (Given.first f) (h .has) }
+    row-named all r (Pends.later {from = from} {size} f) h = record { inside = h .inside; has = k .naming 0 4 from size (tonesIn all r) r (Given.later f) (h .has) }
+    row-named all r (Pends.text {from = from} {size} f) h = record { inside = h .inside; has = k .naming 1 2 from size (tonesIn all r) r (Given.text f) (h .has) }
+
+    row-paused : (all : List Tone) (r : Block) → Row P all r → Row P all (paused r)
+    row-paused all r h =
+        let e : tonesIn all (paused r) ≡ tonesIn all r = paused-same (tonesIn all) r refl in
+        let n : paused r .tone + paused r .tones ≡ r .tone + r .tones = paused-same (λ q. q .tone + q .tones) r refl in
+        record { inside = omega (arith, h .inside); has = subst (λ (ts : List Tone). P ts (paused r)) (sym e) (k .pausing (tonesIn all r) r (h .has)) }
+
+    lasting : (all : List Tone) → Lasting (Row P all) (Pends s)
     lasting all =
         record {
-          naming = λ mark case text chars r m n g h. record { inside = h .inside; has = k .naming mark case text chars (tonesIn all r) r m n g (h .has) };
-          pausing = λ r h.
-              let e : tonesIn all (paused r) ≡ tonesIn all r = paused-same (tonesIn all) r refl in
-              let n : paused r .tone + paused r .tones ≡ r .tone + r .tones = paused-same (λ q. q .tone + q .tones) r refl in
-              record { inside = omega (arith, h .inside); has = subst (λ (ts : List Tone). P ts (paused r)) (sym e) (k .pausing (tonesIn all r) r (h .has)) };
-          nameless = made.none;
+          naming = λ p r q h. row-named all r q h;
+          copying = λ r h. record { inside = h .inside; has = k .naming 0 0 0 0 (tonesIn all r) r Given.none (h .has) };
+          pausing = row-paused all;
+          uses = λ p q. used-pends q;
+          nothing = Pends.nothing;
         }
 
     -- rows of M that have P keep it
     module _ {M : List Tone → Block → Type 0} (count : (ts : List Tone) (r : Block) → M ts r → r .tones ≡ length ts) (has : (ts : List Tone) (r : Block) → M ts r → P ts r) where
-      pub rows-keep : (lent : Lent) → Keeps lent s M (λ t. Kept (Row P (t .tones)) (Given s) t)
+      pub rows-keep : (lent : Lent) → Keeps lent s M (λ t. Kept (Row P (t .tones)) (Pends s) t)
       unfolding empty
       rows-keep lent =
           record {

@@ -21,7 +21,7 @@ use Rattle.blocks.specs.Blocks.{born, stopBlock, isHeader, standardTones, stand
 use Rattle.blocks.specs.Adds.{Lent, addRows, add, addPairs, addGeneral, stopOn48}
 use Rattle.reader.specs.Source.{act}
 use Rattle.loads.specs.Made as made
-use Rattle.loads.specs.Made.{From, FromTap, Given, OfPiece, OfTap}
+use Rattle.loads.specs.Made.{From, FromTap, Pends, OfPiece, OfTap}
 
 -- WHAT IS ASKED OF A PROPERTY K OF TAPES: the empty tape has it; a block of M over tone rows of its own, with room for all of them, keeps it;
 -- so do the parser's steps
@@ -29,7 +29,7 @@ pub record Keeps (lent : Lent) (s : List ℕ) (M : List Tone → Block → Type 
   pub begins : K empty
   pub adding : (ts : List Tone) (r : Block) (t : Tape) → M ts r → r .tone ≡ length (t .tones) → length (t .tones) + length ts ≤ lent .tones → length (t .blocks) < lent .blocks
       → K t → K (withBlock r (withTones ts t))
-  pub steps : Steps (lent .blocks) (Given s) K
+  pub steps : Steps (lent .blocks) (Pends s) K
 
 -- a row of M over the tone rows from `tone` on
 pub record Over (M : List Tone → Block → Type 0) (ts : List Tone) (tone : ℕ) (r : Block) : Type 0 where
@@ -111,12 +111,12 @@ module _ {lent : Lent} {s : List ℕ} {K : Tape → Type 0} (k : Keeps lent s (O
   act-keeps model (Pure nil one last pause from size) f t h = add-keeps k (λ tone. record { is = OfPiece.pure f tone; first = refl }) t h
   act-keeps model (Generalized g) f t h = general-keeps f (general.generalOf s g) refl t h
   act-keeps model (Pause n) f t h = add-keeps k (pause-over f) t h
-  act-keeps model (GroupStart from size) f t h = keeps-start (k .steps) from size (made.group f) h
-  act-keeps model GroupEnd f t h = keeps-end (k .steps) h
+  act-keeps model (GroupStart from size) f t h = keeps-start (k .steps) from size (Pends.first f) h
+  act-keeps model GroupEnd f t h = keeps-end (k .steps) Pends.nothing h
   act-keeps model (LoopStart times) f t h = keeps-open (k .steps) times h
   act-keeps model LoopEnd f t h = keeps-close (k .steps) h
   act-keeps model (Stop48 length) f t h = stop48-keeps model f t h
-  act-keeps model (Text from size) f t h = keeps-text (k .steps) from size (made.text f) h
+  act-keeps model (Text from size) f t h = keeps-text (k .steps) from size (Pends.text f) h
   act-keeps model (Message seconds from size) f t h = sure h
   act-keeps model (Archive count from) f t h = sure h
   act-keeps model (Hardware count from) f t h = sure h

@@ -13,6 +13,8 @@ use Rattle.pieces.specs.declared.Taken.the-variants.{Whole}
 use Rattle.pieces.specs.declared.TakenTap.the-variants as tap
 use Rattle.pieces.specs.Cut.{cutAt, tapAt}
 use Rattle.general.specs.General as general
+use Rattle.parser.specs.declared.Pending.{Pending}
+use Rattle.parser.specs.declared.Pending.the-variants as pending
 use Rattle.parser.specs.Parser.{Tape, renamed, paused}
 use Rattle.blocks.specs.Blocks.{ms, toneOf, born, stopBlock, isHeader, standardTones, standardBlock, standardPause, turboTones, turboBlock, pureTones, pureBlock, pureToneTones, soundOnly, pulseAt, pauseBlock}
 use Rattle.reader.specs.Source.{full, Loaded, tzx, tapped}
@@ -33,11 +35,19 @@ pub record FromTap (s : List ℕ) (from size : ℕ) : Type 0 where
   pub cut : tapAt s at ≡ tap.Block from size next
   pub range : Range (length s) 65536 from size
 
--- a name that a block can be given: a group's, a text, or none
-pub data Given (s : List ℕ) : ℕ → ℕ → Type 0 where
-  none : Given s 0 0
-  group : {from size : ℕ} → From s (GroupStart from size) → Given s from size
-  text : {from size : ℕ} → From s (Text from size) → Given s from size
+-- a pending name comes from a group's start or a text
+pub data Pends (s : List ℕ) : Pending → Type 0 where
+  nothing : Pends s pending.Nothing
+  first : {from size : ℕ} → From s (GroupStart from size) → Pends s (pending.First from size)
+  later : {from size : ℕ} → From s (GroupStart from size) → Pends s (pending.Later from size)
+  text : {from size : ℕ} → From s (Text from size) → Pends s (pending.Text from size)
+
+-- a name that a block can be given: its mark, its case, its place and length; a copy's is none
+pub data Given (s : List ℕ) : ℕ → ℕ → ℕ → ℕ → Type 0 where
+  none : Given s 0 0 0 0
+  first : {from size : ℕ} → From s (GroupStart from size) → Given s 1 3 from size
+  later : {from size : ℕ} → From s (GroupStart from size) → Given s 0 4 from size
+  text : {from size : ℕ} → From s (Text from size) → Given s 1 2 from size
 
 -- the pieces that make a stop block: a pause of 0, a 2A, a 19 that can't be told
 pub data Stops (s : List ℕ) : Piece → Type 0 where
@@ -74,7 +84,7 @@ pub record Row (P : List Tone → Block → Type 0) (all : List Tone) (r : Block
 
 -- WHAT IS ASKED OF P: every row that is made has it, and a name, a copy (a name that is none), 22's pause and the naming pass keep it
 pub record Lasts (s : List ℕ) (P : List Tone → Block → Type 0) : Type 0 where
-  pub naming : (mark case text chars : ℕ) (ts : List Tone) (r : Block) → mark ≤ 1 → case ≤ 4 → Given s text chars → P ts r → P ts (renamed mark case text chars r)
+  pub naming : (mark case text chars : ℕ) (ts : List Tone) (r : Block) → Given s mark case text chars → P ts r → P ts (renamed mark case text chars r)
   pub pausing : (ts : List Tone) (r : Block) → P ts r → P ts (paused r)
   pub passing : (ts : List Tone) (r : Block) → P ts r → P ts (unselected r)
 

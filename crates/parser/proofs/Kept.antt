@@ -1,6 +1,6 @@
 -- What every step keeps: a property of tapes that copying, naming, 22's pause and loops keep, and so one of blocks that naming and pausing
 -- keep, which then holds of all blocks of every tape read. Assumes nothing.
-use Prim.Native.Nat.{ℕ, zero, suc, _+_, _≤_, _<_}
+use Prim.Native.Nat.{ℕ, zero, suc, _+_, _<_}
 use native.Mathlib.Omega.{arith}
 use mathlib.Core.Path.{_≡_, refl}
 use mathlib.Core.Bool.{Bool, true, false}
@@ -12,10 +12,10 @@ use Rattle.laws.specs.Rules.{_⇒_, _∣_}
 use Rattle.rows.specs.declared.Block.{Block}
 use Rattle.rows.specs.declared.Tone.{Tone}
 use Rattle.parser.specs.declared.Pending.{Pending}
-use Rattle.parser.specs.declared.Pending.the-variants.{Nothing, First, Later, Text}
+use Rattle.parser.specs.declared.Pending.the-variants.{Nothing, First, Text}
 use Rattle.parser.specs.declared.Loop.{Loop}
 use Rattle.parser.specs.declared.Loop.the-variants.{Closed, Open}
-use Rattle.parser.specs.Parser.{Tape, tapeOf, empty, withTones, withBlock, withPending, withBody, opened, Out, on, no, _⟫_, renamed, named, used, inGroup, paused, lastPaused, nameless, addTones, addBlock, startGroup, noteText, endGroup, openLoop, copyRows, copies, closed, closeLoop}
+use Rattle.parser.specs.Parser.{Tape, tapeOf, empty, withTones, withBlock, withPending, withBody, opened, Out, on, no, _⟫_, named, used, inGroup, paused, lastPaused, nameless, addTones, addBlock, startGroup, noteText, endGroup, openLoop, copyRows, copies, closed, closeLoop}
 
 -- where an answer is a tape, it has the property K
 pub data Sure (K : Tape → Type 0) : Out → Type 0 where
@@ -92,19 +92,13 @@ module _ (P : Block → Type 0) (K : Tape → Type 0) (m : ℕ) (keep : (r : Blo
   copies-keep zero ps t k = sure k
   copies-keep (suc n) {rs} ps t k = sure-then (copies m n rs) (rows-keep ps t k) (copies-keep n ps)
 
-abbrev pub Named : (ℕ → ℕ → Type 0) → Pending → Type 0
-Named Q Nothing = Unit {0}
-Named Q (First text chars) = Q text chars
-Named Q (Later text chars) = Q text chars
-Named Q (Text text chars) = Q text chars
-
 abbrev pub withBlocks : List Block → Tape → Tape
 withBlocks bs t = tapeOf bs (t .tones) (t .pending) (t .body)
 
--- K of tapes is kept by a copy of a block that is there and has room, by a name with Q, by 22's pause and by a loop's start and end
-pub record Steps (m : ℕ) (Q : ℕ → ℕ → Type 0) (K : Tape → Type 0) : Type 0 where
+-- K of tapes is kept by a copy of a block that is there and has room, by a pending name with Q, by 22's pause and by a loop's start and end
+pub record Steps (m : ℕ) (Q : Pending → Type 0) (K : Tape → Type 0) : Type 0 where
   pub copying : (r : Block) (t : Tape) → List·Memᴰ r (t .blocks) → length (t .blocks) < m → K t → K (withBlock (nameless r) t)
-  pub naming : (p : Pending) (t : Tape) → Named Q p → K t → K (withPending p t)
+  pub naming : (p : Pending) (t : Tape) → Q p → K t → K (withPending p t)
   pub pausing : (t : Tape) → K t → K (withBlocks (lastPaused (t .blocks)) t)
   pub looping : (l : Loop) (t : Tape) → K t → K (withBody l t)
 
@@ -118,27 +112,27 @@ record Has (K : Tape → Type 0) (l : List Block) (t : Tape) : Type 0 where
   rows : (q : Block) → List·Memᴰ q l → List·Memᴰ q (t .blocks)
 
 -- WHAT SUCH STEPS KEEP, the parser's names and loops keep
-module _ {m : ℕ} {Q : ℕ → ℕ → Type 0} {K : Tape → Type 0} (k : Steps m Q K) where
+module _ {m : ℕ} {Q : Pending → Type 0} {K : Tape → Type 0} (k : Steps m Q K) where
   -- inside a group nothing is renamed
-  renames : (b : Bool) (p : Pending) (t : Tape) → Named Q p → K t → K (withPending (b ⇒ t .pending ∣ p) t)
+  renames : (b : Bool) (p : Pending) (t : Tape) → Q p → K t → K (withPending (b ⇒ t .pending ∣ p) t)
   renames true p t q h = h
   renames false p t q h = k .naming p t q h
 
-  pub keeps-start : (text chars : ℕ) {t : Tape} → Q text chars → K t → Sure K (startGroup text chars t)
+  pub keeps-start : (text chars : ℕ) {t : Tape} → Q (First text chars) → K t → Sure K (startGroup text chars t)
   unfolding startGroup
   keeps-start text chars {t} q h = sure (renames (inGroup (t .pending)) (First text chars) t q h)
 
-  pub keeps-text : (text chars : ℕ) {t : Tape} → Q text chars → K t → Sure K (noteText text chars t)
+  pub keeps-text : (text chars : ℕ) {t : Tape} → Q (Text text chars) → K t → Sure K (noteText text chars t)
   unfolding noteText
   keeps-text text chars {t} q h = sure (renames (inGroup (t .pending)) (Text text chars) t q h)
 
-  closes : (b : Bool) (t : Tape) → K t → K (withPending (b ⇒ Nothing ∣ t .pending) t)
-  closes true t h = k .naming Nothing t tt h
-  closes false t h = h
+  closes : (b : Bool) (t : Tape) → Q Nothing → K t → K (withPending (b ⇒ Nothing ∣ t .pending) t)
+  closes true t q h = k .naming Nothing t q h
+  closes false t q h = h
 
-  pub keeps-end : {t : Tape} → K t → Sure K (endGroup t)
+  pub keeps-end : {t : Tape} → Q Nothing → K t → Sure K (endGroup t)
   unfolding endGroup
-  keeps-end {t} h = sure (closes (inGroup (t .pending)) (withBlocks (lastPaused (t .blocks)) t) (k .pausing t h))
+  keeps-end {t} q h = sure (closes (inGroup (t .pending)) (withBlocks (lastPaused (t .blocks)) t) q (k .pausing t h))
 
   pub keeps-open : (times : ℕ) {t : Tape} → K t → Sure K (openLoop times t)
   unfolding openLoop
@@ -158,33 +152,23 @@ module _ {m : ℕ} {Q : ℕ → ℕ → Type 0} {K : Tape → Type 0} (k : Steps
           sure-also (λ u o. o .kept)
           (copies-keep (Copy (t .blocks)) (Has K (t .blocks)) m more times (all-drop start (all-also (λ q i. copy i) (members (t .blocks)))) (withBody Closed t) (record { kept = k .looping Closed t h; rows = λ q i. i }))
 
--- P of blocks is kept by a pause and by every name with Q, and having no name is a name with Q
-pub record Lasting (P : Block → Type 0) (Q : ℕ → ℕ → Type 0) : Type 0 where
-  pub naming : (mark case text chars : ℕ) (r : Block) → mark ≤ 1 → case ≤ 4 → Q text chars → P r → P (renamed mark case text chars r)
+-- P of blocks is kept by every pending name with Q, by a copy and by a pause; a used name with Q has Q, and so has none
+pub record Lasting (P : Block → Type 0) (Q : Pending → Type 0) : Type 0 where
+  pub naming : (p : Pending) (r : Block) → Q p → P r → P (named p r)
+  pub copying : (r : Block) → P r → P (nameless r)
   pub pausing : (r : Block) → P r → P (paused r)
-  pub nameless : Q 0 0
+  pub uses : (p : Pending) → Q p → Q (used p)
+  pub nothing : Q Nothing
 
--- all blocks have P, and the pending name, if any, has Q
-pub record Kept (P : Block → Type 0) (Q : ℕ → ℕ → Type 0) (t : Tape) : Type 0 where
+-- all blocks have P, and the pending name has Q
+pub record Kept (P : Block → Type 0) (Q : Pending → Type 0) (t : Tape) : Type 0 where
   pub rows : All P (t .blocks)
-  pub name : Named Q (t .pending)
+  pub name : Q (t .pending)
 
-module _ {P : Block → Type 0} {Q : ℕ → ℕ → Type 0} (k : Lasting P Q) where
+module _ {P : Block → Type 0} {Q : Pending → Type 0} (k : Lasting P Q) where
   pub kept-empty : Kept P Q empty
   unfolding empty
-  kept-empty = record { rows = nil; name = tt }
-
-  named-keeps : (p : Pending) (r : Block) → Named Q p → P r → P (named p r)
-  named-keeps Nothing r q h = h
-  named-keeps (First text chars) r q h = k .naming 1 3 text chars r (omega arith) (omega arith) q h
-  named-keeps (Later text chars) r q h = k .naming 0 4 text chars r (omega arith) (omega arith) q h
-  named-keeps (Text text chars) r q h = k .naming 1 2 text chars r (omega arith) (omega arith) q h
-
-  used-keeps : (p : Pending) → Named Q p → Named Q (used p)
-  used-keeps Nothing q = q
-  used-keeps (First text chars) q = q
-  used-keeps (Later text chars) q = q
-  used-keeps (Text text chars) q = tt
+  kept-empty = record { rows = nil; name = k .nothing }
 
   last-keeps : {rs : List Block} → All P rs → All P (lastPaused rs)
   unfolding lastPaused
@@ -193,12 +177,12 @@ module _ {P : Block → Type 0} {Q : ℕ → ℕ → Type 0} (k : Lasting P Q) w
   last-keeps (cons h (cons g p)) = cons h (last-keeps (cons g p))
 
   pub with-block : (r : Block) (t : Tape) → P r → Kept P Q t → Kept P Q (withBlock r t)
-  with-block r t h s = record { rows = all-append (s .rows) (cons (named-keeps (t .pending) r (s .name) h) nil); name = used-keeps (t .pending) (s .name) }
+  with-block r t h s = record { rows = all-append (s .rows) (cons (k .naming (t .pending) r (s .name) h) nil); name = k .uses (t .pending) (s .name) }
 
   pub kept-steps : (m : ℕ) → Steps m Q (Kept P Q)
   kept-steps m =
       record {
-        copying = λ r t i _ s. with-block (nameless r) t (k .naming 0 0 0 0 r (omega arith) (omega arith) (k .nameless) (all-at (s .rows) i)) s;
+        copying = λ r t i _ s. with-block (nameless r) t (k .copying r (all-at (s .rows) i)) s;
         naming = λ p t q s. record { rows = s .rows; name = q };
         pausing = λ t s. record { rows = last-keeps (s .rows); name = s .name };
         looping = λ l t s. record { rows = s .rows; name = s .name };
@@ -215,14 +199,14 @@ module _ {P : Block → Type 0} {Q : ℕ → ℕ → Type 0} (k : Lasting P Q) w
   pub kept-block : (m : ℕ) {r : Block} {t : Tape} → P r → Kept P Q t → Sure (Kept P Q) (addBlock m r t)
   kept-block m {r} {t} h s = block-keeps P (Kept P Q) m (λ q u _ p o. with-block q u p o) r t h s
 
-  pub kept-start : (text chars : ℕ) {t : Tape} → Q text chars → Kept P Q t → Sure (Kept P Q) (startGroup text chars t)
+  pub kept-start : (text chars : ℕ) {t : Tape} → Q (First text chars) → Kept P Q t → Sure (Kept P Q) (startGroup text chars t)
   kept-start text chars q s = keeps-start (kept-steps 0) text chars q s
 
-  pub kept-text : (text chars : ℕ) {t : Tape} → Q text chars → Kept P Q t → Sure (Kept P Q) (noteText text chars t)
+  pub kept-text : (text chars : ℕ) {t : Tape} → Q (Text text chars) → Kept P Q t → Sure (Kept P Q) (noteText text chars t)
   kept-text text chars q s = keeps-text (kept-steps 0) text chars q s
 
   pub kept-end : {t : Tape} → Kept P Q t → Sure (Kept P Q) (endGroup t)
-  kept-end s = keeps-end (kept-steps 0) s
+  kept-end s = keeps-end (kept-steps 0) (k .nothing) s
 
   pub kept-open : (times : ℕ) {t : Tape} → Kept P Q t → Sure (Kept P Q) (openLoop times t)
   kept-open times s = keeps-open (kept-steps 0) times s

@@ -20,7 +20,6 @@ use Rattle.parser.proofs.Kept.{All, nil, cons}
 use Rattle.blocks.specs.Blocks.{toneOf, born, stopBlock, standardCycles, standardTones, standardBlock, standardPause, turboTones, turboBlock, pureTones, pureBlock, pureToneTones, pulseAt, pauseBlock}
 use Rattle.names.specs.Names.{unselected}
 use Rattle.loads.specs.Sizes.{Bytes}
-use Rattle.loads.specs.Made as made
 use Rattle.loads.specs.Made.{From, Given, OfPiece, OfTap, Everywhere}
 use Rattle.loads.proofs.Rows.{short}
 use Rattle.loads.proofs.Tones.{Fine, general-fine}

@@ -21,7 +21,6 @@ use Rattle.blocks.specs.Adds.{Lent}
 use Rattle.reader.specs.Source.{loadOf}
 use Rattle.names.specs.Names.{isHeader, unselected, passed, nameAll}
 use Rattle.loads.specs.Sizes.{Bytes}
-use Rattle.loads.specs.Made as made
 use Rattle.loads.specs.Made.{Pends, Given, OfPiece, OfTap, tonesIn, Row, Lasts, Everywhere, Reads}
 use Rattle.loads.proofs.Steps.{Keeps}
 use Rattle.loads.proofs.Loading.{load-keeps}

@@ -31,7 +31,7 @@ module _ {R : Type 0} (C : Codec R) (most : ℕ) (t : List ℕ) {b : Bool} (rs :
   pub adds : {t′ : List ℕ} (r : R) → t ≡ tableOf C rs N → t′ ≡ appended C most t n r → b ≡ true → t′ ≡ tableOf C (rs ++ r ∷ []) N
   adds r is p e = p ∙ append-next C most rs N n r is k ∙ rw (← q, e)
 
-paused-length : (rs : List Block) → length (lastPaused rs) ≡ length rs
+pub paused-length : (rs : List Block) → length (lastPaused rs) ≡ length rs
 unfolding lastPaused
 paused-length [] = refl
 paused-length (r ∷ []) = refl

@@ -31,15 +31,15 @@ any [] = nil
 any (r ∷ rs) = cons tt (any rs)
 
 module _ (l : List Block) (m : ℕ) where
-  longer : (r : Block) (t : Tape) → Any r → Begins l t → Begins l (withBlock r t)
-  longer r t p b =
+  longer : (r : Block) (t : Tape) → length (t .blocks) < m → Any r → Begins l t → Begins l (withBlock r t)
+  longer r t h p b =
       record { more = b .more ++ named (t .pending) r ∷ []; is = ap (λ (x : List Block). x ++ named (t .pending) r ∷ []) (b .is) ∙ append-assoc l (b .more) (named (t .pending) r ∷ []) }
 
   pub begins-block : {t u : Tape} (r : Block) → Begins l t → addBlock m r t ≡ on u → Begins l u
-  begins-block {t} r b e = sure-of (block-keeps Any (Begins l) longer m r t tt b) e
+  begins-block {t} r b e = sure-of (block-keeps Any (Begins l) m longer r t tt b) e
 
   pub begins-rows : {t u : Tape} (rs : List Block) → Begins l t → copyRows m rs t ≡ on u → Begins l u
-  begins-rows {t} rs b e = sure-of (rows-keep Any (Begins l) longer m (any rs) t b) e
+  begins-rows {t} rs b e = sure-of (rows-keep Any (Begins l) m longer (any rs) t b) e
 
 -- a turn of the loop over a body's rows
 pub row-turn : {B N : ℕ} {s : State} {bt tt : List ℕ} {l : List Block} {t : Tape} (m i end : ℕ) → Holds B N s bt tt t → Begins l t → i < end → end ≤ length l → copyRows m (slice i end l) t ≡ addBlock m (nameless (get block bt i)) t ⟫ copyRows m (slice (i + 1) end l)

@@ -219,11 +219,11 @@ unfolding readAt kind19 passAt head19
 general-placed full s c = tables full s _ _ _ (head19 s c .cursor) _ _ _ refl refl refl refl refl refl refl refl refl refl refl
 
 -- what holds of every row of a table holds of what is found there
-abbrev Every : {A : Type 0} → (A → Type 0) → List (Arm A) → Type 0
+abbrev pub Every : {A : Type 0} → (A → Type 0) → List (Arm A) → Type 0
 Every P [] = Unit {0}
 Every P (a ∷ more) = P (a .val) × Every P more
 
-found-every : {A : Type 0} (P : A → Type 0) (arms : List (Arm A)) (x : ℕ) (d : A) → Every P arms → P d → P (lookup arms x d)
+pub found-every : {A : Type 0} (P : A → Type 0) (arms : List (Arm A)) (x : ℕ) (d : A) → Every P arms → P d → P (lookup arms x d)
 found-every P [] x d h k = k
 found-every P (a ∷ more) x d h k = by-cases (eqb x (a .key)) (found-every P more x d (h .1) k)
   where
@@ -232,7 +232,7 @@ found-every P (a ∷ more) x d h k = by-cases (eqb x (a .key)) (found-every P mo
     by-cases false r = r
 
 -- a body under its name
-unnamed : (kind at : ℕ) (b : Body) {k a next : ℕ} {x : Piece} → named kind at b ≡ taken.Whole k a next x → b ≡ Whole x next
+pub unnamed : (kind at : ℕ) (b : Body) {k a next : ℕ} {x : Piece} → named kind at b ≡ taken.Whole k a next x → b ≡ Whole x next
 unfolding named
 unnamed kind at (Whole y p) e = cc
 unnamed kind at (Unknown described) e = absurd (let z : _≡_ {A = ℕ} 0 1 = cc in omega arith)

@@ -1,3 +1,3 @@
-mod Rest
+pub mod Rest
 pub mod Judged
 pub mod Models

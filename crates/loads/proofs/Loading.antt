@@ -1,0 +1,151 @@
+-- ONE INDUCTION OVER THE LOAD: what its steps keep holds of every tape that a load reads. Assumes nothing but that bytes are below 256.
+use Prim.Native.Nat.{ℕ, zero, suc}
+use mathlib.Core.Path.{_≡_, refl}
+use mathlib.Core.Bool.{Bool, true, false}
+use mathlib.Core.List.{List}
+use lib.ListN.{length}
+use lib.Dec.{leb, ltb, eqb}
+use Rattle.laws.specs.Rules.{_⇒_, _∣_}
+use Rattle.pieces.specs.declared.Piece.{Piece}
+use Rattle.pieces.specs.declared.Taken.{Taken}
+use Rattle.pieces.specs.declared.Taken.the-variants as taken
+use Rattle.pieces.specs.declared.TakenTap.{TakenTap}
+use Rattle.pieces.specs.declared.TakenTap.the-variants as tap
+use Rattle.pieces.specs.declared.Heading.{Heading}
+use Rattle.pieces.specs.declared.Heading.the-variants as heading
+use Rattle.pieces.specs.Cut.{cutAt, tapAt, headAt}
+use Rattle.parser.specs.Parser.{Tape, Out, empty}
+use Rattle.parser.proofs.Kept.{Sure, sure, none}
+use Rattle.blocks.specs.Adds.{Lent}
+use Rattle.reader.specs.declared.Failure.{Failure}
+use Rattle.reader.specs.declared.Failure.the-variants as failure
+use Rattle.reader.specs.Source as source
+use Rattle.reader.specs.Source.{See, thing, Read, after, seeing, foldFrom, stopLength, full, act, tooManyBits, judged, tzxOf, tzxSee, headed, readTzx, tapOf, tapSee, readTap, Loaded, orTap, orElse, loadOf}
+use Rattle.loads.specs.Sizes.{Bytes}
+use Rattle.loads.specs.Made.{OfPiece, OfTap, Reads, as-tzx, as-tap}
+use Rattle.loads.proofs.Sizes.{cut-named, cut-sized, tap-sized}
+use Rattle.loads.proofs.Steps.{Keeps, act-keeps, tap-keeps}
+
+-- what stands at a place keeps K
+data Safe (K : Tape → Type 0) : See → Type 0 where
+  over : Safe K source.over
+  bad : {f : Failure} → Safe K (source.bad f)
+  refuses : {j : ℕ} → Safe K (source.refuses j)
+  does : {next : ℕ} {f : Tape → Out} → ((t : Tape) → K t → Sure K (f t)) → Safe K (thing next f)
+
+-- where a reading is done, its tape has K
+data Final (K : Tape → Type 0) : Read → Type 0 where
+  done : {t : Tape} → K t → Final K (source.done t)
+  failed : {f : Failure} → Final K (source.failed f)
+  refused : {j : ℕ} → Final K (source.refused j)
+
+-- a load's tape has K where it was read as TZX, L where it was read as TAP
+data Answers (K L : Tape → Type 0) : Loaded → Type 0 where
+  tzx : {t : Tape} → K t → Answers K L (source.tzx t)
+  tapped : {t : Tape} → L t → Answers K L (source.tapped t)
+  no : {j : ℕ} → Answers K L (source.no j)
+
+module _ {K : Tape → Type 0} where
+  after-keeps : {o : Out} (k : Tape → Read) → Sure K o → ((t : Tape) → K t → Final K (k t)) → Final K (after o k)
+  unfolding after
+  after-keeps k (sure {t = t} h) f = f t h
+  after-keeps k (none) f = refused
+
+  seeing-keeps : {x : See} (k : ℕ → Tape → Read) → Safe K x → ((at : ℕ) (t : Tape) → K t → Final K (k at t)) → (t : Tape) → K t → Final K (seeing x t k)
+  unfolding seeing
+  seeing-keeps k over f t h = done h
+  seeing-keeps k bad f t h = failed
+  seeing-keeps k refuses f t h = refused
+  seeing-keeps k (does {next = next} g) f t h = after-keeps (k next) (g t h) (f next)
+
+  fold-keeps : (see : ℕ → See) → ((at : ℕ) → Safe K (see at)) → (n at : ℕ) (t : Tape) → K t → Final K (foldFrom see n at t)
+  unfolding foldFrom
+  fold-keeps see safe zero at t h = done h
+  fold-keeps see safe (suc n) at t h = seeing-keeps (foldFrom see n) (safe at) (fold-keeps see safe n) t h
+
+-- K of a TZX that refusal 7 lets through
+pub record Judged (K : Tape → Type 0) (t : Tape) : Type 0 where
+  pub kept : K t
+  pub bits : tooManyBits (t .blocks) ≡ false
+
+judged-keeps : {K : Tape → Type 0} {r : Read} → Final K r → Final (Judged K) (judged r)
+unfolding judged
+judged-keeps {K} (done {t = t} h) = by-cases (tooManyBits (t .blocks)) refl
+  where
+    by-cases : (b : Bool) → tooManyBits (t .blocks) ≡ b → Final (Judged K) (b ⇒ source.refused 7 ∣ source.done t)
+    by-cases true e = refused
+    by-cases false e = done (record { kept = h; bits = e })
+judged-keeps failed = failed
+judged-keeps refused = refused
+
+module _ {lent : Lent} {s : List ℕ} (b : Bytes s) where
+  module _ {K : Tape → Type 0} (k : Keeps lent s (OfPiece s) K) where
+    tzx-safe : (model at : ℕ) → Safe K (tzxSee lent s model at)
+    unfolding tzxSee tzxOf
+    tzx-safe model at = by-cut (cutAt s at full) refl
+      where
+        by-length : {kind from next : ℕ} (piece : Piece) (z : Bool) → cutAt s at full ≡ taken.Whole kind from next piece → Safe K (z ⇒ thing next (act lent s model piece) ∣ source.bad (failure.Length (stopLength piece)))
+        by-length piece true e = does (act-keeps k model piece (record { at = at; next = _; cut = cut-named s at e; sized = cut-sized s at e b }))
+        by-length piece false e = bad
+
+        by-cut : (x : Taken) → cutAt s at full ≡ x → Safe K (tzxOf lent s model at x)
+        by-cut taken.End e = over
+        by-cut (taken.Whole kind from next piece) e = by-length piece (eqb (stopLength piece) 0) e
+        by-cut (taken.Unknown kind described) e = does (λ t h. sure h)
+        by-cut (taken.Short kind p w) e = bad
+        by-cut (taken.Overflow kind p) e = refuses
+
+    tzx-keeps : (model : ℕ) → Final (Judged K) (readTzx lent s model)
+    unfolding readTzx headed
+    tzx-keeps model = by-head (headAt s)
+      where
+        by-head : (x : Heading) → Final (Judged K) (headed lent s model x)
+        by-head (heading.Version major minor) = judged-keeps (fold-keeps (tzxSee lent s model) (tzx-safe model) (length s) 10 empty (k .begins))
+        by-head heading.BadSignature = failed
+        by-head (heading.Short p w) = failed
+
+  module _ {L : Tape → Type 0} (l : Keeps lent s (OfTap s) L) where
+    tap-safe : (at : ℕ) → Safe L (tapSee lent s at)
+    unfolding tapSee tapOf
+    tap-safe at = by-cut (tapAt s at) refl
+      where
+        by-cut : (x : TakenTap) → tapAt s at ≡ x → Safe L (tapOf lent s x)
+        by-cut tap.End e = over
+        by-cut tap.Lone e = over
+        by-cut (tap.Block from size next) e = does (tap-keeps l (record { at = at; next = next; cut = e; range = tap-sized s at e b }))
+        by-cut (tap.Short p w) e = bad
+
+    tap-read : Final L (readTap lent s)
+    unfolding readTap
+    tap-read = fold-keeps (tapSee lent s) tap-safe (length s) 0 empty (l .begins)
+
+or-tap : {K L : Tape → Type 0} {r : Read} → Final L r → Answers K L (orTap r)
+unfolding orTap
+or-tap (done h) = tapped h
+or-tap failed = no
+or-tap refused = no
+
+or-else : {K L : Tape → Type 0} {r q : Read} → Final K r → Final L q → Answers K L (orElse r q)
+unfolding orElse
+or-else (done h) f = tzx h
+or-else failed f = or-tap f
+or-else refused f = no
+
+load-answers : {K L : Tape → Type 0} (lent : Lent) (s : List ℕ) (model : ℕ) → Final K (readTzx lent s model) → Final L (readTap lent s) → Answers K L (loadOf lent s model)
+unfolding loadOf
+load-answers {K} {L} lent s model f g = by-cases (leb 3 model) (ltb 1048576 (length s))
+  where
+    by-cases : (a b : Bool) → Answers K L (a ⇒ source.no 1 ∣ b ⇒ source.no 2 ∣ orElse (readTzx lent s model) (readTap lent s))
+    by-cases true b = no
+    by-cases false true = no
+    by-cases false false = or-else f g
+
+answered : {K L M : Tape → Type 0} {a : Loaded} {t : Tape} → ((u : Tape) → K u → M u) → ((u : Tape) → L u → M u) → Answers K L a → Reads a t → M t
+answered f g (tzx h) as-tzx = f _ h
+answered f g (tapped h) as-tap = g _ h
+
+-- THE INDUCTION: where a TZX's pieces keep K, a TAP's blocks keep L, and each gives M, every tape that a load reads has M
+module _ {K L M : Tape → Type 0} (lent : Lent) (s : List ℕ) (model : ℕ) {t : Tape} where
+  pub load-keeps : Bytes s → Keeps lent s (OfPiece s) K → Keeps lent s (OfTap s) L → ((u : Tape) → Judged K u → M u) → ((u : Tape) → L u → M u)
+      → Reads (loadOf lent s model) t → M t
+  load-keeps b k l f g r = answered f g (load-answers lent s model (tzx-keeps b k model) (tap-read b l)) r

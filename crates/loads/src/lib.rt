@@ -1,0 +1,1 @@
+// Theory alone: what every load has is in proofs/.

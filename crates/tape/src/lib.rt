@@ -29,7 +29,7 @@ fn refuse(blocks: &mut [u64], tones: &mut [u64], k: u32) -> Loaded
     ensures { λ a. ⌜ Leaves (length (now (blocks .entry))) (length (now (tones .entry))) (no k) a (now (blocks .exit)) (now (tones .exit)) ⌝ }
 {
     blank(blocks);
-    blank(tones); // a reading may have written rows
+    blank(tones);
     Loaded::Refused(k)
 }
 
@@ -38,7 +38,7 @@ fn load_tap(tape: &[u8], blocks: &mut [u64], tones: &mut [u64]) -> Loaded
     ensures { λ a. ⌜ Leaves (length (now (blocks .entry))) (length (now (tones .entry))) (orTap (readTap (lentOf (length (now (blocks .entry))) (length (now (tones .entry)))) (now (tape .entry)))) a (now (blocks .exit)) (now (tones .exit)) ⌝ }
 {
     blank(blocks);
-    blank(tones);
+    blank(tones); // the reading as TZX may have written rows
     match read_tap(tape, blocks, tones) {
         Reading::Done(s) => {
             let format = Format::Tap;

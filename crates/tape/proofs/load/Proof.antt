@@ -4,6 +4,7 @@ use Rattle.blocks.specs.Does.{lentOf}
 use Rattle.reader.specs.Source.{loadOf}
 use Rattle.tape.specs.Load.{loadNamed}
 use Rattle.tape.proofs.Naming.{named-room, named-leaves, named-refusal}
+use native.Mathlib.Omega.{arith}
 use borrow.Author.Needs.{needs}
 use Rattle.tape.proofs.load.Statement.{statement}
 use Rattle.tape.proofs.load.Tie as tie
@@ -34,7 +35,7 @@ name-blocks-requires : tie.Need-name-blocks-requires
 name-blocks-requires c κs =
     let a = c .before .before .before .before .before .before .before .before .before .before .before .before .before .before .args in
     let l = loadOf (lentOf (length (a .blocks .now)) (length (a .tones .now))) (a .tape .now) (a .model) in
-    named-room l (c .before .before .before .before .before .before .before .before .read .ensures) (c .before .before .loaded .given .1)
+    omega (arith, named-room l (c .before .before .before .before .before .before .before .before .read .ensures) (c .before .before .loaded .given .1))
 
 same-length-3 : tie.Need-same-length-3
 same-length-3 c = search needs

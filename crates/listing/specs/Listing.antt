@@ -1,0 +1,123 @@
+-- The listing, document 01's 'Listing': its text over a mounted tape, and what the exported function answers. Definitions alone; assumes nothing.
+use Prim.Native.Nat.{ℕ, zero, suc, _+_}
+use mathlib.Core.Bool.{Bool, _&&_, _||_}
+use mathlib.Core.List.{List, [], _∷_, _++_}
+use lib.Dec.{ltb, leb, eqb}
+use lib.ListN.{length}
+use Rattle.laws.specs.Rules.{_⇒_, _∣_}
+use Rattle.pulses.specs.Play.{time}
+use Rattle.text.specs.Out.{decimal, fits, told}
+use Rattle.entries.specs.declared.Duration.{Duration}
+use Rattle.entries.specs.declared.Duration.the-variants.{T, Endless}
+use Rattle.entries.specs.Entries.{entriesOf, lastsOf}
+use Rattle.entries.specs.Places.{Tape, blockIn, listFrom}
+use Rattle.entries.specs.Mounted.{tapeOf}
+use Rattle.names.specs.Names.{nameOf}
+use Rattle.blocks.specs.Adds.{Lent}
+use Rattle.reader.specs.Source.{Loaded as Load, tzx, tapped, no}
+use Rattle.tape.specs.declared.Format.{Format}
+use Rattle.tape.specs.declared.Format.the-variants.{Tap, Tzx}
+use Rattle.tape.specs.Load.{loadNamed, blocksOf, tonesOf}
+
+-- code points below 32 and 127 to 159 print as `?`; in UTF-8 those from 128 to 159 are C2 and a byte below A0
+unfoldable pub shown : List ℕ → List ℕ
+shown [] = []
+shown (b ∷ []) = (ltb b 32 || eqb b 127) ⇒ (0x3F ∷ []) ∣ (b ∷ [])
+shown (b ∷ c ∷ bs) =
+    (eqb b 0xC2 && ltb c 0xA0) ⇒ 0x3F ∷ shown bs
+    ∣ (ltb b 32 || eqb b 127) ⇒ 0x3F ∷ shown (c ∷ bs)
+    ∣ b ∷ shown (c ∷ bs)
+
+-- T-states (`stop` if endless)
+unfoldable pub timeText : Duration → List ℕ
+timeText (T n) = decimal n
+timeText Endless = 0x73 ∷ 0x74 ∷ 0x6F ∷ 0x70 ∷ []
+
+-- selectable mark (`*` or `-`)
+unfoldable pub markText : Bool → List ℕ
+markText selectable = selectable ⇒ (0x2A ∷ []) ∣ (0x2D ∷ [])
+
+-- A ROW has number, selectable mark, data size, T-states, name
+unfoldable pub rowText : Tape → ℕ → List ℕ
+rowText w i =
+    decimal i ++ (0x20 ∷ [])
+    ++ markText (eqb (blockIn w i .selectable) 1) ++ (0x20 ∷ [])
+    ++ decimal (blockIn w i .size) ++ (0x20 ∷ [])
+    ++ timeText (lastsOf (entriesOf (w .bytes) (w .tones) i (blockIn w i))) ++ (0x20 ∷ [])
+    ++ shown (nameOf (w .bytes) (blockIn w i)) ++ (0x0A ∷ [])
+
+-- the first n rows
+unfoldable pub rowsText : Tape → ℕ → List ℕ
+rowsText w zero = []
+rowsText w (suc n) = rowsText w n ++ rowText w n
+
+-- models print as 48K, 128K, Plus3
+unfoldable pub modelText : ℕ → List ℕ
+modelText model =
+    eqb model 0 ⇒ (0x34 ∷ 0x38 ∷ 0x4B ∷ [])
+    ∣ eqb model 1 ⇒ (0x31 ∷ 0x32 ∷ 0x38 ∷ 0x4B ∷ [])
+    ∣ (0x50 ∷ 0x6C ∷ 0x75 ∷ 0x73 ∷ 0x33 ∷ [])
+
+-- formats TAP, TZX
+unfoldable pub formatText : Format → List ℕ
+formatText Tap = 0x54 ∷ 0x41 ∷ 0x50 ∷ []
+formatText Tzx = 0x54 ∷ 0x5A ∷ 0x58 ∷ []
+
+-- ` format F blocks N`
+unfoldable pub countText : Format → ℕ → List ℕ
+countText format n =
+    (0x20 ∷ 0x66 ∷ 0x6F ∷ 0x72 ∷ 0x6D ∷ 0x61 ∷ 0x74 ∷ 0x20 ∷ []) ++ formatText format
+    ++ (0x20 ∷ 0x62 ∷ 0x6C ∷ 0x6F ∷ 0x63 ∷ 0x6B ∷ 0x73 ∷ 0x20 ∷ []) ++ decimal n ++ (0x0A ∷ [])
+
+-- `time T`: all entries up to the first stop or the end
+unfoldable pub loadingText : Tape → List ℕ
+loadingText w = (0x74 ∷ 0x69 ∷ 0x6D ∷ 0x65 ∷ 0x20 ∷ []) ++ decimal (time (listFrom w 0)) ++ (0x0A ∷ [])
+
+-- what follows the model's name
+unfoldable pub restText : Format → Tape → List ℕ
+restText format w = countText format (w .count) ++ rowsText w (w .count) ++ loadingText w
+
+-- THE TEXT
+unfoldable pub listingText : ℕ → Format → Tape → List ℕ
+listingText model format w = (0x6D ∷ 0x6F ∷ 0x64 ∷ 0x65 ∷ 0x6C ∷ 0x20 ∷ []) ++ modelText model ++ restText format w
+
+-- 512 block and 2,048 tone rows
+abbrev pub blockWords : ℕ
+blockWords = 6656
+
+abbrev pub toneWords : ℕ
+toneWords = 6144
+
+unfoldable pub loadedOf : List ℕ → ℕ → Load
+loadedOf s model = loadNamed (record { blocks = 512; tones = 2048 }) s model
+
+-- a load's listing: a text, or the refusal's number
+pub data Listing : Type 0 where
+  text : List ℕ → Listing
+  refused : ℕ → Listing
+
+-- the tape as the load leaves it in the tables
+unfoldable pub mounted : List ℕ → Load → ℕ → Tape
+mounted s l n = tapeOf s (tonesOf toneWords l) (blocksOf blockWords l) n
+
+unfoldable pub listed : List ℕ → ℕ → Load → Listing
+listed s model (tzx t) = text (listingText model Tzx (mounted s (tzx t) (length (t .blocks))))
+listed s model (tapped t) = text (listingText model Tap (mounted s (tapped t) (length (t .blocks))))
+listed s model (no k) = refused k
+
+-- THE LISTING of a tape: 1, 2 over 65,535 bytes, 3 to 7
+unfoldable pub listingOf : List ℕ → ℕ → Listing
+listingOf s model =
+    leb 3 model ⇒ refused 1
+    ∣ ltb 65535 (length s) ⇒ refused 2
+    ∣ listed s model (loadedOf s model)
+
+-- the answer: the text's length, or the refusal's number: 10 where the output buffer is shorter than the text
+unfoldable pub answerTo : Listing → List ℕ → ℕ
+answerTo (text t) out = fits t out ⇒ length t ∣ 10
+answerTo (refused k) out = k
+
+-- the output bytes after it: nothing is written on a refusal, bytes past the text stay
+unfoldable pub bytesAfter : Listing → List ℕ → List ℕ
+bytesAfter (text t) out = told t out
+bytesAfter (refused k) out = out

@@ -4,6 +4,8 @@ use entries::row_well;
 use rows::block_at;
 use rows::block_capacity;
 ghost use mathlib.Core.Path.{_≡_};
+ghost use mathlib.Core.List.{List};
+ghost use Prim.Native.Nat.{ℕ};
 ghost use Rattle.entries.specs.Mounted.{tapeOf};
 ghost use Rattle.queries.specs.Queries.{refusalOf, lenOf, sizeOf, selectableOf, timeOf, nameAnswer, nameBytes, loadingOf};
 

@@ -36,29 +36,44 @@ pub record Asked (w : Tape) (i : ℕ) : Type 0 where
   pub well : wellRow w i ≡ true
 
 module _ (w : Tape) (i : ℕ) where
-  pub asked : refusalOf w i ≡ 0 → Asked w i
+  none-refused : refusalOf w i ≡ 0 → Asked w i
   unfolding refusalOf
-  asked e = by-tests (all-passed (overfull w) (leb (w .count) i) (wellRow w i) e)
+  none-refused e = by-tests (all-passed (overfull w) (leb (w .count) i) (wellRow w i) e)
     where
       by-tests : Tests (overfull w) (leb (w .count) i) (wellRow w i) → Asked w i
       by-tests (passed f g h) = record { few = ltb-false _ _ f; there = leb-false _ _ g; well = h }
+
+  pub asked : (k : ℕ) → k ≡ refusalOf w i → k ≡ 0 → Asked w i
+  asked k e z = none-refused (sym e ∙ z)
 
   pub refusal-none : overfull w ≡ false → i < w .count → wellRow w i ≡ true → refusalOf w i ≡ 0
   unfolding refusalOf
   refusal-none f g h = rw (f, lt-leb (w .count) i g, h)
 
--- the answers where the code's refusal k is the tape's
+-- the answers where the code's refusal k is the tape's: its number, or the answer
 pub number-refused : (k : ℕ) {m : ℕ} (n : Number) → k ≡ m → (k ≡ 0 → ⊥) → number.Refused k ≡ numberUnless m n
 unfolding numberUnless
 number-refused zero n e f = absurd (f refl)
 number-refused (suc k) n e f = rw (← e)
+
+pub number-given : (k : ℕ) {m : ℕ} {x n : Number} → k ≡ m → k ≡ 0 → x ≡ n → x ≡ numberUnless m n
+unfolding numberUnless
+number-given k e z y = rw (← e, z) y
 
 pub mark-refused : (k : ℕ) {m : ℕ} (n : Mark) → k ≡ m → (k ≡ 0 → ⊥) → mark.Refused k ≡ markUnless m n
 unfolding markUnless
 mark-refused zero n e f = absurd (f refl)
 mark-refused (suc k) n e f = rw (← e)
 
+pub mark-given : (k : ℕ) {m : ℕ} {x n : Mark} → k ≡ m → k ≡ 0 → x ≡ n → x ≡ markUnless m n
+unfolding markUnless
+mark-given k e z y = rw (← e, z) y
+
 pub time-refused : (k : ℕ) {m : ℕ} (n : Time) → k ≡ m → (k ≡ 0 → ⊥) → lasting.Refused k ≡ timeUnless m n
 unfolding timeUnless
 time-refused zero n e f = absurd (f refl)
 time-refused (suc k) n e f = rw (← e)
+
+pub time-given : (k : ℕ) {m : ℕ} {x n : Time} → k ≡ m → k ≡ 0 → x ≡ n → x ≡ timeUnless m n
+unfolding timeUnless
+time-given k e z y = rw (← e, z) y

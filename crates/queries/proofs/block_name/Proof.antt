@@ -25,7 +25,7 @@ returns c =
 block-at-requires : tie.Need-block-at-requires
 block-at-requires c κs =
     let a = c .before .before .before .before .before .before .args in
-    let q = asked (tapeOf (a .tape .now) (a .tones .now) (a .blocks .now) (a .count)) (a .i) (sym (c .before .refusal .ensures) ∙ c .if1 .left) in
+    let q = asked (tapeOf (a .tape .now) (a .tones .now) (a .blocks .now) (a .count)) (a .i) _ (c .before .refusal .ensures) (c .if1 .left) in
     omega arith
 
 -- src/lib.rt:109:29
@@ -37,7 +37,7 @@ put-name-requires : tie.Need-put-name-requires
 put-name-requires c κs =
     let a = c .before .before .before .before .before .before .before .before .args in
     let w = tapeOf (a .tape .now) (a .tones .now) (a .blocks .now) (a .count) in
-    let q = asked w (a .i) (sym (c .before .before .before .refusal .ensures) ∙ c .before .before .if1 .left) in
+    let q = asked w (a .i) _ (c .before .before .before .refusal .ensures) (c .before .before .if1 .left) in
     let n = row-inside w (a .i) _ (c .before .block-at .ensures) (q .well) in
     ((n .body, n .name), omega (arith, n .short))
 
@@ -46,14 +46,14 @@ returns-2 : tie.Need-returns-2
 returns-2 c =
     let a = c .before .before .before .before .before .before .before .before .before .before .before .args in
     let w = tapeOf (a .tape .now) (a .tones .now) (a .blocks .now) (a .count) in
-    name-short w (a .i) (sym (c .before .before .before .before .before .before .refusal .ensures) ∙ c .before .before .before .before .before .if1 .left) _ (c .before .before .before .before .block-at .ensures) _ (c .before .before .put-name .ensures) (c .if2 .taken)
+    name-short w (a .i) _ (c .before .before .before .before .before .before .refusal .ensures) (c .before .before .before .before .before .if1 .left) _ (c .before .before .before .before .block-at .ensures) _ (c .before .before .put-name .ensures) (c .if2 .taken)
 
 -- src/lib.rt:113:5
 put-name-requires-2 : tie.Need-put-name-requires-2
 put-name-requires-2 c κs =
     let a = c .before .before .before .before .before .before .before .before .before .before .before .before .args in
     let w = tapeOf (a .tape .now) (a .tones .now) (a .blocks .now) (a .count) in
-    let q = asked w (a .i) (sym (c .before .before .before .before .before .before .before .refusal .ensures) ∙ c .before .before .before .before .before .before .if1 .left) in
+    let q = asked w (a .i) _ (c .before .before .before .before .before .before .before .refusal .ensures) (c .before .before .before .before .before .before .if1 .left) in
     let n = row-inside w (a .i) _ (c .before .before .before .before .before .block-at .ensures) (q .well) in
     ((n .body, n .name), omega (arith, n .short))
 
@@ -66,7 +66,7 @@ returns-3 : tie.Need-returns-3
 returns-3 c =
     let a = c .before .before .before .before .before .before .before .before .before .before .before .before .before .before .before .args in
     let w = tapeOf (a .tape .now) (a .tones .now) (a .blocks .now) (a .count) in
-    name-told w (a .i) (sym (c .before .before .before .before .before .before .before .before .before .before .refusal .ensures) ∙ c .before .before .before .before .before .before .before .before .before .if1 .left) _ (c .before .before .before .before .before .before .before .before .block-at .ensures) (c .before .before .before .before .before .before .put-name .ensures) (c .before .before .put-name2 .ensures) (c .before .before .before .before .if2 .left)
+    name-told w (a .i) _ (c .before .before .before .before .before .before .before .before .before .before .refusal .ensures) (c .before .before .before .before .before .before .before .before .before .if1 .left) _ (c .before .before .before .before .before .before .before .before .block-at .ensures) (c .before .before .before .before .before .before .put-name .ensures) (c .before .before .put-name2 .ensures) (c .before .before .before .before .if2 .left)
 
 pub block-name-spec : {M : Type 1} → statement M
 block-name-spec =

@@ -1,7 +1,7 @@
 use lib.Dec.{eqb}
 use Rattle.queries.specs.declared.Mark.the-variants.{Is}
-use Rattle.queries.proofs.Refusals.{asked, mark-refused}
-use Rattle.queries.specs.Queries.{selectableOf, markUnless}
+use Rattle.queries.proofs.Refusals.{asked, mark-refused, mark-given}
+use Rattle.queries.specs.Queries.{selectableOf}
 use Rattle.entries.specs.Mounted.{tapeOf}
 use Rattle.rows.specs.declared.Block.{Block}
 use native.Mathlib.Omega.{arith}
@@ -28,14 +28,14 @@ returns c =
 block-at-requires : tie.Need-block-at-requires
 block-at-requires c κs =
     let a = c .before .before .before .before .before .args in
-    let q = asked (tapeOf (a .tape .now) (a .tones .now) (a .blocks .now) (a .count)) (a .i) (sym (c .before .refusal .ensures) ∙ c .if1 .left) in
+    let q = asked (tapeOf (a .tape .now) (a .tones .now) (a .blocks .now) (a .count)) (a .i) _ (c .before .refusal .ensures) (c .if1 .left) in
     omega arith
 
 -- src/lib.rt:68:1
 returns-2 : tie.Need-returns-2
-unfolding selectableOf markUnless
+unfolding selectableOf
 returns-2 c =
-    rw (sym (c .before .before .before .refusal .ensures) ∙ c .before .before .if1 .left) (ap (λ (r : Block). Is (eqb (r .selectable) 1)) (c .before .block-at .ensures))
+    mark-given _ (c .before .before .before .refusal .ensures) (c .before .before .if1 .left) (ap (λ (r : Block). Is (eqb (r .selectable) 1)) (c .before .block-at .ensures))
 
 pub block-selectable-spec : {M : Type 1} → statement M
 block-selectable-spec = tie.close (tie.spec refusal-requires returns block-at-requires returns-2)

@@ -1,6 +1,6 @@
 use Rattle.queries.specs.declared.Number.the-variants.{Is}
-use Rattle.queries.proofs.Refusals.{asked, number-refused}
-use Rattle.queries.specs.Queries.{sizeOf, numberUnless}
+use Rattle.queries.proofs.Refusals.{asked, number-refused, number-given}
+use Rattle.queries.specs.Queries.{sizeOf}
 use Rattle.entries.specs.Mounted.{tapeOf}
 use Rattle.rows.specs.declared.Block.{Block}
 use native.Mathlib.Omega.{arith}
@@ -27,14 +27,14 @@ returns c =
 block-at-requires : tie.Need-block-at-requires
 block-at-requires c κs =
     let a = c .before .before .before .before .before .args in
-    let q = asked (tapeOf (a .tape .now) (a .tones .now) (a .blocks .now) (a .count)) (a .i) (sym (c .before .refusal .ensures) ∙ c .if1 .left) in
+    let q = asked (tapeOf (a .tape .now) (a .tones .now) (a .blocks .now) (a .count)) (a .i) _ (c .before .refusal .ensures) (c .if1 .left) in
     omega arith
 
 -- src/lib.rt:56:1
 returns-2 : tie.Need-returns-2
-unfolding sizeOf numberUnless
+unfolding sizeOf
 returns-2 c =
-    rw (sym (c .before .before .refusal .ensures) ∙ c .before .if1 .left) (ap (λ (r : Block). Is (r .size)) (c .block-at .ensures))
+    number-given _ (c .before .before .refusal .ensures) (c .before .if1 .left) (ap (λ (r : Block). Is (r .size)) (c .block-at .ensures))
 
 pub block-size-spec : {M : Type 1} → statement M
 block-size-spec = tie.close (tie.spec refusal-requires returns block-at-requires returns-2)

@@ -5,8 +5,8 @@ use Rattle.entries.specs.Mounted.{sizeOf, wellRow}
 use mathlib.Core.Bool.{true}
 use mathlib.Core.Path.{_≡_}
 use mathlib.Core.Path.{subst}
-use Rattle.queries.proofs.Refusals.{asked, time-refused}
-use Rattle.queries.specs.Queries.{timeOf, timeUnless}
+use Rattle.queries.proofs.Refusals.{asked, time-refused, time-given}
+use Rattle.queries.specs.Queries.{timeOf}
 use Rattle.entries.specs.Mounted.{tapeOf}
 use Rattle.rows.specs.declared.Block.{Block}
 use native.Mathlib.Omega.{arith}
@@ -34,7 +34,7 @@ returns c =
 block-at-requires : tie.Need-block-at-requires
 block-at-requires c κs =
     let a = c .before .before .before .before .before .args in
-    let q = asked (tapeOf (a .tape .now) (a .tones .now) (a .blocks .now) (a .count)) (a .i) (sym (c .before .refusal .ensures) ∙ c .if1 .left) in
+    let q = asked (tapeOf (a .tape .now) (a .tones .now) (a .blocks .now) (a .count)) (a .i) _ (c .before .refusal .ensures) (c .if1 .left) in
     omega arith
 
 -- src/lib.rt:88:17
@@ -42,15 +42,15 @@ block-time-requires : tie.Need-block-time-requires
 unfolding wellRow
 block-time-requires c κs =
     let a = c .before .before .before .before .before .before .args in
-    let q = asked (tapeOf (a .tape .now) (a .tones .now) (a .blocks .now) (a .count)) (a .i) (sym (c .before .before .refusal .ensures) ∙ c .before .if1 .left) in
+    let q = asked (tapeOf (a .tape .now) (a .tones .now) (a .blocks .now) (a .count)) (a .i) _ (c .before .before .refusal .ensures) (c .before .if1 .left) in
     subst (λ (r : Block). wellBlock (sizeOf (a .tape .now)) (a .tones .now) r ≡ true) (sym (c .block-at .ensures)) (q .well)
 
 -- src/lib.rt:80:1
 returns-2 : tie.Need-returns-2
-unfolding timeOf timeUnless
+unfolding timeOf
 returns-2 c =
     let a = c .before .before .before .before .before .before .before .args in
-    rw (sym (c .before .before .before .refusal .ensures) ∙ c .before .before .if1 .left)
+    time-given _ (c .before .before .before .refusal .ensures) (c .before .before .if1 .left)
     (ap Lasts (c .block-time .ensures (a .i) ∙ ap (λ (r : Block). lastsOf (entriesOf (a .tape .now) (a .tones .now) (a .i) r)) (c .before .block-at .ensures)))
 
 pub block-time-spec : {M : Type 1} → statement M

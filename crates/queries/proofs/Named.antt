@@ -27,9 +27,9 @@ pub record Inside (bytes : List ℕ) (r : Block) : Type 0 where
 pub row-inside : (w : Tape) (i : ℕ) (r : Block) → r ≡ blockIn w i → wellRow w i ≡ true → Inside (w .bytes) r
 unfolding wellRow
 row-inside w i r q g =
-      let h = inside-tape (sizeOf (w .bytes)) (w .tones) (blockIn w i) g in
-      let at = subst (λ (y : Block). (y .start + y .size ≤ sizeOf (w .bytes)) × (y .text + y .chars ≤ sizeOf (w .bytes))) (sym q) h in
-      record { body = omega (arith, at .0); name = omega (arith, at .1); short = omega (arith, at .1) }
+    let h = inside-tape (sizeOf (w .bytes)) (w .tones) (blockIn w i) g in
+    let at = subst (λ (y : Block). (y .start + y .size ≤ sizeOf (w .bytes)) × (y .text + y .chars ≤ sizeOf (w .bytes))) (sym q) h in
+    record { body = omega (arith, at .0); name = omega (arith, at .1); short = omega (arith, at .1) }
 
 -- an answer and the bytes it leaves are what the contract says
 abbrev pub Answered : Tape → ℕ → List ℕ → Number → List ℕ → Type 0

@@ -4,7 +4,7 @@ use borrow.Author.Tests.{le-ltb}
 use mathlib.Core.Path.{_≡_, refl, ap, _∙_}
 use mathlib.Core.Bool.{Bool, true, false, _&&_}
 use mathlib.Core.List.{List}
-use lib.Dec.{eqb, ltb}
+use lib.Dec.{eqb}
 use native.Mathlib.Omega.{arith}
 use Rattle.laws.specs.Rules.{_⇒_, _∣_}
 use Rattle.pulses.specs.Play.{time, comesTo}
@@ -14,7 +14,6 @@ use Rattle.entries.specs.Entries.{entriesOf, lastsOf}
 use Rattle.entries.specs.Places.{Tape, blockIn, listFrom}
 use Rattle.entries.specs.Mounted.{overfull}
 use Rattle.entries.proofs.Formed.{Whole, whole-formed}
-use Rattle.queries.specs.declared.Number.{Number}
 use Rattle.queries.specs.declared.Number.the-variants as number
 use Rattle.queries.specs.declared.Mark.the-variants as mark
 use Rattle.queries.specs.declared.Time.the-variants as lasting

@@ -1,5 +1,5 @@
 -- A BLOCK'S NAME IN LENT BYTES: what a well-formed row gives its writer, and each answer with the bytes it leaves. Assumes nothing.
-use Prim.Native.Nat.{ℕ, zero, suc, _+_, _≤_, _<_}
+use Prim.Native.Nat.{ℕ, _+_, _≤_, _<_}
 use native.Mathlib.Omega.{arith}
 use borrow.Author.Tests.{ne-eqb}
 use mathlib.Core.Path.{_≡_, refl, sym, subst, ap, _∙_}
@@ -7,7 +7,7 @@ use mathlib.Core.Bool.{true}
 use mathlib.Core.List.{List}
 use lib.ListN.{length}
 use Rattle.rows.specs.declared.Block.{Block}
-use Rattle.text.specs.Out.{Wrote, told}
+use Rattle.text.specs.Out.{Wrote}
 use Rattle.text.proofs.Writing.{dry-told, dry-short}
 use Rattle.entries.specs.Places.{Tape, blockIn}
 use Rattle.entries.specs.Mounted.{sizeOf, wellRow}

@@ -25,12 +25,17 @@ use Rattle.walks.specs.declared.Position.{Position}
 use Rattle.walks.specs.declared.Stand.{Stand}
 use Rattle.walks.specs.declared.Reached.{Reached}
 use Rattle.walks.specs.declared.Reached.the-variants.{At, Stopped, Ended, NotValid, NotFormed}
+use Rattle.entries.specs.Mounted.{wellRow, firstBad, cutTo, formed}
 use Rattle.walks.specs.Heads.{startAt, stand, placeOf, ahead, levelHere, toldAs, told, walked, walkFrom}
-use Rattle.entries.proofs.Formed.{not-both, whole-formed}
-pub use Rattle.entries.proofs.Formed.{Whole}
+use Rattle.walks.proofs.Needed.{not-both, needed}
 use Rattle.deck.specs.declared.Check.the-variants.{Fine}
 use Rattle.deck.specs.Deck.{atStart, ruledOut, badRow, validAt, judged, unless, playMeasured, sourceAnswer, sourceFrom, playSource}
 use Rattle.deck.proofs.Sourced.{source-answer}
+
+-- a tape whose counted rows are all well formed
+pub record Whole (w : Tape) : Type 0 where
+  pub lent : w .count ≤ capacityOf block blockMost (w .blocks)
+  pub rows : (b : ℕ) → b < w .count → wellRow w b ≡ true
 
 -- where an answer leaves the head, and the entries it counts; a refusal leaves it where it was and counts none
 unfoldable pub positionIn : Position → Reached → Position
@@ -172,6 +177,21 @@ told-ended stopped s = refl
 told-ended ended s = refl
 
 module _ (w : Tape) (whole : Whole w) where
+  -- nothing is cut
+  whole-count : (b : ℕ) → firstBad w b (w .count - b) ≡ w .count
+  unfolding firstBad
+  whole-count b =
+      ⊎-elim
+      (λ l.
+      let x = needed w b (omega arith) in
+      ⊎-elim (λ h. absurd (not-both (whole .rows _ h) (x .bad h))) (λ g. omega (arith, x .most)) (lt-or-ge (firstBad w b (w .count - b)) (w .count)))
+      (λ g. let z : w .count - b ≡ 0 = omega arith in ap (firstBad w b) z)
+      (lt-or-ge b (w .count))
+
+  pub whole-formed : (b : ℕ) → formed w b ≡ w
+  unfolding formed
+  whole-formed b = ap (cutTo w) (whole-count b)
+
   -- a valid position passes the checks
   pub whole-fine : (q : Position) → validAt w q ≡ true → judged w q ≡ Fine
   unfolding judged
@@ -187,7 +207,7 @@ module _ (w : Tape) (whole : Whole w) where
   pub play-told : (q : Position) (n : ℕ) → validAt w q ≡ true → 0 < n → playMeasured w q n ≡ told w (answer (ahead w q) n)
   unfolding playMeasured unless walkFrom
   play-told q n v p =
-      rw (whole-fine q v, ne-eqb n 0 (omega arith), whole-formed w whole (q .block)) (all-walked w (answer (ahead w q) n))
+      rw (whole-fine q v, ne-eqb n 0 (omega arith), whole-formed (q .block)) (all-walked w (answer (ahead w q) n))
 
   play-position : (q : Position) (n : ℕ) → validAt w q ≡ true → 0 < n → positionIn q (playMeasured w q n) ≡ placeOf w (rest (ahead w q) n)
   unfolding told answer
@@ -240,7 +260,7 @@ module _ (w : Tape) (whole : Whole w) where
   pub source-told : (q : Position) (n : ℕ) → validAt w q ≡ true → 0 < n → playSource w q n ≡ told w (sourceAnswer (ahead w q) n)
   unfolding playSource unless sourceFrom
   source-told q n v p =
-      rw (whole-fine q v, ne-eqb n 0 (omega arith), whole-formed w whole (q .block)) (all-walked w (sourceAnswer (ahead w q) n))
+      rw (whole-fine q v, ne-eqb n 0 (omega arith), whole-formed (q .block)) (all-walked w (sourceAnswer (ahead w q) n))
 
   -- its outcome, end included, agrees with the measured player's for the count and the sum that it drops: they are even equal
   pub source-agrees : (q : Position) (n : ℕ) → validAt w q ≡ true → 0 < n

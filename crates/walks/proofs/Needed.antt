@@ -6,6 +6,7 @@ use mathlib.Core.Path.{_≡_, ap}
 use mathlib.Core.Bool.{true}
 use mathlib.Core.List.{List, [], _∷_, _++_}
 use lib.ListN.{length, length-append}
+pub use Rattle.entries.proofs.Formed.{Needs, needed, not-both, well-before, bad-there}
 use Rattle.pulses.specs.Play.{Entry}
 use Rattle.pulses.specs.Runs.{run}
 use Rattle.rows.specs.declared.Block.{Block}
@@ -17,8 +18,7 @@ use Rattle.entries.specs.Entries.{spot, entryOf, startOf, toneAt, rowOf, tonesO
 use Rattle.entries.specs.Places.{Tape, blockIn, listFrom, leftAt, levelOf, valid, lengthIn}
 use Rattle.entries.proofs.Runs.{tone-length, byte-length}
 use Rattle.entries.proofs.Parts.{left-part}
-use Rattle.entries.specs.Mounted.{sizeOf, wellRow, cutTo}
-pub use Rattle.entries.proofs.Formed.{Needs, needed, not-both, well-before, bad-there}
+use Rattle.entries.specs.Mounted.{sizeOf, wellRow, firstBad, cutTo}
 use Rattle.walks.proofs.Facts.{tone-small, bits-few}
 
 -- items of at most c entries each

@@ -93,7 +93,7 @@ bytes-most-time tape b r n e h =
 
 -- over any bytes: the tape's length alone counts
 module _ (size : ℕ) (tape tones : List ℕ) (b : ℕ) (r : Block) (w : wellBlock size tones r ≡ true) (few : size ≤ 1048576) where
-  sound-most : time (soundOf tape tones b r) ≤ 564032268533760
+  pub sound-most : time (soundOf tape tones b r) ≤ 564032268533760
   unfolding tonesOf dataOf
   sound-most =
       let c = block-clauses size tones r w in

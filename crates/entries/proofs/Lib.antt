@@ -8,3 +8,4 @@ pub mod Tails
 pub mod Levels
 pub mod Loading
 pub mod Parts
+pub mod Formed

@@ -117,9 +117,9 @@ pub fn byte_time(tape: &[u8], r: Block, pos: u64) -> u64
     bits_time(tape[at], bits_at(r, pos), r)
 }
 
-// T-states of a block's data, which its callers know to lie in a tape within the limit, in a row whose numbers are well formed.
+// T-states of a block's data, which its callers know to lie in the tape and to be within its limit, in a row whose numbers are well formed.
 pub fn data_time(tape: &[u8], r: Block) -> u64
-    requires { ⌜ (r .start + r .size ≤ length (now tape)) × (length (now tape) ≤ 1048576) ⌝ }
+    requires { ⌜ (r .start + r .size ≤ length (now tape)) × (r .size ≤ 1048576) ⌝ }
     requires { ⌜ wellNumbers r ≡ true ⌝ }
     ensures { λ t. ⌜ ((b : ℕ) → t ≡ time (dataOf (now (tape .entry)) b r)) ⌝ }
 {
@@ -132,10 +132,9 @@ pub fn data_time(tape: &[u8], r: Block) -> u64
     sum
 }
 
-// T-states of a block without its pause; its callers know the row to be well formed over a tape within the limit.
+// T-states of a block without its pause; its callers know the row to be well formed.
 pub fn sound_time(tape: &[u8], tones: &[u64], r: Block) -> u64
-    requires { ⌜ wellBlock (length (now tape)) (now tones) r ≡ true ⌝ }
-    requires { ⌜ length (now tape) ≤ 1048576 ⌝ }
+    requires { ⌜ wellBlock (sizeOf (now tape)) (now tones) r ≡ true ⌝ }
     ensures { λ t. ⌜ ((b : ℕ) → t ≡ time (soundOf (now (tape .entry)) (now (tones .entry)) b r)) ⌝ }
 {
     tones_time(tones, r) + data_time(tape, r)
@@ -152,10 +151,9 @@ pub fn pause_of(r: Block) -> Duration
     }
 }
 
-// T-states of a block with its pause, or that it never ends; its callers know the row to be well formed over a tape within the limit.
+// T-states of a block with its pause, or that it never ends; its callers know the row to be well formed.
 pub fn block_time(tape: &[u8], tones: &[u64], r: Block) -> Duration
-    requires { ⌜ wellBlock (length (now tape)) (now tones) r ≡ true ⌝ }
-    requires { ⌜ length (now tape) ≤ 1048576 ⌝ }
+    requires { ⌜ wellBlock (sizeOf (now tape)) (now tones) r ≡ true ⌝ }
     ensures { λ d. ⌜ ((b : ℕ) → d ≡ lastsOf (entriesOf (now (tape .entry)) (now (tones .entry)) b r)) ⌝ }
 {
     if r.endless == 1 {

@@ -18,11 +18,12 @@ fn put_type(out: &mut [u8], at: usize, kind: u8) -> usize
     match kind {
         0 => text::put_all(out, at, b"Program"),
         1 => text::put_all(out, at, b"Array"),
-        3 => text::put_all(out, at, b"Bytes"),
         2 | 4..=255 => {
             let next = text::put_all(out, at, b"Type ");
             text::put_decimal(out, next, kind as u64)
         }
+        // 3 alone is left: so the range is a test of its own
+        _ => text::put_all(out, at, b"Bytes"),
     }
 }
 
@@ -91,7 +92,7 @@ fn put_guessed(out: &mut [u8], at: usize, tape: &[u8], r: Block) -> usize
 // A block's name. Asked of the row: its data and its given name are places inside the tape, as in a well-formed row.
 pub fn put_name(out: &mut [u8], at: usize, tape: &[u8], r: Block) -> usize
     requires { ⌜ (r .start + r .size ≤ length (now tape)) × (r .text + r .chars ≤ length (now tape)) ⌝ }
-    requires { ⌜ at + 2 * length (now tape) + 128 < 2 ^ 63 ⌝ }
+    requires { ⌜ at + 2 * r .chars + 128 < 2 ^ 63 ⌝ }
     ensures { λ n. ⌜ Wrote (now (out .entry)) at (nameOf (now (tape .entry)) r) (now (out .exit)) n ⌝ }
 {
     if r.named == 0 {

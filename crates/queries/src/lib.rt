@@ -4,6 +4,11 @@ use entries::row_well;
 use rows::block_at;
 use rows::block_capacity;
 ghost use mathlib.Core.Path.{_≡_};
+ghost use mathlib.Core.List.{List};
+ghost use Prim.Native.Nat.{ℕ};
+ghost use lib.Dec.{ltb};
+ghost use Rattle.rows.specs.Table.{capacityOf};
+ghost use Rattle.rows.specs.Rows.{block, blockMost};
 ghost use Rattle.entries.specs.Mounted.{tapeOf};
 ghost use Rattle.queries.specs.Queries.{refusalOf, lenOf, sizeOf, selectableOf, timeOf, nameAnswer, nameBytes, loadingOf};
 
@@ -25,11 +30,18 @@ pub enum Time {
     Refused(u32),
 }
 
+// Whether the count exceeds the whole rows lent.
+fn overfull(blocks: &[u64], count: u64) -> bool
+    ensures { λ b. ⌜ b ≡ ltb (capacityOf block blockMost (now (blocks .entry))) count ⌝ }
+{
+    (block_capacity(blocks) as u64) < count
+}
+
 // The refusal of a query about block i, in document 01's order; 0 where there is none.
 fn refusal(tape: &[u8], tones: &[u64], blocks: &[u64], count: u64, i: u64) -> u32
     ensures { λ k. ⌜ k ≡ refusalOf (tapeOf (now (tape .entry)) (now (tones .entry)) (now (blocks .entry)) count) i ⌝ }
 {
-    if (block_capacity(blocks) as u64) < count {
+    if overfull(blocks, count) {
         return 11;
     }
     if count <= i {
@@ -46,7 +58,7 @@ fn refusal(tape: &[u8], tones: &[u64], blocks: &[u64], count: u64, i: u64) -> u3
 pub fn len(blocks: &[u64], count: u64) -> Number
     ensures { λ r. ⌜ ((bytes tones : List ℕ) → r ≡ lenOf (tapeOf bytes tones (now (blocks .entry)) count)) ⌝ }
 {
-    if (block_capacity(blocks) as u64) < count {
+    if overfull(blocks, count) {
         return Number::Refused(11);
     }
     Number::Is(count)
@@ -118,7 +130,7 @@ pub fn block_name(
 pub fn loading_time(tape: &[u8], tones: &[u64], blocks: &[u64], count: u64) -> Number
     ensures { λ r. ⌜ r ≡ loadingOf (tapeOf (now (tape .entry)) (now (tones .entry)) (now (blocks .entry)) count) ⌝ }
 {
-    if (block_capacity(blocks) as u64) < count {
+    if overfull(blocks, count) {
         return Number::Refused(11);
     }
     let mut sum = 0;

@@ -9,9 +9,9 @@ use native.Mathlib.Omega.{arith}
 use lib.ListN.{length, length-append, take, drop, getD, set}
 use lib.Seq.{sets, length-sets, sets-eq, take-suc}
 use lib.Dec.{ltb}
-use borrow.Author.Tests.{lt-ltb, le-ltb}
+use borrow.Author.Tests.{lt-ltb, le-ltb, le-leb, lt-leb}
 use Rattle.laws.specs.Rules.{_⇒_, _∣_}
-use Rattle.text.specs.Out.{Wrote, digits, decimal, latin1, each}
+use Rattle.text.specs.Out.{Wrote, digits, decimal, latin1, each, fits, told}
 
 sets-append : (d s t : List ℕ) (at : ℕ) → sets (sets d at s) (at + length s) t ≡ sets d at (s ++ t)
 sets-append d [] t at = rw add-zero
@@ -35,6 +35,27 @@ whole {d} {d1} {t} p h =
     let z : 0 + length t ≡ length t = omega arith in
     let h2 : 0 + length t ≤ length d = omega arith in
     p .bytes ∙ sets-eq t d 0 h2 ∙ ap (λ (n : ℕ). t ++ drop n d) z
+
+-- A DRY RUN AND THE RUN: a dry run counts the text; lent bytes that it says suffice then have the text told, and others are too short for it
+pub counted : {d d1 t : List ℕ} {n : ℕ} → Wrote d 0 t d1 n → n ≡ length t
+counted {d} {d1} {t} p = omega (arith, p .count)
+
+pub record Fitted (t out out′ : List ℕ) (n : ℕ) : Type 0 where
+  pub count : n ≡ length t
+  pub room : fits t out ≡ true
+  pub bytes : out′ ≡ told t out
+
+pub dry-told : {dry dry′ out out′ t : List ℕ} {n n′ : ℕ} → Wrote dry 0 t dry′ n → Wrote out 0 t out′ n′ → n ≤ length out → Fitted t out out′ n
+unfolding told
+dry-told {out = out} {t = t} p q h =
+    let r : fits t out ≡ true = le-leb (length t) (length out) (omega (arith, counted p)) in
+    record { count = counted p; room = r; bytes = whole q (omega (arith, counted p)) ∙ rw r }
+
+pub dry-short : {dry dry′ t : List ℕ} {n : ℕ} (out : List ℕ) → Wrote dry 0 t dry′ n → length out < n → (fits t out ≡ false) × (told t out ≡ out)
+unfolding told
+dry-short {t = t} out p h =
+    let r : fits t out ≡ false = lt-leb (length t) (length out) (omega (arith, counted p)) in
+    (r, rw r)
 
 -- one more digit is at most one more byte
 one-more : (b : Bool) (f x y : ℕ) (l : List ℕ) → length l ≤ f → length (b ⇒ (x ∷ []) ∣ l ++ (y ∷ [])) ≤ suc f

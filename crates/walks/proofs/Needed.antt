@@ -1,14 +1,12 @@
--- THE ROWS THAT A WALK NEEDS: those up to the first that is not well formed; and how many entries they have. Assumes nothing.
+-- THE ROWS THAT A WALK NEEDS, those up to the first that is not well formed, and how many entries they have. Assumes nothing.
 use Prim.Native.Nat.{ℕ, zero, suc, _+_, _-_, _*_, _≤_, _<_}
 use native.Mathlib.Omega.{arith}
 use native.Mathlib.Nat.{suc-mul, zero-mul}
-use mathlib.Core.Path.{_≡_, refl, sym, ap, _∙_}
-use mathlib.Core.Bool.{Bool, true, false}
-use mathlib.Core.Logic.{⊎-elim}
+use mathlib.Core.Path.{_≡_, ap}
+use mathlib.Core.Bool.{true}
 use mathlib.Core.List.{List, [], _∷_, _++_}
 use lib.ListN.{length, length-append}
-use Rattle.laws.specs.Numbers.{lt-or-ge}
-use Rattle.laws.specs.Rules.{_⇒_, _∣_}
+pub use Rattle.entries.proofs.Formed.{Needs, needed, not-both, well-before, bad-there}
 use Rattle.pulses.specs.Play.{Entry}
 use Rattle.pulses.specs.Runs.{run}
 use Rattle.rows.specs.declared.Block.{Block}
@@ -22,43 +20,6 @@ use Rattle.entries.proofs.Runs.{tone-length, byte-length}
 use Rattle.entries.proofs.Parts.{left-part}
 use Rattle.entries.specs.Mounted.{sizeOf, wellRow, firstBad, cutTo}
 use Rattle.walks.proofs.Facts.{tone-small, bits-few}
-
--- of the m rows from b on to the count
-pub record Needs (w : Tape) (b k : ℕ) : Type 0 where
-  pub from : b ≤ k
-  pub most : k ≤ w .count
-  pub well : (i : ℕ) → b ≤ i → i < k → wellRow w i ≡ true
-  pub bad : k < w .count → wellRow w k ≡ false
-
-needs-of : (w : Tape) (b m : ℕ) → b + m ≡ w .count → Needs w b (firstBad w b m)
-unfolding firstBad
-needs-of w b zero e = record { from = omega arith; most = omega arith; well = λ i l g. absurd (omega arith); bad = λ h. absurd (omega arith) }
-needs-of w b (suc m) e = by-cases (wellRow w b) refl (needs-of w (b + 1) m (omega arith))
-  where
-    by-cases : (t : Bool) → wellRow w b ≡ t → Needs w (b + 1) (firstBad w (b + 1) m) → Needs w b (t ⇒ firstBad w (b + 1) m ∣ b)
-    by-cases true f x =
-        record {
-          from = omega (arith, x .from);
-          most = x .most;
-          well = λ i l g. ⊎-elim (λ q. x .well i (omega arith) g) (λ q. let z : b ≡ i = omega arith in ap (wellRow w) (sym z) ∙ f) (lt-or-ge b i);
-          bad = x .bad;
-        }
-    by-cases false f x = record { from = omega arith; most = omega arith; well = λ i l g. absurd (omega arith); bad = λ h. f }
-
-pub needed : (w : Tape) (b : ℕ) → b ≤ w .count → Needs w b (firstBad w b (w .count - b))
-needed w b h = needs-of w b (w .count - b) (omega arith)
-
-pub not-both : {x : Bool} → x ≡ true → x ≡ false → ⊥
-not-both {x} e f = let y : _≡_ {A = ℕ} 0 1 = ap (λ (t : Bool). t ⇒ 0 ∣ 1) (sym e ∙ f) in absurd (omega arith)
-
--- a well-formed row up to the bad one stands before it
-pub well-before : {w : Tape} {b k : ℕ} → Needs w b k → (i : ℕ) → i ≤ k → i < w .count → wellRow w i ≡ true → i < k
-well-before {w} {b} {k} x i l g e =
-    ⊎-elim (λ q. q) (λ q. let z : i ≡ k = omega arith in absurd (not-both (ap (wellRow w) (sym z) ∙ e) (x .bad (omega arith)))) (lt-or-ge i k)
-
--- and one that is not well formed is that one
-pub bad-there : {w : Tape} {b k : ℕ} → Needs w b k → (i : ℕ) → b ≤ i → i ≤ k → wellRow w i ≡ false → k ≡ i
-bad-there {w} {b} {k} x i l g e = ⊎-elim (λ q. absurd (not-both (x .well i l q) e)) (λ q. omega arith) (lt-or-ge i k)
 
 -- items of at most c entries each
 run-most : {A : Type 0} (item : ℕ → List (Entry A)) (c p m : ℕ) → ((i : ℕ) → p ≤ i → i < p + m → length (item i) ≤ c) → length (run item p m) ≤ m * c

@@ -2,10 +2,10 @@
 use Prim.Native.Nat.{ℕ, _+_}
 use native.Mathlib.Omega.{arith}
 use mathlib.Core.Path.{sym, ap, _∙_}
-use lib.ListN.{length}
 use borrow.Author.Needs.{needs}
 use Rattle.rows.proofs.WellLaws.{block-clauses, numbers-most}
 use Rattle.entries.specs.declared.Duration.the-variants.{T}
+use Rattle.entries.specs.Mounted.{sizeOf}
 use Rattle.entries.proofs.Bounds.{sound-below}
 use Rattle.entries.proofs.Runs.{lasts-stop, lasts-pause}
 use Rattle.entries.proofs.block_time.Statement.{statement}
@@ -20,8 +20,8 @@ add-t7 c =
     let t = s .args .tape .now in
     let n = s .args .tones .now in
     let r = s .args .r in
-    let w = numbers-most r (block-clauses (length t) n r (s .pre .0) .numbers) in
-    omega (arith, w .pause (c .before .before .if1 .left), c .before .sound-time .ensures 0, sound-below (length t) t n 0 r (s .pre .0) (s .pre .1))
+    let w = numbers-most r (block-clauses (sizeOf t) n r (s .pre) .numbers) in
+    omega (arith, w .pause (c .before .before .if1 .left), c .before .sound-time .ensures 0, sound-below (sizeOf t) t n 0 r (s .pre) (omega arith))
 
 returns : tie.Need-returns
 returns c =

@@ -2,8 +2,8 @@
 use Prim.Native.Nat.{ℕ, _+_}
 use native.Mathlib.Omega.{arith}
 use mathlib.Core.Path.{sym, ap₂, _∙_}
-use lib.ListN.{length}
 use Rattle.rows.proofs.WellLaws.{block-clauses, ranges-inside}
+use Rattle.entries.specs.Mounted.{sizeOf}
 use Rattle.entries.proofs.Bounds.{sound-below}
 use Rattle.entries.proofs.Runs.{sound-time}
 use Rattle.entries.proofs.sound_time.Statement.{statement}
@@ -12,14 +12,17 @@ use Rattle.entries.proofs.sound_time.Tie as tie
 tones-time-requires : tie.Need-tones-time-requires
 tones-time-requires c κs =
     let s = c .before .before in
-    let w = block-clauses (length (s .args .tape .now)) (s .args .tones .now) (s .args .r) (s .pre .0) in
-    (ranges-inside (length (s .args .tape .now)) (s .args .tones .now) (s .args .r) (w .ranges) .rows, w .rows)
+    let n = sizeOf (s .args .tape .now) in
+    let w = block-clauses n (s .args .tones .now) (s .args .r) (s .pre) in
+    (ranges-inside n (s .args .tones .now) (s .args .r) (w .ranges) .rows, w .rows)
 
 data-time-requires : tie.Need-data-time-requires
 data-time-requires c κs =
     let s = c .before .before .before in
-    let w = block-clauses (length (s .args .tape .now)) (s .args .tones .now) (s .args .r) (s .pre .0) in
-    ((ranges-inside (length (s .args .tape .now)) (s .args .tones .now) (s .args .r) (w .ranges) .bytes, s .pre .1), w .numbers)
+    let n = sizeOf (s .args .tape .now) in
+    let w = block-clauses n (s .args .tones .now) (s .args .r) (s .pre) in
+    let i = ranges-inside n (s .args .tones .now) (s .args .r) (w .ranges) in
+    ((omega arith, omega arith), w .numbers)
 
 add-result : tie.Need-add-result
 add-result c =
@@ -27,7 +30,7 @@ add-result c =
     let t = s .args .tape .now in
     let n = s .args .tones .now in
     let r = s .args .r in
-    omega (arith, c .before .tones-time .ensures 0, c .data-time .ensures 0, sound-time t n 0 r, sound-below (length t) t n 0 r (s .pre .0) (s .pre .1))
+    omega (arith, c .before .tones-time .ensures 0, c .data-time .ensures 0, sound-time t n 0 r, sound-below (sizeOf t) t n 0 r (s .pre) (omega arith))
 
 returns : tie.Need-returns
 returns c =

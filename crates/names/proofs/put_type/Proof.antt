@@ -2,6 +2,7 @@
 use Rattle.names.proofs.Naming.{as-other}
 use Rattle.names.specs.Names.{typeName}
 use Rattle.text.proofs.Writing.{then}
+use mathlib.Core.Path.{_≡_}
 use mathlib.Core.Logic.{⊎-elim}
 use native.Mathlib.Omega.{arith}
 use borrow.Author.Needs.{needs}
@@ -57,7 +58,9 @@ same-length-3 c = search needs
 returns-3 : tie.Need-returns-3
 unfolding typeName
 returns-3 c =
-    rw (c .before .before .before .before .before .match .keys3) (c .before .before .put-all3 .ensures)
+    let r = c .before .before .before .before .before in
+    let e : r .before .before .before .args .kind ≡ 3 = omega arith in
+    rw e (c .before .before .put-all3 .ensures)
 
 same-length-4 : tie.Need-same-length-4
 same-length-4 c = search needs
@@ -66,8 +69,8 @@ returns-4 : tie.Need-returns-4
 returns-4 c =
     let w = then (c .before .before .before .before .before .before .put-all4 .ensures) (c .before .before .put-decimal .ensures) in
     ⊎-elim
-    (λ k. as-other _ (omega (arith, k .keys4)) (omega (arith, k .keys4)) (omega (arith, k .keys4)) w)
-    (λ k. as-other _ (k .rest .0 .0 .0 .1) (k .rest .0 .0 .1) (k .rest .0 .1) w)
+    (λ k. as-other _ (omega (arith, k .keys3)) (omega (arith, k .keys3)) (omega (arith, k .keys3)) w)
+    (λ k. as-other _ (omega (arith, k .1 .left)) (omega (arith, k .1 .left)) (omega (arith, k .1 .left)) w)
     (c .before .before .before .before .before .before .before .before .before .match .came)
 
 pub put-type-spec : {M : Type 1} → statement M

@@ -5,7 +5,6 @@ use mathlib.Core.Path.{_≡_, ap, _∙_}
 use mathlib.Core.Bool.{true, false}
 use mathlib.Core.List.{List}
 use lib.ListN.{length}
-use lib.Dec.{ltb}
 use borrow.Author.Tests.{ltb-false}
 use Rattle.rows.specs.Table.{tableOf, capacityOf}
 use Rattle.rows.specs.Rows.{block, tone, blockMost}

@@ -1,0 +1,1 @@
+// The promises about whole tapes, in one place: no code.

@@ -29,7 +29,7 @@ use Rattle.walks.specs.declared.Reached.the-variants.{At, Stopped, Ended}
 use Rattle.entries.specs.Mounted.{wellRow, firstBad, cutTo, formed}
 use Rattle.walks.specs.Heads.{startAt, stand, ahead, levelHere, toldAs, walkFrom, Walkable}
 use Rattle.walks.proofs.Facts.{not-false}
-use Rattle.walks.proofs.Ends.{tells-end}
+use Rattle.walks.proofs.Leaves.{tells-end}
 use Rattle.deck.specs.declared.Check.the-variants.{Fine, NotValid, NotFormed}
 use Rattle.entries.specs.Mounted.{overfull}
 use Rattle.deck.specs.Deck.{atStart, ruledOut, badRow, validAt, judged, stays}

@@ -1,6 +1,6 @@
 pub mod Facts
 pub mod Leaps
-pub mod Ends
+pub mod Leaves
 pub mod Needed
 pub mod Turns
 pub mod Sheds

@@ -21,7 +21,7 @@ ghost use Rattle.rows.specs.Rows.{tone, toneMost, block, blockMost};
 ghost use Rattle.rows.specs.Well.{wellTones, wellNumbers, wellBlock};
 ghost use Rattle.entries.specs.Entries.{cyclesOf, toneAt, bitsAt};
 ghost use Rattle.entries.specs.Places.{levelOf, hasEntry};
-ghost use Rattle.walks.specs.Steps.{dataFrom, bitFrom, toneFrom, cycleFrom, stepTo, fitting, oneStep, takeCycles, takeByte, takeOf, dropOne, dropEntry, dropOf};
+ghost use Rattle.walks.specs.Steps.{dataFrom, bitFrom, toneFrom, cycleFrom, stepTo, stepOut, fitting, oneStep, takeCycles, takeByte, takeOf, dropOne, dropEntry, dropOf};
 ghost use Rattle.entries.specs.Mounted.{sizeOf, tapeOf};
 ghost use Rattle.walks.specs.Heads.{placed, startAt, stand, nextOf, Walkable, walkFrom, droppedFrom};
 ghost use Rattle.entries.specs.declared.Duration.the-variants.{T, Endless};
@@ -167,6 +167,18 @@ fn step_to(f: Phase, t: u64, n: u64) -> Step
     }
 }
 
+// Behind the block's last entry, of t T-states.
+fn step_out(t: u64) -> Step
+    ensures { λ s. ⌜ s ≡ stepOut t ⌝ }
+{
+    Step {
+        phase: Phase::Start,
+        time: t,
+        passed: 1,
+        over: true,
+    }
+}
+
 // Behind a half of cycle p of tone row i, which its callers know to be there in a row whose tone rows are lent.
 fn tone_step(tones: &[u64], r: Block, i: u64, p: u64, last: bool, t: u64) -> Step
     requires { ⌜ (r .tone + r .tones ≤ capacityOf tone toneMost (now tones)) × (i < r .tones) ⌝ }
@@ -219,12 +231,7 @@ fn one_step(tones: &[u64], r: Block, f: Phase, t: u64) -> Step
             bit,
             last_half,
         } => bit_step(r, pos, bit, last_half, t),
-        Phase::Pause => Step {
-            phase: Phase::Start,
-            time: t,
-            passed: 1,
-            over: true,
-        },
+        Phase::Pause => step_out(t),
     }
 }
 
@@ -355,20 +362,20 @@ pub enum Next {
     Left(Reached),
 }
 
-// At the start of block b with d T-states left; its callers know the rows up to the count to be lent, and b to be at most the count.
+// At the start of block b with these T-states left; its callers know the rows up to the count to be lent, and b to be at most the count.
 fn next_block(
     tape: &[u8],
     tones: &[u64],
     blocks: &[u64],
     count: u64,
     b: u64,
-    d: u64,
+    left: u64,
     passed: u64,
 ) -> Next
     requires { ⌜ (b ≤ count) × (count ≤ capacityOf block blockMost (now blocks)) ⌝ }
-    ensures { λ n. ⌜ n ≡ nextOf (tapeOf (now (tape .entry)) (now (tones .entry)) (now (blocks .entry)) count) b d passed ⌝ }
+    ensures { λ n. ⌜ n ≡ nextOf (tapeOf (now (tape .entry)) (now (tones .entry)) (now (blocks .entry)) count) b left passed ⌝ }
 {
-    if d == 0 {
+    if left == 0 {
         return Next::Left(stands(b, Phase::Start, 0, passed));
     }
     if b == count {

@@ -32,6 +32,9 @@ bit-step-requires c κs =
 enum-told-2 : tie.Need-enum-told-2
 enum-told-2 c = search needs
 
+step-out-requires : tie.Need-step-out-requires
+step-out-requires c κs = search needs
+
 returns : tie.Need-returns
 unfolding oneStep
 returns c =
@@ -48,7 +51,7 @@ returns-3 c =
 returns-4 : tie.Need-returns-4
 unfolding oneStep
 returns-4 c =
-    rw (c .enum-told2 .given .1)
+    c .step-out .ensures ∙ rw (c .before .enum-told2 .given .1)
 
 pub one-step-spec : {M : Type 1} → statement M
 one-step-spec =
@@ -62,6 +65,7 @@ one-step-spec =
     enum-known-f-2
     bit-step-requires
     enum-told-2
+    step-out-requires
     returns
     returns-2
     returns-3

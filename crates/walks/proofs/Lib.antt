@@ -4,3 +4,4 @@ pub mod Leaves
 pub mod Needed
 pub mod Turns
 pub mod Sheds
+pub mod Drops

@@ -1,7 +1,7 @@
 -- `follow` meets its contract. Assumes nothing.
 use Rattle.deck.proofs.Sourced.{source-walk}
 use Rattle.deck.proofs.Checks as checks
-use Rattle.walks.proofs.Sheds.{dropped-most}
+use Rattle.walks.proofs.Drops.{dropped-most}
 use Rattle.walks.specs.Heads.{walkFrom}
 use borrow.Author.Tests.{eq-eqb, ne-eqb}
 use Rattle.entries.specs.Mounted.{tapeOf}

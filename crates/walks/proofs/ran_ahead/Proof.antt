@@ -12,7 +12,7 @@ use Rattle.walks.specs.declared.Position.{Position}
 use Rattle.entries.specs.Mounted.{wellRow, firstBad, cutTo, tapeOf}
 use Rattle.walks.proofs.Needed.{needed, well-before, bad-there}
 use Rattle.walks.proofs.Turns.{on-has, on-first, asks, asks-has}
-use Rattle.walks.proofs.Sheds.{cur, cur-out, drops-nil, Off, off-first, off-start, start-cur, shed-goes, shed-less, shed-rests, shed-off, dropped-stop, dropped-short, dropped-behind}
+use Rattle.walks.proofs.Drops.{cur, cur-out, drops-nil, Off, off-first, off-start, start-cur, shed-goes, shed-less, shed-rests, shed-off, dropped-stop, dropped-short, dropped-behind}
 use Rattle.walks.proofs.ran_ahead.Statement.{statement}
 use Rattle.walks.proofs.ran_ahead.Tie as tie
 

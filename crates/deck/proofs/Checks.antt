@@ -1,13 +1,11 @@
 -- The checks of a position, and what a fine one is. Assumes nothing.
-use Prim.Native.Nat.{ℕ, zero, suc, _-_, _≤_, _<_, min}
+use Prim.Native.Nat.{ℕ, zero, suc, _-_, _≤_, _<_}
 use native.Mathlib.Omega.{arith}
-use native.Mathlib.Nat.{eq-zero-or-pos}
-use borrow.Author.Tests.{lt-ltb, le-ltb, ltb-false, le-leb, lt-leb, eq-eqb, ne-eqb}
+use borrow.Author.Tests.{lt-ltb, le-ltb, ltb-false, le-leb, lt-leb, ne-eqb, not-false}
 use mathlib.Core.Path.{_≡_, refl, sym, ap, _∙_}
 use mathlib.Core.Bool.{Bool, true, false, not, _&&_}
 use mathlib.Core.Logic.{⊎-elim}
 use mathlib.Core.List.{List, [], _∷_}
-use lib.Dec.{ltb, leb, eqb}
 use Rattle.laws.specs.Numbers.{lt-or-ge}
 use Rattle.laws.specs.Rules.{_⇒_, _∣_}
 use Rattle.laws.specs.Tests.{first, second}
@@ -28,8 +26,7 @@ use Rattle.walks.specs.declared.Position.{Position}
 use Rattle.walks.specs.declared.Reached.the-variants.{At, Stopped, Ended}
 use Rattle.entries.specs.Mounted.{wellRow, firstBad, cutTo, formed}
 use Rattle.walks.specs.Heads.{startAt, stand, ahead, levelHere, toldAs, walkFrom, Walkable}
-use Rattle.walks.proofs.Facts.{not-false}
-use Rattle.walks.proofs.Ends.{tells-end}
+use Rattle.walks.proofs.Leaves.{tells-end}
 use Rattle.deck.specs.declared.Check.the-variants.{Fine, NotValid, NotFormed}
 use Rattle.entries.specs.Mounted.{overfull}
 use Rattle.deck.specs.Deck.{atStart, ruledOut, badRow, validAt, judged, stays}
@@ -39,23 +36,6 @@ pub same-test : (a b : Bool) → (a ≡ true → b ≡ true) → (b ≡ true →
 same-test true b f g = sym (f refl)
 same-test false true f g = g refl
 same-test false false f g = refl
-
--- what may be left of t, clause by clause
-pub part-none : (n t : ℕ) → t ≡ 0 → eqb n 0 ≡ remains (T n) (T t)
-unfolding remains
-part-none n t z =
-    ⊎-elim
-    (λ e. rw (eq-eqb n 0 e, le-leb (min 1 t) n (omega arith), le-leb n t (omega arith)))
-    (λ p. rw (ne-eqb n 0 (omega arith), le-leb (min 1 t) n (omega arith), lt-leb n t (omega arith)))
-    (eq-zero-or-pos n)
-
-pub part-some : (n t : ℕ) → (t ≡ 0 → ⊥) → 0 < n → leb n t ≡ remains (T n) (T t)
-unfolding remains
-part-some n t z p = rw (le-leb (min 1 t) n (omega arith))
-
-pub part-not : (n t : ℕ) → (t ≡ 0 → ⊥) → n ≤ 0 → ltb 0 n ≡ remains (T n) (T t)
-unfolding remains
-part-not n t z p = rw (le-ltb 0 n p, lt-leb (min 1 t) n (omega arith))
 
 pub valid-below : (w : Tape) (b : ℕ) (f : Phase) (left : Duration) → b < w .count → valid w b f left ≡ (hasIn w b f && remains left (lengthIn w b f))
 valid-below w b f left h =

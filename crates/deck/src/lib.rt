@@ -1,30 +1,28 @@
 // The players of a mounted tape: the measured one and the source's, by value and over a lent head.
 use entries::Duration;
 use entries::Phase;
-use entries::at_least_one;
-use entries::bits_at;
+use entries::has_entry;
+use entries::length_at;
+use entries::may_remain;
 use entries::mic;
 use entries::row_well;
 use rows::Block;
 use rows::block_at;
 use rows::block_capacity;
-use rows::tone_at;
 use walks::Position;
 use walks::Reached;
 use walks::Stand;
-use walks::length_at;
+use walks::ends;
 use walks::ran_ahead;
 use walks::walk;
 ghost use mathlib.Core.Path.{_≡_};
-ghost use mathlib.Core.Bool.{true, false};
+ghost use mathlib.Core.Bool.{true, _&&_};
 ghost use Prim.Native.Nat.{ℕ, _+_, _*_, _<_, _≤_};
 ghost use lib.ListN.{length};
 ghost use Rattle.rows.specs.Rows.{block};
 ghost use Rattle.rows.specs.Well.{wellBlock};
 ghost use Rattle.entries.specs.Places.{hasEntry, lengthAt, isNone, remains};
 ghost use Rattle.entries.specs.Mounted.{sizeOf, tapeOf};
-ghost use Rattle.entries.specs.declared.Duration.the-variants.{T, Endless};
-ghost use mathlib.Core.Bool.{_&&_};
 ghost use lib.Dec.{eqb};
 ghost use Rattle.laws.specs.Rules.{_⇒_, _∣_};
 ghost use Rattle.walks.specs.Heads.{walkFrom};
@@ -61,69 +59,12 @@ fn none_left(left: Duration) -> bool
     }
 }
 
-// Whether so much may be left of a length.
-fn may_remain(left: Duration, length: Duration) -> bool
-    ensures { λ v. ⌜ v ≡ remains left length ⌝ }
-{
-    match left {
-        Duration::T(n) => part_of(n, length),
-        Duration::Endless => is_endless(length),
-    }
-}
-
-fn part_of(n: u64, length: Duration) -> bool
-    ensures { λ v. ⌜ v ≡ remains (T n) length ⌝ }
-{
-    match length {
-        Duration::T(t) => {
-            if t == 0 {
-                return n == 0;
-            }
-            0 < n && n <= t
-        }
-        Duration::Endless => false,
-    }
-}
-
-fn is_endless(length: Duration) -> bool
-    ensures { λ v. ⌜ v ≡ remains Endless length ⌝ }
-{
-    match length {
-        Duration::T(_) => false,
-        Duration::Endless => true,
-    }
-}
-
-// Whether a block has an entry of this phase; its callers know the row to be well formed.
-fn has_entry(tape: &[u8], tones: &[u64], r: Block, f: Phase) -> bool
-    requires { ⌜ wellBlock (sizeOf (now tape)) (now tones) r ≡ true ⌝ }
-    ensures { λ v. ⌜ v ≡ hasEntry (now (tones .entry)) r f ⌝ }
-{
-    match f {
-        Phase::Start => true,
-        Phase::Tones { index, pulse, .. } => {
-            if r.tones <= index {
-                return false;
-            }
-            let t = tone_at(tones, (r.tone + index) as usize);
-            pulse < at_least_one(t.num)
-        }
-        Phase::Data { pos, bit, .. } => {
-            if r.size <= pos {
-                return false;
-            }
-            bit < bits_at(r, pos)
-        }
-        Phase::Pause => true,
-    }
-}
-
 // Whether so much may be left of a block's entry; its callers know the row to be well formed.
 fn has_left(tape: &[u8], tones: &[u64], r: Block, f: Phase, left: Duration) -> bool
     requires { ⌜ wellBlock (sizeOf (now tape)) (now tones) r ≡ true ⌝ }
     ensures { λ v. ⌜ v ≡ (hasEntry (now (tones .entry)) r f && remains left (lengthAt (now (tape .entry)) (now (tones .entry)) r f)) ⌝ }
 {
-    if !has_entry(tape, tones, r, f) {
+    if !has_entry(tones, r, f) {
         return false;
     }
     may_remain(left, length_at(tape, tones, r, f))
@@ -182,11 +123,7 @@ fn measure(tape: &[u8], tones: &[u64], blocks: &[u64], count: u64, pos: Position
         return stay(tape, tones, blocks, count, pos);
     }
     if count <= pos.block {
-        return Reached::Ended(Stand {
-            position: Position::new_at_block(count),
-            passed: 0,
-            level: false,
-        });
+        return ends(count, 0);
     }
     walk(tape, tones, blocks, count, pos, n)
 }
@@ -220,11 +157,7 @@ fn follow(tape: &[u8], tones: &[u64], blocks: &[u64], count: u64, pos: Position,
         return stay(tape, tones, blocks, count, pos);
     }
     if count <= pos.block {
-        return Reached::Ended(Stand {
-            position: Position::new_at_block(count),
-            passed: 0,
-            level: false,
-        });
+        return ends(count, 0);
     }
     let more = ran_ahead(tape, tones, blocks, count, pos, n as u64);
     walk(tape, tones, blocks, count, pos, n as u64 + more)
@@ -363,4 +296,20 @@ pub fn play_head(
     let p = play_mounted(tape, tones, blocks, count, h, n);
     *head = p.head;
     p.answer
+}
+
+// A bridge for covered callers: the head is lent from a local.
+pub fn play_once(
+    tape: &[u8],
+    tones: &[u64],
+    blocks: &[u64],
+    count: u64,
+    head: Head,
+    n: u32,
+) -> Played
+    ensures { λ r. ⌜ r ≡ playMounted (tapeOf (now (tape .entry)) (now (tones .entry)) (now (blocks .entry)) count) head n ⌝ }
+{
+    let mut h = head;
+    let a = play_head(tape, tones, blocks, count, &mut h, n);
+    Played { head: h, answer: a }
 }

@@ -57,6 +57,10 @@ bits-most r pos e l =
     let k : r .last ≤ 8 = numbers-most r e .last (omega arith) in
     bits-ways (λ n. n ≤ 8) r pos (omega arith) (omega arith)
 
+-- in any row
+pub bits-any : (r : Block) (pos : ℕ) → bitsAt r pos ≤ max 8 (r .last)
+bits-any r pos = bits-ways (λ n. n ≤ max 8 (r .last)) r pos (omega arith) (omega arith)
+
 pub bits-some : (r : Block) (pos : ℕ) → 0 < bitsAt r pos
 bits-some r pos = bits-ways (λ n. 0 < n) r pos (omega arith) (omega arith)
 

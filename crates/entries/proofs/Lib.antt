@@ -4,6 +4,7 @@ pub mod Runs
 pub mod Bounds
 pub mod Follows
 pub mod Valid
+pub mod Lent
 pub mod Tails
 pub mod Levels
 pub mod Loading

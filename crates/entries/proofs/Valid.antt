@@ -1,5 +1,5 @@
 -- What a valid position is, as facts, and back. Assumes nothing.
-use Prim.Native.Nat.{ℕ, _+_, _≤_, _<_, min}
+use Prim.Native.Nat.{ℕ, _≤_, _<_, min}
 use native.Mathlib.Nat.{eq-zero-or-pos}
 use native.Mathlib.Omega.{arith}
 use borrow.Author.Tests.{leb-true, le-leb, lt-leb, ltb-true, lt-ltb, ne-eqb}
@@ -10,17 +10,12 @@ use mathlib.Core.List.{List}
 use lib.Dec.{leb, ltb, eqb}
 use Rattle.laws.specs.Tests.{first, second, other}
 use Rattle.rows.specs.declared.Block.{Block}
-use Rattle.rows.specs.Table.{capacityOf}
-use Rattle.rows.specs.Rows.{tone, toneMost}
-use Rattle.rows.specs.Well.{wellBlock}
-use Rattle.rows.proofs.WellLaws.{block-clauses, ranges-inside}
 use Rattle.entries.specs.declared.Phase.{Phase}
 use Rattle.entries.specs.declared.Phase.the-variants.{Start, Tones, Data, Pause}
 use Rattle.entries.specs.declared.Duration.{Duration}
 use Rattle.entries.specs.declared.Duration.the-variants.{T, Endless}
 use Rattle.entries.specs.Entries.{cyclesOf, toneAt, bitsAt}
 use Rattle.entries.specs.Places.{Tape, hasEntry, lengthAt, remains, isStart, isNone, valid, hasIn, lengthIn}
-use Rattle.entries.proofs.Bounds.{bits-most}
 
 -- what may be left of t T-states
 pub remains-within : (n t : ℕ) → min 1 t ≤ n → n ≤ t → remains (T n) (T t) ≡ true
@@ -73,28 +68,14 @@ module _ (tones : List ℕ) (r : Block) where
   unfolding hasEntry
   has-data pos k h l g = rw (lt-ltb pos (r .size) l, lt-ltb k (bitsAt r pos) g)
 
--- where an entry of a well-formed row lies in the tone table or in the tape
-pub record Row (tones : List ℕ) (r : Block) (i : ℕ) : Type 0 where
-  pub lent : r .tone + r .tones ≤ capacityOf tone toneMost tones
-  pub one : i < r .tones
+-- the same of a phase that a match told
+pub in-tones : (tones : List ℕ) (r : Block) {f : Phase} {i p : ℕ} {h : Bool}
+    → f ≡ Tones i p h → hasEntry tones r f ≡ true → (i < r .tones) × (p < cyclesOf (toneAt tones r i))
+in-tones tones r {i = i} {p = p} {h = h} g e = tone-entry tones r i p h (subst (λ (f : Phase). hasEntry tones r f ≡ true) g e)
 
-pub at-row : (size : ℕ) (tones : List ℕ) (r : Block) {f : Phase} {i p : ℕ} {h : Bool}
-    → wellBlock size tones r ≡ true → hasEntry tones r f ≡ true → f ≡ Tones i p h → Row tones r i
-at-row size tones r {i = i} {p = p} {h = h} w e g =
-    let x = subst (λ (f : Phase). hasEntry tones r f ≡ true) g e in
-    record { lent = ranges-inside size tones r (block-clauses size tones r w .ranges) .rows; one = tone-entry tones r i p h x .0 }
-
-pub record Bit (size : ℕ) (r : Block) (pos k : ℕ) : Type 0 where
-  pub place : r .start + pos < size
-  pub one : k < 8
-
-pub at-bit : (size : ℕ) (tones : List ℕ) (r : Block) {f : Phase} {pos k : ℕ} {h : Bool}
-    → wellBlock size tones r ≡ true → hasEntry tones r f ≡ true → f ≡ Data pos k h → Bit size r pos k
-at-bit size tones r {pos = pos} {k = k} {h = h} w e g =
-    let c = block-clauses size tones r w in
-    let i = ranges-inside size tones r (c .ranges) in
-    let d = data-entry tones r pos k h (subst (λ (f : Phase). hasEntry tones r f ≡ true) g e) in
-    record { place = omega arith; one = omega (arith, bits-most r pos (c .numbers) (d .0)) }
+pub in-data : (tones : List ℕ) (r : Block) {f : Phase} {pos k : ℕ} {h : Bool}
+    → f ≡ Data pos k h → hasEntry tones r f ≡ true → (pos < r .size) × (k < bitsAt r pos)
+in-data tones r {pos = pos} {k = k} {h = h} g e = data-entry tones r pos k h (subst (λ (f : Phase). hasEntry tones r f ≡ true) g e)
 
 -- an entry of a block below the count
 pub record Stands (w : Tape) (b : ℕ) (f : Phase) (left : Duration) : Type 0 where

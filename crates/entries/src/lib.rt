@@ -182,7 +182,7 @@ pub fn cycle_half(t: Tone, last: bool) -> u64
     if last { t.len2 } else { t.len1 }
 }
 
-// Whether a block, whose tone rows its callers know to be lent, has an entry of this phase.
+// Whether a block has an entry of this phase. Our crates alone call it: its tone rows are lent.
 pub fn has_entry(tones: &[u64], r: Block, f: Phase) -> bool
     requires { ⌜ r .tone + r .tones ≤ capacityOf tone toneMost (now tones) ⌝ }
     ensures { λ b. ⌜ b ≡ hasEntry (now (tones .entry)) r f ⌝ }
@@ -196,9 +196,10 @@ pub fn has_entry(tones: &[u64], r: Block, f: Phase) -> bool
     }
 }
 
-// The length of a block's entry; its callers know the row to be well formed and the entry to be one of it.
+// The length of a block's entry. Our crates alone call it: its data and tone rows are lent, its numbers well formed, the entry one of it.
 pub fn length_at(tape: &[u8], tones: &[u64], r: Block, f: Phase) -> Duration
-    requires { ⌜ wellBlock (length (now tape)) (now tones) r ≡ true ⌝ }
+    requires { ⌜ (r .start + r .size ≤ length (now tape)) × (r .tone + r .tones ≤ capacityOf tone toneMost (now tones)) ⌝ }
+    requires { ⌜ wellNumbers r ≡ true ⌝ }
     requires { ⌜ hasEntry (now tones) r f ≡ true ⌝ }
     ensures { λ d. ⌜ d ≡ lengthAt (now (tape .entry)) (now (tones .entry)) r f ⌝ }
 {

@@ -1,73 +1,40 @@
--- What a well-formed row lets a step do: its tone rows and bytes are lent, its numbers small. Assumes nothing.
-use Prim.Native.Nat.{ℕ, _+_, _-_, _*_, _/_, _≤_, _<_, max, min}
+-- What a step knows of the tone row that it read, and of the cycles that fit. Assumes nothing.
+use Prim.Native.Nat.{ℕ, _+_, _-_, _*_, _/_, _≤_, _<_, min}
 use native.Mathlib.Nat.{mul-le-mul, div-mul-le-self, mul-zero}
 use native.Mathlib.Omega.{arith}
-use borrow.Author.Tests.{ltb-true, lt-ltb, le-ltb, le-leb, lt-leb, eq-eqb, ne-eqb}
+use borrow.Author.Tests.{lt-ltb, le-ltb, le-leb, lt-leb, eq-eqb, ne-eqb}
 use native.Mathlib.Decide.{ℕ-discrete}
-use mathlib.Core.Path.{_≡_, refl, sym, subst}
-use mathlib.Core.Bool.{Bool, true, false, not}
+use mathlib.Core.Path.{_≡_, sym, subst}
+use mathlib.Core.Bool.{true, false}
 use mathlib.Core.List.{List}
-use lib.Dec.{ltb}
-use lib.ListN.{length}
-use Rattle.laws.specs.Tests.{first, second}
 use Rattle.rows.specs.declared.Tone.{Tone}
 use Rattle.rows.specs.declared.Block.{Block}
 use Rattle.rows.specs.Rows.{tone}
-use Rattle.rows.specs.Well.{wellBlock}
-use Rattle.rows.proofs.WellLaws.{block-clauses, ranges-inside, tone-most, tones-each, tones-lent}
+use Rattle.rows.specs.Well.{wellTones}
+use Rattle.rows.proofs.WellLaws.{tone-most, tones-each}
 use Rattle.entries.specs.declared.Phase.{Phase}
-use Rattle.entries.specs.declared.Phase.the-variants.{Tones, Data}
-use Rattle.entries.specs.Entries.{cyclesOf, toneAt, bitsAt}
+use Rattle.entries.specs.declared.Phase.the-variants.{Tones}
+use Rattle.entries.specs.Entries.{cyclesOf, toneAt}
 use Rattle.entries.specs.Places.{hasEntry}
-use Rattle.entries.proofs.Bounds.{bits-most}
 use Rattle.walks.specs.declared.Step.{Step}
 use Rattle.walks.specs.Steps.{stepTo, cycleFrom, cyclesStep, oneStep, fitting, takeCycles, dropEntry, dropOf}
-use Rattle.entries.specs.Mounted.{sizeOf}
 
--- a phase that a match told
-pub in-tones : (tones : List ℕ) (r : Block) {f : Phase} {i p : ℕ} {h : Bool} → f ≡ Tones i p h → hasEntry tones r f ≡ true
-    → (i < r .tones) × (p < cyclesOf (toneAt tones r i))
-unfolding hasEntry
-in-tones tones r {f} {i} {p} {h} e x =
-    let y = subst (λ (g : Phase). hasEntry tones r g ≡ true) e x in
-    (ltb-true _ _ (first (ltb i (r .tones)) (ltb p (cyclesOf (toneAt tones r i))) y), ltb-true _ _ (second (ltb i (r .tones)) (ltb p (cyclesOf (toneAt tones r i))) y))
-
-pub in-data : (tones : List ℕ) (r : Block) {f : Phase} {pos k : ℕ} {h : Bool} → f ≡ Data pos k h → hasEntry tones r f ≡ true
-    → (pos < r .size) × (k < bitsAt r pos)
-unfolding hasEntry
-in-data tones r {f} {pos} {k} {h} e x =
-    let y = subst (λ (g : Phase). hasEntry tones r g ≡ true) e x in
-    (ltb-true _ _ (first (ltb pos (r .size)) (ltb k (bitsAt r pos)) y), ltb-true _ _ (second (ltb pos (r .size)) (ltb k (bitsAt r pos)) y))
-
+-- the numbers of a well-formed tone row
 pub record Small (t : Tone) : Type 0 where
   pub some : 0 < cyclesOf t
   pub cycles : cyclesOf t ≤ 65535
   pub one : t .len1 ≤ 65535
   pub two : t .len2 ≤ 65535
 
-module _ (size : ℕ) (tones : List ℕ) (r : Block) (w : wellBlock size tones r ≡ true) where
-  pub tone-lent : (i : ℕ) → i < r .tones → ((r .tone + i) * tone .width + tone .width ≤ length tones) × (r .tone + r .tones ≤ 65536)
-  tone-lent i h =
-      let c = block-clauses size tones r w in
-      let x = ranges-inside size tones r (c .ranges) in
-      let y = tones-lent size tones r (c .ranges) in
-      (omega arith, omega arith)
+pub tone-small : (tones : List ℕ) (r : Block) → wellTones tones (r .tone) (r .tones) ≡ true → (i : ℕ) → i < r .tones → Small (toneAt tones r i)
+unfolding cyclesOf
+tone-small tones r w i h =
+    let m = tone-most _ (tones-each tones (r .tone) (r .tones) i w h) in
+    record { some = omega arith; cycles = omega arith; one = m .len1; two = m .len2 }
 
-  pub tone-small : (i : ℕ) → i < r .tones → Small (toneAt tones r i)
-  unfolding cyclesOf
-  tone-small i h =
-      let c = block-clauses size tones r w in
-      let m = tone-most _ (tones-each tones (r .tone) (r .tones) i (c .rows) h) in
-      record { some = omega arith; cycles = omega arith; one = m .len1; two = m .len2 }
-
-  pub bits-few : (pos : ℕ) → pos < r .size → bitsAt r pos ≤ 8
-  bits-few pos h = bits-most r pos (block-clauses size tones r w .numbers) h
-
-pub byte-lent : (tape tones : List ℕ) (r : Block) → wellBlock (sizeOf tape) tones r ≡ true → (pos : ℕ) → pos < r .size
-    → (r .start + pos < length tape) × (r .start + r .size ≤ 1048576)
-byte-lent tape tones r w pos h =
-    let x = ranges-inside (sizeOf tape) tones r (block-clauses (sizeOf tape) tones r w .ranges) in
-    (omega arith, omega arith)
+-- of the tone row that the code read
+pub small-of : (tones : List ℕ) (r : Block) (i : ℕ) (x : Tone) → x ≡ toneAt tones r i → wellTones tones (r .tone) (r .tones) ≡ true → i < r .tones → Small x
+small-of tones r i x e w h = subst Small (sym e) (tone-small tones r w i h)
 
 -- whole cycles, fewer than d T-states of them
 pub record Fitting (c m d k : ℕ) : Type 0 where
@@ -86,32 +53,25 @@ fit c m d p =
           rw (ne-eqb c 0 z) (record { most = omega arith; before = omega (arith, div-mul-le-self (d - 1) c) })
     ]
 
-pub not-true : (x : Bool) → not x ≡ true → x ≡ false
-not-true true e = cc
-not-true false e = refl
-
-pub not-false : (x : Bool) → not x ≡ false → x ≡ true
-not-false true e = refl
-not-false false e = cc
-
+-- an entry of a phase that a match told
 pub has-by : (tones : List ℕ) (r : Block) {f g : Phase} → f ≡ g → hasEntry tones r f ≡ true → hasEntry tones r g ≡ true
 has-by tones r e x = subst (λ (h : Phase). hasEntry tones r h ≡ true) e x
 
 -- what `take_cycles` answers, of the tone it read, its cycles and those that fit
 module _ (tones : List ℕ) (r : Block) (i p t d : ℕ) (x : Tone) (n k : ℕ) (e : x ≡ toneAt tones r i) where
-  pub takes-run : n ≡ max 1 (x .num) → k ≡ fitting (x .len1 + x .len2) (n - p) d → 0 < k
+  pub takes-run : n ≡ cyclesOf x → k ≡ fitting (x .len1 + x .len2) (n - p) d → 0 < k
       → stepTo (cycleFrom x r i (p + k)) (k * (x .len1 + x .len2)) (k * 2) ≡ takeCycles tones r i p t d
-  unfolding takeCycles cyclesStep cyclesOf
+  unfolding takeCycles cyclesStep
   takes-run f g h =
       subst
-      (λ (y : Tone). n ≡ max 1 (y .num) → k ≡ fitting (y .len1 + y .len2) (n - p) d → stepTo (cycleFrom y r i (p + k)) (k * (y .len1 + y .len2)) (k * 2) ≡ takeCycles tones r i p t d)
+      (λ (y : Tone). n ≡ cyclesOf y → k ≡ fitting (y .len1 + y .len2) (n - p) d → stepTo (cycleFrom y r i (p + k)) (k * (y .len1 + y .len2)) (k * 2) ≡ takeCycles tones r i p t d)
       (sym e) (λ u v. rw (← u, ← v, lt-ltb 0 k h)) f g
 
-  pub takes-one : n ≡ max 1 (x .num) → k ≡ fitting (x .len1 + x .len2) (n - p) d → k ≤ 0 → stepTo (Tones i p true) t 1 ≡ takeCycles tones r i p t d
-  unfolding takeCycles oneStep cyclesOf
+  pub takes-one : n ≡ cyclesOf x → k ≡ fitting (x .len1 + x .len2) (n - p) d → k ≤ 0 → oneStep tones r (Tones i p false) t ≡ takeCycles tones r i p t d
+  unfolding takeCycles
   takes-one f g h =
       subst
-      (λ (y : Tone). n ≡ max 1 (y .num) → k ≡ fitting (y .len1 + y .len2) (n - p) d → stepTo (Tones i p true) t 1 ≡ takeCycles tones r i p t d)
+      (λ (y : Tone). n ≡ cyclesOf y → k ≡ fitting (y .len1 + y .len2) (n - p) d → oneStep tones r (Tones i p false) t ≡ takeCycles tones r i p t d)
       (sym e) (λ u v. rw (← u, ← v, le-ltb 0 k h)) f g
 
 -- what `drop_cycles` answers, of the tone it read
@@ -129,10 +89,10 @@ module _ (tape tones : List ℕ) (r : Block) (i p d : ℕ) (x : Tone) (e : x ≡
       subst (λ (y : Tone). y .len1 ≤ d → d < y .len2 → Here s) (sym e)
       (λ u v g. rw (le-leb (toneAt tones r i .len1) d u, lt-leb (toneAt tones r i .len2) d v) g) l h f
 
-  pub drops-cycles : (n : ℕ) → n ≡ max 1 (x .num) → x .len1 ≤ d → x .len2 ≤ d
+  pub drops-cycles : (n : ℕ) → n ≡ cyclesOf x → x .len1 ≤ d → x .len2 ≤ d
       → stepTo (cycleFrom x r i (p + (n - p))) ((n - p) * (x .len1 + x .len2)) ((n - p) * 2) ≡ dropOf tape tones r (Tones i p false) d
-  unfolding dropOf cyclesStep cyclesOf
+  unfolding dropOf cyclesStep
   drops-cycles n f l h =
       subst
-      (λ (y : Tone). n ≡ max 1 (y .num) → y .len1 ≤ d → y .len2 ≤ d → stepTo (cycleFrom y r i (p + (n - p))) ((n - p) * (y .len1 + y .len2)) ((n - p) * 2) ≡ dropOf tape tones r (Tones i p false) d)
+      (λ (y : Tone). n ≡ cyclesOf y → y .len1 ≤ d → y .len2 ≤ d → stepTo (cycleFrom y r i (p + (n - p))) ((n - p) * (y .len1 + y .len2)) ((n - p) * 2) ≡ dropOf tape tones r (Tones i p false) d)
       (sym e) (λ u v w. rw (← u, le-leb (toneAt tones r i .len1) d v, le-leb (toneAt tones r i .len2) d w)) f l h

@@ -1,6 +1,7 @@
 pub mod Facts
 pub mod Leaps
-pub mod Ends
+pub mod Leaves
 pub mod Needed
 pub mod Turns
 pub mod Sheds
+pub mod Drops

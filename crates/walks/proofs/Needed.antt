@@ -17,9 +17,10 @@ use Rattle.entries.specs.declared.Duration.{Duration}
 use Rattle.entries.specs.Entries.{spot, entryOf, startOf, toneAt, rowOf, tonesOf, byteAt, byteEntries, dataOf, pauseEntry, soundOf, entriesOf}
 use Rattle.entries.specs.Places.{Tape, blockIn, listFrom, leftAt, levelOf, valid, lengthIn}
 use Rattle.entries.proofs.Runs.{tone-length, byte-length}
+use Rattle.entries.proofs.Bounds.{bits-most}
 use Rattle.entries.proofs.Parts.{left-part}
 use Rattle.entries.specs.Mounted.{sizeOf, wellRow, firstBad, cutTo}
-use Rattle.walks.proofs.Facts.{tone-small, bits-few}
+use Rattle.walks.proofs.Facts.{tone-small}
 
 -- items of at most c entries each
 run-most : {A : Type 0} (item : ℕ → List (Entry A)) (c p m : ℕ) → ((i : ℕ) → p ≤ i → i < p + m → length (item i) ≤ c) → length (run item p m) ≤ m * c
@@ -34,8 +35,8 @@ module _ (size : ℕ) (tape tones : List ℕ) (b : ℕ) (r : Block) (w : wellBlo
   block-most =
       let c = block-clauses size tones r w in
       let i = ranges-inside size tones r (c .ranges) in
-      let t = run-most (rowOf tones b r) 131070 0 (r .tones) (λ j l g. omega (arith, tone-length b j (toneAt tones r j), tone-small size tones r w j (omega arith) .cycles)) in
-      let d = run-most (byteEntries tape b r) 16 0 (r .size) (λ j l g. omega (arith, byte-length b r j (byteAt tape r j), bits-few size tones r w j (omega arith))) in
+      let t = run-most (rowOf tones b r) 131070 0 (r .tones) (λ j l g. omega (arith, tone-length b j (toneAt tones r j), tone-small tones r (c .rows) j (omega arith) .cycles)) in
+      let d = run-most (byteEntries tape b r) 16 0 (r .size) (λ j l g. omega (arith, byte-length b r j (byteAt tape r j), bits-most r j (c .numbers) (omega arith))) in
       omega (arith, length-append (startOf b ∷ tonesOf tones b r ++ dataOf tape b r) (pauseEntry b r ∷ []), length-append (tonesOf tones b r) (dataOf tape b r))
 
 -- a tape's entries are few

@@ -1,10 +1,12 @@
 -- ONE TURN of the measured walk over a tape cut at its first bad row, and where it leaves. Assumes nothing.
 use Prim.Native.Nat.{ℕ, _+_, _-_, _≤_, _<_}
 use native.Mathlib.Omega.{arith}
+use borrow.Author.Tests.{eqb-true, eqb-false}
 use mathlib.Core.Path.{_≡_, refl, sym, ap, subst, _∙_}
-use mathlib.Core.Bool.{Bool, true, false, not}
+use mathlib.Core.Bool.{Bool, true, false}
 use mathlib.Core.Logic.{_⊎_}
-use mathlib.Core.List.{List, _∷_}
+use mathlib.Core.List.{List, [], _∷_}
+use lib.Dec.{eqb}
 use lib.ListN.{length}
 use Rattle.laws.specs.Rules.{_⇒_, _∣_}
 use Rattle.pulses.specs.Play.{Entry, answer}
@@ -18,17 +20,19 @@ use Rattle.entries.specs.declared.Duration.the-variants.{T, Endless}
 use Rattle.entries.specs.Entries.{Spot, entryOf}
 use Rattle.entries.specs.Places.{Tape, blockIn, listFrom, leftAt, hasEntry, lengthAt, levelOf, valid, hasIn, lengthIn}
 use Rattle.entries.proofs.Valid.{Stands, remains-full, stands-valid, start-valid, below-stands}
+use Rattle.entries.proofs.Follows.{list-out}
 use Rattle.entries.proofs.Parts.{left-part}
 use Rattle.walks.specs.declared.Position.{Position}
 use Rattle.walks.specs.declared.Step.{Step}
-use Rattle.walks.specs.declared.Reached.the-variants.{At, Stopped}
+use Rattle.walks.specs.declared.Reached.the-variants.{At, Stopped, Ended}
+use Rattle.walks.specs.declared.Reached.{Reached}
+use Rattle.walks.specs.declared.Next.the-variants.{Into, Left}
 use Rattle.walks.specs.Steps.{takeOf}
 use Rattle.entries.specs.Mounted.{sizeOf, wellRow, cutTo}
-use Rattle.walks.specs.Heads.{placed, stand, walked, Walkable}
-use Rattle.walks.proofs.Facts.{not-true, not-false}
+use Rattle.walks.specs.Heads.{placed, startAt, stand, walked, nextOf, Walkable}
 use Rattle.walks.proofs.Leaps.{Took, took}
-use Rattle.walks.proofs.Needed.{Needs, well-before, few-entries}
-use Rattle.walks.proofs.Ends.{tells-at, tells-stop}
+use Rattle.walks.proofs.Needed.{Needs, well-before, bad-there, few-entries}
+use Rattle.walks.proofs.Leaves.{tells-at, tells-stop, tells-next, tells-end, tells-bad}
 
 -- a turn's state, on the tape cut to k: an entry below the cut, known to be full where it is said, the entries counted and left few
 pub record On (w : Tape) (k b : ℕ) (f : Phase) (left : Duration) (full : Bool) (p : ℕ) : Type 0 where
@@ -136,9 +140,40 @@ on-start w k b p h l = record { below = h; stands = start-valid (cutTo w k) b; w
 pub less-none : (b : ℕ) (f : Phase) (t d : ℕ) {p : ℕ} {v : Bool} → d ≡ 0 → At (stand (placed b f (T t)) p v) ≡ At (stand (placed b f (T (t - d))) p v)
 less-none b f t d {p} {v} z = let e : t ≡ t - d = omega arith in ap (λ (x : ℕ). At (stand (placed b f (T x)) p v)) e
 
--- what `row_well` said, and the test of it
-pub well-of : {x y : Bool} → x ≡ y → not x ≡ false → y ≡ true
-well-of {x} e f = sym e ∙ not-false x f
+-- WHERE A WALK GOES BEHIND A BLOCK: into the next one, whose row is well formed, or it leaves with what the list answers
+into-by : (a b c : Bool) (x y z : Reached) → (a ⇒ Left x ∣ b ⇒ Left y ∣ c ⇒ Into ∣ Left z) ≡ Into → (a ≡ false) × ((b ≡ false) × (c ≡ true))
+into-by true b c x y z e = let i : _≡_ {A = ℕ} 0 1 = cc in absurd (omega arith)
+into-by false true c x y z e = let i : _≡_ {A = ℕ} 0 1 = cc in absurd (omega arith)
+into-by false false true x y z e = (refl, (refl, refl))
+into-by false false false x y z e = let i : _≡_ {A = ℕ} 0 1 = cc in absurd (omega arith)
 
-pub bad-of : {x y : Bool} → x ≡ y → not x ≡ true → y ≡ false
-bad-of {x} e f = sym e ∙ not-true x f
+left-by : (P : Reached → Type 0) (a b c : Bool) (x y z r : Reached) → (a ⇒ Left x ∣ b ⇒ Left y ∣ c ⇒ Into ∣ Left z) ≡ Left r
+    → (a ≡ true → P x) → (a ≡ false → b ≡ true → P y) → (a ≡ false → b ≡ false → c ≡ false → P z) → P r
+left-by P true b c x y z r e f g h = let i : x ≡ r = cc in subst P i (f refl)
+left-by P false true c x y z r e f g h = let i : y ≡ r = cc in subst P i (g refl refl)
+left-by P false false true x y z r e f g h = let i : _≡_ {A = ℕ} 0 1 = cc in absurd (omega arith)
+left-by P false false false x y z r e f g h = let i : z ≡ r = cc in subst P i (h refl refl refl)
+
+pub next-into : (w : Tape) (b d i : ℕ) → nextOf w b d i ≡ Into → (b ≡ w .count → ⊥) × (wellRow w b ≡ true)
+unfolding nextOf
+next-into w b d i e =
+    let t = into-by (eqb d 0) (eqb b (w .count)) (wellRow w b) _ _ _ e in
+    (eqb-false _ _ (t .1 .0), t .1 .1)
+
+pub next-left : {w : Tape} {b₀ k : ℕ} → Needs w b₀ k → {es : List (Entry Spot)} {n : ℕ} (b d i : ℕ) (r : Reached) → nextOf w (b + 1) d i ≡ Left r
+    → Leads es n 0 (listFrom (cutTo w k) (b + 1)) d i → b₀ ≤ b → b < k → r ≡ walked w (cutTo w k) (answer es n)
+unfolding nextOf
+next-left {w} {b₀} {k} x {es} {n} b d i r e l h g =
+    let v = cutTo w k in
+    let out : k ≤ b + 1 → Leads es n 0 [] d i = λ m. lead-by (list-out v (b + 1) m) l in
+    left-by (λ (y : Reached). y ≡ walked w v (answer es n)) (eqb d 0) (eqb (b + 1) (w .count)) (wellRow w (b + 1)) _ _ _ r e
+    (λ z. sym (tells-next w v b d i l (eqb-true _ _ z) g))
+    (λ z q.
+    let p : b + 1 ≡ w .count = eqb-true _ _ q in
+    let c : w .count ≡ k = omega (arith, x .most) in
+    ap (λ (y : ℕ). Ended (stand (startAt y) i false)) c
+    ∙ sym (tells-end w v d i (out (omega arith)) (omega (arith, eqb-false d 0 z)) (omega arith)))
+    (λ z q f.
+    let p = eqb-false (b + 1) (w .count) q in
+    let c = bad-there x (b + 1) (omega arith) (omega arith) f in
+    sym (tells-bad w v d i (out (omega (arith, c))) (omega (arith, eqb-false d 0 z)) (omega (arith, x .most, c, p))))

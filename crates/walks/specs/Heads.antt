@@ -1,7 +1,7 @@
 -- Where a head stands, and what a player answers of a list. Definitions alone; assumes nothing.
 use Prim.Native.Nat.{ℕ, _≤_, _<_}
 use mathlib.Core.Path.{_≡_}
-use mathlib.Core.Bool.{Bool, true, _&&_}
+use mathlib.Core.Bool.{true, _&&_}
 use mathlib.Core.List.{List, [], _∷_}
 use lib.Dec.{ltb, eqb}
 use Rattle.laws.specs.Rules.{_⇒_, _∣_}
@@ -20,6 +20,8 @@ use Rattle.walks.specs.declared.Position.{Position}
 use Rattle.walks.specs.declared.Stand.{Stand}
 use Rattle.walks.specs.declared.Reached.{Reached}
 use Rattle.walks.specs.declared.Reached.the-variants.{At, Stopped, Ended, NotValid, NotFormed}
+use Rattle.walks.specs.declared.Next.{Next}
+use Rattle.walks.specs.declared.Next.the-variants.{Into, Left}
 
 -- document 01's numbers for no; 0 where the call isn't refused
 unfoldable pub numberOf : Reached → ℕ
@@ -68,6 +70,14 @@ told w a = toldAs (a .tells) (stand (placeOf w (a .place)) (a .passed) (levelHer
 -- a walk that reaches a bad row answers 11: it came to the end of v, which is cut there, with T-states left
 unfoldable pub walked : Tape → Tape → Answer Spot → Reached
 walked w v a = (isEnded (a .tells) && ltb (v .count) (w .count)) ⇒ refused 11 ∣ told v a
+
+-- at the start of block b, behind the one before, with d T-states left and i entries passed: into it, or where the walk has left
+unfoldable pub nextOf : Tape → ℕ → ℕ → ℕ → Next
+nextOf w b d i =
+    eqb d 0 ⇒ Left (At (stand (startAt b) i low))
+    ∣ eqb b (w .count) ⇒ Left (Ended (stand (startAt (w .count)) i low))
+    ∣ wellRow w b ⇒ Into
+    ∣ Left (refused 11)
 
 -- THE MEASURED WALK of n T-states from a position
 unfoldable pub walkFrom : Tape → Position → ℕ → Reached

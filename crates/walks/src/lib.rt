@@ -1,32 +1,32 @@
 // Positions, and the walks over a tape's entries that both players stand on.
 use entries::Duration;
 use entries::Phase;
-use entries::at_least_one;
 use entries::bits_at;
-use entries::bits_time;
+use entries::byte_time;
+use entries::cycles_of;
+use entries::length_at;
 use entries::mic;
-use entries::pause_of;
+use entries::row_tone;
 use entries::row_well;
-use entries::size_of;
 use rows::Block;
 use rows::Tone;
 use rows::block_at;
-use rows::tone_at;
 ghost use mathlib.Core.Path.{_≡_};
 ghost use mathlib.Core.Bool.{true, false};
-ghost use Prim.Native.Nat.{_+_, _*_, _<_, _≤_};
+ghost use mathlib.Core.List.{List};
+ghost use Prim.Native.Nat.{ℕ, _+_, _<_, _≤_};
 ghost use lib.ListN.{length};
-ghost use Rattle.rows.specs.Table.{get};
-ghost use Rattle.rows.specs.Rows.{tone, block};
-ghost use Rattle.rows.specs.Well.{wellBlock};
-ghost use Rattle.entries.specs.Entries.{cyclesOf, toneAt, byteAt, halfOf, bitOf};
-ghost use Rattle.entries.specs.Places.{levelOf, hasEntry, lengthAt};
-ghost use Rattle.walks.specs.Steps.{dataFrom, bitFrom, toneFrom, cycleFrom, fitting, byteTime, oneStep, takeCycles, takeByte, takeOf, dropOne, dropEntry, dropOf};
+ghost use Rattle.rows.specs.Table.{capacityOf};
+ghost use Rattle.rows.specs.Rows.{tone, toneMost, block, blockMost};
+ghost use Rattle.rows.specs.Well.{wellTones, wellNumbers, wellBlock};
+ghost use Rattle.entries.specs.Entries.{cyclesOf, toneAt, bitsAt};
+ghost use Rattle.entries.specs.Places.{levelOf, hasEntry};
+ghost use Rattle.walks.specs.Steps.{dataFrom, bitFrom, toneFrom, cycleFrom, stepTo, stepOut, fitting, oneStep, takeCycles, takeByte, takeOf, dropOne, dropEntry, dropOf};
 ghost use Rattle.entries.specs.Mounted.{sizeOf, tapeOf};
-ghost use Rattle.walks.specs.Heads.{placed, startAt, stand, Walkable, walkFrom, droppedFrom};
+ghost use Rattle.walks.specs.Heads.{placed, startAt, stand, nextOf, Walkable, walkFrom, droppedFrom};
 ghost use Rattle.entries.specs.declared.Duration.the-variants.{T, Endless};
 ghost use Rattle.entries.specs.declared.Phase.the-variants.{Tones, Data};
-ghost use Rattle.walks.specs.declared.Reached.the-variants.{At, Stopped};
+ghost use Rattle.walks.specs.declared.Reached.the-variants.{At, Stopped, Ended};
 
 // Where a head stands: its block, its entry there, and what is left of it; the Rust's `TapePos`.
 pub struct Position {
@@ -145,7 +145,7 @@ fn cycle_from(t: Tone, r: Block, i: u64, p: u64) -> Phase
     requires { ⌜ i < r .tones ⌝ }
     ensures { λ f. ⌜ f ≡ cycleFrom t r i p ⌝ }
 {
-    if p < at_least_one(t.num) {
+    if p < cycles_of(t) {
         return Phase::Tones {
             index: i,
             pulse: p,
@@ -155,108 +155,83 @@ fn cycle_from(t: Tone, r: Block, i: u64, p: u64) -> Phase
     tone_from(r, i + 1)
 }
 
-// Either half of bit k of data byte pos, which its callers know to lie in the tape.
-fn half_at(tape: &[u8], r: Block, pos: u64, k: u64) -> u64
-    requires { ⌜ (r .start + pos < length (now tape)) × (k < 8) ⌝ }
-    ensures { λ t. ⌜ t ≡ halfOf r (bitOf (byteAt (now (tape .entry)) r pos) k) ⌝ }
+// Behind n entries of t T-states, to a phase of the same block.
+fn step_to(f: Phase, t: u64, n: u64) -> Step
+    ensures { λ s. ⌜ s ≡ stepTo f t n ⌝ }
 {
-    let at = (r.start + pos) as usize;
-    let v = tape[at] >> (7 - k);
-    if v % 2 == 0 { r.zero } else { r.one }
-}
-
-// The length of a block's entry, which its callers know to be there in a well-formed row.
-pub fn length_at(tape: &[u8], tones: &[u64], r: Block, f: Phase) -> Duration
-    requires { ⌜ wellBlock (sizeOf (now tape)) (now tones) r ≡ true ⌝ }
-    requires { ⌜ hasEntry (now tones) r f ≡ true ⌝ }
-    ensures { λ d. ⌜ d ≡ lengthAt (now (tape .entry)) (now (tones .entry)) r f ⌝ }
-{
-    match f {
-        Phase::Start => Duration::T(0),
-        Phase::Tones {
-            index,
-            last_half,
-            ..
-        } => {
-            let t = tone_at(tones, (r.tone + index) as usize);
-            if last_half {
-                return Duration::T(t.len2);
-            }
-            Duration::T(t.len1)
-        }
-        Phase::Data { pos, bit, .. } => Duration::T(half_at(tape, r, pos, bit)),
-        Phase::Pause => pause_of(r),
+    Step {
+        phase: f,
+        time: t,
+        passed: n,
+        over: false,
     }
 }
 
-// Behind one entry, which its callers know to be there in a well-formed row.
-pub fn one_step(tape: u64, tones: &[u64], r: Block, f: Phase, t: u64) -> Step
-    requires { ⌜ wellBlock tape (now tones) r ≡ true ⌝ }
+// Behind the block's last entry, of t T-states.
+fn step_out(t: u64) -> Step
+    ensures { λ s. ⌜ s ≡ stepOut t ⌝ }
+{
+    Step {
+        phase: Phase::Start,
+        time: t,
+        passed: 1,
+        over: true,
+    }
+}
+
+// Behind a half of cycle p of tone row i, which its callers know to be there in a row whose tone rows are lent.
+fn tone_step(tones: &[u64], r: Block, i: u64, p: u64, last: bool, t: u64) -> Step
+    requires { ⌜ (r .tone + r .tones ≤ capacityOf tone toneMost (now tones)) × (i < r .tones) ⌝ }
+    requires { ⌜ p < cyclesOf (toneAt (now tones) r i) ⌝ }
+    ensures { λ s. ⌜ s ≡ oneStep (now (tones .entry)) r (Tones i p last) t ⌝ }
+{
+    if last {
+        let x = row_tone(tones, r, i);
+        return step_to(cycle_from(x, r, i, p + 1), t, 1);
+    }
+    let f = Phase::Tones {
+        index: i,
+        pulse: p,
+        last_half: true,
+    };
+    step_to(f, t, 1)
+}
+
+// Behind a half of bit k of data byte pos, which its callers know to be there.
+fn bit_step(r: Block, pos: u64, k: u64, last: bool, t: u64) -> Step
+    requires { ⌜ (pos < r .size) × (k < bitsAt r pos) ⌝ }
+    ensures { λ s. ⌜ ((tones : List ℕ) → s ≡ oneStep tones r (Data pos k last) t) ⌝ }
+{
+    if last {
+        return step_to(bit_from(r, pos, k + 1), t, 1);
+    }
+    let f = Phase::Data {
+        pos,
+        bit: k,
+        last_half: true,
+    };
+    step_to(f, t, 1)
+}
+
+// Behind one entry, which its callers know to be there in a row whose tone rows are lent.
+fn one_step(tones: &[u64], r: Block, f: Phase, t: u64) -> Step
+    requires { ⌜ r .tone + r .tones ≤ capacityOf tone toneMost (now tones) ⌝ }
     requires { ⌜ hasEntry (now tones) r f ≡ true ⌝ }
     ensures { λ s. ⌜ s ≡ oneStep (now (tones .entry)) r f t ⌝ }
 {
     match f {
-        Phase::Start => Step {
-            phase: tone_from(r, 0),
-            time: 0,
-            passed: 1,
-            over: false,
-        },
+        Phase::Start => step_to(tone_from(r, 0), 0, 1),
         Phase::Tones {
             index,
             pulse,
             last_half,
-        } => {
-            if last_half {
-                let x = tone_at(tones, (r.tone + index) as usize);
-                return Step {
-                    phase: cycle_from(x, r, index, pulse + 1),
-                    time: t,
-                    passed: 1,
-                    over: false,
-                };
-            }
-            Step {
-                phase: Phase::Tones {
-                    index,
-                    pulse,
-                    last_half: true,
-                },
-                time: t,
-                passed: 1,
-                over: false,
-            }
-        }
+        } => tone_step(tones, r, index, pulse, last_half, t),
         Phase::Data {
             pos,
             bit,
             last_half,
-        } => {
-            if last_half {
-                return Step {
-                    phase: bit_from(r, pos, bit + 1),
-                    time: t,
-                    passed: 1,
-                    over: false,
-                };
-            }
-            Step {
-                phase: Phase::Data {
-                    pos,
-                    bit,
-                    last_half: true,
-                },
-                time: t,
-                passed: 1,
-                over: false,
-            }
-        }
-        Phase::Pause => Step {
-            phase: Phase::Start,
-            time: t,
-            passed: 1,
-            over: true,
-        },
+        } => bit_step(r, pos, bit, last_half, t),
+        Phase::Pause => step_out(t),
     }
 }
 
@@ -272,71 +247,33 @@ fn fits(c: u64, m: u64, d: u64) -> u64
     if m <= k { m } else { k }
 }
 
-// From the first half of a cycle, full: the cycles that last less than d, or this half.
-fn take_cycles(tape: u64, tones: &[u64], r: Block, i: u64, p: u64, t: u64, d: u64) -> Step
-    requires { ⌜ wellBlock tape (now tones) r ≡ true ⌝ }
+// From the first half of a cycle, full: the cycles that last less than d, or this half; its callers know the tone rows to be lent and well formed.
+fn take_cycles(tones: &[u64], r: Block, i: u64, p: u64, t: u64, d: u64) -> Step
+    requires { ⌜ (r .tone + r .tones ≤ capacityOf tone toneMost (now tones)) × (wellTones (now tones) (r .tone) (r .tones) ≡ true) ⌝ }
     requires { ⌜ (i < r .tones) × (p < cyclesOf (toneAt (now tones) r i)) ⌝ }
     requires { ⌜ 0 < d ⌝ }
     ensures { λ s. ⌜ s ≡ takeCycles (now (tones .entry)) r i p t d ⌝ }
 {
-    let x = tone_at(tones, (r.tone + i) as usize);
+    let x = row_tone(tones, r, i);
     let c = x.len1 + x.len2;
-    let k = fits(c, at_least_one(x.num) - p, d);
+    let k = fits(c, cycles_of(x) - p, d);
     if 0 < k {
-        return Step {
-            phase: cycle_from(x, r, i, p + k),
-            time: k * c,
-            passed: k * 2,
-            over: false,
-        };
+        return step_to(cycle_from(x, r, i, p + k), k * c, k * 2);
     }
-    Step {
-        phase: Phase::Tones {
-            index: i,
-            pulse: p,
-            last_half: true,
-        },
-        time: t,
-        passed: 1,
-        over: false,
-    }
+    tone_step(tones, r, i, p, false, t)
 }
 
-// T-states of data byte pos, which its callers know to be there in a well-formed row.
-fn byte_time(tape: &[u8], tones: &[u64], r: Block, pos: u64) -> u64
-    requires { ⌜ wellBlock (sizeOf (now tape)) (now tones) r ≡ true ⌝ }
-    requires { ⌜ pos < r .size ⌝ }
-    ensures { λ t. ⌜ t ≡ byteTime (now (tape .entry)) r pos ⌝ }
+// From the first half of a byte's first bit, full: the byte if it lasts less than d, or this half; its callers know the byte to be lent.
+fn take_byte(tape: &[u8], r: Block, pos: u64, t: u64, d: u64) -> Step
+    requires { ⌜ (r .start + r .size ≤ length (now tape)) × (pos < r .size) ⌝ }
+    requires { ⌜ wellNumbers r ≡ true ⌝ }
+    ensures { λ s. ⌜ ((tones : List ℕ) → s ≡ takeByte (now (tape .entry)) tones r pos t d) ⌝ }
 {
-    let at = (r.start + pos) as usize;
-    bits_time(tape[at], bits_at(r, pos), r)
-}
-
-// From the first half of a byte's first bit, full: the byte if it lasts less than d, or this half.
-fn take_byte(tape: &[u8], tones: &[u64], r: Block, pos: u64, t: u64, d: u64) -> Step
-    requires { ⌜ wellBlock (sizeOf (now tape)) (now tones) r ≡ true ⌝ }
-    requires { ⌜ pos < r .size ⌝ }
-    ensures { λ s. ⌜ s ≡ takeByte (now (tape .entry)) (now (tones .entry)) r pos t d ⌝ }
-{
-    let time = byte_time(tape, tones, r, pos);
+    let time = byte_time(tape, r, pos);
     if time < d {
-        return Step {
-            phase: data_from(r, pos + 1),
-            time,
-            passed: bits_at(r, pos) * 2,
-            over: false,
-        };
+        return step_to(data_from(r, pos + 1), time, bits_at(r, pos) * 2);
     }
-    Step {
-        phase: Phase::Data {
-            pos,
-            bit: 0,
-            last_half: true,
-        },
-        time: t,
-        passed: 1,
-        over: false,
-    }
+    bit_step(r, pos, 0, false, t)
 }
 
 // One turn of the measured walk, from an entry that its callers know to be there in a well-formed row.
@@ -346,21 +283,20 @@ fn take(tape: &[u8], tones: &[u64], r: Block, f: Phase, full: bool, t: u64, d: u
     requires { ⌜ 0 < d ⌝ }
     ensures { λ s. ⌜ s ≡ takeOf (now (tape .entry)) (now (tones .entry)) r f full t d ⌝ }
 {
-    let size = size_of(tape);
     if !full {
-        return one_step(size, tones, r, f, t);
+        return one_step(tones, r, f, t);
     }
     match f {
-        Phase::Start => one_step(size, tones, r, f, t),
+        Phase::Start => one_step(tones, r, f, t),
         Phase::Tones {
             index,
             pulse,
             last_half,
         } => {
             if last_half {
-                return one_step(size, tones, r, f, t);
+                return one_step(tones, r, f, t);
             }
-            take_cycles(size, tones, r, index, pulse, t, d)
+            take_cycles(tones, r, index, pulse, t, d)
         }
         Phase::Data {
             pos,
@@ -368,14 +304,14 @@ fn take(tape: &[u8], tones: &[u64], r: Block, f: Phase, full: bool, t: u64, d: u
             last_half,
         } => {
             if last_half {
-                return one_step(size, tones, r, f, t);
+                return one_step(tones, r, f, t);
             }
             if bit == 0 {
-                return take_byte(tape, tones, r, pos, t, d);
+                return take_byte(tape, r, pos, t, d);
             }
-            one_step(size, tones, r, f, t)
+            one_step(tones, r, f, t)
         }
-        Phase::Pause => one_step(size, tones, r, f, t),
+        Phase::Pause => one_step(tones, r, f, t),
     }
 }
 
@@ -407,6 +343,48 @@ fn stops(block: u64, phase: Phase, passed: u64) -> Reached
         passed,
         level: mic(phase),
     })
+}
+
+// The tape has ended: the head rests at the count's start.
+pub fn ends(count: u64, passed: u64) -> Reached
+    ensures { λ r. ⌜ r ≡ Ended (stand (startAt count) passed false) ⌝ }
+{
+    Reached::Ended(Stand {
+        position: Position::new_at_block(count),
+        passed,
+        level: false,
+    })
+}
+
+// How a walk goes on behind a block: into the next one, or it has left.
+pub enum Next {
+    Into,
+    Left(Reached),
+}
+
+// At the start of block b with these T-states left; its callers know the rows up to the count to be lent, and b to be at most the count.
+fn next_block(
+    tape: &[u8],
+    tones: &[u64],
+    blocks: &[u64],
+    count: u64,
+    b: u64,
+    left: u64,
+    passed: u64,
+) -> Next
+    requires { ⌜ (b ≤ count) × (count ≤ capacityOf block blockMost (now blocks)) ⌝ }
+    ensures { λ n. ⌜ n ≡ nextOf (tapeOf (now (tape .entry)) (now (tones .entry)) (now (blocks .entry)) count) b left passed ⌝ }
+{
+    if left == 0 {
+        return Next::Left(stands(b, Phase::Start, 0, passed));
+    }
+    if b == count {
+        return Next::Left(ends(count, passed));
+    }
+    if row_well(tape, tones, blocks, b) {
+        return Next::Into;
+    }
+    Next::Left(Reached::NotFormed)
 }
 
 // The measured walk of n T-states from a position that its callers know to be valid, below the count, in a well-formed row.
@@ -450,18 +428,9 @@ pub fn walk(
             full = true;
         }
         block += 1;
-        if d == 0 {
-            break 'blocks stands(block, Phase::Start, 0, passed);
-        }
-        if block == count {
-            break 'blocks Reached::Ended(Stand {
-                position: Position::new_at_block(count),
-                passed,
-                level: false,
-            });
-        }
-        if !row_well(tape, tones, blocks, block) {
-            break 'blocks Reached::NotFormed;
+        let next = next_block(tape, tones, blocks, count, block, d, passed);
+        if let Next::Left(answer) = next {
+            break 'blocks answer;
         }
         phase = Phase::Start;
         left = Duration::T(0);
@@ -469,30 +438,20 @@ pub fn walk(
     }
 }
 
-// Behind one entry of this length, if it is no longer than d; its callers know it to be there in a well-formed row.
-fn drop_one(tape: u64, tones: &[u64], r: Block, f: Phase, length: Duration, d: u64) -> Step
-    requires { ⌜ wellBlock tape (now tones) r ≡ true ⌝ }
+// Behind one entry of this length, if it is no longer than d; its callers know it to be there in a row whose tone rows are lent.
+fn drop_one(tones: &[u64], r: Block, f: Phase, length: Duration, d: u64) -> Step
+    requires { ⌜ r .tone + r .tones ≤ capacityOf tone toneMost (now tones) ⌝ }
     requires { ⌜ hasEntry (now tones) r f ≡ true ⌝ }
     ensures { λ s. ⌜ s ≡ dropOne (now (tones .entry)) r f length d ⌝ }
 {
     match length {
         Duration::T(t) => {
             if t <= d {
-                return one_step(tape, tones, r, f, t);
+                return one_step(tones, r, f, t);
             }
-            Step {
-                phase: f,
-                time: 0,
-                passed: 0,
-                over: false,
-            }
+            step_to(f, 0, 0)
         }
-        Duration::Endless => Step {
-            phase: f,
-            time: 0,
-            passed: 0,
-            over: false,
-        },
+        Duration::Endless => step_to(f, 0, 0),
     }
 }
 
@@ -502,7 +461,7 @@ fn drop_entry(tape: &[u8], tones: &[u64], r: Block, f: Phase, d: u64) -> Step
     requires { ⌜ hasEntry (now tones) r f ≡ true ⌝ }
     ensures { λ s. ⌜ s ≡ dropEntry (now (tape .entry)) (now (tones .entry)) r f d ⌝ }
 {
-    drop_one(size_of(tape), tones, r, f, length_at(tape, tones, r, f), d)
+    drop_one(tones, r, f, length_at(tape, tones, r, f), d)
 }
 
 // The rest of a tone row's cycles if neither half is longer than d, or this half if it isn't.
@@ -511,7 +470,7 @@ fn drop_cycles(tape: &[u8], tones: &[u64], r: Block, i: u64, p: u64, d: u64) -> 
     requires { ⌜ hasEntry (now tones) r (Tones i p false) ≡ true ⌝ }
     ensures { λ s. ⌜ s ≡ dropOf (now (tape .entry)) (now (tones .entry)) r (Tones i p false) d ⌝ }
 {
-    let x = tone_at(tones, (r.tone + i) as usize);
+    let x = row_tone(tones, r, i);
     let f = Phase::Tones {
         index: i,
         pulse: p,
@@ -523,13 +482,8 @@ fn drop_cycles(tape: &[u8], tones: &[u64], r: Block, i: u64, p: u64, d: u64) -> 
     if d < x.len2 {
         return drop_entry(tape, tones, r, f, d);
     }
-    let k = at_least_one(x.num) - p;
-    Step {
-        phase: cycle_from(x, r, i, p + k),
-        time: k * (x.len1 + x.len2),
-        passed: k * 2,
-        over: false,
-    }
+    let k = cycles_of(x) - p;
+    step_to(cycle_from(x, r, i, p + k), k * (x.len1 + x.len2), k * 2)
 }
 
 // A data byte if no half of a bit can be longer than d, or its first half if it isn't.
@@ -549,12 +503,8 @@ fn drop_byte(tape: &[u8], tones: &[u64], r: Block, pos: u64, d: u64) -> Step
     if d < r.one {
         return drop_entry(tape, tones, r, f, d);
     }
-    Step {
-        phase: data_from(r, pos + 1),
-        time: byte_time(tape, tones, r, pos),
-        passed: bits_at(r, pos) * 2,
-        over: false,
-    }
+    let time = byte_time(tape, r, pos);
+    step_to(data_from(r, pos + 1), time, bits_at(r, pos) * 2)
 }
 
 // One turn of the source's walk, from a full entry that its callers know to be there in a well-formed row.
@@ -614,7 +564,7 @@ pub fn ran_ahead(
     let d = n - t;
     let mut block = pos.block;
     let f = pos.phase;
-    let first = one_step(size_of(tape), tones, block_at(blocks, block as usize), f, t);
+    let first = one_step(tones, block_at(blocks, block as usize), f, t);
     let mut phase = first.phase;
     let mut over = first.over;
     let mut sum: u64 = 0;

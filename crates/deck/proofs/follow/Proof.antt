@@ -1,10 +1,8 @@
 -- `follow` meets its contract. Assumes nothing.
 use Rattle.deck.proofs.Sourced.{source-walk}
 use Rattle.deck.proofs.Checks as checks
-use Rattle.walks.proofs.Sheds.{dropped-most}
-use Rattle.walks.specs.Heads.{stand, walkFrom}
-use Rattle.walks.specs.declared.Reached.the-variants.{Ended}
-use mathlib.Core.Bool.{false}
+use Rattle.walks.proofs.Drops.{dropped-most}
+use Rattle.walks.specs.Heads.{walkFrom}
 use borrow.Author.Tests.{eq-eqb, ne-eqb}
 use Rattle.entries.specs.Mounted.{tapeOf}
 use Rattle.walks.specs.declared.Position.{Position}
@@ -22,12 +20,12 @@ returns : tie.Need-returns
 returns c =
     rw (eq-eqb _ _ (c .before .if1 .taken)) (c .stay .ensures)
 
-new-at-block-requires : tie.Need-new-at-block-requires
-new-at-block-requires c κs = search needs
+ends-requires : tie.Need-ends-requires
+ends-requires c κs = search needs
 
 returns-2 : tie.Need-returns-2
 returns-2 c =
-    let a = c .before .before .before .before .before .before .before .args in let w = tapeOf (a .tape .now) (a .tones .now) (a .blocks .now) (a .count) in let q : Position = a .pos in rw (ne-eqb _ _ (c .before .before .before .if1 .left)) (ap (λ (y : Position). Ended (stand y 0 false)) (c .new-at-block .ensures) ∙ sym (source-walk w q (a .n) ∙ checks.past-ends w q (c .before .before .before .before .before .before .before .pre) (c .before .if2 .taken) _ (omega (arith, c .before .before .before .if1 .left))))
+    let a = c .before .before .before .before .before .before .before .args in let w = tapeOf (a .tape .now) (a .tones .now) (a .blocks .now) (a .count) in let q : Position = a .pos in rw (ne-eqb _ _ (c .before .before .before .if1 .left)) (c .ends .ensures ∙ sym (source-walk w q (a .n) ∙ checks.past-ends w q (c .before .before .before .before .before .before .before .pre) (c .before .if2 .taken) _ (omega (arith, c .before .before .before .if1 .left))))
 
 ran-ahead-requires : tie.Need-ran-ahead-requires
 ran-ahead-requires c κs =
@@ -51,7 +49,7 @@ follow-spec =
     (tie.spec
     stay-requires
     returns
-    new-at-block-requires
+    ends-requires
     returns-2
     ran-ahead-requires
     add-walk

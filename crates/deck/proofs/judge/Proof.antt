@@ -5,7 +5,7 @@ use Rattle.rows.specs.Well.{wellBlock}
 use Rattle.entries.specs.Places.{hasEntry, lengthAt, remains}
 use Rattle.entries.specs.Mounted.{wellRow}
 use Rattle.deck.proofs.Checks as checks
-use Rattle.walks.proofs.Turns.{well-of, bad-of}
+use Rattle.rows.proofs.Clauses.{failed, passed}
 use Rattle.entries.specs.Mounted.{tapeOf}
 use Rattle.walks.specs.declared.Position.{Position}
 use mathlib.Core.Path.{sym, ap, _∙_}
@@ -38,24 +38,24 @@ row-well-requires c κs = search needs
 returns-4 : tie.Need-returns-4
 unfolding wellRow
 returns-4 c =
-    let a = c .before .before .before .before .before .before .before .before .args in let w = tapeOf (a .tape .now) (a .tones .now) (a .blocks .now) (a .count) in let q : Position = a .pos in sym (checks.judged-bad w q (omega (arith, c .before .before .before .before .block-capacity .ensures, c .before .before .before .if1 .left)) (c .before .before .if2 .left) (bad-of (c .before .row-well .ensures) (c .if4 .taken)))
+    let a = c .before .before .before .before .before .before .before .before .args in let w = tapeOf (a .tape .now) (a .tones .now) (a .blocks .now) (a .count) in let q : Position = a .pos in sym (checks.judged-bad w q (omega (arith, c .before .before .before .before .block-capacity .ensures, c .before .before .before .if1 .left)) (c .before .before .if2 .left) (failed (c .before .row-well .ensures) (c .if4 .taken)))
 
 block-at-requires : tie.Need-block-at-requires
 block-at-requires c κs = search needs
 
 has-left-requires : tie.Need-has-left-requires
 has-left-requires c κs =
-    let a = c .before .before .before .before .before .before .before .before .before .args in let w = tapeOf (a .tape .now) (a .tones .now) (a .blocks .now) (a .count) in let q : Position = a .pos in ap (wellBlock _ _) (c .block-at .ensures) ∙ well-of (c .before .before .row-well .ensures) (c .before .if4 .left)
+    let a = c .before .before .before .before .before .before .before .before .before .args in let w = tapeOf (a .tape .now) (a .tones .now) (a .blocks .now) (a .count) in let q : Position = a .pos in ap (wellBlock _ _) (c .block-at .ensures) ∙ passed (c .before .before .row-well .ensures) (c .before .if4 .left)
 
 returns-5 : tie.Need-returns-5
 unfolding wellRow
 returns-5 c =
-    let a = c .before .before .before .before .before .before .before .before .before .before .before .args in let w = tapeOf (a .tape .now) (a .tones .now) (a .blocks .now) (a .count) in let q : Position = a .pos in let e = ap (λ (r : Block). hasEntry (w .tones) r (q .phase) && remains (q .left) (lengthAt (w .bytes) (w .tones) r (q .phase))) (c .before .before .block-at .ensures) in sym (checks.judged-not w q (omega (arith, c .before .before .before .before .before .before .before .block-capacity .ensures, c .before .before .before .before .before .before .if1 .left)) (c .before .before .before .before .before .if2 .left) (well-of (c .before .before .before .before .row-well .ensures) (c .before .before .before .if4 .left)) (sym e ∙ bad-of (c .before .has-left .ensures) (c .if5 .taken)))
+    let a = c .before .before .before .before .before .before .before .before .before .before .before .args in let w = tapeOf (a .tape .now) (a .tones .now) (a .blocks .now) (a .count) in let q : Position = a .pos in let e = ap (λ (r : Block). hasEntry (w .tones) r (q .phase) && remains (q .left) (lengthAt (w .bytes) (w .tones) r (q .phase))) (c .before .before .block-at .ensures) in sym (checks.judged-not w q (omega (arith, c .before .before .before .before .before .before .before .block-capacity .ensures, c .before .before .before .before .before .before .if1 .left)) (c .before .before .before .before .before .if2 .left) (passed (c .before .before .before .before .row-well .ensures) (c .before .before .before .if4 .left)) (sym e ∙ failed (c .before .has-left .ensures) (c .if5 .taken)))
 
 returns-6 : tie.Need-returns-6
 unfolding wellRow
 returns-6 c =
-    let a = c .before .before .before .before .before .before .before .before .before .before .before .args in let w = tapeOf (a .tape .now) (a .tones .now) (a .blocks .now) (a .count) in let q : Position = a .pos in let e = ap (λ (r : Block). hasEntry (w .tones) r (q .phase) && remains (q .left) (lengthAt (w .bytes) (w .tones) r (q .phase))) (c .before .before .block-at .ensures) in sym (checks.judged-fine w q (omega (arith, c .before .before .before .before .before .before .before .block-capacity .ensures, c .before .before .before .before .before .before .if1 .left)) (c .before .before .before .before .before .if2 .left) (well-of (c .before .before .before .before .row-well .ensures) (c .before .before .before .if4 .left)) (sym e ∙ well-of (c .before .has-left .ensures) (c .if5 .left)))
+    let a = c .before .before .before .before .before .before .before .before .before .before .before .args in let w = tapeOf (a .tape .now) (a .tones .now) (a .blocks .now) (a .count) in let q : Position = a .pos in let e = ap (λ (r : Block). hasEntry (w .tones) r (q .phase) && remains (q .left) (lengthAt (w .bytes) (w .tones) r (q .phase))) (c .before .before .block-at .ensures) in sym (checks.judged-fine w q (omega (arith, c .before .before .before .before .before .before .before .block-capacity .ensures, c .before .before .before .before .before .before .if1 .left)) (c .before .before .before .before .before .if2 .left) (passed (c .before .before .before .before .row-well .ensures) (c .before .before .before .if4 .left)) (sym e ∙ passed (c .before .has-left .ensures) (c .if5 .left)))
 
 pub judge-spec : {M : Type 1} → statement M
 judge-spec =

@@ -1,12 +1,9 @@
 -- `measure` meets its contract. Assumes nothing.
-use mathlib.Core.Bool.{false}
-use Rattle.walks.specs.Heads.{stand}
-use Rattle.walks.specs.declared.Reached.the-variants.{Ended}
 use borrow.Author.Tests.{eq-eqb, ne-eqb}
 use Rattle.deck.proofs.Checks as checks
 use Rattle.entries.specs.Mounted.{tapeOf}
 use Rattle.walks.specs.declared.Position.{Position}
-use mathlib.Core.Path.{sym, ap, _∙_}
+use mathlib.Core.Path.{sym, _∙_}
 use native.Mathlib.Omega.{arith}
 use borrow.Author.Needs.{needs}
 use Rattle.deck.proofs.measure.Statement.{statement}
@@ -19,12 +16,12 @@ returns : tie.Need-returns
 returns c =
     rw (eq-eqb _ _ (c .before .if1 .taken)) (c .stay .ensures)
 
-new-at-block-requires : tie.Need-new-at-block-requires
-new-at-block-requires c κs = search needs
+ends-requires : tie.Need-ends-requires
+ends-requires c κs = search needs
 
 returns-2 : tie.Need-returns-2
 returns-2 c =
-    let a = c .before .before .before .before .before .before .before .args in let w = tapeOf (a .tape .now) (a .tones .now) (a .blocks .now) (a .count) in let q : Position = a .pos in rw (ne-eqb _ _ (c .before .before .before .if1 .left)) (ap (λ (y : Position). Ended (stand y 0 false)) (c .new-at-block .ensures) ∙ sym (checks.past-ends w q (c .before .before .before .before .before .before .before .pre) (c .before .if2 .taken) (a .n) (omega (arith, c .before .before .before .if1 .left))))
+    let a = c .before .before .before .before .before .before .before .args in let w = tapeOf (a .tape .now) (a .tones .now) (a .blocks .now) (a .count) in let q : Position = a .pos in rw (ne-eqb _ _ (c .before .before .before .if1 .left)) (c .ends .ensures ∙ sym (checks.past-ends w q (c .before .before .before .before .before .before .before .pre) (c .before .if2 .taken) (a .n) (omega (arith, c .before .before .before .if1 .left))))
 
 walk-requires : tie.Need-walk-requires
 walk-requires c κs =
@@ -37,4 +34,4 @@ returns-3 c =
 pub measure-spec : {M : Type 1} → statement M
 measure-spec =
     tie.close
-    (tie.spec stay-requires returns new-at-block-requires returns-2 walk-requires returns-3)
+    (tie.spec stay-requires returns ends-requires returns-2 walk-requires returns-3)

@@ -1,4 +1,4 @@
--- `deck::play_head` meets its contract: a walk of its MIR, by hand, as tools/gen_lent.py writes it. The borrow is opened, the whole record is copied out, `play_mounted` is called by value on the copy, the whole record of its answer is stored back, and the borrow is closed at it.
+-- `deck::play_head` meets its contract: a walk of its MIR, by hand. The borrow is opened, the whole record is copied out, `play_mounted` is called by value on the copy, the whole record of its answer is stored back, and the borrow is closed at it.
 -- All that the proof knows of `play_mounted` is that it meets its contract. Of the parameters but the lent record nothing need be had at exit (`stay-dropped`).
 -- Assumes nothing.
 use mathlib.Core.Path.{_≡_, refl, ap}

@@ -1,9 +1,9 @@
 -- `length_at` meets its contract. Assumes nothing.
 use native.Mathlib.Omega.{arith}
-use lib.ListN.{length}
 use borrow.Author.Needs.{needs}
 use Rattle.entries.specs.Places.{lengthAt}
-use Rattle.entries.proofs.Valid.{at-row, at-bit}
+use Rattle.entries.proofs.Bounds.{bits-most}
+use Rattle.entries.proofs.Valid.{in-tones, in-data}
 use Rattle.entries.proofs.length_at.Statement.{statement}
 use Rattle.entries.proofs.length_at.Tie as tie
 
@@ -16,8 +16,7 @@ enum-known-f c = search needs
 row-tone-requires : tie.Need-row-tone-requires
 row-tone-requires c κs =
     let s = c .before .before .before .before .before in
-    let d = at-row (length (s .args .tape .now)) (s .args .tones .now) (s .args .r) (s .pre .0) (s .pre .1) (c .before .f .given .1) in
-    (d .lent, d .one)
+    (s .pre .0 .1, in-tones (s .args .tones .now) (s .args .r) (c .before .f .given .1) (s .pre .1 .1) .0)
 
 cycle-half-requires : tie.Need-cycle-half-requires
 cycle-half-requires c κs = search needs
@@ -28,20 +27,20 @@ enum-known-f-2 c = search needs
 add-at : tie.Need-add-at
 add-at c =
     let s = c .before .before .before .before .before .before in
-    let d = at-bit (length (s .args .tape .now)) (s .args .tones .now) (s .args .r) (s .pre .0) (s .pre .1) (c .before .before .f2 .given .1) in
-    omega arith
+    let d = in-data (s .args .tones .now) (s .args .r) (c .before .before .f2 .given .1) (s .pre .1 .1) in
+    omega (arith, s .pre .0 .0)
 
 shared-slice-read-half-of : tie.Need-shared-slice-read-half-of
 shared-slice-read-half-of c =
     let s = c .before .before .before .before .before .before .before in
-    let d = at-bit (length (s .args .tape .now)) (s .args .tones .now) (s .args .r) (s .pre .0) (s .pre .1) (c .before .before .before .f2 .given .1) in
-    d .place
+    let d = in-data (s .args .tones .now) (s .args .r) (c .before .before .before .f2 .given .1) (s .pre .1 .1) in
+    omega (arith, s .pre .0 .0)
 
 half-of-requires : tie.Need-half-of-requires
 half-of-requires c κs =
     let s = c .before .before .before .before .before .before .before in
-    let d = at-bit (length (s .args .tape .now)) (s .args .tones .now) (s .args .r) (s .pre .0) (s .pre .1) (c .before .before .before .f2 .given .1) in
-    d .one
+    let d = in-data (s .args .tones .now) (s .args .r) (c .before .before .before .f2 .given .1) (s .pre .1 .1) in
+    omega (arith, bits-most (s .args .r) _ (s .pre .1 .0) (d .0), d .1)
 
 enum-told-2 : tie.Need-enum-told-2
 enum-told-2 c = search needs

@@ -1,18 +1,17 @@
 -- `cycle_from` meets its contract. Assumes nothing.
 use Rattle.walks.specs.Steps.{cycleFrom}
-use Rattle.entries.specs.Entries.{cyclesOf}
 use borrow.Author.Tests.{lt-ltb, le-ltb}
 use borrow.Author.Needs.{needs}
 use Rattle.walks.proofs.cycle_from.Statement.{statement}
 use Rattle.walks.proofs.cycle_from.Tie as tie
 
-at-least-one-requires : tie.Need-at-least-one-requires
-at-least-one-requires c κs = search needs
+cycles-of-requires : tie.Need-cycles-of-requires
+cycles-of-requires c κs = search needs
 
 returns : tie.Need-returns
-unfolding cycleFrom cyclesOf
+unfolding cycleFrom
 returns c =
-    rw (← c .before .at-least-one .ensures, lt-ltb _ _ (c .if1 .taken))
+    rw (← c .before .cycles-of .ensures, lt-ltb _ _ (c .if1 .taken))
 
 add-tone-from : tie.Need-add-tone-from
 add-tone-from c = search needs
@@ -21,10 +20,10 @@ tone-from-requires : tie.Need-tone-from-requires
 tone-from-requires c κs = search needs
 
 returns-2 : tie.Need-returns-2
-unfolding cycleFrom cyclesOf
+unfolding cycleFrom
 returns-2 c =
-    rw (← c .before .before .at-least-one .ensures, le-ltb _ _ (c .before .if1 .left)) (c .tone-from .ensures)
+    rw (← c .before .before .cycles-of .ensures, le-ltb _ _ (c .before .if1 .left)) (c .tone-from .ensures)
 
 pub cycle-from-spec : {M : Type 1} → statement M
 cycle-from-spec =
-    tie.close (tie.spec at-least-one-requires returns add-tone-from tone-from-requires returns-2)
+    tie.close (tie.spec cycles-of-requires returns add-tone-from tone-from-requires returns-2)

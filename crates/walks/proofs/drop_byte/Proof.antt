@@ -1,9 +1,11 @@
 -- `drop_byte` meets its contract. Assumes nothing.
-use Rattle.walks.proofs.Facts as facts
-use Rattle.walks.specs.Steps.{dropOf, byteStep}
-use mathlib.Core.Path.{refl}
-use borrow.Author.Tests.{le-leb, lt-leb}
+use Rattle.walks.specs.Steps.{byteTime, byteStep, dropOf}
+use Rattle.entries.proofs.Lent.{row-lent}
+use Rattle.entries.proofs.Valid.{in-data}
+use Rattle.entries.proofs.Bounds.{bits-most}
 use native.Mathlib.Omega.{arith}
+use borrow.Author.Tests.{le-leb, lt-leb}
+use mathlib.Core.Path.{refl, _∙_}
 use borrow.Author.Needs.{needs}
 use Rattle.walks.proofs.drop_byte.Statement.{statement}
 use Rattle.walks.proofs.drop_byte.Tie as tie
@@ -24,29 +26,32 @@ unfolding dropOf
 returns-2 c =
     rw (le-leb _ _ (c .before .before .before .if1 .left), lt-leb _ _ (c .before .if2 .taken)) (c .drop-entry2 .ensures)
 
+byte-time-requires : tie.Need-byte-time-requires
+byte-time-requires c κs =
+    let a = c .before .before .before .before .before .before .args in let h = in-data (a .tones .now) (a .r) refl (c .before .before .before .before .before .before .pre .1) in let k = row-lent (a .tape .now) (a .tones .now) (a .r) (c .before .before .before .before .before .before .pre .0) in ((k .bytes, h .0), k .numbers)
+
 add-data-from : tie.Need-add-data-from
 add-data-from c =
-    let a = c .before .before .before .before .before .before .args in let h = facts.in-data (a .tones .now) (a .r) refl (c .before .before .before .before .before .before .pre .1) in let l = facts.byte-lent (a .tape .now) (a .tones .now) (a .r) (c .before .before .before .before .before .before .pre .0) _ (h .0) in omega (arith, l, h .0)
+    let a = c .before .before .before .before .before .before .before .args in let h = in-data (a .tones .now) (a .r) refl (c .before .before .before .before .before .before .before .pre .1) in omega (arith, h .0)
 
 data-from-requires : tie.Need-data-from-requires
 data-from-requires c κs = search needs
 
-byte-time-requires : tie.Need-byte-time-requires
-byte-time-requires c κs =
-    let a = c .before .before .before .before .before .before .before .args in let h = facts.in-data (a .tones .now) (a .r) refl (c .before .before .before .before .before .before .before .pre .1) in (c .before .before .before .before .before .before .before .pre .0, h .0)
-
 bits-at-requires : tie.Need-bits-at-requires
 bits-at-requires c κs =
-    let a = c .before .before .before .before .before .before .before .before .args in let h = facts.in-data (a .tones .now) (a .r) refl (c .before .before .before .before .before .before .before .before .pre .1) in h .0
+    let a = c .before .before .before .before .before .before .before .before .args in in-data (a .tones .now) (a .r) refl (c .before .before .before .before .before .before .before .before .pre .1) .0
 
-mul-t12 : tie.Need-mul-t12
-mul-t12 c =
-    let a = c .before .before .before .before .before .before .before .before .before .args in let h = facts.in-data (a .tones .now) (a .r) refl (c .before .before .before .before .before .before .before .before .before .pre .1) in omega (arith, c .bits-at .ensures, facts.bits-few _ _ (a .r) (c .before .before .before .before .before .before .before .before .before .pre .0) _ (h .0))
+mul-step-to : tie.Need-mul-step-to
+mul-step-to c =
+    let a = c .before .before .before .before .before .before .before .before .before .args in let h = in-data (a .tones .now) (a .r) refl (c .before .before .before .before .before .before .before .before .before .pre .1) in omega (arith, c .bits-at .ensures, bits-most (a .r) (a .pos) (row-lent (a .tape .now) (a .tones .now) (a .r) (c .before .before .before .before .before .before .before .before .before .pre .0) .numbers) (h .0))
+
+step-to-requires : tie.Need-step-to-requires
+step-to-requires c κs = search needs
 
 returns-3 : tie.Need-returns-3
-unfolding dropOf byteStep
+unfolding dropOf byteStep byteTime
 returns-3 c =
-    rw (le-leb _ _ (c .before .before .before .before .before .if1 .left), le-leb _ _ (c .before .before .before .if2 .left), c .before .before .data-from .ensures, c .before .byte-time .ensures, c .bits-at .ensures)
+    c .step-to .ensures ∙ rw (le-leb _ _ (c .before .before .before .before .before .before .if1 .left), le-leb _ _ (c .before .before .before .before .if2 .left), c .before .before .data-from .ensures, c .before .before .before .byte-time .ensures 0, c .before .bits-at .ensures)
 
 pub drop-byte-spec : {M : Type 1} → statement M
 drop-byte-spec =
@@ -56,9 +61,10 @@ drop-byte-spec =
     returns
     drop-entry-requires-2
     returns-2
+    byte-time-requires
     add-data-from
     data-from-requires
-    byte-time-requires
     bits-at-requires
-    mul-t12
+    mul-step-to
+    step-to-requires
     returns-3)

@@ -1,23 +1,20 @@
 -- `drop_entry` meets its contract. Assumes nothing.
+use Rattle.entries.proofs.Lent.{row-lent}
 use mathlib.Core.Path.{_∙_}
-use borrow.Author.Needs.{needs}
 use Rattle.walks.proofs.drop_entry.Statement.{statement}
 use Rattle.walks.proofs.drop_entry.Tie as tie
 
-size-of-requires : tie.Need-size-of-requires
-size-of-requires c κs = search needs
-
 length-at-requires : tie.Need-length-at-requires
-length-at-requires c κs = search needs
+length-at-requires c κs =
+    let a = c .before .before .args in let k = row-lent (a .tape .now) (a .tones .now) (a .r) (c .before .before .pre .0) in ((k .bytes, k .rows), (k .numbers, c .before .before .pre .1))
 
 drop-one-requires : tie.Need-drop-one-requires
 drop-one-requires c κs =
-    (rw (c .before .size-of .ensures) (c .before .before .before .before .pre .0), c .before .before .before .before .pre .1)
+    let a = c .before .before .before .args in (row-lent (a .tape .now) (a .tones .now) (a .r) (c .before .before .before .pre .0) .rows, c .before .before .before .pre .1)
 
 returns : tie.Need-returns
 returns c =
     c .drop-one .ensures ∙ rw (c .before .length-at .ensures)
 
 pub drop-entry-spec : {M : Type 1} → statement M
-drop-entry-spec =
-    tie.close (tie.spec size-of-requires length-at-requires drop-one-requires returns)
+drop-entry-spec = tie.close (tie.spec length-at-requires drop-one-requires returns)

@@ -1,8 +1,9 @@
 -- `take_byte` meets its contract. Assumes nothing.
-use Rattle.walks.proofs.Facts as facts
-use Rattle.walks.specs.Steps.{oneStep, byteStep, takeByte}
+use Rattle.walks.specs.Steps.{byteTime, byteStep, takeByte}
+use Rattle.entries.proofs.Bounds.{bits-most, bits-some}
 use borrow.Author.Tests.{lt-ltb, le-ltb}
 use native.Mathlib.Omega.{arith}
+use mathlib.Core.Path.{_∙_}
 use borrow.Author.Needs.{needs}
 use Rattle.walks.proofs.take_byte.Statement.{statement}
 use Rattle.walks.proofs.take_byte.Tie as tie
@@ -19,19 +20,26 @@ data-from-requires c κs = search needs
 bits-at-requires : tie.Need-bits-at-requires
 bits-at-requires c κs = search needs
 
-mul-t12 : tie.Need-mul-t12
-mul-t12 c =
-    let a = c .before .before .before .before .before .before .args in omega (arith, c .bits-at .ensures, facts.bits-few _ _ (a .r) (c .before .before .before .before .before .before .pre .0) _ (c .before .before .before .before .before .before .pre .1))
+mul-step-to : tie.Need-mul-step-to
+mul-step-to c =
+    let a = c .before .before .before .before .before .args in omega (arith, c .bits-at .ensures, bits-most (a .r) (a .pos) (c .before .before .before .before .before .pre .1) (c .before .before .before .before .before .pre .0 .1))
+
+step-to-requires : tie.Need-step-to-requires
+step-to-requires c κs = search needs
 
 returns : tie.Need-returns
-unfolding takeByte byteStep
+unfolding takeByte byteStep byteTime
 returns c =
-    rw (← c .before .before .before .byte-time .ensures, lt-ltb _ _ (c .before .before .if1 .taken), c .before .data-from .ensures, c .bits-at .ensures)
+    λ tones. c .step-to .ensures ∙ rw (← c .before .before .before .before .byte-time .ensures 0, lt-ltb _ _ (c .before .before .before .if1 .taken), c .before .before .data-from .ensures, c .before .bits-at .ensures)
+
+bit-step-requires : tie.Need-bit-step-requires
+bit-step-requires c κs =
+    let a = c .before .before .before .args in (c .before .before .before .pre .0 .1, bits-some (a .r) (a .pos))
 
 returns-2 : tie.Need-returns-2
-unfolding takeByte oneStep
+unfolding takeByte byteTime
 returns-2 c =
-    rw (← c .before .byte-time .ensures, le-ltb _ _ (c .if1 .left))
+    λ tones. c .bit-step .ensures tones ∙ rw (← c .before .before .byte-time .ensures 0, le-ltb _ _ (c .before .if1 .left))
 
 pub take-byte-spec : {M : Type 1} → statement M
 take-byte-spec =
@@ -41,6 +49,8 @@ take-byte-spec =
     add-data-from
     data-from-requires
     bits-at-requires
-    mul-t12
+    mul-step-to
+    step-to-requires
     returns
+    bit-step-requires
     returns-2)

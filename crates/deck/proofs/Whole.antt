@@ -1,0 +1,84 @@
+-- A TAPE WHOSE ROWS ARE ALL WELL FORMED is not cut, and its valid positions pass the checks. Assumes nothing.
+use Prim.Native.Nat.{ℕ, _-_, _≤_, _<_}
+use native.Mathlib.Omega.{arith}
+use borrow.Author.Tests.{le-ltb, lt-leb}
+use mathlib.Core.Path.{_≡_, refl, ap}
+use mathlib.Core.Bool.{Bool, true, false, _&&_, _||_}
+use mathlib.Core.Logic.{⊎-elim}
+use lib.Dec.{ltb, leb}
+use Rattle.laws.specs.Numbers.{lt-or-ge}
+use Rattle.pulses.specs.Play.{Answer, counted}
+use Rattle.pulses.specs.Source.{isEnded}
+use Rattle.rows.specs.Table.{capacityOf}
+use Rattle.rows.specs.Rows.{block, blockMost}
+use Rattle.entries.specs.Entries.{Spot}
+use Rattle.entries.specs.Places.{Tape, valid, hasIn, lengthIn, remains}
+use Rattle.walks.specs.declared.Position.{Position}
+use Rattle.entries.specs.Mounted.{wellRow, firstBad, cutTo, formed}
+use Rattle.walks.specs.Heads.{told, walked}
+use Rattle.walks.proofs.Needed.{not-both, needed}
+use Rattle.deck.specs.declared.Check.the-variants.{Fine}
+use Rattle.deck.specs.Deck.{atStart, ruledOut, badRow, validAt, judged}
+
+-- a tape whose counted rows are all well formed
+pub record Whole (w : Tape) : Type 0 where
+  pub lent : w .count ≤ capacityOf block blockMost (w .blocks)
+  pub rows : (b : ℕ) → b < w .count → wellRow w b ≡ true
+
+or-false : (a b : Bool) → (a || b) ≡ true → b ≡ false → a ≡ true
+or-false true b e f = refl
+or-false false b e f = absurd (not-both e f)
+
+and-not : (a : Bool) → (a && false) ≡ false
+and-not true = refl
+and-not false = refl
+
+ruled-out : (w : Tape) (q : Position) → validAt w q ≡ true → ruledOut w q ≡ false
+unfolding ruledOut valid
+ruled-out w q v =
+    ⊎-elim
+    (λ l. rw (lt-leb (w .count) (q .block) l))
+    (λ g.
+    let e : (ltb (q .block) (w .count) && (hasIn w (q .block) (q .phase) && remains (q .left) (lengthIn w (q .block) (q .phase)))) ≡ false = rw (le-ltb (q .block) (w .count) g) in
+    rw (or-false (atStart q) _ v e) (and-not (leb (w .count) (q .block))))
+    (lt-or-ge (q .block) (w .count))
+
+bad-row : (w : Tape) → Whole w → (q : Position) → badRow w q ≡ false
+unfolding badRow
+bad-row w whole q =
+    ⊎-elim
+    (λ l. rw (whole .rows (q .block) l) (and-not (ltb (q .block) (w .count))))
+    (λ g. rw (le-ltb (q .block) (w .count) g))
+    (lt-or-ge (q .block) (w .count))
+
+-- on the whole tape no walk meets a bad row
+pub all-walked : (w : Tape) (a : Answer Spot) → walked w w a ≡ told w a
+unfolding walked
+all-walked w a = rw (le-ltb (w .count) (w .count) (omega arith), and-not (isEnded (a .tells)))
+
+module _ (w : Tape) (whole : Whole w) where
+  -- nothing is cut
+  whole-count : (b : ℕ) → firstBad w b (w .count - b) ≡ w .count
+  unfolding firstBad
+  whole-count b =
+      ⊎-elim
+      (λ l.
+      let x = needed w b (omega arith) in
+      ⊎-elim (λ h. absurd (not-both (whole .rows _ h) (x .bad h))) (λ g. omega (arith, x .most)) (lt-or-ge (firstBad w b (w .count - b)) (w .count)))
+      (λ g. let z : w .count - b ≡ 0 = omega arith in ap (firstBad w b) z)
+      (lt-or-ge b (w .count))
+
+  pub whole-formed : (b : ℕ) → formed w b ≡ w
+  unfolding formed
+  whole-formed b = ap (cutTo w) (whole-count b)
+
+  -- a valid position passes the checks
+  pub whole-fine : (q : Position) → validAt w q ≡ true → judged w q ≡ Fine
+  unfolding judged
+  whole-fine q v = rw (le-ltb (capacityOf block blockMost (w .blocks)) (w .count) (whole .lent), ruled, row, v)
+    where
+      ruled : ruledOut w q ≡ false
+      ruled = ruled-out w q v
+
+      row : badRow w q ≡ false
+      row = bad-row w whole q

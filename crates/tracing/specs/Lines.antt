@@ -1,0 +1,89 @@
+-- The line of a call's answer, as a trace prints it; the words are the oracle's. Definitions alone; assumes nothing.
+use Prim.Native.Nat.{ℕ}
+use Prim.Native.Char.{code}
+use Prim.Native.String.{String, [] as []ᵗ, _∷_ as _∷ᵗ_}
+use mathlib.Core.Bool.{Bool, true, false}
+use mathlib.Core.List.{List, [], _∷_, _++_}
+use Rattle.text.specs.Out.{decimal}
+use Rattle.entries.specs.declared.Phase.{Phase}
+use Rattle.entries.specs.declared.Phase.the-variants.{Start, Tones, Data, Pause}
+use Rattle.entries.specs.declared.Duration.{Duration}
+use Rattle.entries.specs.declared.Duration.the-variants.{T, Endless}
+use Rattle.walks.specs.declared.Stand.{Stand}
+use Rattle.walks.specs.declared.Reached.{Reached}
+use Rattle.walks.specs.declared.Reached.the-variants.{At, Stopped, Ended, NotValid, NotFormed}
+use Rattle.deck.specs.declared.Selected.{Selected}
+use Rattle.deck.specs.declared.Selected.the-variants.{Block, BadPosition, BadRow}
+
+-- the bytes of an ASCII text
+unfoldable pub ascii : String → List ℕ
+ascii []ᵗ = []
+ascii (c ∷ᵗ t) = code c ∷ ascii t
+
+-- a half or a level: `0`, or `1` for the last half and for high
+unfoldable pub flag : Bool → List ℕ
+flag false = 0x30 ∷ []
+flag true = 0x31 ∷ []
+
+-- ` n`
+unfoldable pub spaced : ℕ → List ℕ
+spaced n = 0x20 ∷ decimal n
+
+-- ` n m last`
+unfoldable pub numbers : ℕ → ℕ → Bool → List ℕ
+numbers n m last = spaced n ++ spaced m ++ (0x20 ∷ flag last)
+
+-- `start`; `tone` with row, cycle and half; `data` with byte, bit and half; `pause`
+unfoldable pub phaseText : Phase → List ℕ
+phaseText Start = ascii "start"
+phaseText (Tones i p last) = ascii "tone" ++ numbers i p last
+phaseText (Data pos k last) = ascii "data" ++ numbers pos k last
+phaseText Pause = ascii "pause"
+
+-- the T-states left, or `endless`
+unfoldable pub leftText : Duration → List ℕ
+leftText (T n) = decimal n
+leftText Endless = ascii "endless"
+
+-- ` left LEFT level LEVEL`
+unfoldable pub restText : Duration → Bool → List ℕ
+restText left level = ascii " left " ++ leftText left ++ ascii " level " ++ flag level
+
+-- `BLOCK PHASE left LEFT level LEVEL`
+unfoldable pub placeText : Stand → List ℕ
+placeText s = decimal (s .position .block) ++ (0x20 ∷ []) ++ phaseText (s .position .phase) ++ restText (s .position .left) (s .level)
+
+-- the block's number; `refused n` where it is refused
+unfoldable pub selectedText : Selected → List ℕ
+selectedText (Block n) = decimal n
+selectedText BadPosition = ascii "refused 9"
+selectedText BadRow = ascii "refused 11"
+
+-- `PLACE selected BLOCK`, and the line's end
+unfoldable pub shown : Stand → Selected → List ℕ
+shown s b = placeText s ++ ascii " selected " ++ selectedText b ++ (0x0A ∷ [])
+
+-- A LINE OF THE SOURCE'S PLAY: the place, or `ended`; `refused n` where the call is refused
+unfoldable pub sourceLine : Reached → Selected → List ℕ
+sourceLine (At s) b = shown s b
+sourceLine (Stopped s) b = shown s b
+sourceLine (Ended s) b = ascii "ended\n"
+sourceLine NotValid b = ascii "refused 9\n"
+sourceLine NotFormed b = ascii "refused 11\n"
+
+-- ` passed N at PLACE selected BLOCK`
+unfoldable pub told : Stand → Selected → List ℕ
+told s b = ascii " passed " ++ decimal (s .passed) ++ ascii " at " ++ shown s b
+
+-- A LINE OF THE MEASURED PLAYER: `stands`, `stopped` or `ended`, the entries passed and the place
+unfoldable pub measuredLine : Reached → Selected → List ℕ
+measuredLine (At s) b = ascii "stands" ++ told s b
+measuredLine (Stopped s) b = ascii "stopped" ++ told s b
+measuredLine (Ended s) b = ascii "ended" ++ told s b
+measuredLine NotValid b = ascii "refused 9\n"
+measuredLine NotFormed b = ascii "refused 11\n"
+
+-- THE LINE of a call's answer, and of the block then shown
+unfoldable pub lineOf : Bool → Reached → Selected → List ℕ
+lineOf true r b = measuredLine r b
+lineOf false r b = sourceLine r b

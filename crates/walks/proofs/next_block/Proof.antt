@@ -1,0 +1,51 @@
+-- `next_block` meets its contract. Assumes nothing.
+use Rattle.walks.specs.Heads.{nextOf}
+use Rattle.walks.specs.declared.Next.the-variants.{Left}
+use Rattle.entries.specs.Mounted.{wellRow}
+use Rattle.entries.specs.Places.{levelOf}
+use borrow.Author.Tests.{eq-eqb, ne-eqb}
+use mathlib.Core.Path.{sym, ap, _∙_}
+use borrow.Author.Needs.{needs}
+use Rattle.walks.proofs.next_block.Statement.{statement}
+use Rattle.walks.proofs.next_block.Tie as tie
+
+stands-requires : tie.Need-stands-requires
+stands-requires c κs = search needs
+
+returns : tie.Need-returns
+unfolding nextOf levelOf
+returns c =
+    rw (eq-eqb _ _ (c .before .if1 .taken)) (ap Left (c .stands .ensures))
+
+ends-requires : tie.Need-ends-requires
+ends-requires c κs = search needs
+
+returns-2 : tie.Need-returns-2
+unfolding nextOf
+returns-2 c =
+    rw (ne-eqb _ _ (c .before .before .if1 .left), eq-eqb _ _ (c .before .if2 .taken)) (ap Left (c .ends .ensures))
+
+row-well-requires : tie.Need-row-well-requires
+row-well-requires c κs = search needs
+
+returns-3 : tie.Need-returns-3
+unfolding nextOf wellRow
+returns-3 c =
+    rw (ne-eqb _ _ (c .before .before .before .if1 .left), ne-eqb _ _ (c .before .before .if2 .left), sym (c .before .row-well .ensures) ∙ c .if3 .taken)
+
+returns-4 : tie.Need-returns-4
+unfolding nextOf wellRow
+returns-4 c =
+    rw (ne-eqb _ _ (c .before .before .before .if1 .left), ne-eqb _ _ (c .before .before .if2 .left), sym (c .before .row-well .ensures) ∙ c .if3 .left)
+
+pub next-block-spec : {M : Type 1} → statement M
+next-block-spec =
+    tie.close
+    (tie.spec
+    stands-requires
+    returns
+    ends-requires
+    returns-2
+    row-well-requires
+    returns-3
+    returns-4)

@@ -1,5 +1,5 @@
 -- `replay` meets its contract. Assumes nothing.
-use Rattle.replay.proofs.Parts.{counted}
+use Rattle.printing.proofs.Room.{counted}
 use native.Mathlib.Omega.{arith}
 use borrow.Author.Needs.{needs}
 use Rattle.replay.proofs.replay.Statement.{statement}

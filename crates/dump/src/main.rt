@@ -1,0 +1,35 @@
+// Reads a model byte (`4`, `1`, `3`) and up to 65,535 tape bytes from standard input, and prints every block whole, or `refused n`.
+use playback::model_of;
+use printing::print_loaded;
+use printing::print_refused;
+use tape::load;
+
+// What is printed of the input, and whether more input followed.
+fn dump(input: &[u8], more: usize, blocks: &mut [u64], tones: &mut [u64]) {
+    if input.len() == 0 {
+        return print_refused(1);
+    }
+    let model = model_of(input[0]);
+    if model == 3 {
+        return print_refused(1);
+    }
+    if 0 < more {
+        return print_refused(2);
+    }
+    let tape = &input[1..];
+    if 65535 < tape.len() {
+        return print_refused(2);
+    }
+    let loaded = load(tape, model, blocks, tones);
+    print_loaded(tape, tones, blocks, loaded);
+}
+
+fn main() {
+    let mut input = io::large_buffer();
+    let n = io::read_full(0, &mut input);
+    let mut one = [0u8; 1];
+    let more = io::read_full(0, &mut one);
+    let mut blocks = [0u64; 6656];
+    let mut tones = [0u64; 6144];
+    dump(&input[..n], more, &mut blocks, &mut tones);
+}

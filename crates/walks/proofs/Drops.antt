@@ -27,11 +27,11 @@ use Rattle.entries.proofs.Parts.{left-part}
 use Rattle.walks.specs.declared.Step.{Step}
 use Rattle.walks.specs.Steps.{oneStep, dropOf}
 use Rattle.walks.specs.declared.Position.{Position}
-use Rattle.entries.specs.Mounted.{sizeOf, wellRow, firstBad, cutTo, formed}
+use Rattle.entries.specs.Mounted.{sizeOf, wellRow, cutTo, formed}
 use Rattle.walks.specs.Heads.{droppedFrom, Walkable}
 use Rattle.walks.proofs.Leaps.{fullAt, behind, One, leap-one}
-use Rattle.walks.proofs.Needed.{Needs, needed}
-use Rattle.walks.proofs.Turns.{On, on-has, on-first}
+use Rattle.walks.proofs.Needed.{Needs}
+use Rattle.walks.proofs.Turns.{On, on-has, cutOf, rows-of, on-first}
 use Rattle.walks.proofs.Sheds.{Sheds, time-none, full-valid, shed}
 
 -- what is dropped lasts no longer than the list
@@ -152,10 +152,10 @@ module _ (v : Tape) (b : ℕ) (below : b < v .count) (f : Phase) (left : Duratio
 -- WHAT A CALL DROPS, by the head's own entry and the entry behind it
 module _ (w : Tape) (q : Position) (a : Walkable w q) (n : ℕ) where
   abbrev cut : ℕ
-  cut = firstBad w (q .block) (w .count - q .block)
+  cut = cutOf w q
 
   rows : Needs w (q .block) cut
-  rows = needed w (q .block) (omega (arith, a .below))
+  rows = rows-of w q a
 
   first-on : On w cut (q .block) (q .phase) (q .left) false 0
   first-on = on-first w q cut a rows

@@ -28,10 +28,10 @@ use Rattle.walks.specs.declared.Reached.the-variants.{At, Stopped, Ended
 use Rattle.walks.specs.declared.Reached.{Reached}
 use Rattle.walks.specs.declared.Next.the-variants.{Into, Left}
 use Rattle.walks.specs.Steps.{takeOf}
-use Rattle.entries.specs.Mounted.{sizeOf, wellRow, cutTo}
+use Rattle.entries.specs.Mounted.{sizeOf, wellRow, firstBad, cutTo}
 use Rattle.walks.specs.Heads.{placed, startAt, stand, walked, nextOf, Walkable}
 use Rattle.walks.proofs.Leaps.{Took, took}
-use Rattle.walks.proofs.Needed.{Needs, well-before, bad-there, few-entries}
+use Rattle.walks.proofs.Needed.{Needs, needed, well-before, bad-there, few-entries}
 use Rattle.walks.proofs.Leaves.{tells-at, tells-stop, tells-next, tells-end, tells-bad}
 
 -- a turn's state, on the tape cut to k: an entry below the cut, known to be full where it is said, the entries counted and left few
@@ -120,6 +120,13 @@ asks {w} x b l h r e = ap (wellBlock (sizeOf (w .bytes)) (w .tones)) e ∙ x .we
 
 pub asks-has : (w : Tape) (b : ℕ) (f : Phase) (r : Block) → r ≡ blockIn w b → hasIn w b f ≡ true → hasEntry (w .tones) r f ≡ true
 asks-has w b f r e h = ap (λ (x : Block). hasEntry (w .tones) x f) e ∙ h
+
+-- where the tape that a walk may play is cut, and what its rows are
+abbrev pub cutOf : Tape → Position → ℕ
+cutOf w q = firstBad w (q .block) (w .count - q .block)
+
+pub rows-of : (w : Tape) (q : Position) → Walkable w q → Needs w (q .block) (cutOf w q)
+rows-of w q a = needed w (q .block) (omega (arith, a .below))
 
 -- the position where a walk begins
 pub on-first : (w : Tape) (q : Position) (k : ℕ) → Walkable w q → Needs w (q .block) k → On w k (q .block) (q .phase) (q .left) false 0

@@ -25,23 +25,42 @@ ends-requires c κs = search needs
 
 returns-2 : tie.Need-returns-2
 returns-2 c =
-    let a = c .before .before .before .before .before .before .before .args in let w = tapeOf (a .tape .now) (a .tones .now) (a .blocks .now) (a .count) in let q : Position = a .pos in rw (ne-eqb _ _ (c .before .before .before .if1 .left)) (c .ends .ensures ∙ sym (source-walk w q (a .n) ∙ checks.past-ends w q (c .before .before .before .before .before .before .before .pre) (c .before .if2 .taken) _ (omega (arith, c .before .before .before .if1 .left))))
+    let s = c .before .before .before .before .before .before .before in
+    let a = s .args in
+    let w = tapeOf (a .tape .now) (a .tones .now) (a .blocks .now) (a .count) in
+    let q : Position = a .pos in
+    rw (ne-eqb _ _ (c .before .before .before .if1 .left)) (c .ends .ensures ∙ sym (source-walk w q (a .n) ∙ checks.past-ends w q (s .pre) (c .before .if2 .taken) _ (omega (arith, c .before .before .before .if1 .left))))
 
 ran-ahead-requires : tie.Need-ran-ahead-requires
 ran-ahead-requires c κs =
-    let a = c .before .before .before .before .before .before .args in let w = tapeOf (a .tape .now) (a .tones .now) (a .blocks .now) (a .count) in let q : Position = a .pos in checks.fine-below w q (c .before .before .before .before .before .before .pre) (c .if2 .left)
+    let s = c .before .before .before .before .before .before in
+    let a = s .args in
+    let w = tapeOf (a .tape .now) (a .tones .now) (a .blocks .now) (a .count) in
+    let q : Position = a .pos in
+    checks.fine-below w q (s .pre) (c .if2 .left)
 
 add-walk : tie.Need-add-walk
 add-walk c =
-    let a = c .before .before .before .before .before .before .before .args in let w = tapeOf (a .tape .now) (a .tones .now) (a .blocks .now) (a .count) in let q : Position = a .pos in omega (arith, c .ran-ahead .ensures, dropped-most w q (a .n) (checks.fine-below w q (c .before .before .before .before .before .before .before .pre) (c .before .if2 .left)), c .before .before .before .before .before .before .before .fits)
+    let s = c .before .before .before .before .before .before .before in
+    let a = s .args in
+    let w = tapeOf (a .tape .now) (a .tones .now) (a .blocks .now) (a .count) in
+    let q : Position = a .pos in
+    omega (arith, c .ran-ahead .ensures, dropped-most w q (a .n) (checks.fine-below w q (s .pre) (c .before .if2 .left)), s .fits)
 
 walk-requires : tie.Need-walk-requires
 walk-requires c κs =
-    let a = c .before .before .before .before .before .before .before .args in let w = tapeOf (a .tape .now) (a .tones .now) (a .blocks .now) (a .count) in let q : Position = a .pos in checks.fine-below w q (c .before .before .before .before .before .before .before .pre) (c .before .if2 .left)
+    let s = c .before .before .before .before .before .before .before in
+    let a = s .args in
+    let w = tapeOf (a .tape .now) (a .tones .now) (a .blocks .now) (a .count) in
+    let q : Position = a .pos in
+    checks.fine-below w q (s .pre) (c .before .if2 .left)
 
 returns-3 : tie.Need-returns-3
 returns-3 c =
-    let a = c .before .before .before .before .before .before .before .before .args in let w = tapeOf (a .tape .now) (a .tones .now) (a .blocks .now) (a .count) in let q : Position = a .pos in rw (ne-eqb _ _ (c .before .before .before .before .if1 .left)) (c .walk .ensures ∙ ap (λ (x : ℕ). walkFrom w q (a .n + x)) (c .before .ran-ahead .ensures) ∙ sym (source-walk w q (a .n)))
+    let a = c .before .before .before .before .before .before .before .before .args in
+    let w = tapeOf (a .tape .now) (a .tones .now) (a .blocks .now) (a .count) in
+    let q : Position = a .pos in
+    rw (ne-eqb _ _ (c .before .before .before .before .if1 .left)) (c .walk .ensures ∙ ap (λ (x : ℕ). walkFrom w q (a .n + x)) (c .before .ran-ahead .ensures) ∙ sym (source-walk w q (a .n)))
 
 pub follow-spec : {M : Type 1} → statement M
 follow-spec =

@@ -21,11 +21,19 @@ ends-requires c κs = search needs
 
 returns-2 : tie.Need-returns-2
 returns-2 c =
-    let a = c .before .before .before .before .before .before .before .args in let w = tapeOf (a .tape .now) (a .tones .now) (a .blocks .now) (a .count) in let q : Position = a .pos in rw (ne-eqb _ _ (c .before .before .before .if1 .left)) (c .ends .ensures ∙ sym (checks.past-ends w q (c .before .before .before .before .before .before .before .pre) (c .before .if2 .taken) (a .n) (omega (arith, c .before .before .before .if1 .left))))
+    let s = c .before .before .before .before .before .before .before in
+    let a = s .args in
+    let w = tapeOf (a .tape .now) (a .tones .now) (a .blocks .now) (a .count) in
+    let q : Position = a .pos in
+    rw (ne-eqb _ _ (c .before .before .before .if1 .left)) (c .ends .ensures ∙ sym (checks.past-ends w q (s .pre) (c .before .if2 .taken) (a .n) (omega (arith, c .before .before .before .if1 .left))))
 
 walk-requires : tie.Need-walk-requires
 walk-requires c κs =
-    let a = c .before .before .before .before .before .before .args in let w = tapeOf (a .tape .now) (a .tones .now) (a .blocks .now) (a .count) in let q : Position = a .pos in checks.fine-below w q (c .before .before .before .before .before .before .pre) (c .if2 .left)
+    let s = c .before .before .before .before .before .before in
+    let a = s .args in
+    let w = tapeOf (a .tape .now) (a .tones .now) (a .blocks .now) (a .count) in
+    let q : Position = a .pos in
+    checks.fine-below w q (s .pre) (c .if2 .left)
 
 returns-3 : tie.Need-returns-3
 returns-3 c =

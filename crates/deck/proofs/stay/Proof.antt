@@ -21,11 +21,19 @@ enum-told-2 c = search needs
 
 returns : tie.Need-returns
 returns c =
-    let a = c .before .before .before .before .before .before .args in let w = tapeOf (a .tape .now) (a .tones .now) (a .blocks .now) (a .count) in let q : Position = a .pos in ap (λ (v : Bool). At (stand q 0 v)) (c .before .before .mic .ensures) ∙ sym (checks.stays-at w q (c .before .before .before .before .before .before .pre) _ (c .enum-told .given .1))
+    let s = c .before .before .before .before .before .before in
+    let a = s .args in
+    let w = tapeOf (a .tape .now) (a .tones .now) (a .blocks .now) (a .count) in
+    let q : Position = a .pos in
+    ap (λ (v : Bool). At (stand q 0 v)) (c .before .before .mic .ensures) ∙ sym (checks.stays-at w q (s .pre) _ (c .enum-told .given .1))
 
 returns-2 : tie.Need-returns-2
 returns-2 c =
-    let a = c .before .before .before .before .before .before .args in let w = tapeOf (a .tape .now) (a .tones .now) (a .blocks .now) (a .count) in let q : Position = a .pos in ap (λ (v : Bool). Stopped (stand q 0 v)) (c .before .before .mic .ensures) ∙ sym (checks.stays-endless w q (c .before .before .before .before .before .before .pre) (c .enum-told2 .given .1))
+    let s = c .before .before .before .before .before .before in
+    let a = s .args in
+    let w = tapeOf (a .tape .now) (a .tones .now) (a .blocks .now) (a .count) in
+    let q : Position = a .pos in
+    ap (λ (v : Bool). Stopped (stand q 0 v)) (c .before .before .mic .ensures) ∙ sym (checks.stays-endless w q (s .pre) (c .enum-told2 .given .1))
 
 pub stay-spec : {M : Type 1} → statement M
 stay-spec = tie.close (tie.spec mic-requires enum-told enum-told-2 returns returns-2)

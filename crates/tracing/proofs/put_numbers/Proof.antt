@@ -16,11 +16,13 @@ put-spaced-requires-2 c κs =
 
 put-requires : tie.Need-put-requires
 put-requires c κs =
-    omega (arith, c .before .before .before .before .before .before .before .put-spaced .ensures .count, spaced-length (c .before .before .before .before .before .before .before .before .before .before .args .n), c .before .before .before .put-spaced2 .ensures .count, spaced-length (c .before .before .before .before .before .before .before .before .before .before .args .m))
+    let s = c .before .before .before .before .before .before .before .before .before .before in
+    omega (arith, c .before .before .before .before .before .before .before .put-spaced .ensures .count, spaced-length (s .args .n), c .before .before .before .put-spaced2 .ensures .count, spaced-length (s .args .m))
 
 put-flag-requires : tie.Need-put-flag-requires
 put-flag-requires c κs =
-    omega (arith, c .before .before .before .before .before .before .before .before .before .before .before .put-spaced .ensures .count, spaced-length (c .before .before .before .before .before .before .before .before .before .before .before .before .before .before .args .n), c .before .before .before .before .before .before .before .put-spaced2 .ensures .count, spaced-length (c .before .before .before .before .before .before .before .before .before .before .before .before .before .before .args .m), c .before .before .before .put .ensures .count)
+    let s = c .before .before .before .before .before .before .before .before .before .before .before .before .before .before in
+    omega (arith, c .before .before .before .before .before .before .before .before .before .before .before .put-spaced .ensures .count, spaced-length (s .args .n), c .before .before .before .before .before .before .before .put-spaced2 .ensures .count, spaced-length (s .args .m), c .before .before .before .put .ensures .count)
 
 same-length : tie.Need-same-length
 same-length c = search needs

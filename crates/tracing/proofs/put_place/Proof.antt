@@ -21,7 +21,8 @@ put-phase-requires c κs =
 
 put-rest-requires : tie.Need-put-rest-requires
 put-rest-requires c κs =
-    omega (arith, c .before .before .before .before .before .before .before .before .before .before .before .put-decimal .ensures .count, decimal-length (c .before .before .before .before .before .before .before .before .before .before .before .before .before .before .before .args .s .position .block), c .before .before .before .before .before .before .before .put .ensures .count, c .before .before .before .put-phase .ensures .count, phase-length (c .before .before .before .before .before .before .before .before .before .before .before .before .before .before .before .args .s .position .phase))
+    let s = c .before .before .before .before .before .before .before .before .before .before .before .before .before .before .before in
+    omega (arith, c .before .before .before .before .before .before .before .before .before .before .before .put-decimal .ensures .count, decimal-length (s .args .s .position .block), c .before .before .before .before .before .before .before .put .ensures .count, c .before .before .before .put-phase .ensures .count, phase-length (s .args .s .position .phase))
 
 same-length : tie.Need-same-length
 same-length c = search needs

@@ -23,7 +23,8 @@ put-selected-requires c κs =
 
 put-requires : tie.Need-put-requires
 put-requires c κs =
-    omega (arith, c .before .before .before .before .before .before .before .before .before .before .before .before .put-place .ensures .count, place-length (c .before .before .before .before .before .before .before .before .before .before .before .before .before .before .before .args .s), c .before .before .before .before .before .before .before .put-all .ensures .count, c .before .before .before .put-selected .ensures .count, selected-length (c .before .before .before .before .before .before .before .before .before .before .before .before .before .before .before .args .b))
+    let s = c .before .before .before .before .before .before .before .before .before .before .before .before .before .before .before in
+    omega (arith, c .before .before .before .before .before .before .before .before .before .before .before .before .put-place .ensures .count, place-length (s .args .s), c .before .before .before .before .before .before .before .put-all .ensures .count, c .before .before .before .put-selected .ensures .count, selected-length (s .args .b))
 
 same-length : tie.Need-same-length
 same-length c = search needs

@@ -9,7 +9,8 @@ use Rattle.walks.proofs.bit_step.Tie as tie
 
 add-bit-from : tie.Need-add-bit-from
 add-bit-from c =
-    let a = c .before .args in omega (arith, c .before .pre, bits-any (a .r) (a .pos))
+    let a = c .before .args in
+    omega (arith, c .before .pre, bits-any (a .r) (a .pos))
 
 bit-from-requires : tie.Need-bit-from-requires
 bit-from-requires c κs = search needs

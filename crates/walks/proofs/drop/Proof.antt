@@ -21,7 +21,9 @@ enum-known-f c = search needs
 
 drop-entry-requires-2 : tie.Need-drop-entry-requires-2
 drop-entry-requires-2 c κs =
-    let a = c .before .before .before .before .before .before .args in (c .before .before .before .before .before .before .pre .0, facts.has-by _ (a .r) (c .before .before .f .given .1) (c .before .before .before .before .before .before .pre .1))
+    let s = c .before .before .before .before .before .before in
+    let a = s .args in
+    (s .pre .0, facts.has-by _ (a .r) (c .before .before .f .given .1) (s .pre .1))
 
 returns : tie.Need-returns
 unfolding dropOf
@@ -30,14 +32,18 @@ returns c =
 
 drop-cycles-requires : tie.Need-drop-cycles-requires
 drop-cycles-requires c κs =
-    let a = c .before .before .before .before .before .before .args in (c .before .before .before .before .before .before .pre .0, facts.has-by _ (a .r) (c .before .before .f .given .1 ∙ ap (Tones (c .before .before .f .given .0 .0) (c .before .before .f .given .0 .1 .0)) (c .if1 .left)) (c .before .before .before .before .before .before .pre .1))
+    let s = c .before .before .before .before .before .before in
+    let a = s .args in
+    (s .pre .0, facts.has-by _ (a .r) (c .before .before .f .given .1 ∙ ap (Tones (c .before .before .f .given .0 .0) (c .before .before .f .given .0 .1 .0)) (c .if1 .left)) (s .pre .1))
 
 enum-known-f-2 : tie.Need-enum-known-f-2
 enum-known-f-2 c = search needs
 
 drop-entry-requires-3 : tie.Need-drop-entry-requires-3
 drop-entry-requires-3 c κs =
-    let a = c .before .before .before .before .before .before .args in (c .before .before .before .before .before .before .pre .0, facts.has-by _ (a .r) (c .before .before .f2 .given .1) (c .before .before .before .before .before .before .pre .1))
+    let s = c .before .before .before .before .before .before in
+    let a = s .args in
+    (s .pre .0, facts.has-by _ (a .r) (c .before .before .f2 .given .1) (s .pre .1))
 
 returns-2 : tie.Need-returns-2
 unfolding dropOf
@@ -46,7 +52,9 @@ returns-2 c =
 
 drop-byte-requires : tie.Need-drop-byte-requires
 drop-byte-requires c κs =
-    let a = c .before .before .before .before .before .before .before .args in (c .before .before .before .before .before .before .before .pre .0, facts.has-by _ (a .r) (c .before .before .before .f2 .given .1 ∙ ap (Data (c .before .before .before .f2 .given .0 .0) (c .before .before .before .f2 .given .0 .1 .0)) (c .before .if2 .left) ∙ ap (λ (x : ℕ). Data (c .before .before .before .f2 .given .0 .0) x false) (c .if3 .taken)) (c .before .before .before .before .before .before .before .pre .1))
+    let s = c .before .before .before .before .before .before .before in
+    let a = s .args in
+    (s .pre .0, facts.has-by _ (a .r) (c .before .before .before .f2 .given .1 ∙ ap (Data (c .before .before .before .f2 .given .0 .0) (c .before .before .before .f2 .given .0 .1 .0)) (c .before .if2 .left) ∙ ap (λ (x : ℕ). Data (c .before .before .before .f2 .given .0 .0) x false) (c .if3 .taken)) (s .pre .1))
 
 returns-3 : tie.Need-returns-3
 returns-3 c =
@@ -54,7 +62,9 @@ returns-3 c =
 
 drop-entry-requires-4 : tie.Need-drop-entry-requires-4
 drop-entry-requires-4 c κs =
-    let a = c .before .before .before .before .before .before .before .args in (c .before .before .before .before .before .before .before .pre .0, facts.has-by _ (a .r) (c .before .before .before .f2 .given .1) (c .before .before .before .before .before .before .before .pre .1))
+    let s = c .before .before .before .before .before .before .before in
+    let a = s .args in
+    (s .pre .0, facts.has-by _ (a .r) (c .before .before .before .f2 .given .1) (s .pre .1))
 
 enum-told-2 : tie.Need-enum-told-2
 enum-told-2 c = search needs

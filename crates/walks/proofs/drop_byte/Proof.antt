@@ -28,22 +28,34 @@ returns-2 c =
 
 byte-time-requires : tie.Need-byte-time-requires
 byte-time-requires c κs =
-    let a = c .before .before .before .before .before .before .args in let h = in-data (a .tones .now) (a .r) refl (c .before .before .before .before .before .before .pre .1) in let k = row-lent (a .tape .now) (a .tones .now) (a .r) (c .before .before .before .before .before .before .pre .0) in ((k .bytes, h .0), k .numbers)
+    let s = c .before .before .before .before .before .before in
+    let a = s .args in
+    let h = in-data (a .tones .now) (a .r) refl (s .pre .1) in
+    let k = row-lent (a .tape .now) (a .tones .now) (a .r) (s .pre .0) in
+    ((k .bytes, h .0), k .numbers)
 
 add-data-from : tie.Need-add-data-from
 add-data-from c =
-    let a = c .before .before .before .before .before .before .before .args in let h = in-data (a .tones .now) (a .r) refl (c .before .before .before .before .before .before .before .pre .1) in omega (arith, h .0)
+    let s = c .before .before .before .before .before .before .before in
+    let a = s .args in
+    let h = in-data (a .tones .now) (a .r) refl (s .pre .1) in
+    omega (arith, h .0)
 
 data-from-requires : tie.Need-data-from-requires
 data-from-requires c κs = search needs
 
 bits-at-requires : tie.Need-bits-at-requires
 bits-at-requires c κs =
-    let a = c .before .before .before .before .before .before .before .before .args in in-data (a .tones .now) (a .r) refl (c .before .before .before .before .before .before .before .before .pre .1) .0
+    let s = c .before .before .before .before .before .before .before .before in
+    let a = s .args in
+    in-data (a .tones .now) (a .r) refl (s .pre .1) .0
 
 mul-step-to : tie.Need-mul-step-to
 mul-step-to c =
-    let a = c .before .before .before .before .before .before .before .before .before .args in let h = in-data (a .tones .now) (a .r) refl (c .before .before .before .before .before .before .before .before .before .pre .1) in omega (arith, c .bits-at .ensures, bits-most (a .r) (a .pos) (row-lent (a .tape .now) (a .tones .now) (a .r) (c .before .before .before .before .before .before .before .before .before .pre .0) .numbers) (h .0))
+    let s = c .before .before .before .before .before .before .before .before .before in
+    let a = s .args in
+    let h = in-data (a .tones .now) (a .r) refl (s .pre .1) in
+    omega (arith, c .bits-at .ensures, bits-most (a .r) (a .pos) (row-lent (a .tape .now) (a .tones .now) (a .r) (s .pre .0) .numbers) (h .0))
 
 step-to-requires : tie.Need-step-to-requires
 step-to-requires c κs = search needs

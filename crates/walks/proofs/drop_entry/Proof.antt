@@ -6,11 +6,15 @@ use Rattle.walks.proofs.drop_entry.Tie as tie
 
 length-at-requires : tie.Need-length-at-requires
 length-at-requires c κs =
-    let a = c .before .before .args in let k = row-lent (a .tape .now) (a .tones .now) (a .r) (c .before .before .pre .0) in ((k .bytes, k .rows), (k .numbers, c .before .before .pre .1))
+    let a = c .before .before .args in
+    let k = row-lent (a .tape .now) (a .tones .now) (a .r) (c .before .before .pre .0) in
+    ((k .bytes, k .rows), (k .numbers, c .before .before .pre .1))
 
 drop-one-requires : tie.Need-drop-one-requires
 drop-one-requires c κs =
-    let a = c .before .before .before .args in (row-lent (a .tape .now) (a .tones .now) (a .r) (c .before .before .before .pre .0) .rows, c .before .before .before .pre .1)
+    let s = c .before .before .before in
+    let a = s .args in
+    (row-lent (a .tape .now) (a .tones .now) (a .r) (s .pre .0) .rows, s .pre .1)
 
 returns : tie.Need-returns
 returns c =

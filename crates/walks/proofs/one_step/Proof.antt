@@ -20,14 +20,19 @@ enum-known-f c = search needs
 
 tone-step-requires : tie.Need-tone-step-requires
 tone-step-requires c κs =
-    let a = c .before .before .before .before .args in let h = in-tones (a .tones .now) (a .r) (c .before .f .given .1) (c .before .before .before .before .pre .1) in ((c .before .before .before .before .pre .0, h .0), h .1)
+    let s = c .before .before .before .before in
+    let a = s .args in
+    let h = in-tones (a .tones .now) (a .r) (c .before .f .given .1) (s .pre .1) in
+    ((s .pre .0, h .0), h .1)
 
 enum-known-f-2 : tie.Need-enum-known-f-2
 enum-known-f-2 c = search needs
 
 bit-step-requires : tie.Need-bit-step-requires
 bit-step-requires c κs =
-    let a = c .before .before .before .before .args in in-data (a .tones .now) (a .r) (c .before .f2 .given .1) (c .before .before .before .before .pre .1)
+    let s = c .before .before .before .before in
+    let a = s .args in
+    in-data (a .tones .now) (a .r) (c .before .f2 .given .1) (s .pre .1)
 
 enum-told-2 : tie.Need-enum-told-2
 enum-told-2 c = search needs
@@ -46,7 +51,8 @@ returns-2 c =
 
 returns-3 : tie.Need-returns-3
 returns-3 c =
-    let a = c .before .before .before .before .before .args in c .bit-step .ensures (a .tones .now) ∙ rw (c .before .before .f2 .given .1)
+    let a = c .before .before .before .before .before .args in
+    c .bit-step .ensures (a .tones .now) ∙ rw (c .before .before .f2 .given .1)
 
 returns-4 : tie.Need-returns-4
 unfolding oneStep

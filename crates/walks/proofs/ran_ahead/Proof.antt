@@ -10,8 +10,8 @@ use Rattle.pulses.specs.Ahead.{drops}
 use Rattle.entries.proofs.Follows.{list-out}
 use Rattle.walks.specs.declared.Position.{Position}
 use Rattle.entries.specs.Mounted.{wellRow, firstBad, cutTo, tapeOf}
-use Rattle.walks.proofs.Needed.{needed, well-before, bad-there}
-use Rattle.walks.proofs.Turns.{on-has, on-first, asks, asks-has}
+use Rattle.walks.proofs.Needed.{well-before, bad-there}
+use Rattle.walks.proofs.Turns.{cutOf, rows-of, on-has, on-first, asks, asks-has}
 use Rattle.walks.proofs.Drops.{cur, cur-out, drops-nil, Off, off-first, off-start, start-cur, shed-goes, shed-less, shed-rests, shed-off, dropped-stop, dropped-short, dropped-behind}
 use Rattle.walks.proofs.ran_ahead.Statement.{statement}
 use Rattle.walks.proofs.ran_ahead.Tie as tie
@@ -43,44 +43,50 @@ enum-told c = search needs
 
 returns : tie.Need-returns Inv-entries μ-entries Inv-blocks2 μ-blocks2
 returns c =
-    let a = c .before .before .before .before .before .args in let w = tapeOf (a .tape .now) (a .tones .now) (a .blocks .now) (a .count) in dropped-stop w (a .pos) (c .before .before .before .before .before .pre) (a .n) (c .enum-told .given .1)
+    let s = c .before .before .before .before .before in
+    let a = s .args in
+    let w = tapeOf (a .tape .now) (a .tones .now) (a .blocks .now) (a .count) in
+    dropped-stop w (a .pos) (s .pre) (a .n) (c .enum-told .given .1)
 
 returns-2 : tie.Need-returns-2 Inv-entries μ-entries Inv-blocks2 μ-blocks2
 returns-2 c =
-    let a = c .before .before .before .before .before .before .before .args in let w = tapeOf (a .tape .now) (a .tones .now) (a .blocks .now) (a .count) in dropped-short w (a .pos) (c .before .before .before .before .before .before .before .pre) (a .n) _ (c .before .before .own .given .1) (c .if1 .taken)
+    let s = c .before .before .before .before .before .before .before in
+    let a = s .args in
+    let w = tapeOf (a .tape .now) (a .tones .now) (a .blocks .now) (a .count) in
+    dropped-short w (a .pos) (s .pre) (a .n) _ (c .before .before .own .given .1) (c .if1 .taken)
 
 block-at-requires : tie.Need-block-at-requires Inv-entries μ-entries Inv-blocks2 μ-blocks2
 block-at-requires c κs =
-    let a = c .before .before .before .before .before .before .before .args in omega (arith, c .before .before .before .before .before .before .before .pre .below, c .before .before .before .before .before .before .before .pre .lent)
+    let s = c .before .before .before .before .before .before .before in
+    omega (arith, s .pre .below, s .pre .lent)
 
 one-step-requires : tie.Need-one-step-requires Inv-entries μ-entries Inv-blocks2 μ-blocks2
 one-step-requires c κs =
-    let a = c .before .before .before .before .before .before .before .before .args in
+    let s = c .before .before .before .before .before .before .before .before in
+    let a = s .args in
     let w = tapeOf (a .tape .now) (a .tones .now) (a .blocks .now) (a .count) in
     let q : Position = a .pos in
-    let k = firstBad w (q .block) (w .count - q .block) in
-    let x = needed w (q .block) (omega (arith, c .before .before .before .before .before .before .before .before .pre .below)) in
-    let o = on-first w q k (c .before .before .before .before .before .before .before .before .pre) x in
+    let k = cutOf w q in
+    let x = rows-of w q (s .pre) in
+    let o = on-first w q k (s .pre) x in
     (row-lent (a .tape .now) (a .tones .now) (c .block-at .result) (asks x (q .block) (omega arith) (o .below) (c .block-at .result) (c .block-at .ensures)) .rows, asks-has w (q .block) (q .phase) (c .block-at .result) (c .block-at .ensures) (on-has o))
 
 blocks2-holds : tie.Need-blocks2-holds Inv-entries μ-entries Inv-blocks2 μ-blocks2
 blocks2-holds c =
-    let a = c .before .before .before .before .before .before .before .before .before .args in
+    let s = c .before .before .before .before .before .before .before .before .before in
+    let a = s .args in
     let w = tapeOf (a .tape .now) (a .tones .now) (a .blocks .now) (a .count) in
     let q : Position = a .pos in
-    let k = firstBad w (q .block) (w .count - q .block) in
-    let x = needed w (q .block) (omega (arith, c .before .before .before .before .before .before .before .before .before .pre .below)) in
-    (refl, (off-first w q (c .before .before .before .before .before .before .before .before .before .pre) (a .n) _ (c .before .before .before .before .own .given .1) (omega (arith, c .before .before .if1 .left)) (c .before .block-at .result) (c .before .block-at .ensures) (c .one-step .result) (c .one-step .ensures), omega arith))
+    (refl, (off-first w q (s .pre) (a .n) _ (c .before .before .before .before .own .given .1) (omega (arith, c .before .before .if1 .left)) (c .before .block-at .result) (c .before .block-at .ensures) (c .one-step .result) (c .one-step .ensures), omega arith))
 
 block-at-requires-2 : tie.Need-block-at-requires-2 Inv-entries μ-entries Inv-blocks2 μ-blocks2
 block-at-requires-2 c κs =
-    let a = c .before .before .before .before .before .before .before .before .before .before .args in
+    let s = c .before .before .before .before .before .before .before .before .before .before in
+    let a = s .args in
     let w = tapeOf (a .tape .now) (a .tones .now) (a .blocks .now) (a .count) in
-    let q : Position = a .pos in
-    let k = firstBad w (q .block) (w .count - q .block) in
-    let x = needed w (q .block) (omega (arith, c .before .before .before .before .before .before .before .before .before .before .pre .below)) in
+    let x = rows-of w (a .pos) (s .pre) in
     let B = c .blocks2 in
-    omega (arith, B .inv .1 .0 .below, x .most, c .before .before .before .before .before .before .before .before .before .before .pre .lent)
+    omega (arith, B .inv .1 .0 .below, x .most, s .pre .lent)
 
 entries-holds : tie.Need-entries-holds Inv-entries μ-entries Inv-blocks2 μ-blocks2
 entries-holds c =
@@ -88,11 +94,11 @@ entries-holds c =
 
 drop-requires : tie.Need-drop-requires Inv-entries μ-entries Inv-blocks2 μ-blocks2
 drop-requires c κs =
-    let a = c .before .before .before .before .before .before .before .before .before .before .before .before .before .args in
+    let s = c .before .before .before .before .before .before .before .before .before .before .before .before .before in
+    let a = s .args in
     let w = tapeOf (a .tape .now) (a .tones .now) (a .blocks .now) (a .count) in
-    let q : Position = a .pos in
-    let k = firstBad w (q .block) (w .count - q .block) in
-    let x = needed w (q .block) (omega (arith, c .before .before .before .before .before .before .before .before .before .before .before .before .before .pre .below)) in
+    let k = cutOf w (a .pos) in
+    let x = rows-of w (a .pos) (s .pre) in
     let B = c .before .before .before .blocks2 in
     let E = c .before .entries in
     let i = E .inv k (B .inv .1 .0) in
@@ -100,11 +106,10 @@ drop-requires c κs =
 
 add-sum : tie.Need-add-sum Inv-entries μ-entries Inv-blocks2 μ-blocks2
 add-sum c =
-    let a = c .before .before .before .before .before .before .before .before .before .before .before .before .before .before .before .before .before .args in
+    let s = c .before .before .before .before .before .before .before .before .before .before .before .before .before .before .before .before .before in
+    let a = s .args in
     let w = tapeOf (a .tape .now) (a .tones .now) (a .blocks .now) (a .count) in
-    let q : Position = a .pos in
-    let k = firstBad w (q .block) (w .count - q .block) in
-    let x = needed w (q .block) (omega (arith, c .before .before .before .before .before .before .before .before .before .before .before .before .before .before .before .before .before .pre .below)) in
+    let k = cutOf w (a .pos) in
     let B = c .before .before .before .before .before .before .before .blocks2 in
     let E = c .before .before .before .before .before .entries in
     let i = E .inv k (B .inv .1 .0) in
@@ -112,11 +117,10 @@ add-sum c =
 
 entries-less : tie.Need-entries-less Inv-entries μ-entries Inv-blocks2 μ-blocks2
 entries-less c =
-    let a = c .before .before .before .before .before .before .before .before .before .before .before .before .before .before .before .before .before .args in
+    let s = c .before .before .before .before .before .before .before .before .before .before .before .before .before .before .before .before .before in
+    let a = s .args in
     let w = tapeOf (a .tape .now) (a .tones .now) (a .blocks .now) (a .count) in
-    let q : Position = a .pos in
-    let k = firstBad w (q .block) (w .count - q .block) in
-    let x = needed w (q .block) (omega (arith, c .before .before .before .before .before .before .before .before .before .before .before .before .before .before .before .before .before .pre .below)) in
+    let k = cutOf w (a .pos) in
     let B = c .before .before .before .before .before .before .before .blocks2 in
     let E = c .before .before .before .before .before .entries in
     let i = E .inv k (B .inv .1 .0) in
@@ -124,49 +128,46 @@ entries-less c =
 
 entries-again : tie.Need-entries-again Inv-entries μ-entries Inv-blocks2 μ-blocks2
 entries-again c =
-    let a = c .before .before .before .before .before .before .before .before .before .before .before .before .before .before .before .before .before .args in
+    let s = c .before .before .before .before .before .before .before .before .before .before .before .before .before .before .before .before .before in
+    let a = s .args in
     let w = tapeOf (a .tape .now) (a .tones .now) (a .blocks .now) (a .count) in
-    let q : Position = a .pos in
-    let k = firstBad w (q .block) (w .count - q .block) in
-    let x = needed w (q .block) (omega (arith, c .before .before .before .before .before .before .before .before .before .before .before .before .before .before .before .before .before .pre .below)) in
     let B = c .before .before .before .before .before .before .before .blocks2 in
     let E = c .before .before .before .before .before .entries in
-    let i = E .inv k (B .inv .1 .0) in
     λ j o.
     let g = E .inv j o in
     (g .0 ∙ shed-goes w (B .block) (E .phase) (E .over) (a .n - c .before .before .before .before .before .before .before .before .before .before .before .before .own .given .0 .0) (g .1 .has) (c .before .before .before .before .entries-test .left) (c .before .before .before .before .before .before .block-at2 .result) (c .before .before .before .before .before .before .block-at2 .ensures) (c .before .before .before .drop .result) (c .before .before .before .drop .ensures) j (g .1 .below) (c .before .if2 .left) (E .sum), shed-off w (B .block) (E .phase) (E .over) (a .n - c .before .before .before .before .before .before .before .before .before .before .before .before .own .given .0 .0) (g .1 .has) (c .before .before .before .before .entries-test .left) (c .before .before .before .before .before .before .block-at2 .result) (c .before .before .before .before .before .before .block-at2 .ensures) (c .before .before .before .drop .result) (c .before .before .before .drop .ensures) j (E .sum) (g .1) (c .before .if2 .left))
 
 add-block : tie.Need-add-block Inv-entries μ-entries Inv-blocks2 μ-blocks2
 add-block c =
-    let a = c .before .before .before .before .before .before .before .before .before .before .before .before .before .args in
+    let s = c .before .before .before .before .before .before .before .before .before .before .before .before .before in
+    let a = s .args in
     let w = tapeOf (a .tape .now) (a .tones .now) (a .blocks .now) (a .count) in
-    let q : Position = a .pos in
-    let k = firstBad w (q .block) (w .count - q .block) in
-    let x = needed w (q .block) (omega (arith, c .before .before .before .before .before .before .before .before .before .before .before .before .before .pre .below)) in
+    let k = cutOf w (a .pos) in
+    let x = rows-of w (a .pos) (s .pre) in
     let B = c .before .before .before .blocks2 in
     let E = c .before .entries in
     let i = E .inv k (B .inv .1 .0) in
-    omega (arith, i .1 .below, x .most, c .before .before .before .before .before .before .before .before .before .before .before .before .before .pre .lent)
+    omega (arith, i .1 .below, x .most, s .pre .lent)
 
 row-well-requires : tie.Need-row-well-requires Inv-entries μ-entries Inv-blocks2 μ-blocks2
 row-well-requires c κs =
-    let a = c .before .before .before .before .before .before .before .before .before .before .before .before .before .before .args in
+    let s = c .before .before .before .before .before .before .before .before .before .before .before .before .before .before in
+    let a = s .args in
     let w = tapeOf (a .tape .now) (a .tones .now) (a .blocks .now) (a .count) in
-    let q : Position = a .pos in
-    let k = firstBad w (q .block) (w .count - q .block) in
-    let x = needed w (q .block) (omega (arith, c .before .before .before .before .before .before .before .before .before .before .before .before .before .before .pre .below)) in
+    let k = cutOf w (a .pos) in
+    let x = rows-of w (a .pos) (s .pre) in
     let B = c .before .before .before .before .blocks2 in
     let E = c .before .before .entries in
     let i = E .inv k (B .inv .1 .0) in
-    omega (arith, i .1 .below, x .most, c .before .before .before .before .before .before .before .before .before .before .before .before .before .before .pre .lent, c .if3 .left)
+    omega (arith, i .1 .below, x .most, s .pre .lent, c .if3 .left)
 
 blocks2-less : tie.Need-blocks2-less Inv-entries μ-entries Inv-blocks2 μ-blocks2
 blocks2-less c =
-    let a = c .before .before .before .before .before .before .before .before .before .before .before .before .before .before .before .before .args in
+    let s = c .before .before .before .before .before .before .before .before .before .before .before .before .before .before .before .before in
+    let a = s .args in
     let w = tapeOf (a .tape .now) (a .tones .now) (a .blocks .now) (a .count) in
-    let q : Position = a .pos in
-    let k = firstBad w (q .block) (w .count - q .block) in
-    let x = needed w (q .block) (omega (arith, c .before .before .before .before .before .before .before .before .before .before .before .before .before .before .before .before .pre .below)) in
+    let k = cutOf w (a .pos) in
+    let x = rows-of w (a .pos) (s .pre) in
     let B = c .before .before .before .before .before .before .blocks2 in
     let E = c .before .before .before .before .entries in
     let i = E .inv k (B .inv .1 .0) in
@@ -175,11 +176,11 @@ blocks2-less c =
 blocks2-again : tie.Need-blocks2-again Inv-entries μ-entries Inv-blocks2 μ-blocks2
 unfolding wellRow
 blocks2-again c =
-    let a = c .before .before .before .before .before .before .before .before .before .before .before .before .before .before .before .before .args in
+    let s = c .before .before .before .before .before .before .before .before .before .before .before .before .before .before .before .before in
+    let a = s .args in
     let w = tapeOf (a .tape .now) (a .tones .now) (a .blocks .now) (a .count) in
-    let q : Position = a .pos in
-    let k = firstBad w (q .block) (w .count - q .block) in
-    let x = needed w (q .block) (omega (arith, c .before .before .before .before .before .before .before .before .before .before .before .before .before .before .before .before .pre .below)) in
+    let k = cutOf w (a .pos) in
+    let x = rows-of w (a .pos) (s .pre) in
     let B = c .before .before .before .before .before .before .blocks2 in
     let E = c .before .before .before .before .entries in
     let i = E .inv k (B .inv .1 .0) in
@@ -188,41 +189,43 @@ blocks2-again c =
 
 returns-3 : tie.Need-returns-3 Inv-entries μ-entries Inv-blocks2 μ-blocks2
 returns-3 c =
-    let a = c .before .before .before .before .before .before .before .before .before .before .before .before .before .before .before .before .args in
+    let s = c .before .before .before .before .before .before .before .before .before .before .before .before .before .before .before .before in
+    let a = s .args in
     let w = tapeOf (a .tape .now) (a .tones .now) (a .blocks .now) (a .count) in
     let q : Position = a .pos in
-    let k = firstBad w (q .block) (w .count - q .block) in
-    let x = needed w (q .block) (omega (arith, c .before .before .before .before .before .before .before .before .before .before .before .before .before .before .before .before .pre .below)) in
+    let k = cutOf w q in
     let B = c .before .before .before .before .before .before .blocks2 in
     let E = c .before .before .before .before .entries in
     let i = E .inv k (B .inv .1 .0) in
-    omega (arith, dropped-behind w q (c .before .before .before .before .before .before .before .before .before .before .before .before .before .before .before .before .pre) (a .n) _ (c .before .before .before .before .before .before .before .before .before .before .before .own .given .1) (omega (arith, c .before .before .before .before .before .before .before .before .before .if1 .left)) (c .before .before .before .before .before .before .before .before .block-at .result) (c .before .before .before .before .before .before .before .before .block-at .ensures) (c .before .before .before .before .before .before .before .one-step .result) (c .before .before .before .before .before .before .before .one-step .ensures), B .inv .0, i .0, shed-rests w (B .block) (E .phase) (E .over) (a .n - c .before .before .before .before .before .before .before .before .before .before .before .own .given .0 .0) (i .1 .has) (c .before .before .before .entries-test .left) (c .before .before .before .before .before .block-at2 .result) (c .before .before .before .before .before .block-at2 .ensures) (c .before .before .drop .result) (c .before .before .drop .ensures) k (i .1 .below) (c .if2 .taken))
+    omega (arith, dropped-behind w q (s .pre) (a .n) _ (c .before .before .before .before .before .before .before .before .before .before .before .own .given .1) (omega (arith, c .before .before .before .before .before .before .before .before .before .if1 .left)) (c .before .before .before .before .before .before .before .before .block-at .result) (c .before .before .before .before .before .before .before .before .block-at .ensures) (c .before .before .before .before .before .before .before .one-step .result) (c .before .before .before .before .before .before .before .one-step .ensures), B .inv .0, i .0, shed-rests w (B .block) (E .phase) (E .over) (a .n - c .before .before .before .before .before .before .before .before .before .before .before .own .given .0 .0) (i .1 .has) (c .before .before .before .entries-test .left) (c .before .before .before .before .before .block-at2 .result) (c .before .before .before .before .before .block-at2 .ensures) (c .before .before .drop .result) (c .before .before .drop .ensures) k (i .1 .below) (c .if2 .taken))
 
 returns-4 : tie.Need-returns-4 Inv-entries μ-entries Inv-blocks2 μ-blocks2
 returns-4 c =
-    let a = c .before .before .before .before .before .before .before .before .before .before .before .before .before .before .args in
+    let s = c .before .before .before .before .before .before .before .before .before .before .before .before .before .before in
+    let a = s .args in
     let w = tapeOf (a .tape .now) (a .tones .now) (a .blocks .now) (a .count) in
     let q : Position = a .pos in
-    let k = firstBad w (q .block) (w .count - q .block) in
-    let x = needed w (q .block) (omega (arith, c .before .before .before .before .before .before .before .before .before .before .before .before .before .before .pre .below)) in
+    let k = cutOf w q in
+    let x = rows-of w q (s .pre) in
     let B = c .before .before .before .before .blocks2 in
     let E = c .before .before .entries in
     let i = E .inv k (B .inv .1 .0) in
-    omega (arith, dropped-behind w q (c .before .before .before .before .before .before .before .before .before .before .before .before .before .before .pre) (a .n) _ (c .before .before .before .before .before .before .before .before .before .own .given .1) (omega (arith, c .before .before .before .before .before .before .before .if1 .left)) (c .before .before .before .before .before .before .block-at .result) (c .before .before .before .before .before .before .block-at .ensures) (c .before .before .before .before .before .one-step .result) (c .before .before .before .before .before .one-step .ensures), B .inv .0, i .0, cur-out (cutTo w k) (B .block) (E .phase) (E .over) (a .n - c .before .before .before .before .before .before .before .before .before .own .given .0 .0) (c .before .entries-test .taken), drops-nil (cutTo w k) (B .block + 1) (a .n - c .before .before .before .before .before .before .before .before .before .own .given .0 .0) (list-out (cutTo w k) (B .block + 1) (omega (arith, c .if3 .taken, x .most))))
+    omega (arith, dropped-behind w q (s .pre) (a .n) _ (c .before .before .before .before .before .before .before .before .before .own .given .1) (omega (arith, c .before .before .before .before .before .before .before .if1 .left)) (c .before .before .before .before .before .before .block-at .result) (c .before .before .before .before .before .before .block-at .ensures) (c .before .before .before .before .before .one-step .result) (c .before .before .before .before .before .one-step .ensures), B .inv .0, i .0, cur-out (cutTo w k) (B .block) (E .phase) (E .over) (a .n - c .before .before .before .before .before .before .before .before .before .own .given .0 .0) (c .before .entries-test .taken), drops-nil (cutTo w k) (B .block + 1) (a .n - c .before .before .before .before .before .before .before .before .before .own .given .0 .0) (list-out (cutTo w k) (B .block + 1) (omega (arith, c .if3 .taken, x .most))))
 
 returns-5 : tie.Need-returns-5 Inv-entries μ-entries Inv-blocks2 μ-blocks2
 unfolding wellRow
 returns-5 c =
-    let a = c .before .before .before .before .before .before .before .before .before .before .before .before .before .before .before .before .args in
+    let s = c .before .before .before .before .before .before .before .before .before .before .before .before .before .before .before .before in
+    let a = s .args in
     let w = tapeOf (a .tape .now) (a .tones .now) (a .blocks .now) (a .count) in
     let q : Position = a .pos in
-    let k = firstBad w (q .block) (w .count - q .block) in
-    let x = needed w (q .block) (omega (arith, c .before .before .before .before .before .before .before .before .before .before .before .before .before .before .before .before .pre .below)) in
+    let k = cutOf w q in
+    let x = rows-of w q (s .pre) in
     let B = c .before .before .before .before .before .before .blocks2 in
     let E = c .before .before .before .before .entries in
     let i = E .inv k (B .inv .1 .0) in
     let e = bad-there x (B .block + 1) (omega (arith, B .inv .1 .1)) (omega (arith, i .1 .below)) (failed (c .before .row-well .ensures) (c .if4 .taken)) in
-    omega (arith, dropped-behind w q (c .before .before .before .before .before .before .before .before .before .before .before .before .before .before .before .before .pre) (a .n) _ (c .before .before .before .before .before .before .before .before .before .before .before .own .given .1) (omega (arith, c .before .before .before .before .before .before .before .before .before .if1 .left)) (c .before .before .before .before .before .before .before .before .block-at .result) (c .before .before .before .before .before .before .before .before .block-at .ensures) (c .before .before .before .before .before .before .before .one-step .result) (c .before .before .before .before .before .before .before .one-step .ensures), B .inv .0, i .0, cur-out (cutTo w k) (B .block) (E .phase) (E .over) (a .n - c .before .before .before .before .before .before .before .before .before .before .before .own .given .0 .0) (c .before .before .before .entries-test .taken), drops-nil (cutTo w k) (B .block + 1) (a .n - c .before .before .before .before .before .before .before .before .before .before .before .own .given .0 .0) (list-out (cutTo w k) (B .block + 1) (omega (arith, e))))
+    omega (arith, dropped-behind w q (s .pre) (a .n) _ (c .before .before .before .before .before .before .before .before .before .before .before .own .given .1) (omega (arith, c .before .before .before .before .before .before .before .before .before .if1 .left)) (c .before .before .before .before .before .before .before .before .block-at .result) (c .before .before .before .before .before .before .before .before .block-at .ensures) (c .before .before .before .before .before .before .before .one-step .result) (c .before .before .before .before .before .before .before .one-step .ensures), B .inv .0, i .0, cur-out (cutTo w k) (B .block) (E .phase) (E .over) (a .n - c .before .before .before .before .before .before .before .before .before .before .before .own .given .0 .0) (c .before .before .before .entries-test .taken), drops-nil (cutTo w k) (B .block + 1) (a .n - c .before .before .before .before .before .before .before .before .before .before .before .own .given .0 .0) (list-out (cutTo w k) (B .block + 1) (omega (arith, e))))
 
 pub ran-ahead-spec : {M : Type 1} → statement M
 ran-ahead-spec =

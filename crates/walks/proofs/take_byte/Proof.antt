@@ -22,7 +22,9 @@ bits-at-requires c κs = search needs
 
 mul-step-to : tie.Need-mul-step-to
 mul-step-to c =
-    let a = c .before .before .before .before .before .args in omega (arith, c .bits-at .ensures, bits-most (a .r) (a .pos) (c .before .before .before .before .before .pre .1) (c .before .before .before .before .before .pre .0 .1))
+    let s = c .before .before .before .before .before in
+    let a = s .args in
+    omega (arith, c .bits-at .ensures, bits-most (a .r) (a .pos) (s .pre .1) (s .pre .0 .1))
 
 step-to-requires : tie.Need-step-to-requires
 step-to-requires c κs = search needs
@@ -34,7 +36,9 @@ returns c =
 
 bit-step-requires : tie.Need-bit-step-requires
 bit-step-requires c κs =
-    let a = c .before .before .before .args in (c .before .before .before .pre .0 .1, bits-some (a .r) (a .pos))
+    let s = c .before .before .before in
+    let a = s .args in
+    (s .pre .0 .1, bits-some (a .r) (a .pos))
 
 returns-2 : tie.Need-returns-2
 unfolding takeByte byteTime

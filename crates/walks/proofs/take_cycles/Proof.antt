@@ -13,7 +13,10 @@ row-tone-requires c κs = search needs
 
 add-c : tie.Need-add-c
 add-c c =
-    let a = c .before .before .before .args in let l = facts.small-of (a .tones .now) (a .r) (a .i) (c .before .row-tone .result) (c .before .row-tone .ensures) (c .before .before .before .pre .0 .1) (c .before .before .before .pre .1 .0 .0) in omega (arith, l)
+    let s = c .before .before .before in
+    let a = s .args in
+    let l = facts.small-of (a .tones .now) (a .r) (a .i) (c .before .row-tone .result) (c .before .row-tone .ensures) (s .pre .0 .1) (s .pre .1 .0 .0) in
+    omega (arith, l)
 
 cycles-of-requires : tie.Need-cycles-of-requires
 cycles-of-requires c κs = search needs
@@ -27,32 +30,49 @@ fits-requires c κs = search needs
 
 add-cycle-from : tie.Need-add-cycle-from
 add-cycle-from c =
-    let a = c .before .before .before .before .before .before .args in let x = c .before .before .before .before .row-tone .result in let l = facts.small-of (a .tones .now) (a .r) (a .i) x (c .before .before .before .before .row-tone .ensures) (c .before .before .before .before .before .before .pre .0 .1) (c .before .before .before .before .before .before .pre .1 .0 .0) in let k = facts.fit (x .len1 + x .len2) (c .before .before .cycles-of .result - a .p) (a .d) (c .before .before .before .before .before .before .pre .1 .1) in omega (arith, c .before .fits2 .ensures, k .most, c .before .before .cycles-of .ensures, ap cyclesOf (c .before .before .before .before .row-tone .ensures), l .cycles, c .before .before .before .before .before .before .pre .1 .0 .1)
+    let s = c .before .before .before .before .before .before in
+    let a = s .args in
+    let x = c .before .before .before .before .row-tone .result in
+    let l = facts.small-of (a .tones .now) (a .r) (a .i) x (c .before .before .before .before .row-tone .ensures) (s .pre .0 .1) (s .pre .1 .0 .0) in
+    let k = facts.fit (x .len1 + x .len2) (c .before .before .cycles-of .result - a .p) (a .d) (s .pre .1 .1) in
+    omega (arith, c .before .fits2 .ensures, k .most, c .before .before .cycles-of .ensures, ap cyclesOf (c .before .before .before .before .row-tone .ensures), l .cycles, s .pre .1 .0 .1)
 
 cycle-from-requires : tie.Need-cycle-from-requires
 cycle-from-requires c κs = search needs
 
 mul-step-to : tie.Need-mul-step-to
 mul-step-to c =
-    let a = c .before .before .before .before .before .before .before .args in let x = c .before .before .before .before .before .row-tone .result in let k = facts.fit (x .len1 + x .len2) (c .before .before .before .cycles-of .result - a .p) (a .d) (c .before .before .before .before .before .before .before .pre .1 .1) in let e = ap (λ (n : ℕ). n * (x .len1 + x .len2)) (c .before .before .fits2 .ensures) in omega (arith, e, k .before, c .before .before .before .before .before .before .before .fits)
+    let s = c .before .before .before .before .before .before .before in
+    let a = s .args in
+    let x = c .before .before .before .before .before .row-tone .result in
+    let k = facts.fit (x .len1 + x .len2) (c .before .before .before .cycles-of .result - a .p) (a .d) (s .pre .1 .1) in
+    let e = ap (λ (n : ℕ). n * (x .len1 + x .len2)) (c .before .before .fits2 .ensures) in
+    omega (arith, e, k .before, s .fits)
 
 mul-step-to-2 : tie.Need-mul-step-to-2
 mul-step-to-2 c =
-    let a = c .before .before .before .before .before .before .before .args in let x = c .before .before .before .before .before .row-tone .result in let l = facts.small-of (a .tones .now) (a .r) (a .i) x (c .before .before .before .before .before .row-tone .ensures) (c .before .before .before .before .before .before .before .pre .0 .1) (c .before .before .before .before .before .before .before .pre .1 .0 .0) in let k = facts.fit (x .len1 + x .len2) (c .before .before .before .cycles-of .result - a .p) (a .d) (c .before .before .before .before .before .before .before .pre .1 .1) in omega (arith, c .before .before .fits2 .ensures, k .most, c .before .before .before .cycles-of .ensures, l .cycles)
+    let s = c .before .before .before .before .before .before .before in
+    let a = s .args in
+    let x = c .before .before .before .before .before .row-tone .result in
+    let l = facts.small-of (a .tones .now) (a .r) (a .i) x (c .before .before .before .before .before .row-tone .ensures) (s .pre .0 .1) (s .pre .1 .0 .0) in
+    let k = facts.fit (x .len1 + x .len2) (c .before .before .before .cycles-of .result - a .p) (a .d) (s .pre .1 .1) in
+    omega (arith, c .before .before .fits2 .ensures, k .most, c .before .before .before .cycles-of .ensures, l .cycles)
 
 step-to-requires : tie.Need-step-to-requires
 step-to-requires c κs = search needs
 
 returns : tie.Need-returns
 returns c =
-    let a = c .before .before .before .before .before .before .before .before .args in c .step-to .ensures ∙ rw (c .before .cycle-from .ensures) (facts.takes-run (a .tones .now) (a .r) (a .i) (a .p) (a .t) (a .d) (c .before .before .before .before .before .before .row-tone .result) (c .before .before .before .before .cycles-of .result) (c .before .before .before .fits2 .result) (c .before .before .before .before .before .before .row-tone .ensures) (c .before .before .before .before .cycles-of .ensures) (c .before .before .before .fits2 .ensures) (c .before .before .if1 .taken))
+    let a = c .before .before .before .before .before .before .before .before .args in
+    c .step-to .ensures ∙ rw (c .before .cycle-from .ensures) (facts.takes-run (a .tones .now) (a .r) (a .i) (a .p) (a .t) (a .d) (c .before .before .before .before .before .before .row-tone .result) (c .before .before .before .before .cycles-of .result) (c .before .before .before .fits2 .result) (c .before .before .before .before .before .before .row-tone .ensures) (c .before .before .before .before .cycles-of .ensures) (c .before .before .before .fits2 .ensures) (c .before .before .if1 .taken))
 
 tone-step-requires : tie.Need-tone-step-requires
 tone-step-requires c κs = search needs
 
 returns-2 : tie.Need-returns-2
 returns-2 c =
-    let a = c .before .before .before .before .before .before .before .args in c .tone-step .ensures ∙ facts.takes-one (a .tones .now) (a .r) (a .i) (a .p) (a .t) (a .d) (c .before .before .before .before .before .row-tone .result) (c .before .before .before .cycles-of .result) (c .before .before .fits2 .result) (c .before .before .before .before .before .row-tone .ensures) (c .before .before .before .cycles-of .ensures) (c .before .before .fits2 .ensures) (c .before .if1 .left)
+    let a = c .before .before .before .before .before .before .before .args in
+    c .tone-step .ensures ∙ facts.takes-one (a .tones .now) (a .r) (a .i) (a .p) (a .t) (a .d) (c .before .before .before .before .before .row-tone .result) (c .before .before .before .cycles-of .result) (c .before .before .fits2 .result) (c .before .before .before .before .before .row-tone .ensures) (c .before .before .before .cycles-of .ensures) (c .before .before .fits2 .ensures) (c .before .if1 .left)
 
 pub take-cycles-spec : {M : Type 1} → statement M
 take-cycles-spec =

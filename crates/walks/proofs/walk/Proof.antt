@@ -10,8 +10,8 @@ use Rattle.pulses.specs.Lead.{Leads, lead-here, lead-on}
 use Rattle.rows.specs.declared.Block.{Block}
 use Rattle.entries.specs.Places.{leftAt, lengthAt}
 use Rattle.walks.specs.declared.Position.{Position}
-use Rattle.walks.proofs.Needed.{needed, well-before}
-use Rattle.walks.proofs.Turns.{On, on-has, on-first, on-start, asks, asks-has, leaves-at, leaves-stopped, less-none, step-most, step-few, step-has, turn-lead, turn-on, turn-less, turn-out, next-into, next-left}
+use Rattle.walks.proofs.Needed.{well-before}
+use Rattle.walks.proofs.Turns.{cutOf, rows-of, On, on-has, on-first, on-start, asks, asks-has, leaves-at, leaves-stopped, less-none, step-most, step-few, step-has, turn-lead, turn-on, turn-less, turn-out, next-into, next-left}
 use Rattle.walks.specs.Heads.{walkFrom}
 use Rattle.entries.specs.Mounted.{firstBad, cutTo, formed, tapeOf}
 use Rattle.walks.proofs.walk.Statement.{statement}
@@ -38,22 +38,22 @@ abbrev μ-blocks2 : tie.MeasureT-blocks2
 
 blocks2-holds : tie.Need-blocks2-holds Inv-entries μ-entries Inv-blocks2 μ-blocks2
 blocks2-holds c =
-    let a = c .before .before .before .args in
+    let s = c .before .before .before in
+    let a = s .args in
     let w = tapeOf (a .tape .now) (a .tones .now) (a .blocks .now) (a .count) in
     let q : Position = a .pos in
-    let k = firstBad w (q .block) (w .count - q .block) in
-    let x = needed w (q .block) (omega (arith, c .before .before .before .pre .below)) in
-    (lead-here _ _ _, (on-first w q k (c .before .before .before .pre) x, omega arith))
+    let k = cutOf w q in
+    let x = rows-of w q (s .pre) in
+    (lead-here _ _ _, (on-first w q k (s .pre) x, omega arith))
 
 block-at-requires : tie.Need-block-at-requires Inv-entries μ-entries Inv-blocks2 μ-blocks2
 block-at-requires c κs =
-    let a = c .before .before .before .before .args in
+    let s = c .before .before .before .before in
+    let a = s .args in
     let w = tapeOf (a .tape .now) (a .tones .now) (a .blocks .now) (a .count) in
-    let q : Position = a .pos in
-    let k = firstBad w (q .block) (w .count - q .block) in
-    let x = needed w (q .block) (omega (arith, c .before .before .before .before .pre .below)) in
+    let x = rows-of w (a .pos) (s .pre) in
     let B = c .blocks2 in
-    omega (arith, B .inv .1 .0 .below, x .most, c .before .before .before .before .pre .lent)
+    omega (arith, B .inv .1 .0 .below, x .most, s .pre .lent)
 
 entries-holds : tie.Need-entries-holds Inv-entries μ-entries Inv-blocks2 μ-blocks2
 entries-holds c =
@@ -80,11 +80,11 @@ stands-requires-2 c κs = search needs
 
 take-requires : tie.Need-take-requires Inv-entries μ-entries Inv-blocks2 μ-blocks2
 take-requires c κs =
-    let a = c .before .before .before .before .before .before .before .before .before .before .before .args in
+    let s = c .before .before .before .before .before .before .before .before .before .before .before in
+    let a = s .args in
     let w = tapeOf (a .tape .now) (a .tones .now) (a .blocks .now) (a .count) in
-    let q : Position = a .pos in
-    let k = firstBad w (q .block) (w .count - q .block) in
-    let x = needed w (q .block) (omega (arith, c .before .before .before .before .before .before .before .before .before .before .before .pre .below)) in
+    let k = cutOf w (a .pos) in
+    let x = rows-of w (a .pos) (s .pre) in
     let B = c .before .before .before .before .before .before .before .blocks2 in
     let E = c .before .before .before .before .before .entries in
     let i = E .inv k (B .inv .1 .0) in
@@ -92,11 +92,10 @@ take-requires c κs =
 
 sub-d : tie.Need-sub-d Inv-entries μ-entries Inv-blocks2 μ-blocks2
 sub-d c =
-    let a = c .before .before .before .before .before .before .before .before .before .before .before .before .before .args in
+    let s = c .before .before .before .before .before .before .before .before .before .before .before .before .before in
+    let a = s .args in
     let w = tapeOf (a .tape .now) (a .tones .now) (a .blocks .now) (a .count) in
-    let q : Position = a .pos in
-    let k = firstBad w (q .block) (w .count - q .block) in
-    let x = needed w (q .block) (omega (arith, c .before .before .before .before .before .before .before .before .before .before .before .before .before .pre .below)) in
+    let k = cutOf w (a .pos) in
     let B = c .before .before .before .before .before .before .before .before .before .blocks2 in
     let E = c .before .before .before .before .before .before .before .entries in
     let i = E .inv k (B .inv .1 .0) in
@@ -104,11 +103,10 @@ sub-d c =
 
 add-passed : tie.Need-add-passed Inv-entries μ-entries Inv-blocks2 μ-blocks2
 add-passed c =
-    let a = c .before .before .before .before .before .before .before .before .before .before .before .before .before .before .args in
+    let s = c .before .before .before .before .before .before .before .before .before .before .before .before .before .before in
+    let a = s .args in
     let w = tapeOf (a .tape .now) (a .tones .now) (a .blocks .now) (a .count) in
-    let q : Position = a .pos in
-    let k = firstBad w (q .block) (w .count - q .block) in
-    let x = needed w (q .block) (omega (arith, c .before .before .before .before .before .before .before .before .before .before .before .before .before .before .pre .below)) in
+    let k = cutOf w (a .pos) in
     let B = c .before .before .before .before .before .before .before .before .before .before .blocks2 in
     let E = c .before .before .before .before .before .before .before .before .entries in
     let i = E .inv k (B .inv .1 .0) in
@@ -116,11 +114,11 @@ add-passed c =
 
 length-at-requires : tie.Need-length-at-requires Inv-entries μ-entries Inv-blocks2 μ-blocks2
 length-at-requires c κs =
-    let a = c .before .before .before .before .before .before .before .before .before .before .before .before .before .before .before .args in
+    let s = c .before .before .before .before .before .before .before .before .before .before .before .before .before .before .before in
+    let a = s .args in
     let w = tapeOf (a .tape .now) (a .tones .now) (a .blocks .now) (a .count) in
-    let q : Position = a .pos in
-    let k = firstBad w (q .block) (w .count - q .block) in
-    let x = needed w (q .block) (omega (arith, c .before .before .before .before .before .before .before .before .before .before .before .before .before .before .before .pre .below)) in
+    let k = cutOf w (a .pos) in
+    let x = rows-of w (a .pos) (s .pre) in
     let B = c .before .before .before .before .before .before .before .before .before .before .before .blocks2 in
     let E = c .before .before .before .before .before .before .before .before .before .entries in
     let i = E .inv k (B .inv .1 .0) in
@@ -129,11 +127,10 @@ length-at-requires c κs =
 
 entries-less : tie.Need-entries-less Inv-entries μ-entries Inv-blocks2 μ-blocks2
 entries-less c =
-    let a = c .before .before .before .before .before .before .before .before .before .before .before .before .before .before .before .before .args in
+    let s = c .before .before .before .before .before .before .before .before .before .before .before .before .before .before .before .before in
+    let a = s .args in
     let w = tapeOf (a .tape .now) (a .tones .now) (a .blocks .now) (a .count) in
-    let q : Position = a .pos in
-    let k = firstBad w (q .block) (w .count - q .block) in
-    let x = needed w (q .block) (omega (arith, c .before .before .before .before .before .before .before .before .before .before .before .before .before .before .before .before .pre .below)) in
+    let k = cutOf w (a .pos) in
     let B = c .before .before .before .before .before .before .before .before .before .before .before .before .blocks2 in
     let E = c .before .before .before .before .before .before .before .before .before .before .entries in
     let i = E .inv k (B .inv .1 .0) in
@@ -141,41 +138,38 @@ entries-less c =
 
 entries-again : tie.Need-entries-again Inv-entries μ-entries Inv-blocks2 μ-blocks2
 entries-again c =
-    let a = c .before .before .before .before .before .before .before .before .before .before .before .before .before .before .before .before .args in
+    let s = c .before .before .before .before .before .before .before .before .before .before .before .before .before .before .before .before in
+    let a = s .args in
     let w = tapeOf (a .tape .now) (a .tones .now) (a .blocks .now) (a .count) in
-    let q : Position = a .pos in
-    let k = firstBad w (q .block) (w .count - q .block) in
-    let x = needed w (q .block) (omega (arith, c .before .before .before .before .before .before .before .before .before .before .before .before .before .before .before .before .pre .below)) in
     let B = c .before .before .before .before .before .before .before .before .before .before .before .before .blocks2 in
     let E = c .before .before .before .before .before .before .before .before .before .before .entries in
-    let i = E .inv k (B .inv .1 .0) in
     λ j o.
     let g = E .inv j o in
     (lead-on (g .0) (turn-lead w j (B .block) (E .phase) (E .left) (E .full) (E .passed) (g .1) (E .d) _ (c .before .before .before .before .before .before .before .before .left .given .1) (omega (arith, c .before .before .before .before .before .before .if1 .left)) (omega (arith, c .before .before .before .before .before .if2 .left)) (c .before .before .before .before .before .before .before .before .before .before .before .block-at .result) (c .before .before .before .before .before .before .before .before .before .before .before .block-at .ensures) (c .before .before .before .before .take .result) (c .before .before .before .before .take .ensures) j (g .1 .below) (c .before .if3 .left) (c .length-at .result) (c .length-at .ensures ∙ ap (λ (y : Block). lengthAt (w .bytes) (w .tones) y (c .before .before .before .before .take .result .phase)) (c .before .before .before .before .before .before .before .before .before .before .before .block-at .ensures))), turn-on w j (B .block) (E .phase) (E .left) (E .full) (E .passed) (g .1) (E .d) _ (c .before .before .before .before .before .before .before .before .left .given .1) (omega (arith, c .before .before .before .before .before .before .if1 .left)) (omega (arith, c .before .before .before .before .before .if2 .left)) (c .before .before .before .before .before .before .before .before .before .before .before .block-at .result) (c .before .before .before .before .before .before .before .before .before .before .before .block-at .ensures) (c .before .before .before .before .take .result) (c .before .before .before .before .take .ensures) (c .before .if3 .left) (c .length-at .result) (c .length-at .ensures ∙ ap (λ (y : Block). lengthAt (w .bytes) (w .tones) y (c .before .before .before .before .take .result .phase)) (c .before .before .before .before .before .before .before .before .before .before .before .block-at .ensures)))
 
 add-block : tie.Need-add-block Inv-entries μ-entries Inv-blocks2 μ-blocks2
 add-block c =
-    let a = c .before .before .before .before .before .before .before .before .before .before .before .before .before .before .before .args in
+    let s = c .before .before .before .before .before .before .before .before .before .before .before .before .before .before .before in
+    let a = s .args in
     let w = tapeOf (a .tape .now) (a .tones .now) (a .blocks .now) (a .count) in
-    let q : Position = a .pos in
-    let k = firstBad w (q .block) (w .count - q .block) in
-    let x = needed w (q .block) (omega (arith, c .before .before .before .before .before .before .before .before .before .before .before .before .before .before .before .pre .below)) in
+    let k = cutOf w (a .pos) in
+    let x = rows-of w (a .pos) (s .pre) in
     let B = c .before .before .before .before .before .before .before .before .before .before .before .blocks2 in
     let E = c .before .before .before .before .before .before .before .before .before .entries in
     let i = E .inv k (B .inv .1 .0) in
-    omega (arith, i .1 .below, x .most, c .before .before .before .before .before .before .before .before .before .before .before .before .before .before .before .pre .lent)
+    omega (arith, i .1 .below, x .most, s .pre .lent)
 
 next-block-requires : tie.Need-next-block-requires Inv-entries μ-entries Inv-blocks2 μ-blocks2
 next-block-requires c κs =
-    let a = c .before .before .before .before .before .before .before .before .before .before .before .before .before .before .before .args in
+    let s = c .before .before .before .before .before .before .before .before .before .before .before .before .before .before .before in
+    let a = s .args in
     let w = tapeOf (a .tape .now) (a .tones .now) (a .blocks .now) (a .count) in
-    let q : Position = a .pos in
-    let k = firstBad w (q .block) (w .count - q .block) in
-    let x = needed w (q .block) (omega (arith, c .before .before .before .before .before .before .before .before .before .before .before .before .before .before .before .pre .below)) in
+    let k = cutOf w (a .pos) in
+    let x = rows-of w (a .pos) (s .pre) in
     let B = c .before .before .before .before .before .before .before .before .before .before .before .blocks2 in
     let E = c .before .before .before .before .before .before .before .before .before .entries in
     let i = E .inv k (B .inv .1 .0) in
-    (omega (arith, i .1 .below, x .most), c .before .before .before .before .before .before .before .before .before .before .before .before .before .before .before .pre .lent)
+    (omega (arith, i .1 .below, x .most), s .pre .lent)
 
 enum-known-next : tie.Need-enum-known-next Inv-entries μ-entries Inv-blocks2 μ-blocks2
 enum-known-next c = search needs
@@ -185,11 +179,11 @@ enum-told-2 c = search needs
 
 blocks2-less : tie.Need-blocks2-less Inv-entries μ-entries Inv-blocks2 μ-blocks2
 blocks2-less c =
-    let a = c .before .before .before .before .before .before .before .before .before .before .before .before .before .before .before .before .before .before .args in
+    let s = c .before .before .before .before .before .before .before .before .before .before .before .before .before .before .before .before .before .before in
+    let a = s .args in
     let w = tapeOf (a .tape .now) (a .tones .now) (a .blocks .now) (a .count) in
-    let q : Position = a .pos in
-    let k = firstBad w (q .block) (w .count - q .block) in
-    let x = needed w (q .block) (omega (arith, c .before .before .before .before .before .before .before .before .before .before .before .before .before .before .before .before .before .before .pre .below)) in
+    let k = cutOf w (a .pos) in
+    let x = rows-of w (a .pos) (s .pre) in
     let B = c .before .before .before .before .before .before .before .before .before .before .before .before .before .before .blocks2 in
     let E = c .before .before .before .before .before .before .before .before .before .before .before .before .entries in
     let i = E .inv k (B .inv .1 .0) in
@@ -198,11 +192,11 @@ blocks2-less c =
 blocks2-again : tie.Need-blocks2-again Inv-entries μ-entries Inv-blocks2 μ-blocks2
 unfolding leftAt
 blocks2-again c =
-    let a = c .before .before .before .before .before .before .before .before .before .before .before .before .before .before .before .before .before .before .args in
+    let s = c .before .before .before .before .before .before .before .before .before .before .before .before .before .before .before .before .before .before in
+    let a = s .args in
     let w = tapeOf (a .tape .now) (a .tones .now) (a .blocks .now) (a .count) in
-    let q : Position = a .pos in
-    let k = firstBad w (q .block) (w .count - q .block) in
-    let x = needed w (q .block) (omega (arith, c .before .before .before .before .before .before .before .before .before .before .before .before .before .before .before .before .before .before .pre .below)) in
+    let k = cutOf w (a .pos) in
+    let x = rows-of w (a .pos) (s .pre) in
     let B = c .before .before .before .before .before .before .before .before .before .before .before .before .before .before .blocks2 in
     let E = c .before .before .before .before .before .before .before .before .before .before .before .before .entries in
     let i = E .inv k (B .inv .1 .0) in
@@ -214,11 +208,10 @@ blocks2-again c =
 returns : tie.Need-returns Inv-entries μ-entries Inv-blocks2 μ-blocks2
 unfolding walkFrom formed
 returns c =
-    let a = c .before .before .before .before .before .before .before .before .before .args in
+    let s = c .before .before .before .before .before .before .before .before .before in
+    let a = s .args in
     let w = tapeOf (a .tape .now) (a .tones .now) (a .blocks .now) (a .count) in
-    let q : Position = a .pos in
-    let k = firstBad w (q .block) (w .count - q .block) in
-    let x = needed w (q .block) (omega (arith, c .before .before .before .before .before .before .before .before .before .pre .below)) in
+    let k = cutOf w (a .pos) in
     let B = c .before .before .before .before .before .blocks2 in
     let E = c .before .before .before .entries in
     let i = E .inv k (B .inv .1 .0) in
@@ -227,11 +220,10 @@ returns c =
 returns-2 : tie.Need-returns-2 Inv-entries μ-entries Inv-blocks2 μ-blocks2
 unfolding walkFrom formed
 returns-2 c =
-    let a = c .before .before .before .before .before .before .before .before .before .before .before .args in
+    let s = c .before .before .before .before .before .before .before .before .before .before .before in
+    let a = s .args in
     let w = tapeOf (a .tape .now) (a .tones .now) (a .blocks .now) (a .count) in
-    let q : Position = a .pos in
-    let k = firstBad w (q .block) (w .count - q .block) in
-    let x = needed w (q .block) (omega (arith, c .before .before .before .before .before .before .before .before .before .before .before .pre .below)) in
+    let k = cutOf w (a .pos) in
     let B = c .before .before .before .before .before .before .before .blocks2 in
     let E = c .before .before .before .before .before .entries in
     let i = E .inv k (B .inv .1 .0) in
@@ -241,11 +233,10 @@ returns-2 c =
 returns-3 : tie.Need-returns-3 Inv-entries μ-entries Inv-blocks2 μ-blocks2
 unfolding walkFrom formed
 returns-3 c =
-    let a = c .before .before .before .before .before .before .before .before .before .before .before .before .args in
+    let s = c .before .before .before .before .before .before .before .before .before .before .before .before in
+    let a = s .args in
     let w = tapeOf (a .tape .now) (a .tones .now) (a .blocks .now) (a .count) in
-    let q : Position = a .pos in
-    let k = firstBad w (q .block) (w .count - q .block) in
-    let x = needed w (q .block) (omega (arith, c .before .before .before .before .before .before .before .before .before .before .before .before .pre .below)) in
+    let k = cutOf w (a .pos) in
     let B = c .before .before .before .before .before .before .before .before .blocks2 in
     let E = c .before .before .before .before .before .before .entries in
     let i = E .inv k (B .inv .1 .0) in
@@ -254,11 +245,11 @@ returns-3 c =
 returns-4 : tie.Need-returns-4 Inv-entries μ-entries Inv-blocks2 μ-blocks2
 unfolding walkFrom formed
 returns-4 c =
-    let a = c .before .before .before .before .before .before .before .before .before .before .before .before .before .before .before .before .before .before .before .args in
+    let s = c .before .before .before .before .before .before .before .before .before .before .before .before .before .before .before .before .before .before .before in
+    let a = s .args in
     let w = tapeOf (a .tape .now) (a .tones .now) (a .blocks .now) (a .count) in
-    let q : Position = a .pos in
-    let k = firstBad w (q .block) (w .count - q .block) in
-    let x = needed w (q .block) (omega (arith, c .before .before .before .before .before .before .before .before .before .before .before .before .before .before .before .before .before .before .before .pre .below)) in
+    let k = cutOf w (a .pos) in
+    let x = rows-of w (a .pos) (s .pre) in
     let B = c .before .before .before .before .before .before .before .before .before .before .before .before .before .before .before .blocks2 in
     let E = c .before .before .before .before .before .before .before .before .before .before .before .before .before .entries in
     let i = E .inv k (B .inv .1 .0) in

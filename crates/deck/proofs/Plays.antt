@@ -22,7 +22,8 @@ use Rattle.walks.specs.declared.Reached.the-variants.{Ended}
 use Rattle.walks.specs.Heads.{startAt, stand, placeOf, ahead, levelHere, toldAs, told, walkFrom}
 use Rattle.deck.specs.Deck.{validAt, unless, playMeasured}
 use Rattle.deck.proofs.Answers.{positionIn, passedIn, counting, levelIn, told-position, passed-of, counted-told, level-told}
-use Rattle.deck.proofs.Whole.{Whole, all-walked, whole-formed, whole-fine}
+use Rattle.deck.proofs.Whole.{all-walked, whole-fine}
+use Rattle.entries.proofs.Formed.{Whole, whole-formed}
 
 -- a call of n and then of each of ms, each from where the head then stands: the last's answer, the entries passed added up
 unfoldable pub runCalls : Tape → Position → ℕ → List ℕ → Reached

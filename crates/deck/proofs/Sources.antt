@@ -17,7 +17,8 @@ use Rattle.walks.specs.Heads.{ahead, told}
 use Rattle.deck.specs.Deck.{validAt, unless, playMeasured, sourceAnswer, sourceFrom, playSource}
 use Rattle.deck.proofs.Sourced.{source-answer}
 use Rattle.deck.proofs.Answers.{positionIn, endedIn, told-position, told-ended}
-use Rattle.deck.proofs.Whole.{Whole, all-walked, whole-formed, whole-fine}
+use Rattle.deck.proofs.Whole.{all-walked, whole-fine}
+use Rattle.entries.proofs.Formed.{Whole, whole-formed}
 use Rattle.deck.proofs.Plays.{play-told, play-place}
 
 -- a call of n of the source's play and then of each of ms: the last's answer

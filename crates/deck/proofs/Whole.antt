@@ -1,29 +1,23 @@
 -- A TAPE WHOSE ROWS ARE ALL WELL FORMED is not cut, and its valid positions pass the checks. Assumes nothing.
-use Prim.Native.Nat.{ℕ, _-_, _≤_, _<_}
+use Prim.Native.Nat.{_-_}
 use native.Mathlib.Omega.{arith}
 use borrow.Author.Tests.{le-ltb, lt-leb}
-use mathlib.Core.Path.{_≡_, refl, ap}
+use mathlib.Core.Path.{_≡_, refl}
 use mathlib.Core.Bool.{Bool, true, false, _&&_, _||_}
 use mathlib.Core.Logic.{⊎-elim}
 use lib.Dec.{ltb, leb}
 use Rattle.laws.specs.Numbers.{lt-or-ge}
-use Rattle.pulses.specs.Play.{Answer, counted}
+use Rattle.pulses.specs.Play.{Answer}
 use Rattle.pulses.specs.Source.{isEnded}
 use Rattle.rows.specs.Table.{capacityOf}
 use Rattle.rows.specs.Rows.{block, blockMost}
 use Rattle.entries.specs.Entries.{Spot}
 use Rattle.entries.specs.Places.{Tape, valid, hasIn, lengthIn, remains}
 use Rattle.walks.specs.declared.Position.{Position}
-use Rattle.entries.specs.Mounted.{wellRow, firstBad, cutTo, formed}
 use Rattle.walks.specs.Heads.{told, walked}
-use Rattle.walks.proofs.Needed.{not-both, needed}
+use Rattle.entries.proofs.Formed.{Whole, not-both}
 use Rattle.deck.specs.declared.Check.the-variants.{Fine}
 use Rattle.deck.specs.Deck.{atStart, ruledOut, badRow, validAt, judged}
-
--- a tape whose counted rows are all well formed
-pub record Whole (w : Tape) : Type 0 where
-  pub lent : w .count ≤ capacityOf block blockMost (w .blocks)
-  pub rows : (b : ℕ) → b < w .count → wellRow w b ≡ true
 
 or-false : (a b : Bool) → (a || b) ≡ true → b ≡ false → a ≡ true
 or-false true b e f = refl
@@ -57,21 +51,6 @@ unfolding walked
 all-walked w a = rw (le-ltb (w .count) (w .count) (omega arith), and-not (isEnded (a .tells)))
 
 module _ (w : Tape) (whole : Whole w) where
-  -- nothing is cut
-  whole-count : (b : ℕ) → firstBad w b (w .count - b) ≡ w .count
-  unfolding firstBad
-  whole-count b =
-      ⊎-elim
-      (λ l.
-      let x = needed w b (omega arith) in
-      ⊎-elim (λ h. absurd (not-both (whole .rows _ h) (x .bad h))) (λ g. omega (arith, x .most)) (lt-or-ge (firstBad w b (w .count - b)) (w .count)))
-      (λ g. let z : w .count - b ≡ 0 = omega arith in ap (firstBad w b) z)
-      (lt-or-ge b (w .count))
-
-  pub whole-formed : (b : ℕ) → formed w b ≡ w
-  unfolding formed
-  whole-formed b = ap (cutTo w) (whole-count b)
-
   -- a valid position passes the checks
   pub whole-fine : (q : Position) → validAt w q ≡ true → judged w q ≡ Fine
   unfolding judged

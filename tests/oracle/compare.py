@@ -6,6 +6,7 @@
 ORACLE is the folder with the oracle's `build` and `corpus.py`. N tapes (50,000 unless given) are made, a thousand from each seed from SEED on, over the three models
 and several capacities, loaded by `replay` (`rt check replay` builds it), and each answer is held to the Rust's. Prints what was compared; ends with status 1 at the first difference.
 """
+import os
 import struct
 import subprocess
 import sys
@@ -21,7 +22,7 @@ ROOT = Path(__file__).resolve().parents[2]
 def program(name):
     """How a program of ours is run here: under the kit's loader, and on another processor its emulator."""
     kit = Path(subprocess.run(["rt", "doc"], check=True, stdout=subprocess.PIPE, text=True).stdout.strip()).parents[1]
-    tools = kit / "toolchain"
+    tools = kit / "on" / os.uname().machine / "toolchain"
     emulator = tools / "bin" / "qemu-x86_64"
     words = [emulator] if emulator.exists() else []
     return [*words, tools / "lib" / "ld-linux-x86-64.so.2", "--library-path", tools / "lib", ROOT / "target" / "bin" / name]

@@ -2,5 +2,4 @@ pub mod Refusals
 pub mod Loads
 pub mod Named
 pub mod Answers
-pub mod Once
 pub mod Readings

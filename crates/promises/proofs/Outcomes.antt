@@ -1,0 +1,91 @@
+-- DETERMINED: for each public operation, any two outcomes that its contract permits are equal, refusals too. Assumes nothing.
+use mathlib.Core.Path.{_≡_, sym, ap₂, _∙_}
+use mathlib.Core.List.{List, []}
+use Prim.Native.Nat.{ℕ}
+use denote.Ref.{now}
+use Rattle.promises.specs.Determined.{Determined, Answered}
+use Rattle.tape.proofs.load.Kinds as load-kinds
+use Rattle.tape.proofs.load.Reads as load
+use Rattle.queries.proofs.len.Kinds as len-kinds
+use Rattle.queries.proofs.len.Reads as len
+use Rattle.queries.proofs.block_size.Kinds as block-size-kinds
+use Rattle.queries.proofs.block_size.Reads as block-size
+use Rattle.queries.proofs.block_selectable.Kinds as block-selectable-kinds
+use Rattle.queries.proofs.block_selectable.Reads as block-selectable
+use Rattle.queries.proofs.block_time.Kinds as block-time-kinds
+use Rattle.queries.proofs.block_time.Reads as block-time
+use Rattle.queries.proofs.block_name.Kinds as block-name-kinds
+use Rattle.queries.proofs.block_name.Reads as block-name
+use Rattle.queries.proofs.loading_time.Kinds as loading-time-kinds
+use Rattle.queries.proofs.loading_time.Reads as loading-time
+use Rattle.deck.proofs.play_measured.Kinds as play-measured-kinds
+use Rattle.deck.proofs.play_measured.Reads as play-measured
+use Rattle.deck.proofs.play.Kinds as play-kinds
+use Rattle.deck.proofs.play.Reads as play
+use Rattle.deck.proofs.block.Kinds as block-kinds
+use Rattle.deck.proofs.block.Reads as block
+use Rattle.walks.proofs.Position.new_at_block.Kinds as new-at-block-kinds
+use Rattle.walks.proofs.Position.new_at_block.Reads as new-at-block
+use Rattle.walks.proofs.Position.mic.Kinds as mic-kinds
+use Rattle.walks.proofs.Position.mic.Reads as mic
+use Rattle.walks.proofs.Position.real_block.Kinds as real-block-kinds
+use Rattle.walks.proofs.Position.real_block.Reads as real-block
+use Rattle.walks.proofs.Position.position.Kinds as position-kinds
+use Rattle.walks.proofs.Position.position.Reads as position
+use Rattle.entries.specs.Places.{Tape}
+use Rattle.walks.specs.declared.Reached.{Reached}
+use Rattle.deck.specs.declared.Head.{Head}
+use Rattle.deck.specs.Deck.{playMounted}
+
+-- the load: its answer, and every word of both tables
+pub load-determined : Determined {W = (List ℕ) × (List ℕ)} 3 load-kinds.ps load-kinds.r load.Post (λ κs e. (now (e .1 .1 .0), now (e .1 .1 .1 .0)))
+load-determined κs a z z′ e e′ p q = (p .answer ∙ sym (q .answer), ap₂ (λ (x y : List ℕ). (x, y)) (p .blocks ∙ sym (q .blocks)) (p .tones ∙ sym (q .tones)))
+
+pub len-determined : Answered 1 len-kinds.ps len-kinds.r len.Post
+len-determined κs a z z′ e e′ p q = p [] [] ∙ sym (q [] [])
+
+pub block-size-determined : Answered 3 block-size-kinds.ps block-size-kinds.r block-size.Post
+block-size-determined κs a z z′ e e′ p q = p ∙ sym q
+
+pub block-selectable-determined : Answered 3 block-selectable-kinds.ps block-selectable-kinds.r block-selectable.Post
+block-selectable-determined κs a z z′ e e′ p q = p ∙ sym q
+
+pub block-time-determined : Answered 3 block-time-kinds.ps block-time-kinds.r block-time.Post
+block-time-determined κs a z z′ e e′ p q = p ∙ sym q
+
+pub loading-time-determined : Answered 3 loading-time-kinds.ps loading-time-kinds.r loading-time.Post
+loading-time-determined κs a z z′ e e′ p q = p ∙ sym q
+
+-- a name: its answer, and every output byte
+pub block-name-determined : Determined 4 block-name-kinds.ps block-name-kinds.r block-name.Post (λ κs e. now (e .1 .1 .1 .1 .1 .0))
+block-name-determined κs a z z′ e e′ p q = (p .0 ∙ sym (q .0), p .1 ∙ sym (q .1))
+
+pub play-measured-determined : Answered 3 play-measured-kinds.ps play-measured-kinds.r play-measured.Post
+play-measured-determined κs a z z′ e e′ p q = p ∙ sym q
+
+pub play-determined : Answered 3 play-kinds.ps play-kinds.r play.Post
+play-determined κs a z z′ e e′ p q = p ∙ sym q
+
+pub block-determined : Answered 3 block-kinds.ps block-kinds.r block.Post
+block-determined κs a z z′ e e′ p q = p ∙ sym q
+
+-- positions
+pub new-at-block-determined : Answered 0 new-at-block-kinds.ps new-at-block-kinds.r new-at-block.Post
+new-at-block-determined κs a z z′ e e′ p q = p ∙ sym q
+
+pub mic-determined : Answered 0 mic-kinds.ps mic-kinds.r mic.Post
+mic-determined κs a z z′ e e′ p q = p ∙ sym q
+
+pub real-block-determined : Answered 0 real-block-kinds.ps real-block-kinds.r real-block.Post
+real-block-determined κs a z z′ e e′ p q = p ∙ sym q
+
+pub position-determined : Answered 0 position-kinds.ps position-kinds.r position.Post
+position-determined κs a z z′ e e′ p q = p ∙ sym q
+
+-- the mounted head, whose contract is these two equations: the answer, and the lent head at exit
+module _ (w : Tape) (h : Head) (n : ℕ) where
+  abbrev pub Mounted : Reached → Head → Type 0
+  Mounted r h′ = (r ≡ playMounted w h n .answer) × (h′ ≡ playMounted w h n .head)
+
+  pub play-head-determined : {r r′ : Reached} {x x′ : Head} → Mounted r x → Mounted r′ x′ → (r ≡ r′) × (x ≡ x′)
+  play-head-determined p q = (p .0 ∙ sym (q .0), p .1 ∙ sym (q .1))

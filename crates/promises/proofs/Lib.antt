@@ -1,3 +1,4 @@
 pub mod Views
 pub mod Queries
 pub mod Outcomes
+pub mod Readings

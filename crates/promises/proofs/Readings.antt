@@ -1,0 +1,117 @@
+-- THE P READINGS of document 01, all of them, each from a tape's bytes through the definitions that the contracts cite, by computation. Assumes nothing.
+use Prim.Native.Nat.{ℕ, zero, suc, _+_}
+use mathlib.Core.Path.{_≡_, refl}
+use mathlib.Core.Bool.{true, false}
+use mathlib.Core.List.{List, [], _∷_, _++_, map}
+use lib.ListN.{length}
+use Rattle.fields.specs.Field.{leAt, numberAt, fieldAt, placeOf}
+use Rattle.fields.specs.Run.{times, eachAt, groupsAt}
+use Rattle.pulses.specs.Play.{low, high, answer, rest, over, shown, status, time, comesTo}
+use Rattle.pulses.specs.Runs.{run}
+use Rattle.pulses.specs.Source.{after as afterTurn, turn, turns, sourced, reached}
+use Rattle.rows.specs.Table.{get, over as tableOver}
+use Rattle.rows.specs.Rows.{tone}
+use Rattle.rows.specs.Well.{wellRanges, wellTone, wellNumbers, wellCases, wellTones, wellBlock}
+use Rattle.pieces.specs.Grammar.{countedAt, passAt, textsAt, wholeAt, sealed, enclosed, fittingAt, readAt, digits, orFull, heldIf}
+use Rattle.pieces.specs.Kinds.{kind10, kind11, kind12, kind13, kind14, stream19, kind19, kind20, kind21, kind22, kind24, kind25, kind2A, kind30, kind31, info32, kind32, kind33, kind35, kind5A, kinds, kindOf}
+use Rattle.pieces.specs.Cut.{signature, startsAt, headAt, named, cutAt, blockOf, tapAt}
+use Rattle.parser.specs.Parser.{empty, _⟫_, addTones, addBlock, startGroup, noteText, endGroup, openLoop, copyRows, copies, closed, closeLoop, paused, lastPaused}
+use Rattle.blocks.specs.Blocks.{born, stopBlock, isHeader, standardCycles, standardTones, standardBlock, standardPause, turboTones, turboBlock, pureTones, pureBlock, pureToneTones, pulseAt, pauseBlock, pauseOrStop}
+use Rattle.blocks.specs.Does.{lentOf}
+use Rattle.blocks.specs.Adds.{addRows, add, addPairs, stopOn48}
+use Rattle.reader.specs.Source.{act, after, seeing, foldFrom, stopLength, tooManyBits, judged, tzxOf, tzxSee, headed, readTzx, tapOf, tapSee, readTap, Loaded, tzx, tapped, no, orTap, orElse, loadOf}
+use Rattle.text.specs.Out.{decimal, digits as digitsOf}
+use Rattle.names.specs.Names.{isHeader as isHeading, sizeShown, sizeName, guessed, nameOf, unselected, passed, nameAll}
+use Rattle.tape.specs.declared.Format.{Format}
+use Rattle.tape.specs.declared.Format.the-variants.{Tap, Tzx}
+use Rattle.tape.specs.Load.{namedTape, named as naming, loadNamed, blocksOf, tonesOf}
+use Rattle.entries.specs.declared.Phase.the-variants.{Tones}
+use Rattle.entries.specs.declared.Duration.{Duration}
+use Rattle.entries.specs.declared.Duration.the-variants.{T}
+use Rattle.entries.specs.Entries.{entryOf, cyclesOf, toneOf, tonesOf as tonesIn, bitsAt, halfOf, byteOf, dataOf, pauseOf, soundOf, entriesOf, lastsOf}
+use Rattle.entries.specs.Places.{Tape, blockIn, listFrom, leftAt, hasEntry, lengthAt, remains, valid, headOf, leftOf}
+use Rattle.entries.specs.Mounted.{wellRow, firstBad, formed, tapeOf}
+use Rattle.walks.specs.declared.Reached.the-variants.{At, Ended}
+use Rattle.walks.specs.Heads.{placed, startAt, stand, levelHere, toldAs, told, walked, walkFrom}
+use Rattle.deck.specs.Deck.{ruledOut, badRow, judged as checked, unless, playMeasured, sourceAnswer, sourceFrom, playSource}
+
+-- what is said of a block: the cycles of its first tone row, its pause, its T-states, its name
+pub record Said : Type 0 where
+  pub cycles : ℕ
+  pub pause : Duration
+  pub lasts : Duration
+  pub name : List ℕ
+
+pub data Reading : Type 0 where
+  is : Format → List Said → Reading
+  refused : ℕ → Reading
+
+-- the tables of a load into room for three blocks and four tone rows
+abbrev mounted : List ℕ → Loaded → ℕ → Tape
+mounted s l n = tapeOf s (tonesOf 12 l) (blocksOf 39 l) n
+
+abbrev said : Tape → ℕ → Said
+said w i =
+    record { cycles = get tone (w .tones) (blockIn w i .tone) .num; pause = pauseOf (blockIn w i); lasts = lastsOf (entriesOf (w .bytes) (w .tones) i (blockIn w i)); name = nameOf (w .bytes) (blockIn w i) }
+
+abbrev from : Tape → ℕ → ℕ → List Said
+from w i zero = []
+from w i (suc n) = said w i ∷ from w (i + 1) n
+
+abbrev reads : List ℕ → Loaded → Reading
+reads s (tzx t) = is Tzx (from (mounted s (tzx t) (length (t .blocks))) 0 (length (t .blocks)))
+reads s (tapped t) = is Tap (from (mounted s (tapped t) (length (t .blocks))) 0 (length (t .blocks)))
+reads s (no k) = refused k
+
+-- a TZX of these pieces
+abbrev pieces : List ℕ → List ℕ
+pieces s = signature ++ 1 ∷ 20 ∷ s
+
+-- `d bytes`
+abbrev sized : ℕ → List ℕ
+sized d = (0x30 + d) ∷ 0x20 ∷ 0x62 ∷ 0x79 ∷ 0x74 ∷ 0x65 ∷ 0x73 ∷ []
+
+abbrev block : ℕ → ℕ → ℕ → ℕ → Said
+block cycles pause t d = record { cycles = cycles; pause = T pause; lasts = T t; name = sized d }
+
+-- THE TABLE: a tape's bytes, and what is read
+abbrev pub readings : List (List ℕ × Reading)
+readings =
+    -- empty or one byte: TAP, no blocks
+    ([], is Tap [])
+    ∷ (0 ∷ [], is Tap [])
+    -- `00 00`: one block, 4,032 cycles, `0 bytes`
+    ∷ (0 ∷ 0 ∷ [], is Tap (block 4032 3500000 20984154 0 ∷ []))
+    -- `01 00 FF`: 1,612 cycles, pause 7,000,000
+    ∷ (1 ∷ 0 ∷ 0xFF ∷ [], is Tap (block 1612 7000000 14018394 1 ∷ []))
+    -- `02 00 FF`: refused 3
+    ∷ (2 ∷ 0 ∷ 0xFF ∷ [], refused 3)
+    -- 12 with length 100, count 1: 300 T; count 0: 200
+    ∷ (pieces (0x12 ∷ 100 ∷ 0 ∷ 1 ∷ 0 ∷ []), is Tzx (block 1 0 300 0 ∷ []))
+    ∷ (pieces (0x12 ∷ 100 ∷ 0 ∷ 0 ∷ 0 ∷ []), is Tzx (block 0 0 200 0 ∷ []))
+    -- loop 2 round one pause: three blocks
+    ∷ (pieces (0x24 ∷ 2 ∷ 0 ∷ 0x20 ∷ 1 ∷ 0 ∷ 0x25 ∷ []), is Tzx (block 0 3500 3500 0 ∷ block 0 3500 3500 0 ∷ block 0 3500 3500 0 ∷ []))
+    -- pure data byte 80, zero 10, one 20, last bits 0, pause 0: 40 T
+    ∷ (pieces (0x14 ∷ 10 ∷ 0 ∷ 20 ∷ 0 ∷ 0 ∷ 0 ∷ 0 ∷ 1 ∷ 0 ∷ 0 ∷ 0x80 ∷ []), is Tzx (block 0 0 40 1 ∷ []))
+    -- last bits 8 accepted, 9 refused 7
+    ∷ (pieces (0x14 ∷ 10 ∷ 0 ∷ 20 ∷ 0 ∷ 8 ∷ 0 ∷ 0 ∷ 1 ∷ 0 ∷ 0 ∷ 0x80 ∷ []), is Tzx (block 0 0 180 1 ∷ []))
+    ∷ (pieces (0x14 ∷ 10 ∷ 0 ∷ 20 ∷ 0 ∷ 9 ∷ 0 ∷ 0 ∷ 1 ∷ 0 ∷ 0 ∷ 0x80 ∷ []), refused 7)
+    ∷ []
+
+pub readings-read : map (λ e. reads (e .0) (loadNamed (lentOf 39 12) (e .0) 0)) readings ≡ map (λ e. e .1) readings
+unfolding loadNamed naming namedTape loadOf orElse orTap readTzx readTap headed headAt startsAt judged tooManyBits foldFrom seeing after tzxSee tzxOf tapSee tapOf tapAt blockOf cutAt named kindOf kinds kind10 kind11 kind12 kind13 kind14 stream19 kind19 kind20 kind21 kind22 kind24 kind25 kind2A kind30 kind31 info32 kind32 kind33 kind35 kind5A readAt countedAt passAt textsAt wholeAt sealed enclosed fittingAt digits orFull heldIf fieldAt numberAt leAt placeOf times eachAt groupsAt stopLength act stopOn48 add addRows addPairs addTones addBlock _⟫_ empty startGroup noteText endGroup openLoop copyRows copies closed closeLoop paused lastPaused born stopBlock isHeader standardCycles standardTones standardBlock standardPause turboTones turboBlock pureTones pureBlock pureToneTones pulseAt pauseBlock pauseOrStop nameAll passed unselected isHeading nameOf guessed sizeName sizeShown decimal digitsOf blocksOf tonesOf tableOver lastsOf comesTo time entriesOf soundOf tonesIn toneOf cyclesOf dataOf byteOf bitsAt halfOf pauseOf entryOf run
+readings-read = refl
+
+-- a sole 12 of 100 and 4, loaded
+abbrev soleBytes : List ℕ
+soleBytes = pieces (0x12 ∷ 100 ∷ 0 ∷ 4 ∷ 0 ∷ [])
+
+abbrev sole : Tape
+sole = mounted soleBytes (loadNamed (lentOf 39 12) soleBytes 0) 1
+
+-- from its start: 99 leaves both players in the first half with 1 left; 100 leaves the measured one at the high half, full, the source's ended
+pub players-read :
+    (map (λ n. playMeasured sole (startAt 0) n) (99 ∷ 100 ∷ []) ≡ At (stand (placed 0 (Tones 0 0 false) (T 1)) 1 low) ∷ At (stand (placed 0 (Tones 0 0 true) (T 100)) 2 high) ∷ [])
+    × (map (λ n. playSource sole (startAt 0) n) (99 ∷ 100 ∷ []) ≡ At (stand (placed 0 (Tones 0 0 false) (T 1)) 1 low) ∷ Ended (stand (startAt 1) 6 low) ∷ [])
+unfolding loadNamed naming namedTape loadOf orElse orTap readTzx readTap headed headAt startsAt judged tooManyBits foldFrom seeing after tzxSee tzxOf cutAt named kindOf kinds kind12 readAt wholeAt fieldAt numberAt leAt placeOf stopLength act add addRows addTones addBlock _⟫_ empty born pureToneTones nameAll passed unselected isHeading blocksOf tonesOf tableOver playMeasured playSource unless checked ruledOut badRow wellRow wellBlock wellRanges wellNumbers wellCases wellTones wellTone valid hasEntry remains lengthAt walkFrom sourceFrom sourceAnswer sourced turns turn afterTurn reached walked formed firstBad told toldAs levelHere headOf leftOf answer rest over shown status leftAt listFrom entriesOf soundOf tonesIn toneOf cyclesOf dataOf pauseOf entryOf run
+players-read = (refl, refl)

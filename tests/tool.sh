@@ -209,9 +209,9 @@ case \$* in
     doc) echo '$kit/docs/START-HERE.md' ;;
     'check list')
         echo "rt in \$(pwd)"
-        [ ! -f no ] || exit 1
         mkdir -p target/bin
         [ -f target/bin/list ] || printf '\\177ELF' >target/bin/list
+        [ ! -f no ] || exit 1
         ;;
     *) exit 2 ;;
 esac
@@ -219,11 +219,13 @@ END
 printf '#!/bin/sh\necho other\n' >"$room/path/uname"
 cat >"$kit/on/other/toolchain/bin/qemu-x86_64" <<'END'
 #!/bin/sh
-for w; do printf '%s\n' "${w##*/}"; done
+for w; do printf '%s\n' "${w##*/}${QEMU_LOG:-}"; done
 END
 chmod +x "$room/path/rt" "$room/path/uname" "$kit/on/other/toolchain/bin/qemu-x86_64"
 old=$PATH
 PATH=$room/path:$PATH
+QEMU_LOG=all
+export QEMU_LOG
 ran="ld-linux-x86-64.so.2${nl}--library-path${nl}lib${nl}list"
 building="glyvrask: building list (proved first; this takes some minutes once)${nl}rt in $(cd "$root" && pwd -P)"
 says 0 "$ran" "$building" list 48K 'a tape.tzx'
@@ -240,8 +242,10 @@ fails 3 'list is not built' list 48K 'a tape.tzx'
 unset GLYVRASK_BUILD
 : >"$root/no"
 says 3 '' "$building${nl}glyvrask: list could not be built; the lines above say why" list 48K 'a tape.tzx'
+[ ! -f "$root/target/bin/list" ] || bad 'a program that failed its check is kept'
 PATH=$old
 script=
+unset QEMU_LOG
 
 # the committed samples are what tapes/make makes
 mkdir "$room/tapes"

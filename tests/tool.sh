@@ -193,6 +193,15 @@ tell list 4 "$(seq 20000)"
 (cd "$room/some where" && "$here/glyvrask" list 48K 'a tape.tzx' | head -n 1) >"$room/out" 2>&1 || :
 [ "$(cat "$room/out")" = 1 ] || bad "a closed pipe: $(cat "$room/out")"
 [ -z "$(ls -A "$room/tmp")" ] || bad 'a closed pipe leaves files behind'
+
+# an answer that cannot be written
+if [ -c /dev/full ]; then
+    status=0
+    "$here/glyvrask" list 48K "$tape" >/dev/full 2>"$room/err" || status=$?
+    [ "$status" = 3 ] || bad "a full disk: status $status"
+    grep -q 'the answer could not be written' "$room/err" || bad "a full disk says: $(cat "$room/err")"
+fi
+
 unset GLYVRASK_BIN
 
 # building, over a stand-in kit for another processor: what is missing or older than its sources, and nothing else; through a link, from another folder
@@ -208,7 +217,8 @@ cat >"$room/path/rt" <<END
 case \$* in
     doc) echo '$kit/docs/START-HERE.md' ;;
     'check list')
-        echo "rt in \$(pwd)"
+        echo "rt: in \$(pwd)"
+        echo 'a note' >&2
         mkdir -p target/bin
         [ -f target/bin/list ] || printf '\\177ELF' >target/bin/list
         [ ! -f no ] || exit 1
@@ -227,7 +237,7 @@ PATH=$room/path:$PATH
 QEMU_LOG=all
 export QEMU_LOG
 ran="ld-linux-x86-64.so.2${nl}--library-path${nl}lib${nl}list"
-building="glyvrask: building list (proved first; this takes some minutes once)${nl}rt in $(cd "$root" && pwd -P)"
+building="glyvrask: building list (proved first; this takes some minutes once)${nl}rt: in $(cd "$root" && pwd -P)"
 says 0 "$ran" "$building" list 48K 'a tape.tzx'
 says 0 "$ran" '' list 48K 'a tape.tzx'
 touch -t 203001010000 "$root/crates/list/src/main.rt"
@@ -241,7 +251,12 @@ export GLYVRASK_BUILD
 fails 3 'list is not built' list 48K 'a tape.tzx'
 unset GLYVRASK_BUILD
 : >"$root/no"
-says 3 '' "$building${nl}glyvrask: list could not be built; the lines above say why" list 48K 'a tape.tzx'
+call list 48K 'a tape.tzx'
+[ "$status" = 3 ] || bad "a failed build: status $status"
+case $(cat "$room/err") in
+    "$building${nl}glyvrask: list could not be built; the lines above say why"*) ;;
+    *) bad "a failed build says: $(cat "$room/err")" ;;
+esac
 [ ! -f "$root/target/bin/list" ] || bad 'a program that failed its check is kept'
 PATH=$old
 script=

@@ -181,11 +181,11 @@ tell list 1 'refused 6'
 fails 3 'the answers for the 128K and the Plus3 differ' compare 'a tape.tzx'
 tell list 3 'refused 6'
 fails 1 'refused 6: ' compare 'a tape.tzx'
-tell list 4 "model 48K format TZX blocks 4${nl}0 * 0 stop stop${nl}1 - 0 12600001750 x${nl}2 * 0 stop stop${nl}3 * 0 stop  a b ${nl}time 0"
+tell list 4 "model 48K format TZX blocks 4${nl}0 * 0 stop stop${nl}1 - 0 12600001750 x${nl}2 * 0 stop stop${nl}3 * 0 stop  a\\tb\\c %s ${nl}time 0"
 tell list 1 "model 128K format TZX blocks 2${nl}0 - 0 12600001750 x${nl}1 * 0 stop stop${nl}time 12600001750"
 tell list 3 "model Plus3 format TZX blocks 2${nl}0 - 0 12600001750 x${nl}1 * 0 stop stop${nl}time 12600001750"
 call compare 'a tape.tzx'
-grep -q '^On the 48K only, the tape stops at block 0 (stop), block 3 (a b):' "$room/out" || bad 'stops of the 48K alone are not told from others'
+grep -q '^On the 48K only, the tape stops at block 0 (stop), block 3 (a\\tb\\c %s):' "$room/out" || bad 'stops of the 48K alone are not told from others'
 grep -q '^- 128K and Plus3: the tape stops at block 1 (stop).*: 12600001750 T-states (60 min 0.001 s)' "$room/out" || bad 'minutes and seconds'
 
 # a reader that goes away leaves nothing behind either

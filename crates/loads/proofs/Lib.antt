@@ -7,3 +7,4 @@ pub mod Formed
 pub mod Room
 pub mod Well
 pub mod Left
+pub mod Names

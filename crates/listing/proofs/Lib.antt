@@ -1,0 +1,4 @@
+pub mod Shown
+pub mod Texts
+pub mod Total
+pub mod Mounting

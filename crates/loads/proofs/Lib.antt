@@ -8,3 +8,4 @@ pub mod Room
 pub mod Well
 pub mod Left
 pub mod Names
+pub mod Refusals

@@ -11,7 +11,7 @@ use Rattle.pieces.specs.Grammar.{countedAt, passAt, textsAt, wholeAt, sealed, e
 use Rattle.pieces.specs.Kinds.{kind10, kind11, kind12, kind13, kind14, stream19, kind19, kind20, kind21, kind22, kind24, kind25, kind2A, kind30, kind31, info32, kind32, kind33, kind35, kind5A, kinds, kindOf}
 use Rattle.pieces.specs.Cut.{signature, startsAt, headAt, named as kindNamed, cutAt, blockOf, tapAt}
 use Rattle.general.specs.General.{pilotOf, dataOf as generalData, withPilot, withData, generalOf}
-use Rattle.parser.specs.Parser.{empty, addTones, addBlock, startGroup, noteText, endGroup, openLoop, copyRows, copies, closed, closeLoop, paused, lastPaused}
+use Rattle.parser.specs.Parser.{empty, _⟫_, addTones, addBlock, startGroup, noteText, endGroup, openLoop, copyRows, copies, closed, closeLoop, paused, lastPaused}
 use Rattle.blocks.specs.Blocks.{born, stopBlock, isHeader, standardCycles, standardTones, standardBlock, standardPause, turboTones, turboBlock, pureTones, pureBlock, pureToneTones, pulseAt, pauseBlock, pauseOrStop}
 use Rattle.blocks.specs.Adds.{addRows, add, addPairs, addGeneral, stopOn48}
 use Rattle.reader.specs.Source.{act, after, seeing, foldFrom, stopLength, tooManyBits, judged, tzxOf, tzxSee, headed, readTzx, tapOf, tapSee, readTap, orTap, orElse, loadOf}

@@ -5,4 +5,5 @@ pub mod Mounting
 pub mod Numbers
 pub mod Models
 pub mod Once
+pub mod Saying
 pub mod Readings

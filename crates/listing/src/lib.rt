@@ -21,6 +21,7 @@ ghost use Rattle.entries.specs.Places.{listFrom};
 ghost use Rattle.entries.specs.Mounted.{tapeOf, sizeOf};
 ghost use Rattle.entries.specs.Entries.{entriesOf, lastsOf};
 ghost use Rattle.names.specs.Names.{nameOf};
+ghost use Rattle.listing.specs.Printed.{refusedText, printedOf, Says};
 ghost use Rattle.listing.specs.Inner.{isC1, printed, width, headText, tailText, totalText, ReadyRow, Ready};
 ghost use Rattle.listing.specs.Listing.{shown, timeText, markText, rowText, rowsText, modelText, formatText, countText, listingText, text, listingOf, answerTo, bytesAfter};
 
@@ -292,4 +293,26 @@ pub extern "C" fn glyvrask_listing(tape: &[u8], model: u32, out: &mut [u8]) -> u
         } => tell(out, model, format, tape, &tones, &blocks, n),
         Loaded::Refused(k) => k,
     }
+}
+
+// `refused n` and a line feed; our programs call it, and lend 32 bytes.
+pub fn say_refused(out: &mut [u8], k: u32) -> usize
+    requires { ⌜ 32 ≤ length (now out) ⌝ }
+    ensures { λ r. ⌜ Says (refusedText k) r (now (out .exit)) ⌝ }
+{
+    let a = put_all(out, 0, b"refused ");
+    let b = put_decimal(out, a, k as u64);
+    put(out, b, b'\n')
+}
+
+// What a program prints of a tape; our programs call it, and lend 300,000 bytes: no text is longer.
+pub fn say(tape: &[u8], model: u32, out: &mut [u8]) -> usize
+    requires { ⌜ 300000 ≤ length (now out) ⌝ }
+    ensures { λ r. ⌜ Says (printedOf (listingOf (now (tape .entry)) model)) r (now (out .exit)) ⌝ }
+{
+    let n = glyvrask_listing(tape, model, out);
+    if n < 32 {
+        return say_refused(out, n);
+    }
+    n as usize
 }

@@ -8,3 +8,5 @@ pub mod Room
 pub mod Well
 pub mod Left
 pub mod Within
+pub mod Names
+pub mod Refusals

@@ -1,0 +1,9 @@
+pub mod Shown
+pub mod Texts
+pub mod Total
+pub mod Mounting
+pub mod Numbers
+pub mod Models
+pub mod Once
+pub mod Saying
+pub mod Readings

@@ -1,0 +1,128 @@
+-- FROM A LOAD TO ITS LISTING: the tables that a load of 6,656 and 6,144 words leaves are ready, and what is listed of them is the listing.
+-- Assumes nothing but that bytes are below 256.
+use Prim.Native.Nat.{ℕ, _≤_, _<_}
+use native.Mathlib.Omega.{arith}
+use mathlib.Core.Path.{_≡_, refl, sym, ap, subst, _∙_}
+use mathlib.Core.Bool.{false}
+use mathlib.Core.List.{List}
+use lib.ListN.{length}
+use borrow.Author.Tests.{le-leb, lt-leb, lt-ltb, le-ltb}
+use Rattle.rows.specs.Table.{tableOf}
+use Rattle.rows.specs.Rows.{block, tone}
+use Rattle.parser.specs.Parser.{Tape as Rows}
+use Rattle.blocks.specs.Does.{lentOf}
+use Rattle.reader.specs.Source.{Loaded as Load, tzx, tapped, no, loadOf}
+use Rattle.names.specs.Names.{nameAll}
+use Rattle.names.proofs.Selecting.{name-all-length}
+use Rattle.entries.specs.Places.{Tape}
+use Rattle.entries.specs.Mounted.{tapeOf, wellRow}
+use Rattle.tape.specs.declared.Format.{Format}
+use Rattle.tape.specs.declared.Format.the-variants.{Tap, Tzx}
+use Rattle.tape.specs.declared.Loaded.{Loaded}
+use Rattle.tape.specs.Load.{namedTape, named, loadNamed, answerOf, blocksOf, tonesOf, Leaves}
+use Rattle.loads.specs.Sizes.{Bytes}
+use Rattle.loads.specs.Made.{Reads, as-tzx, as-tap}
+use Rattle.loads.proofs.Room.{load-within}
+use Rattle.loads.proofs.Well.{table-length, loaded-well}
+use Rattle.loads.proofs.Names.{loaded-names}
+use Rattle.tape.specs.declared.Loaded.the-variants as loaded
+use Rattle.listing.specs.Inner.{Ready}
+use Rattle.listing.specs.Listing.{blockWords, toneWords, loadedOf, text, refused, mounted, listed, listingText, Listing, listingOf, answerTo, bytesAfter}
+
+-- the load in the words that are lent
+pub lent-words : {B N : ℕ} {a : Loaded} {bt tt : List ℕ} (s : List ℕ) (model : ℕ) → B ≡ blockWords → N ≡ toneWords → Leaves B N (loadNamed (lentOf B N) s model) a bt tt → Leaves blockWords toneWords (loadedOf s model) a bt tt
+unfolding loadedOf
+lent-words {N = N} {a} {bt} {tt} s model p q l =
+    subst (λ (y : ℕ). Leaves blockWords y (loadNamed (lentOf blockWords y) s model) a bt tt) q (subst (λ (x : ℕ). Leaves x N (loadNamed (lentOf x N) s model) a bt tt) p l)
+
+-- ready rows of a tape that was read
+module _ (s : List ℕ) (model : ℕ) (b : Bytes s) {t : Rows} (r : Reads (loadOf (lentOf blockWords toneWords) s model) t) where
+  rows-ready : Ready s (tableOf tone (t .tones) toneWords) (tableOf block (nameAll s false (t .blocks)) blockWords) (length (t .blocks))
+  unfolding wellRow
+  rows-ready =
+      let w = load-within (lentOf blockWords toneWords) s model b r in
+      let l = name-all-length s false (t .blocks) in
+      let e : length (tableOf block (nameAll s false (t .blocks)) blockWords) ≡ blockWords = table-length block (nameAll s false (t .blocks)) blockWords (omega (arith, w .blocks)) in
+      record {
+        few = omega (arith, w .blocks);
+        rows = λ i h. record { lent = omega (arith, w .blocks); well = loaded-well blockWords toneWords s model b r i h; short = loaded-names blockWords toneWords s model b r i h };
+      }
+
+-- a mounted tape's tables, named otherwise
+same-ready : {s tt tt₀ bt bt₀ : List ℕ} {n n₀ : ℕ} → tt ≡ tt₀ → bt ≡ bt₀ → n ≡ n₀ → Ready s tt₀ bt₀ n₀ → Ready s tt bt n
+same-ready {s} {tt} {tt₀} {bt} {bt₀} {n} {n₀} p q e r =
+    subst (λ (x : ℕ). Ready s tt bt x) (sym e) (subst (λ (x : List ℕ). Ready s tt x n₀) (sym q) (subst (λ (x : List ℕ). Ready s x bt₀ n₀) (sym p) r))
+
+same-tape : (s : List ℕ) {tt tt₀ bt bt₀ : List ℕ} {n n₀ : ℕ} → tt ≡ tt₀ → bt ≡ bt₀ → n ≡ n₀ → tapeOf s tt₀ bt₀ n₀ ≡ tapeOf s tt bt n
+same-tape s {tt} {tt₀} {bt} {bt₀} {n} {n₀} p q e =
+    ap (λ (x : List ℕ). tapeOf s x bt₀ n₀) (sym p) ∙ ap (λ (x : List ℕ). tapeOf s tt x n₀) (sym q) ∙ ap (λ (x : ℕ). tapeOf s tt bt x) (sym e)
+
+-- EVERY LOAD'S TABLES ARE READY
+pub load-ready : (s : List ℕ) (model : ℕ) {f : Format} {n k : ℕ} {bt tt : List ℕ} → Bytes s → Leaves blockWords toneWords (loadedOf s model) (loaded.Tape f n k) bt tt → Ready s tt bt n
+unfolding loadedOf loadNamed named namedTape answerOf blocksOf tonesOf
+load-ready s model {f} {n} {k} {bt} {tt} b l = by-cases (loadOf (lentOf blockWords toneWords) s model) refl l
+  where
+    by-cases : (x : Load) → loadOf (lentOf blockWords toneWords) s model ≡ x → Leaves blockWords toneWords (named s x) (loaded.Tape f n k) bt tt → Ready s tt bt n
+    by-cases (tzx t) e y =
+        let a = y .answer in
+        let m : n ≡ length (nameAll s false (t .blocks)) = cc in
+        same-ready (y .tones) (y .blocks) (m ∙ name-all-length s false (t .blocks)) (rows-ready s model b (subst (λ (z : Load). Reads z t) (sym e) as-tzx))
+    by-cases (tapped t) e y =
+        let a = y .answer in
+        let m : n ≡ length (nameAll s false (t .blocks)) = cc in
+        same-ready (y .tones) (y .blocks) (m ∙ name-all-length s false (t .blocks)) (rows-ready s model b (subst (λ (z : Load). Reads z t) (sym e) as-tap))
+    by-cases (no j) e y = let a = y .answer in absurd (let z : _≡_ {A = ℕ} 0 1 = cc in omega arith)
+
+-- WHAT IS LISTED OF A LOAD, by its answer
+module _ (s : List ℕ) (model : ℕ) {bt tt : List ℕ} where
+  listed-text : {f : Format} {n k : ℕ} (x : Load) → Leaves blockWords toneWords x (loaded.Tape f n k) bt tt → listed s model x ≡ text (listingText model f (tapeOf s tt bt n))
+  unfolding listed mounted answerOf
+  listed-text {f} {n} (tzx t) l =
+      let a = l .answer in
+      let e : n ≡ length (t .blocks) = cc in
+      let g : f ≡ Tzx = cc in
+      rw g (ap (λ (w : Tape). text (listingText model Tzx w)) (same-tape s (l .tones) (l .blocks) e))
+  listed-text {f} {n} (tapped t) l =
+      let a = l .answer in
+      let e : n ≡ length (t .blocks) = cc in
+      let g : f ≡ Tap = cc in
+      rw g (ap (λ (w : Tape). text (listingText model Tap w)) (same-tape s (l .tones) (l .blocks) e))
+  listed-text (no j) l = let a = l .answer in absurd (let z : _≡_ {A = ℕ} 0 1 = cc in omega arith)
+
+  listed-no : {k : ℕ} (x : Load) → Leaves blockWords toneWords x (loaded.Refused k) bt tt → listed s model x ≡ refused k
+  unfolding listed answerOf
+  listed-no (tzx t) l = let a = l .answer in absurd (let z : _≡_ {A = ℕ} 0 1 = cc in omega arith)
+  listed-no (tapped t) l = let a = l .answer in absurd (let z : _≡_ {A = ℕ} 0 1 = cc in omega arith)
+  listed-no {k} (no j) l = let a = l .answer in let e : j ≡ k = cc in ap refused e
+
+-- an answer and the bytes it leaves are what the contract says
+abbrev pub Answered : List ℕ → ℕ → List ℕ → ℕ → List ℕ → Type 0
+Answered s model out r out′ = (r ≡ answerTo (listingOf s model) out) × (out′ ≡ bytesAfter (listingOf s model) out)
+
+module _ (s : List ℕ) (model : ℕ) where
+  pub no-model : (out : List ℕ) → 3 ≤ model → Answered s model out 1 out
+  unfolding listingOf answerTo bytesAfter
+  no-model out h = (rw (le-leb 3 model h), rw (le-leb 3 model h))
+
+  pub too-long : (out : List ℕ) → model < 3 → 65535 < length s → Answered s model out 2 out
+  unfolding listingOf answerTo bytesAfter
+  too-long out h k = (rw (lt-leb 3 model h, lt-ltb 65535 (length s) k), rw (lt-leb 3 model h, lt-ltb 65535 (length s) k))
+
+  module _ (h : model < 3) (k : length s ≤ 65535) where
+    loads : listingOf s model ≡ listed s model (loadedOf s model)
+    unfolding listingOf
+    loads = rw (lt-leb 3 model h, le-ltb 65535 (length s) k)
+
+    pub load-refused : {bt tt : List ℕ} (out : List ℕ) {j : ℕ} → Leaves blockWords toneWords (loadedOf s model) (loaded.Refused j) bt tt → Answered s model out j out
+    unfolding answerTo bytesAfter
+    load-refused out l = let e = loads ∙ listed-no s model (loadedOf s model) l in (rw e, rw e)
+
+    pub load-told : {bt tt out′ : List ℕ} {f : Format} {n m r : ℕ} (out : List ℕ) → Leaves blockWords toneWords (loadedOf s model) (loaded.Tape f n m) bt tt
+        → (r ≡ answerTo (text (listingText model f (tapeOf s tt bt n))) out) × (out′ ≡ bytesAfter (text (listingText model f (tapeOf s tt bt n))) out) → Answered s model out r out′
+    load-told out l p =
+        let e = loads ∙ listed-text s model (loadedOf s model) l in
+        (p .0 ∙ sym (ap (λ (x : Listing). answerTo x out) e), p .1 ∙ sym (ap (λ (x : Listing). bytesAfter x out) e))
+
+-- an answer that is told to be this one
+pub told : {B N : ℕ} {x : Load} {a a′ : Loaded} {bt tt : List ℕ} → Leaves B N x a bt tt → a ≡ a′ → Leaves B N x a′ bt tt
+told {B} {N} {x} {bt = bt} {tt} l e = subst (λ (y : Loaded). Leaves B N x y bt tt) e l

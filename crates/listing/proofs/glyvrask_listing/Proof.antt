@@ -1,0 +1,80 @@
+-- `listing::glyvrask_listing` meets its contract: the refusals in their order, else the load's tables are ready and their text is told. Assumes nothing.
+use native.Mathlib.Omega.{arith}
+use mathlib.Core.Path.{refl}
+use borrow.Author.Needs.{needs}
+use Rattle.listing.proofs.Mounting.{told, lent-words, load-ready, no-model, too-long, load-refused, load-told}
+use Rattle.listing.proofs.glyvrask_listing.Statement.{statement}
+use Rattle.listing.proofs.glyvrask_listing.Tie as tie
+
+returns : tie.Need-returns
+returns c =
+    no-model _ _ _ (omega arith)
+
+returns-2 : tie.Need-returns-2
+returns-2 c =
+    too-long _ _ _ (omega arith) (omega arith)
+
+slice-aggregate-load : tie.Need-slice-aggregate-load
+slice-aggregate-load c =
+    refl
+
+slice-aggregate-load-2 : tie.Need-slice-aggregate-load-2
+slice-aggregate-load-2 c =
+    refl
+
+load-requires : tie.Need-load-requires
+load-requires c κs =
+    search needs
+
+enum-known-format : tie.Need-enum-known-format
+enum-known-format c =
+    search needs
+
+slice-aggregate-tell : tie.Need-slice-aggregate-tell
+slice-aggregate-tell c =
+    search needs
+
+slice-aggregate-tell-2 : tie.Need-slice-aggregate-tell-2
+slice-aggregate-tell-2 c =
+    search needs
+
+tell-requires : tie.Need-tell-requires
+tell-requires c κs =
+    let a = c .before .before .before .before .before .before .before .before .before .before .before .before .before .before .before .args in
+    load-ready (a .tape .now) (a .model) (λ i. c .before .before .before .before .before .before .before .before .before .before .before .before .before .before .shared-slice-known .given i .fits) (told (lent-words (a .tape .now) (a .model) refl refl (c .before .before .before .before .before .before .before .before .load .ensures)) (c .before .before .before .before .format .given .1))
+
+enum-known-k : tie.Need-enum-known-k
+enum-known-k c =
+    search needs
+
+same-length : tie.Need-same-length
+same-length c =
+    search needs
+
+returns-3 : tie.Need-returns-3
+returns-3 c =
+    let a = c .before .before .before .before .before .before .before .before .before .before .before .before .before .before .before .before .before .before .args in
+    load-told (a .tape .now) (a .model) (omega arith) (omega arith) (a .out .now) (told (lent-words (a .tape .now) (a .model) refl refl (c .before .before .before .before .before .before .before .before .before .before .before .load .ensures)) (c .before .before .before .before .before .before .before .format .given .1)) (c .before .before .tell .ensures)
+
+returns-4 : tie.Need-returns-4
+returns-4 c =
+    let a = c .before .before .before .before .before .before .before .before .before .before .before .before .args in
+    load-refused (a .tape .now) (a .model) (omega arith) (omega arith) (a .out .now) (told (lent-words (a .tape .now) (a .model) refl refl (c .before .before .before .before .before .load .ensures)) (c .before .k .given .1))
+
+pub glyvrask-listing-spec : {M : Type 1} → statement M
+glyvrask-listing-spec =
+    tie.close
+    (tie.spec
+    returns
+    returns-2
+    slice-aggregate-load
+    slice-aggregate-load-2
+    load-requires
+    enum-known-format
+    slice-aggregate-tell
+    slice-aggregate-tell-2
+    tell-requires
+    enum-known-k
+    same-length
+    returns-3
+    returns-4)

@@ -1,0 +1,41 @@
+-- `listing::say_refused` meets its contract: three writes into bytes that have room. Assumes nothing.
+use native.Mathlib.Omega.{arith}
+use borrow.Author.Needs.{needs}
+use Rattle.text.proofs.Writing.{then}
+use Rattle.listing.proofs.Saying.{refused-most, says-written}
+use Rattle.listing.proofs.Texts.{decimal-long}
+use Rattle.listing.specs.Printed.{refusedText}
+use Rattle.listing.proofs.say_refused.Statement.{statement}
+use Rattle.listing.proofs.say_refused.Tie as tie
+
+slice-aggregate-put-all : tie.Need-slice-aggregate-put-all
+slice-aggregate-put-all c = search needs
+
+put-all-requires : tie.Need-put-all-requires
+put-all-requires c κs = search needs
+
+put-decimal-requires : tie.Need-put-decimal-requires
+put-decimal-requires c κs = search needs
+
+put-requires : tie.Need-put-requires
+put-requires c κs =
+    omega (arith, c .before .before .before .before .before .before .before .put-all .ensures .count, c .before .before .before .put-decimal .ensures .count, decimal-long (c .before .before .before .before .before .before .before .before .before .before .before .args .k))
+
+same-length : tie.Need-same-length
+same-length c = search needs
+
+returns : tie.Need-returns
+unfolding refusedText
+returns c =
+    says-written (then (then (c .before .before .before .before .before .before .before .before .before .before .put-all .ensures) (c .before .before .before .before .before .before .put-decimal .ensures)) (c .before .before .put .ensures)) (omega (arith, c .before .before .before .before .before .before .before .before .before .before .before .before .before .before .pre, refused-most (c .before .before .before .before .before .before .before .before .before .before .before .before .before .before .args .k)))
+
+pub say-refused-spec : {M : Type 1} → statement M
+say-refused-spec =
+    tie.close
+    (tie.spec
+    slice-aggregate-put-all
+    put-all-requires
+    put-decimal-requires
+    put-requires
+    same-length
+    returns)

@@ -1,0 +1,19 @@
+-- What a program prints of a listing: document 01's text, or `refused n` and a line feed. Definitions alone; assumes nothing.
+use Prim.Native.Nat.{ℕ, _≤_}
+use mathlib.Core.Path.{_≡_}
+use mathlib.Core.List.{List, [], _∷_, _++_}
+use lib.ListN.{length, take}
+use Rattle.text.specs.Out.{decimal}
+use Rattle.listing.specs.Listing.{Listing, text, refused}
+
+unfoldable pub refusedText : ℕ → List ℕ
+refusedText k = (0x72 ∷ 0x65 ∷ 0x66 ∷ 0x75 ∷ 0x73 ∷ 0x65 ∷ 0x64 ∷ 0x20 ∷ []) ++ decimal k ++ (0x0A ∷ [])
+
+unfoldable pub printedOf : Listing → List ℕ
+printedOf (text t) = t
+printedOf (refused k) = refusedText k
+
+-- the first r bytes of `out` are the text
+pub record Says (t : List ℕ) (r : ℕ) (out : List ℕ) : Type 0 where
+  pub count : r ≤ length out
+  pub front : take r out ≡ t

@@ -1,0 +1,47 @@
+use borrow.Author.Needs.{needs}
+use Rattle.export.proofs.glyvrask_load.Statement.{statement}
+use Rattle.export.proofs.glyvrask_load.Tie as tie
+use Rattle.export.proofs.glyvrask_load.Reads as reads
+use Rattle.export.proofs.glyvrask_load.Lts as lts
+use Rattle.export.proofs.tell_loaded.Reads as tell-loaded-reads
+use Rattle.tape.proofs.load.Reads as load-reads
+
+-- src/lib.rt:417:9
+returns : tie.Need-returns
+returns c = ?
+
+-- src/lib.rt:419:17
+load-requires : tie.Need-load-requires
+load-requires c κs = search needs
+
+-- src/lib.rt:419:5
+tell-loaded-requires : tie.Need-tell-loaded-requires
+tell-loaded-requires c κs = search needs
+
+-- src/lib.rt:403:1
+same-length : tie.Need-same-length
+same-length c = search needs
+
+-- src/lib.rt:403:1
+same-length-2 : tie.Need-same-length-2
+same-length-2 c = search needs
+
+-- src/lib.rt:403:1
+same-length-3 : tie.Need-same-length-3
+same-length-3 c = search needs
+
+-- src/lib.rt:403:1
+returns-2 : tie.Need-returns-2
+returns-2 c = ?
+
+pub glyvrask-load-spec : {M : Type 1} → statement M
+glyvrask-load-spec =
+    tie.close
+    (tie.spec
+    returns
+    load-requires
+    tell-loaded-requires
+    same-length
+    same-length-2
+    same-length-3
+    returns-2)

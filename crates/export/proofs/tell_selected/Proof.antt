@@ -1,0 +1,56 @@
+use borrow.Author.Needs.{needs}
+use Rattle.export.proofs.tell_selected.Statement.{statement}
+use Rattle.export.proofs.tell_selected.Tie as tie
+use Rattle.export.proofs.tell_selected.Reads as reads
+use Rattle.export.proofs.tell_selected.Lts as lts
+use Rattle.export.proofs.tell.Reads as tell-reads
+
+-- src/lib.rt:320:25
+enum-known-a : tie.Need-enum-known-a
+enum-known-a c = search needs
+
+-- src/lib.rt:322:18
+slice-aggregate-tell : tie.Need-slice-aggregate-tell
+slice-aggregate-tell c = search needs
+
+-- src/lib.rt:322:13
+tell-requires : tie.Need-tell-requires
+tell-requires c κs = search needs
+
+-- src/lib.rt:324:34
+enum-told : tie.Need-enum-told
+enum-told c = search needs
+
+-- src/lib.rt:325:29
+enum-told-2 : tie.Need-enum-told-2
+enum-told-2 c = search needs
+
+-- src/lib.rt:315:1
+same-length : tie.Need-same-length
+same-length c = search needs
+
+-- src/lib.rt:315:1
+returns : tie.Need-returns
+returns c = ?
+
+-- src/lib.rt:315:1
+returns-2 : tie.Need-returns-2
+returns-2 c = ?
+
+-- src/lib.rt:315:1
+returns-3 : tie.Need-returns-3
+returns-3 c = ?
+
+pub tell-selected-spec : {M : Type 1} → statement M
+tell-selected-spec =
+    tie.close
+    (tie.spec
+    enum-known-a
+    slice-aggregate-tell
+    tell-requires
+    enum-told
+    enum-told-2
+    same-length
+    returns
+    returns-2
+    returns-3)

@@ -1,2 +1,4 @@
 pub mod Telling
 pub mod Placing
+pub mod Loading
+pub mod Naming

@@ -1,3 +1,4 @@
+use Rattle.export.proofs.Naming.{name-unwritten, name-written}
 use borrow.Author.Needs.{needs}
 use Rattle.export.proofs.glyvrask_block_name.Statement.{statement}
 use Rattle.export.proofs.glyvrask_block_name.Tie as tie
@@ -21,7 +22,8 @@ same-length c = search needs
 
 -- src/lib.rt:447:9
 returns : tie.Need-returns
-returns c = ?
+returns c =
+    name-unwritten _ _ _ _ (c .before .before .before .before .before .if1 .taken) (c .before .before .before .before .block-size .ensures) (c .before .before .tell-number .ensures)
 
 -- src/lib.rt:450:9
 block-name-requires : tie.Need-block-name-requires
@@ -41,7 +43,8 @@ same-length-3 c = search needs
 
 -- src/lib.rt:432:1
 returns-2 : tie.Need-returns-2
-returns-2 c = ?
+returns-2 c =
+    name-written _ _ _ _ (c .before .before .before .before .before .before .before .before .if1 .left) (c .before .before .before .before .before .before .block-name .ensures) (c .before .before .tell-number2 .ensures)
 
 pub glyvrask-block-name-spec : {M : Type 1} → statement M
 glyvrask-block-name-spec =

@@ -20,7 +20,8 @@ same-length c = search needs
 
 -- src/lib.rt:472:1
 returns : tie.Need-returns
-returns c = ?
+returns c =
+    rw (← c .before .before .before .before .block-selectable .ensures) (c .before .before .tell-mark .ensures)
 
 pub glyvrask-block-selectable-spec : {M : Type 1} → statement M
 glyvrask-block-selectable-spec =

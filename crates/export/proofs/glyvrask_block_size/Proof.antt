@@ -20,7 +20,8 @@ same-length c = search needs
 
 -- src/lib.rt:456:1
 returns : tie.Need-returns
-returns c = ?
+returns c =
+    rw (← c .before .before .before .before .block-size .ensures) (c .before .before .tell-number .ensures)
 
 pub glyvrask-block-size-spec : {M : Type 1} → statement M
 glyvrask-block-size-spec =

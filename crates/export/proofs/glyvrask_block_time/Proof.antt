@@ -20,7 +20,8 @@ same-length c = search needs
 
 -- src/lib.rt:491:1
 returns : tie.Need-returns
-returns c = ?
+returns c =
+    rw (← c .before .before .before .before .block-time .ensures) (c .before .before .tell-time .ensures)
 
 pub glyvrask-block-time-spec : {M : Type 1} → statement M
 glyvrask-block-time-spec =

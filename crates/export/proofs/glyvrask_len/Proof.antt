@@ -20,7 +20,8 @@ same-length c = search needs
 
 -- src/lib.rt:423:1
 returns : tie.Need-returns
-returns c = ?
+returns c =
+    (λ bytes tones. rw (← c .before .before .before .before .len .ensures bytes tones) (c .before .before .tell-number .ensures .0), λ bytes tones. rw (← c .before .before .before .before .len .ensures bytes tones) (c .before .before .tell-number .ensures .1))
 
 pub glyvrask-len-spec : {M : Type 1} → statement M
 glyvrask-len-spec = tie.close (tie.spec len-requires tell-number-requires same-length returns)

@@ -1,3 +1,7 @@
+use lib.ListN.{length}
+use Rattle.blocks.specs.Does.{lentOf}
+use Rattle.tape.specs.Load.{loadNamed}
+use Rattle.export.proofs.Loading.{load-short, load-told}
 use borrow.Author.Needs.{needs}
 use Rattle.export.proofs.glyvrask_load.Statement.{statement}
 use Rattle.export.proofs.glyvrask_load.Tie as tie
@@ -8,7 +12,9 @@ use Rattle.tape.proofs.load.Reads as load-reads
 
 -- src/lib.rt:417:9
 returns : tie.Need-returns
-returns c = ?
+returns c =
+    let a = c .before .before .before .before .before .args in
+    load-short (loadNamed (lentOf (length (a .blocks .now)) (length (a .tones .now))) (a .tape .now) (a .model)) _ _ _ _ _ (c .if1 .taken)
 
 -- src/lib.rt:419:17
 load-requires : tie.Need-load-requires
@@ -32,7 +38,8 @@ same-length-3 c = search needs
 
 -- src/lib.rt:403:1
 returns-2 : tie.Need-returns-2
-returns-2 c = ?
+returns-2 c =
+    load-told _ _ _ _ _ _ (c .before .before .before .before .before .before .before .before .before .before .before .if1 .left) (c .before .before .before .before .before .before .before .before .load .ensures) (c .before .before .tell-loaded .ensures)
 
 pub glyvrask-load-spec : {M : Type 1} → statement M
 glyvrask-load-spec =

@@ -20,7 +20,8 @@ same-length c = search needs
 
 -- src/lib.rt:507:1
 returns : tie.Need-returns
-returns c = ?
+returns c =
+    rw (← c .before .before .before .before .loading-time .ensures) (c .before .before .tell-number .ensures)
 
 pub glyvrask-loading-time-spec : {M : Type 1} → statement M
 glyvrask-loading-time-spec =

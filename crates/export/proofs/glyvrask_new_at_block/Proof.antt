@@ -20,7 +20,8 @@ same-length c = search needs
 
 -- src/lib.rt:522:1
 returns : tie.Need-returns
-returns c = ?
+returns c =
+    rw (← c .before .before .before .before .new-at-block .ensures) (c .before .before .tell-position .ensures)
 
 pub glyvrask-new-at-block-spec : {M : Type 1} → statement M
 glyvrask-new-at-block-spec =

@@ -1,3 +1,6 @@
+use Rattle.export.specs.Export.{withPlace}
+use Rattle.entries.specs.Mounted.{tapeOf}
+use Rattle.export.proofs.Placing.{tell-misplaced}
 use borrow.Author.Needs.{needs}
 use Rattle.export.proofs.glyvrask_play.Statement.{statement}
 use Rattle.export.proofs.glyvrask_play.Tie as tie
@@ -38,11 +41,16 @@ same-length c = search needs
 
 -- src/lib.rt:550:1
 returns : tie.Need-returns
-returns c = ?
+unfolding withPlace
+returns c =
+    rw (← c .before .before .before .before .before .before .before .before .position-from .ensures, c .before .before .before .before .before .before .pos .given .1, ← c .before .before .before .before .play .ensures) (c .before .before .tell-reached .ensures)
 
 -- src/lib.rt:550:1
 returns-2 : tie.Need-returns-2
-returns-2 c = ?
+returns-2 c =
+    let a = c .before .before .before .before .before .before .before .before .before .args in
+    let w = tapeOf (a .tape .now) (a .tones .now) (a .blocks .now) (a .count) in
+    rw (← c .before .before .before .position-from .ensures, c .before .enum-told .given .1) (tell-misplaced _ w _ _ (c .misplaced .ensures (a .tape .now) (a .tones .now)))
 
 pub glyvrask-play-spec : {M : Type 1} → statement M
 glyvrask-play-spec =

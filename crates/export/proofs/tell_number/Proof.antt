@@ -1,3 +1,5 @@
+use Rattle.export.specs.Export.{numberOf, valuesOf, ofNumber}
+use Rattle.export.proofs.Telling.{tell-refused}
 use borrow.Author.Needs.{needs}
 use Rattle.export.proofs.tell_number.Statement.{statement}
 use Rattle.export.proofs.tell_number.Tie as tie
@@ -27,11 +29,15 @@ same-length c = search needs
 
 -- src/lib.rt:255:1
 returns : tie.Need-returns
-returns c = ?
+unfolding numberOf valuesOf ofNumber
+returns c =
+    rw (c .before .before .before .before .before .before .a .given .1) (c .before .before .tell .ensures)
 
 -- src/lib.rt:255:1
 returns-2 : tie.Need-returns-2
-returns-2 c = ?
+unfolding ofNumber
+returns-2 c =
+    rw (c .before .a2 .given .1) (tell-refused _ _)
 
 pub tell-number-spec : {M : Type 1} → statement M
 tell-number-spec =

@@ -1,3 +1,5 @@
+use Rattle.export.specs.Export.{numberOf, valuesOf, ofPosition}
+use Rattle.export.specs.Words.{wordsOf}
 use borrow.Author.Needs.{needs}
 use Rattle.export.proofs.tell_position.Statement.{statement}
 use Rattle.export.proofs.tell_position.Tie as tie
@@ -29,7 +31,9 @@ same-length c = search needs
 
 -- src/lib.rt:295:1
 returns : tie.Need-returns
-returns c = ?
+unfolding numberOf valuesOf ofPosition wordsOf
+returns c =
+    rw (← c .before .before .before .before .before .span-of .ensures, ← c .before .before .before .before .before .before .spot-of .ensures) (c .before .before .tell .ensures)
 
 pub tell-position-spec : {M : Type 1} → statement M
 tell-position-spec =

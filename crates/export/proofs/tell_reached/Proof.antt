@@ -1,3 +1,5 @@
+use Rattle.export.specs.Export.{numberOf, valuesOf, ofReached}
+use Rattle.export.proofs.Telling.{tell-refused}
 use borrow.Author.Needs.{needs}
 use Rattle.export.proofs.tell_reached.Statement.{statement}
 use Rattle.export.proofs.tell_reached.Tie as tie
@@ -43,7 +45,9 @@ same-length c = search needs
 
 -- src/lib.rt:353:1
 returns : tie.Need-returns
-returns c = ?
+unfolding numberOf valuesOf ofReached
+returns c =
+    rw (c .before .before .before .before .before .a .given .1) (c .before .before .tell-stand .ensures)
 
 -- src/lib.rt:353:1
 same-length-2 : tie.Need-same-length-2
@@ -51,7 +55,9 @@ same-length-2 c = search needs
 
 -- src/lib.rt:353:1
 returns-2 : tie.Need-returns-2
-returns-2 c = ?
+unfolding numberOf valuesOf ofReached
+returns-2 c =
+    rw (c .before .before .before .before .before .a2 .given .1) (c .before .before .tell-stand2 .ensures)
 
 -- src/lib.rt:353:1
 same-length-3 : tie.Need-same-length-3
@@ -59,15 +65,21 @@ same-length-3 c = search needs
 
 -- src/lib.rt:353:1
 returns-3 : tie.Need-returns-3
-returns-3 c = ?
+unfolding numberOf valuesOf ofReached
+returns-3 c =
+    rw (c .before .before .before .before .before .a3 .given .1) (c .before .before .tell-stand3 .ensures)
 
 -- src/lib.rt:353:1
 returns-4 : tie.Need-returns-4
-returns-4 c = ?
+unfolding ofReached
+returns-4 c =
+    rw (c .enum-told .given .1) (tell-refused _ _)
 
 -- src/lib.rt:353:1
 returns-5 : tie.Need-returns-5
-returns-5 c = ?
+unfolding ofReached
+returns-5 c =
+    rw (c .enum-told2 .given .1) (tell-refused _ _)
 
 pub tell-reached-spec : {M : Type 1} → statement M
 tell-reached-spec =

@@ -1,3 +1,5 @@
+use Rattle.export.specs.Export.{numberOf, valuesOf, ofSelected}
+use Rattle.export.proofs.Telling.{tell-refused}
 use borrow.Author.Needs.{needs}
 use Rattle.export.proofs.tell_selected.Statement.{statement}
 use Rattle.export.proofs.tell_selected.Tie as tie
@@ -31,15 +33,21 @@ same-length c = search needs
 
 -- src/lib.rt:315:1
 returns : tie.Need-returns
-returns c = ?
+unfolding numberOf valuesOf ofSelected
+returns c =
+    rw (c .before .before .before .before .before .before .a .given .1) (c .before .before .tell .ensures)
 
 -- src/lib.rt:315:1
 returns-2 : tie.Need-returns-2
-returns-2 c = ?
+unfolding ofSelected
+returns-2 c =
+    rw (c .enum-told .given .1) (tell-refused _ _)
 
 -- src/lib.rt:315:1
 returns-3 : tie.Need-returns-3
-returns-3 c = ?
+unfolding ofSelected
+returns-3 c =
+    rw (c .enum-told2 .given .1) (tell-refused _ _)
 
 pub tell-selected-spec : {M : Type 1} → statement M
 tell-selected-spec =

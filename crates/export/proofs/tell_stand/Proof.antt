@@ -1,3 +1,5 @@
+use Rattle.export.specs.Export.{standWords}
+use Rattle.export.specs.Words.{wordsOf}
 use borrow.Author.Needs.{needs}
 use Rattle.export.proofs.tell_stand.Statement.{statement}
 use Rattle.export.proofs.tell_stand.Tie as tie
@@ -34,7 +36,9 @@ same-length c = search needs
 
 -- src/lib.rt:329:1
 returns : tie.Need-returns
-returns c = ?
+unfolding standWords wordsOf
+returns c =
+    rw (← c .before .before .before .before .before .flag .ensures, ← c .before .before .before .before .before .before .span-of .ensures, ← c .before .before .before .before .before .before .before .spot-of .ensures) (c .before .before .tell .ensures)
 
 pub tell-stand-spec : {M : Type 1} → statement M
 tell-stand-spec =

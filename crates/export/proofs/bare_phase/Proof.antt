@@ -1,29 +1,24 @@
+-- `export::bare_phase` meets its contract: the three words are 0, or none is named. Assumes nothing.
 use borrow.Author.Tests.{ne-eqb, eq-eqb}
 use Rattle.export.specs.Words.{bare}
 use Rattle.export.proofs.bare_phase.Statement.{statement}
 use Rattle.export.proofs.bare_phase.Tie as tie
-use Rattle.export.proofs.bare_phase.Reads as reads
-use Rattle.export.proofs.bare_phase.Lts as lts
 
--- src/lib.rt:125:9
 returns : tie.Need-returns
 unfolding bare
 returns c =
     rw (ne-eqb _ _ (c .if1 .taken))
 
--- src/lib.rt:128:9
 returns-2 : tie.Need-returns-2
 unfolding bare
 returns-2 c =
     rw (eq-eqb _ _ (c .before .if1 .left), ne-eqb _ _ (c .if2 .taken))
 
--- src/lib.rt:131:9
 returns-3 : tie.Need-returns-3
 unfolding bare
 returns-3 c =
     rw (eq-eqb _ _ (c .before .before .if1 .left), eq-eqb _ _ (c .before .if2 .left), ne-eqb _ _ (c .if3 .taken))
 
--- src/lib.rt:121:1
 returns-4 : tie.Need-returns-4
 unfolding bare
 returns-4 c =

@@ -1,16 +1,13 @@
+-- `export::flag` meets its contract: a flag is 0 or 1. Assumes nothing.
 use Rattle.export.specs.Words.{flagOf}
 use Rattle.export.proofs.flag.Statement.{statement}
 use Rattle.export.proofs.flag.Tie as tie
-use Rattle.export.proofs.flag.Reads as reads
-use Rattle.export.proofs.flag.Lts as lts
 
--- src/lib.rt:60:1
 returns : tie.Need-returns
 unfolding flagOf
 returns c =
     rw (c .if1 .taken)
 
--- src/lib.rt:60:1
 returns-2 : tie.Need-returns-2
 unfolding flagOf
 returns-2 c =

@@ -1,25 +1,20 @@
+-- `export::format_number` meets its contract: each format has its number. Assumes nothing.
 use Rattle.export.specs.Export.{formatOf}
 use borrow.Author.Needs.{needs}
 use Rattle.export.proofs.format_number.Statement.{statement}
 use Rattle.export.proofs.format_number.Tie as tie
-use Rattle.export.proofs.format_number.Reads as reads
-use Rattle.export.proofs.format_number.Lts as lts
 
--- src/lib.rt:370:24
 enum-told : tie.Need-enum-told
 enum-told c = search needs
 
--- src/lib.rt:371:24
 enum-told-2 : tie.Need-enum-told-2
 enum-told-2 c = search needs
 
--- src/lib.rt:366:1
 returns : tie.Need-returns
 unfolding formatOf
 returns c =
     rw (c .enum-told .given .1)
 
--- src/lib.rt:366:1
 returns-2 : tie.Need-returns-2
 unfolding formatOf
 returns-2 c =

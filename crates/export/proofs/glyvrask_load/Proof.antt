@@ -1,3 +1,5 @@
+-- `export::glyvrask_load` meets its contract: 10 first, else the load. Assumes nothing.
+use native.Mathlib.Omega.{arith}
 use lib.ListN.{length}
 use Rattle.blocks.specs.Does.{lentOf}
 use Rattle.tape.specs.Load.{loadNamed}
@@ -5,41 +7,31 @@ use Rattle.export.proofs.Loading.{load-short, load-told}
 use borrow.Author.Needs.{needs}
 use Rattle.export.proofs.glyvrask_load.Statement.{statement}
 use Rattle.export.proofs.glyvrask_load.Tie as tie
-use Rattle.export.proofs.glyvrask_load.Reads as reads
-use Rattle.export.proofs.glyvrask_load.Lts as lts
-use Rattle.export.proofs.tell_loaded.Reads as tell-loaded-reads
-use Rattle.tape.proofs.load.Reads as load-reads
 
--- src/lib.rt:417:9
 returns : tie.Need-returns
 returns c =
     let a = c .before .before .before .before .before .args in
-    load-short (loadNamed (lentOf (length (a .blocks .now)) (length (a .tones .now))) (a .tape .now) (a .model)) _ _ _ _ _ (c .if1 .taken)
+    load-short (loadNamed (lentOf (length (a .blocks .now)) (length (a .tones .now))) (a .tape .now) (a .model)) _ _ _ _ (a .answer .now) (omega arith)
 
--- src/lib.rt:419:17
 load-requires : tie.Need-load-requires
 load-requires c κs = search needs
 
--- src/lib.rt:419:5
 tell-loaded-requires : tie.Need-tell-loaded-requires
 tell-loaded-requires c κs = search needs
 
--- src/lib.rt:403:1
 same-length : tie.Need-same-length
 same-length c = search needs
 
--- src/lib.rt:403:1
 same-length-2 : tie.Need-same-length-2
 same-length-2 c = search needs
 
--- src/lib.rt:403:1
 same-length-3 : tie.Need-same-length-3
 same-length-3 c = search needs
 
--- src/lib.rt:403:1
 returns-2 : tie.Need-returns-2
 returns-2 c =
-    load-told _ _ _ _ _ _ (c .before .before .before .before .before .before .before .before .before .before .before .if1 .left) (c .before .before .before .before .before .before .before .before .load .ensures) (c .before .before .tell-loaded .ensures)
+    let a = c .before .before .before .before .before .before .before .before .before .before .before .before .before .before .before .before .args in
+    load-told _ _ _ _ _ (a .answer .now) (omega arith) (c .before .before .before .before .before .before .before .before .load .ensures) (c .before .before .tell-loaded .ensures)
 
 pub glyvrask-load-spec : {M : Type 1} → statement M
 glyvrask-load-spec =

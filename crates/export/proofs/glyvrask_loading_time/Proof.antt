@@ -1,24 +1,17 @@
+-- `export::glyvrask_loading_time` meets its contract: the time told. Assumes nothing.
 use borrow.Author.Needs.{needs}
 use Rattle.export.proofs.glyvrask_loading_time.Statement.{statement}
 use Rattle.export.proofs.glyvrask_loading_time.Tie as tie
-use Rattle.export.proofs.glyvrask_loading_time.Reads as reads
-use Rattle.export.proofs.glyvrask_loading_time.Lts as lts
-use Rattle.export.proofs.tell_number.Reads as tell-number-reads
-use Rattle.queries.proofs.loading_time.Reads as loading-time-reads
 
--- src/lib.rt:518:17
 loading-time-requires : tie.Need-loading-time-requires
 loading-time-requires c κs = search needs
 
--- src/lib.rt:518:5
 tell-number-requires : tie.Need-tell-number-requires
 tell-number-requires c κs = search needs
 
--- src/lib.rt:507:1
 same-length : tie.Need-same-length
 same-length c = search needs
 
--- src/lib.rt:507:1
 returns : tie.Need-returns
 returns c =
     rw (← c .before .before .before .before .loading-time .ensures) (c .before .before .tell-number .ensures)

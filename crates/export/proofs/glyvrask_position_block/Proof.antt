@@ -1,51 +1,37 @@
+-- `export::glyvrask_position_block` meets its contract: the words are read as a position, and its block told. Assumes nothing.
 use Rattle.export.specs.Export.{withPlace}
 use Rattle.entries.specs.Mounted.{tapeOf}
 use Rattle.export.proofs.Placing.{tell-misplaced}
 use borrow.Author.Needs.{needs}
 use Rattle.export.proofs.glyvrask_position_block.Statement.{statement}
 use Rattle.export.proofs.glyvrask_position_block.Tie as tie
-use Rattle.export.proofs.glyvrask_position_block.Reads as reads
-use Rattle.export.proofs.glyvrask_position_block.Lts as lts
-use Rattle.deck.proofs.block.Reads as block-reads
-use Rattle.export.proofs.misplaced.Reads as misplaced-reads
-use Rattle.export.proofs.position_from.Reads as position-from-reads
-use Rattle.export.proofs.tell_selected.Reads as tell-selected-reads
 
--- src/lib.rt:543:11
 position-from-requires : tie.Need-position-from-requires
 position-from-requires c κs = search needs
 
--- src/lib.rt:544:20
 enum-known-pos : tie.Need-enum-known-pos
 enum-known-pos c = search needs
 
--- src/lib.rt:544:42
 block-requires : tie.Need-block-requires
 block-requires c κs = search needs
 
--- src/lib.rt:544:28
 tell-selected-requires : tie.Need-tell-selected-requires
 tell-selected-requires c κs = search needs
 
--- src/lib.rt:545:24
 enum-told : tie.Need-enum-told
 enum-told c = search needs
 
--- src/lib.rt:545:24
 misplaced-requires : tie.Need-misplaced-requires
 misplaced-requires c κs = search needs
 
--- src/lib.rt:531:1
 same-length : tie.Need-same-length
 same-length c = search needs
 
--- src/lib.rt:531:1
 returns : tie.Need-returns
 unfolding withPlace
 returns c =
     rw (← c .before .before .before .before .before .before .before .before .position-from .ensures, c .before .before .before .before .before .before .pos .given .1, ← c .before .before .before .before .block .ensures) (c .before .before .tell-selected .ensures)
 
--- src/lib.rt:531:1
 returns-2 : tie.Need-returns-2
 returns-2 c =
     let a = c .before .before .before .before .before .before .before .before .before .args in

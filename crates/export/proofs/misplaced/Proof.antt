@@ -1,29 +1,22 @@
+-- `export::misplaced` meets its contract: the count is asked first. Assumes nothing.
 use Rattle.export.proofs.Placing.{placed-none, placed-over}
 use borrow.Author.Needs.{needs}
 use Rattle.export.proofs.misplaced.Statement.{statement}
 use Rattle.export.proofs.misplaced.Tie as tie
-use Rattle.export.proofs.misplaced.Reads as reads
-use Rattle.export.proofs.misplaced.Lts as lts
-use Rattle.queries.proofs.len.Reads as len-reads
 
--- src/lib.rt:396:11
 len-requires : tie.Need-len-requires
 len-requires c κs = search needs
 
--- src/lib.rt:397:26
 enum-told : tie.Need-enum-told
 enum-told c = search needs
 
--- src/lib.rt:398:25
 enum-known-k : tie.Need-enum-known-k
 enum-known-k c = search needs
 
--- src/lib.rt:393:1
 returns : tie.Need-returns
 returns c =
     λ bytes tones. placed-none _ (c .before .before .len .ensures bytes tones) (c .enum-told .given .1)
 
--- src/lib.rt:393:1
 returns-2 : tie.Need-returns-2
 returns-2 c =
     λ bytes tones. placed-over _ (c .before .before .before .len .ensures bytes tones) (c .before .k .given .1)

@@ -1,62 +1,46 @@
+-- `export::position_from` meets its contract: seven words, or none is named. Assumes nothing.
 use mathlib.Core.Path.{_∙_}
 use borrow.Author.Tests.{lt-ltb, le-ltb}
 use Rattle.export.specs.Words.{positionFrom}
 use borrow.Author.Needs.{needs}
 use Rattle.export.proofs.position_from.Statement.{statement}
 use Rattle.export.proofs.position_from.Tie as tie
-use Rattle.export.proofs.position_from.Reads as reads
-use Rattle.export.proofs.position_from.Lts as lts
-use Rattle.export.proofs.phase_from.Reads as phase-from-reads
-use Rattle.export.proofs.span_from.Reads as span-from-reads
-use Rattle.export.proofs.with_phase.Reads as with-phase-reads
 
--- src/lib.rt:232:9
 returns : tie.Need-returns
 unfolding positionFrom
 returns c =
     rw (lt-ltb _ _ (c .if1 .taken))
 
--- src/lib.rt:234:24
 shared-slice-read-phase-from : tie.Need-shared-slice-read-phase-from
 shared-slice-read-phase-from c = search needs
 
--- src/lib.rt:234:34
 shared-slice-read-phase-from-2 : tie.Need-shared-slice-read-phase-from-2
 shared-slice-read-phase-from-2 c = search needs
 
--- src/lib.rt:234:44
 shared-slice-read-phase-from-3 : tie.Need-shared-slice-read-phase-from-3
 shared-slice-read-phase-from-3 c = search needs
 
--- src/lib.rt:234:54
 shared-slice-read-phase-from-4 : tie.Need-shared-slice-read-phase-from-4
 shared-slice-read-phase-from-4 c = search needs
 
--- src/lib.rt:234:9
 phase-from-requires : tie.Need-phase-from-requires
 phase-from-requires c κs = search needs
 
--- src/lib.rt:235:23
 shared-slice-read-span-from : tie.Need-shared-slice-read-span-from
 shared-slice-read-span-from c = search needs
 
--- src/lib.rt:235:33
 shared-slice-read-span-from-2 : tie.Need-shared-slice-read-span-from-2
 shared-slice-read-span-from-2 c = search needs
 
--- src/lib.rt:235:9
 span-from-requires : tie.Need-span-from-requires
 span-from-requires c κs = search needs
 
--- src/lib.rt:236:16
 shared-slice-read-with-phase : tie.Need-shared-slice-read-with-phase
 shared-slice-read-with-phase c = search needs
 
--- src/lib.rt:236:5
 with-phase-requires : tie.Need-with-phase-requires
 with-phase-requires c κs = search needs
 
--- src/lib.rt:228:1
 returns-2 : tie.Need-returns-2
 unfolding positionFrom
 returns-2 c =

@@ -1,29 +1,24 @@
+-- `export::span_from` meets its contract: the flag is 0, or 1 with no T-states. Assumes nothing.
 use borrow.Author.Tests.{ne-eqb, eq-eqb}
 use Rattle.export.specs.Words.{spanFrom}
 use Rattle.export.proofs.span_from.Statement.{statement}
 use Rattle.export.proofs.span_from.Tie as tie
-use Rattle.export.proofs.span_from.Reads as reads
-use Rattle.export.proofs.span_from.Lts as lts
 
--- src/lib.rt:198:9
 returns : tie.Need-returns
 unfolding spanFrom
 returns c =
     rw (eq-eqb _ _ (c .if1 .taken))
 
--- src/lib.rt:201:9
 returns-2 : tie.Need-returns-2
 unfolding spanFrom
 returns-2 c =
     rw (ne-eqb _ _ (c .before .if1 .left), ne-eqb _ _ (c .if2 .taken))
 
--- src/lib.rt:204:9
 returns-3 : tie.Need-returns-3
 unfolding spanFrom
 returns-3 c =
     rw (ne-eqb _ _ (c .before .before .if1 .left), eq-eqb _ _ (c .before .if2 .left), ne-eqb _ _ (c .if3 .taken))
 
--- src/lib.rt:194:1
 returns-4 : tie.Need-returns-4
 unfolding spanFrom
 returns-4 c =

@@ -1,25 +1,20 @@
+-- `export::span_of` meets its contract: T-states, or the flag. Assumes nothing.
 use Rattle.export.specs.Words.{spanOf}
 use borrow.Author.Needs.{needs}
 use Rattle.export.proofs.span_of.Statement.{statement}
 use Rattle.export.proofs.span_of.Tie as tie
-use Rattle.export.proofs.span_of.Reads as reads
-use Rattle.export.proofs.span_of.Lts as lts
 
--- src/lib.rt:109:21
 enum-known-d : tie.Need-enum-known-d
 enum-known-d c = search needs
 
--- src/lib.rt:113:30
 enum-told : tie.Need-enum-told
 enum-told c = search needs
 
--- src/lib.rt:105:1
 returns : tie.Need-returns
 unfolding spanOf
 returns c =
     rw (c .before .d .given .1)
 
--- src/lib.rt:105:1
 returns-2 : tie.Need-returns-2
 unfolding spanOf
 returns-2 c =

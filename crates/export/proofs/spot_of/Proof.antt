@@ -1,54 +1,42 @@
+-- `export::spot_of` meets its contract: each phase has its number, and words that it does not use are 0. Assumes nothing.
 use Rattle.export.specs.Words.{spotOf}
 use borrow.Author.Needs.{needs}
 use Rattle.export.proofs.spot_of.Statement.{statement}
 use Rattle.export.proofs.spot_of.Tie as tie
-use Rattle.export.proofs.spot_of.Reads as reads
-use Rattle.export.proofs.spot_of.Lts as lts
-use Rattle.export.proofs.flag.Reads as flag-reads
 
--- src/lib.rt:70:25
 enum-told : tie.Need-enum-told
 enum-told c = search needs
 
--- src/lib.rt:77:13
 enum-known-f : tie.Need-enum-known-f
 enum-known-f c = search needs
 
--- src/lib.rt:84:19
 flag-requires : tie.Need-flag-requires
 flag-requires c κs = search needs
 
--- src/lib.rt:87:13
 enum-known-f-2 : tie.Need-enum-known-f-2
 enum-known-f-2 c = search needs
 
--- src/lib.rt:94:19
 flag-requires-2 : tie.Need-flag-requires-2
 flag-requires-2 c κs = search needs
 
--- src/lib.rt:96:25
 enum-told-2 : tie.Need-enum-told-2
 enum-told-2 c = search needs
 
--- src/lib.rt:66:1
 returns : tie.Need-returns
 unfolding spotOf
 returns c =
     rw (c .enum-told .given .1)
 
--- src/lib.rt:66:1
 returns-2 : tie.Need-returns-2
 unfolding spotOf
 returns-2 c =
     rw (c .before .before .f .given .1, c .flag .ensures)
 
--- src/lib.rt:66:1
 returns-3 : tie.Need-returns-3
 unfolding spotOf
 returns-3 c =
     rw (c .before .before .f2 .given .1, c .flag2 .ensures)
 
--- src/lib.rt:66:1
 returns-4 : tie.Need-returns-4
 unfolding spotOf
 returns-4 c =

@@ -1,44 +1,33 @@
+-- `export::tell_mark` meets its contract: the mark as a word, or the refusal. Assumes nothing.
 use Rattle.export.specs.Export.{numberOf, valuesOf, ofMark}
 use Rattle.export.proofs.Telling.{tell-refused}
 use borrow.Author.Needs.{needs}
 use Rattle.export.proofs.tell_mark.Statement.{statement}
 use Rattle.export.proofs.tell_mark.Tie as tie
-use Rattle.export.proofs.tell_mark.Reads as reads
-use Rattle.export.proofs.tell_mark.Lts as lts
-use Rattle.export.proofs.flag.Reads as flag-reads
-use Rattle.export.proofs.tell.Reads as tell-reads
 
--- src/lib.rt:273:18
 enum-known-a : tie.Need-enum-known-a
 enum-known-a c = search needs
 
--- src/lib.rt:274:22
 flag-requires : tie.Need-flag-requires
 flag-requires c κs = search needs
 
--- src/lib.rt:275:18
 slice-aggregate-tell : tie.Need-slice-aggregate-tell
 slice-aggregate-tell c = search needs
 
--- src/lib.rt:275:13
 tell-requires : tie.Need-tell-requires
 tell-requires c κs = search needs
 
--- src/lib.rt:277:23
 enum-known-a-2 : tie.Need-enum-known-a-2
 enum-known-a-2 c = search needs
 
--- src/lib.rt:268:1
 same-length : tie.Need-same-length
 same-length c = search needs
 
--- src/lib.rt:268:1
 returns : tie.Need-returns
 unfolding numberOf valuesOf ofMark
 returns c =
     rw (c .before .before .before .before .before .before .before .a .given .1, ← c .before .before .before .before .before .flag .ensures) (c .before .before .tell .ensures)
 
--- src/lib.rt:268:1
 returns-2 : tie.Need-returns-2
 unfolding ofMark
 returns-2 c =

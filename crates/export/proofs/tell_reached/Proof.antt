@@ -1,81 +1,63 @@
+-- `export::tell_reached` meets its contract: how the player stands, or the refusal. Assumes nothing.
 use Rattle.export.specs.Export.{numberOf, valuesOf, ofReached}
 use Rattle.export.proofs.Telling.{tell-refused}
 use borrow.Author.Needs.{needs}
 use Rattle.export.proofs.tell_reached.Statement.{statement}
 use Rattle.export.proofs.tell_reached.Tie as tie
-use Rattle.export.proofs.tell_reached.Reads as reads
-use Rattle.export.proofs.tell_reached.Lts as lts
-use Rattle.export.proofs.tell_stand.Reads as tell-stand-reads
 
--- src/lib.rt:358:21
 enum-known-a : tie.Need-enum-known-a
 enum-known-a c = search needs
 
--- src/lib.rt:358:27
 tell-stand-requires : tie.Need-tell-stand-requires
 tell-stand-requires c κs = search needs
 
--- src/lib.rt:359:26
 enum-known-a-2 : tie.Need-enum-known-a-2
 enum-known-a-2 c = search needs
 
--- src/lib.rt:359:32
 tell-stand-requires-2 : tie.Need-tell-stand-requires-2
 tell-stand-requires-2 c κs = search needs
 
--- src/lib.rt:360:24
 enum-known-a-3 : tie.Need-enum-known-a-3
 enum-known-a-3 c = search needs
 
--- src/lib.rt:360:30
 tell-stand-requires-3 : tie.Need-tell-stand-requires-3
 tell-stand-requires-3 c κs = search needs
 
--- src/lib.rt:361:30
 enum-told : tie.Need-enum-told
 enum-told c = search needs
 
--- src/lib.rt:362:31
 enum-told-2 : tie.Need-enum-told-2
 enum-told-2 c = search needs
 
--- src/lib.rt:353:1
 same-length : tie.Need-same-length
 same-length c = search needs
 
--- src/lib.rt:353:1
 returns : tie.Need-returns
 unfolding numberOf valuesOf ofReached
 returns c =
     rw (c .before .before .before .before .before .a .given .1) (c .before .before .tell-stand .ensures)
 
--- src/lib.rt:353:1
 same-length-2 : tie.Need-same-length-2
 same-length-2 c = search needs
 
--- src/lib.rt:353:1
 returns-2 : tie.Need-returns-2
 unfolding numberOf valuesOf ofReached
 returns-2 c =
     rw (c .before .before .before .before .before .a2 .given .1) (c .before .before .tell-stand2 .ensures)
 
--- src/lib.rt:353:1
 same-length-3 : tie.Need-same-length-3
 same-length-3 c = search needs
 
--- src/lib.rt:353:1
 returns-3 : tie.Need-returns-3
 unfolding numberOf valuesOf ofReached
 returns-3 c =
     rw (c .before .before .before .before .before .a3 .given .1) (c .before .before .tell-stand3 .ensures)
 
--- src/lib.rt:353:1
 returns-4 : tie.Need-returns-4
 unfolding ofReached
 returns-4 c =
     rw (c .enum-told .given .1) (tell-refused _ _)
 
--- src/lib.rt:353:1
 returns-5 : tie.Need-returns-5
 unfolding ofReached
 returns-5 c =

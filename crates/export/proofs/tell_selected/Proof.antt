@@ -1,49 +1,38 @@
+-- `export::tell_selected` meets its contract: the block as a word, or the refusal. Assumes nothing.
 use Rattle.export.specs.Export.{numberOf, valuesOf, ofSelected}
 use Rattle.export.proofs.Telling.{tell-refused}
 use borrow.Author.Needs.{needs}
 use Rattle.export.proofs.tell_selected.Statement.{statement}
 use Rattle.export.proofs.tell_selected.Tie as tie
-use Rattle.export.proofs.tell_selected.Reads as reads
-use Rattle.export.proofs.tell_selected.Lts as lts
-use Rattle.export.proofs.tell.Reads as tell-reads
 
--- src/lib.rt:320:25
 enum-known-a : tie.Need-enum-known-a
 enum-known-a c = search needs
 
--- src/lib.rt:322:18
 slice-aggregate-tell : tie.Need-slice-aggregate-tell
 slice-aggregate-tell c = search needs
 
--- src/lib.rt:322:13
 tell-requires : tie.Need-tell-requires
 tell-requires c κs = search needs
 
--- src/lib.rt:324:34
 enum-told : tie.Need-enum-told
 enum-told c = search needs
 
--- src/lib.rt:325:29
 enum-told-2 : tie.Need-enum-told-2
 enum-told-2 c = search needs
 
--- src/lib.rt:315:1
 same-length : tie.Need-same-length
 same-length c = search needs
 
--- src/lib.rt:315:1
 returns : tie.Need-returns
 unfolding numberOf valuesOf ofSelected
 returns c =
     rw (c .before .before .before .before .before .before .a .given .1) (c .before .before .tell .ensures)
 
--- src/lib.rt:315:1
 returns-2 : tie.Need-returns-2
 unfolding ofSelected
 returns-2 c =
     rw (c .enum-told .given .1) (tell-refused _ _)
 
--- src/lib.rt:315:1
 returns-3 : tie.Need-returns-3
 unfolding ofSelected
 returns-3 c =

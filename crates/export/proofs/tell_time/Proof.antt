@@ -1,44 +1,33 @@
+-- `export::tell_time` meets its contract: the duration as words, or the refusal. Assumes nothing.
 use Rattle.export.specs.Export.{numberOf, valuesOf, ofTime}
 use Rattle.export.proofs.Telling.{tell-refused}
 use borrow.Author.Needs.{needs}
 use Rattle.export.proofs.tell_time.Statement.{statement}
 use Rattle.export.proofs.tell_time.Tie as tie
-use Rattle.export.proofs.tell_time.Reads as reads
-use Rattle.export.proofs.tell_time.Lts as lts
-use Rattle.export.proofs.span_of.Reads as span-of-reads
-use Rattle.export.proofs.tell.Reads as tell-reads
 
--- src/lib.rt:286:21
 enum-known-a : tie.Need-enum-known-a
 enum-known-a c = search needs
 
--- src/lib.rt:287:17
 span-of-requires : tie.Need-span-of-requires
 span-of-requires c κs = search needs
 
--- src/lib.rt:289:18
 slice-aggregate-tell : tie.Need-slice-aggregate-tell
 slice-aggregate-tell c = search needs
 
--- src/lib.rt:289:13
 tell-requires : tie.Need-tell-requires
 tell-requires c κs = search needs
 
--- src/lib.rt:291:23
 enum-known-a-2 : tie.Need-enum-known-a-2
 enum-known-a-2 c = search needs
 
--- src/lib.rt:281:1
 same-length : tie.Need-same-length
 same-length c = search needs
 
--- src/lib.rt:281:1
 returns : tie.Need-returns
 unfolding numberOf valuesOf ofTime
 returns c =
     rw (c .before .before .before .before .before .before .before .a .given .1, ← c .before .before .before .before .before .span-of .ensures) (c .before .before .tell .ensures)
 
--- src/lib.rt:281:1
 returns-2 : tie.Need-returns-2
 unfolding ofTime
 returns-2 c =

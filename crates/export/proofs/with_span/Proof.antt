@@ -1,25 +1,20 @@
+-- `export::with_span` meets its contract: both name something, or none is named. Assumes nothing.
 use Rattle.export.specs.Words.{joined}
 use borrow.Author.Needs.{needs}
 use Rattle.export.proofs.with_span.Statement.{statement}
 use Rattle.export.proofs.with_span.Tie as tie
-use Rattle.export.proofs.with_span.Reads as reads
-use Rattle.export.proofs.with_span.Lts as lts
 
--- src/lib.rt:213:21
 enum-known-d : tie.Need-enum-known-d
 enum-known-d c = search needs
 
--- src/lib.rt:214:25
 enum-told : tie.Need-enum-told
 enum-told c = search needs
 
--- src/lib.rt:209:1
 returns : tie.Need-returns
 unfolding joined
 returns c =
     rw (c .before .d .given .1)
 
--- src/lib.rt:209:1
 returns-2 : tie.Need-returns-2
 unfolding joined
 returns-2 c =

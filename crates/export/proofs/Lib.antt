@@ -4,4 +4,5 @@ pub mod Loading
 pub mod Naming
 pub mod Positions
 pub mod Numbers
+pub mod Readings
 pub mod Once

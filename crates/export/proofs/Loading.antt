@@ -1,0 +1,40 @@
+-- A load as a host gets it: 10 first, else the load's own answer and tables. Assumes nothing.
+use Prim.Native.Nat.{ℕ, _<_, _≤_}
+use mathlib.Core.Path.{_≡_, sym, ap, _∙_}
+use mathlib.Core.List.{List}
+use lib.ListN.{length}
+use borrow.Author.Tests.{le-leb, lt-leb, le-ltb, lt-ltb}
+use Rattle.text.specs.Out.{told}
+use Rattle.reader.specs.Source.{Loaded as Load}
+use Rattle.tape.specs.declared.Loaded.{Loaded}
+use Rattle.tape.specs.declared.Loaded.the-variants.{Tape, Refused}
+use Rattle.tape.specs.Load.{Leaves, answerOf, blocksOf, tonesOf}
+use Rattle.export.specs.Export.{numberOf, valuesOf, ofLoaded, loadNumber, loadTable}
+use Rattle.export.proofs.Telling.{tell-refused}
+
+-- three words hold any answer
+whole : (a : Loaded) (row : List ℕ) → 3 ≤ length row → numberOf (ofLoaded a) row ≡ ofLoaded a .no
+unfolding numberOf ofLoaded
+whole (Tape f b t) row h = rw (le-leb 3 (length row) h)
+whole (Refused k) row h = sym (tell-refused k row .0)
+
+-- a shorter row is not written
+unwritten : (a : Loaded) (row : List ℕ) → length row < 3 → row ≡ valuesOf (ofLoaded a) row
+unfolding valuesOf ofLoaded told
+unwritten (Tape f b t) row h = rw (lt-leb 3 (length row) h)
+unwritten (Refused k) row h = tell-refused k row .1
+
+pub load-short : (l : Load) (B N : ℕ) (bs ts row : List ℕ) → length row < 3
+    → (_≡_ {A = ℕ} 10 (loadNumber (answerOf l) row)) × ((bs ≡ loadTable row bs (blocksOf B l)) × ((ts ≡ loadTable row ts (tonesOf N l)) × (row ≡ valuesOf (ofLoaded (answerOf l)) row)))
+unfolding loadNumber loadTable
+load-short l B N bs ts row h =
+    (rw (lt-ltb (length row) 3 h), (rw (lt-ltb (length row) 3 h), (rw (lt-ltb (length row) 3 h), unwritten (answerOf l) row h)))
+
+pub load-told : (l : Load) (B N : ℕ) (bs ts row : List ℕ) {a : Loaded} {bs′ ts′ row′ : List ℕ} {k : ℕ} → 3 ≤ length row → Leaves B N l a bs′ ts′
+    → (k ≡ numberOf (ofLoaded a) row) × (row′ ≡ valuesOf (ofLoaded a) row)
+    → (k ≡ loadNumber (answerOf l) row) × ((bs′ ≡ loadTable row bs (blocksOf B l)) × ((ts′ ≡ loadTable row ts (tonesOf N l)) × (row′ ≡ valuesOf (ofLoaded (answerOf l)) row)))
+unfolding loadNumber loadTable
+load-told l B N bs ts row {a} h q e =
+    let n = e .0 ∙ whole a row h ∙ ap (λ (x : Loaded). ofLoaded x .no) (q .answer) in
+    let r = e .1 ∙ ap (λ (x : Loaded). valuesOf (ofLoaded x) row) (q .answer) in
+    (rw (le-ltb (length row) 3 h) n, (rw (le-ltb (length row) 3 h) (q .blocks), (rw (le-ltb (length row) 3 h) (q .tones), r)))

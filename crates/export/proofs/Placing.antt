@@ -1,0 +1,42 @@
+-- Words that name no position: 11 for the count, then 9. Assumes nothing.
+use Prim.Native.Nat.{ℕ}
+use mathlib.Core.Path.{_≡_, sym, _∙_}
+use mathlib.Core.List.{List}
+use mathlib.Core.Bool.{Bool, true, false}
+use Rattle.laws.specs.Rules.{_⇒_, _∣_}
+use Rattle.entries.specs.Places.{Tape}
+use Rattle.entries.specs.Mounted.{overfull}
+use Rattle.queries.specs.declared.Number.{Number}
+use Rattle.queries.specs.declared.Number.the-variants.{Is, Refused}
+use Rattle.queries.specs.Queries.{lenOf}
+use Rattle.walks.specs.declared.Position.{Position}
+use Rattle.export.specs.declared.Placed.the-variants.{Not}
+use Rattle.export.specs.Export.{Answer, refused, numberOf, valuesOf, withPlace}
+use Rattle.export.proofs.Telling.{tell-refused}
+
+by-none : (t : Bool) (n m : ℕ) → Is n ≡ (t ⇒ Refused 11 ∣ Is m) → _≡_ {A = ℕ} 9 (t ⇒ 11 ∣ 9)
+by-none true n m e = cc
+by-none false n m e = cc
+
+by-over : (t : Bool) (k m : ℕ) → Refused k ≡ (t ⇒ Refused 11 ∣ Is m) → k ≡ (t ⇒ 11 ∣ 9)
+by-over true k m e = cc
+by-over false k m e = cc
+
+-- the count is within the capacity
+pub placed-none : (w : Tape) {a : Number} {n : ℕ} → a ≡ lenOf w → a ≡ Is n → _≡_ {A = ℕ} 9 (overfull w ⇒ 11 ∣ 9)
+unfolding lenOf
+placed-none w {a} {n} e q = by-none (overfull w) n (w .count) (sym q ∙ e)
+
+-- it exceeds it
+pub placed-over : (w : Tape) {a : Number} {k : ℕ} → a ≡ lenOf w → a ≡ Refused k → k ≡ (overfull w ⇒ 11 ∣ 9)
+unfolding lenOf
+placed-over w {a} {k} e q = by-over (overfull w) k (w .count) (sym q ∙ e)
+
+by-count : (t : Bool) (k : ℕ) (row : List ℕ) → k ≡ (t ⇒ 11 ∣ 9) → (k ≡ numberOf (t ⇒ refused 11 ∣ refused 9) row) × (row ≡ valuesOf (t ⇒ refused 11 ∣ refused 9) row)
+by-count true k row e = (e ∙ tell-refused 11 row .0, tell-refused 11 row .1)
+by-count false k row e = (e ∙ tell-refused 9 row .0, tell-refused 9 row .1)
+
+-- so a host is told, whatever is asked of the position
+pub tell-misplaced : (f : Position → Answer) (w : Tape) (k : ℕ) (row : List ℕ) → k ≡ (overfull w ⇒ 11 ∣ 9) → (k ≡ numberOf (withPlace f w Not) row) × (row ≡ valuesOf (withPlace f w Not) row)
+unfolding withPlace
+tell-misplaced f w k row e = by-count (overfull w) k row e

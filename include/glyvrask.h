@@ -1,0 +1,190 @@
+/* Glyvrask for C hosts: ZX Spectrum tape images read, listed and played over memory that the host lends.
+ *
+ * Two static libraries for x86-64 Linux: `rt staticlib listing` gives glyvrask_listing, `rt staticlib export` all the others.
+ * None of these functions allocates, keeps anything between calls, or panics. Each has a proved contract with no condition but
+ * these, which hold of any lent memory: a pointer is not null, also where its length is 0; words are aligned to 8 bytes; what is
+ * written to overlaps nothing else that is lent in the same call. A length counts elements (bytes, or words of 64 bits).
+ */
+#ifndef GLYVRASK_H
+#define GLYVRASK_H
+
+#if defined(__SIZE_TYPE__) && defined(__UINT64_TYPE__)
+typedef __SIZE_TYPE__ glyvrask_size;   /* size_t */
+typedef __UINT64_TYPE__ glyvrask_word; /* uint64_t */
+#else
+#include <stddef.h>
+#include <stdint.h>
+typedef size_t glyvrask_size;
+typedef uint64_t glyvrask_word;
+#endif
+
+#ifdef __cplusplus
+extern "C" {
+#endif
+
+/* THE NUMBERS FOR NO. 1 to 7 leave both lent tables all zero; 8 to 11 alter nothing. A refusal is its number alone: no word of
+ * `answer` and no byte of `out` is written. */
+enum {
+    GLYVRASK_OK = 0,
+    GLYVRASK_MODEL = 1,       /* model is not 0 (48K), 1 (128K), 2 (Plus3) */
+    GLYVRASK_TAPE_LONG = 2,   /* tape over 1,048,576 bytes (in the listing, over 65,535) */
+    GLYVRASK_TAPE_BAD = 3,    /* TZX and TAP reading both err */
+    GLYVRASK_GENERALISED = 4, /* a generalised piece that the source reading can't take */
+    GLYVRASK_TONES_FULL = 5,  /* a block needs more tone rows than remain */
+    GLYVRASK_BLOCKS_FULL = 6, /* more block rows than remain */
+    GLYVRASK_LAST_BITS = 7,   /* TZX was read whole, but a block with data has last bits above 8 */
+    GLYVRASK_NO_BLOCK = 8,    /* block number not below the count */
+    GLYVRASK_NO_POSITION = 9, /* position not valid on this tape, or words that name no position */
+    GLYVRASK_NO_ROOM = 10,    /* `out` shorter than the text, or `answer` shorter than the values */
+    GLYVRASK_BAD_ROW = 11     /* a needed row is not well formed, or the count exceeds capacity */
+};
+
+/* THE TABLES. Capacity is the whole rows lent, at most 4,096 blocks and 65,536 tones: a broken last row and rows past these
+ * limits are never used. After a load every unused word of both tables is zero. */
+enum { GLYVRASK_BLOCK_WORDS = 13, GLYVRASK_TONE_WORDS = 3 };
+
+/* the words of a block row */
+enum {
+    GLYVRASK_TONE = 0,       /* its first tone row */
+    GLYVRASK_TONES = 1,      /* how many tone rows it has */
+    GLYVRASK_START = 2,      /* place of its data in the tape */
+    GLYVRASK_SIZE = 3,       /* bytes of data */
+    GLYVRASK_ZERO = 4,       /* T-states of half a 0 bit */
+    GLYVRASK_ONE = 5,        /* T-states of half a 1 bit */
+    GLYVRASK_LAST = 6,       /* bits used of the last byte */
+    GLYVRASK_PAUSE = 7,      /* T-states after the data */
+    GLYVRASK_ENDLESS = 8,    /* 1: the pause never ends (a stop) */
+    GLYVRASK_SELECTABLE = 9, /* 1: offered in a menu */
+    GLYVRASK_NAMED = 10,     /* 0 no name given, 1 `stop`, 2 a text, 3 a group's first block, 4 a group's later block */
+    GLYVRASK_TEXT = 11,      /* place of the given name in the tape */
+    GLYVRASK_CHARS = 12      /* bytes of the given name */
+};
+
+/* the words of a tone row */
+enum {
+    GLYVRASK_NUM = 0,  /* cycles; 0 plays as one */
+    GLYVRASK_LEN1 = 1, /* T-states of a cycle's first half */
+    GLYVRASK_LEN2 = 2  /* T-states of its second half */
+};
+
+/* A POSITION is seven words. Words that a phase does not use are 0, and so is `left` where `endless` is 1; other words name no
+ * position, as does a row shorter than seven. Words past the seventh are not read. */
+enum {
+    GLYVRASK_POS_BLOCK = 0,   /* its block number */
+    GLYVRASK_POS_PHASE = 1,   /* 0 the block's start, 1 tones, 2 data, 3 pause */
+    GLYVRASK_POS_ITEM = 2,    /* tones: the tone row, counted from the block's first; data: the byte */
+    GLYVRASK_POS_PART = 3,    /* tones: the cycle; data: the bit, from the top */
+    GLYVRASK_POS_HALF = 4,    /* tones, data: 1 in the last half */
+    GLYVRASK_POS_ENDLESS = 5, /* 1: what is left never ends */
+    GLYVRASK_POS_LEFT = 6,    /* T-states left of this entry */
+    GLYVRASK_POS_WORDS = 7
+};
+
+/* A PLAYER'S ANSWER is ten words, the last seven of them the position where the call leaves the head. */
+enum {
+    GLYVRASK_HOW = 0,    /* 0 it stands, 1 it has stopped at an endless pause, 2 it has ended */
+    GLYVRASK_PASSED = 1, /* entries passed */
+    GLYVRASK_LEVEL = 2,  /* the level there: 0 low, 1 high */
+    GLYVRASK_AT = 3,     /* the position's first word */
+    GLYVRASK_PLAYED_WORDS = 10
+};
+
+/* The block number that stands for past the end. */
+#define GLYVRASK_PAST_END 4294967295u
+
+/* The listing as text into `out`: its length, or a refusal's number. No text is shorter than 37 bytes and no number is above 11,
+ * so below 32 it is a refusal. `tape` has at most 65,535 bytes; model 0 is the 48K, 1 the 128K, 2 the Plus3. Bytes of `out` past
+ * the text stay. Refusals: 1, 2, 3 to 7, 10. */
+unsigned glyvrask_listing(const unsigned char *tape, glyvrask_size tape_len, unsigned model,
+                          unsigned char *out, glyvrask_size out_len);
+
+/* Every function below returns 0 or a refusal's number. On 0 its values stand in the first words of `answer`, and words past
+ * them stay. Where `answer` is shorter than the values it is 10; that comes last, as document 01 has it of a name, but first in
+ * a load. */
+
+/* A load. answer: 0 format (0 TAP, 1 TZX), 1 blocks, 2 tone rows. Refusals: 10 (`answer` below 3 words: nothing is read, and
+ * both tables stay), 1, 2, then as the reading goes 3 to 7. */
+unsigned glyvrask_load(const unsigned char *tape, glyvrask_size tape_len, unsigned model,
+                       glyvrask_word *blocks, glyvrask_size blocks_len,
+                       glyvrask_word *tones, glyvrask_size tones_len,
+                       glyvrask_word *answer, glyvrask_size answer_len);
+
+/* The functions below take the tape as it was loaded: the same bytes, both tables, and `count`, the load's answer 1. They work
+ * on any words: a row that is needed and not well formed is 11. */
+
+/* How many blocks the tape has. answer: 0 the count. Refusals: 11, 10. */
+unsigned glyvrask_len(const glyvrask_word *blocks, glyvrask_size blocks_len, glyvrask_word count,
+                      glyvrask_word *answer, glyvrask_size answer_len);
+
+/* Block i's name as UTF-8 into `out`. answer: 0 the name's length in bytes. Bytes of `out` past the name stay. Refusals: 11 for
+ * the count, 8, 11 for the row, 10. */
+unsigned glyvrask_block_name(const unsigned char *tape, glyvrask_size tape_len,
+                             const glyvrask_word *blocks, glyvrask_size blocks_len,
+                             const glyvrask_word *tones, glyvrask_size tones_len,
+                             glyvrask_word count, glyvrask_word i,
+                             unsigned char *out, glyvrask_size out_len,
+                             glyvrask_word *answer, glyvrask_size answer_len);
+
+/* Its data size. answer: 0 bytes. Refusals: 11, 8, 11, 10. */
+unsigned glyvrask_block_size(const unsigned char *tape, glyvrask_size tape_len,
+                             const glyvrask_word *blocks, glyvrask_size blocks_len,
+                             const glyvrask_word *tones, glyvrask_size tones_len,
+                             glyvrask_word count, glyvrask_word i,
+                             glyvrask_word *answer, glyvrask_size answer_len);
+
+/* Whether it is offered in a menu. answer: 0 the mark, 0 or 1. Refusals: 11, 8, 11, 10. */
+unsigned glyvrask_block_selectable(const unsigned char *tape, glyvrask_size tape_len,
+                                   const glyvrask_word *blocks, glyvrask_size blocks_len,
+                                   const glyvrask_word *tones, glyvrask_size tones_len,
+                                   glyvrask_word count, glyvrask_word i,
+                                   glyvrask_word *answer, glyvrask_size answer_len);
+
+/* What it lasts, with its pause. answer: 0 endless (1: it never ends), 1 T-states (0 where it never ends).
+ * Refusals: 11, 8, 11, 10. */
+unsigned glyvrask_block_time(const unsigned char *tape, glyvrask_size tape_len,
+                             const glyvrask_word *blocks, glyvrask_size blocks_len,
+                             const glyvrask_word *tones, glyvrask_size tones_len,
+                             glyvrask_word count, glyvrask_word i,
+                             glyvrask_word *answer, glyvrask_size answer_len);
+
+/* All entries up to the first stop or the end. answer: 0 T-states. Refusals: 11, 10. */
+unsigned glyvrask_loading_time(const unsigned char *tape, glyvrask_size tape_len,
+                               const glyvrask_word *blocks, glyvrask_size blocks_len,
+                               const glyvrask_word *tones, glyvrask_size tones_len,
+                               glyvrask_word count,
+                               glyvrask_word *answer, glyvrask_size answer_len);
+
+/* A block's start. answer: a position's seven words. Refusal: 10. */
+unsigned glyvrask_new_at_block(glyvrask_word block, glyvrask_word *answer, glyvrask_size answer_len);
+
+/* The block that a position is shown under: back to a selectable one or 0, or GLYVRASK_PAST_END. answer: 0 the block number.
+ * Refusals: 11 for the count, 9, 11 for a row, 9, 10. */
+unsigned glyvrask_position_block(const unsigned char *tape, glyvrask_size tape_len,
+                                 const glyvrask_word *blocks, glyvrask_size blocks_len,
+                                 const glyvrask_word *tones, glyvrask_size tones_len,
+                                 glyvrask_word count,
+                                 const glyvrask_word *position, glyvrask_size position_len,
+                                 glyvrask_word *answer, glyvrask_size answer_len);
+
+/* The source's play of n T-states from a position. answer: a player's ten words. Refusals: 11 for the count, 9, 11 for its row,
+ * 9, 11 for a row that the walk reaches, 10. `position` and `answer` must not overlap. */
+unsigned glyvrask_play(const unsigned char *tape, glyvrask_size tape_len,
+                       const glyvrask_word *blocks, glyvrask_size blocks_len,
+                       const glyvrask_word *tones, glyvrask_size tones_len,
+                       glyvrask_word count,
+                       const glyvrask_word *position, glyvrask_size position_len, unsigned n,
+                       glyvrask_word *answer, glyvrask_size answer_len);
+
+/* The measured player's call of n T-states from a position; otherwise as glyvrask_play. */
+unsigned glyvrask_play_measured(const unsigned char *tape, glyvrask_size tape_len,
+                                const glyvrask_word *blocks, glyvrask_size blocks_len,
+                                const glyvrask_word *tones, glyvrask_size tones_len,
+                                glyvrask_word count,
+                                const glyvrask_word *position, glyvrask_size position_len, unsigned n,
+                                glyvrask_word *answer, glyvrask_size answer_len);
+
+#ifdef __cplusplus
+}
+#endif
+
+#endif

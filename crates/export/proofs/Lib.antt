@@ -5,4 +5,3 @@ pub mod Naming
 pub mod Positions
 pub mod Numbers
 pub mod Readings
-pub mod Once

@@ -2,3 +2,4 @@ pub mod Views
 pub mod Queries
 pub mod Outcomes
 pub mod Readings
+pub mod Exported

@@ -20,13 +20,17 @@ use Rattle.queries.specs.declared.Mark.the-variants as mark
 use Rattle.queries.specs.declared.Time.{Time}
 use Rattle.queries.specs.declared.Time.the-variants as lasting
 use Rattle.queries.specs.Queries.{nameBytes}
+use Rattle.deck.specs.Deck.{playMeasured, playSource, blockAt}
+use Rattle.blocks.specs.Does.{lentOf}
+use Rattle.reader.specs.Source.{Loaded as Load}
+use Rattle.tape.specs.Load.{loadNamed}
 use Rattle.tape.specs.declared.Format.{Format}
 use Rattle.tape.specs.declared.Format.the-variants.{Tap, Tzx}
 use Rattle.tape.specs.declared.Loaded.{Loaded}
 use Rattle.tape.specs.declared.Loaded.the-variants as loaded
 use Rattle.export.specs.declared.Placed.{Placed}
 use Rattle.export.specs.declared.Placed.the-variants as place
-use Rattle.export.specs.Words.{flagOf, spanOf, wordsOf}
+use Rattle.export.specs.Words.{flagOf, spanOf, wordsOf, positionFrom}
 
 -- an answer as a host gets it: document 01's number, 0 for none, and its values as words
 pub record Answer : Type 0 where
@@ -99,6 +103,20 @@ ofLoaded (loaded.Refused k) = refused k
 unfoldable pub withPlace : (Position → Answer) → Tape → Placed → Answer
 withPlace f w (place.Is q) = f q
 withPlace f w place.Not = overfull w ⇒ refused 11 ∣ refused 9
+
+-- a position's block, and both players' answers, from lent words
+abbrev pub selectedAt : Tape → List ℕ → Answer
+selectedAt w ws = withPlace (λ q. ofSelected (blockAt w q)) w (positionFrom ws)
+
+abbrev pub sourceAt : Tape → List ℕ → ℕ → Answer
+sourceAt w ws n = withPlace (λ q. ofReached (playSource w q n)) w (positionFrom ws)
+
+abbrev pub measuredAt : Tape → List ℕ → ℕ → Answer
+measuredAt w ws n = withPlace (λ q. ofReached (playMeasured w q n)) w (positionFrom ws)
+
+-- the load of a tape for a model into lent tables
+abbrev pub loadIn : List ℕ → List ℕ → List ℕ → ℕ → Load
+loadIn blocks tones tape model = loadNamed (lentOf (length blocks) (length tones)) tape model
 
 -- a load whose answer doesn't fit its row of three words is 10, before anything is read, and alters nothing
 unfoldable pub loadNumber : Loaded → List ℕ → ℕ

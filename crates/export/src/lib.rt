@@ -19,13 +19,11 @@ ghost use Rattle.text.specs.Out.{fits, told};
 ghost use Rattle.entries.specs.Mounted.{overfull, tapeOf};
 ghost use Rattle.entries.specs.declared.Phase.the-variants.{Tones, Data};
 ghost use Rattle.walks.specs.Heads.{startAt};
-ghost use Rattle.deck.specs.Deck.{playMeasured, playSource, blockAt};
 ghost use Rattle.queries.specs.Queries.{lenOf, sizeOf, selectableOf, timeOf, nameAnswer, loadingOf};
-ghost use Rattle.blocks.specs.Does.{lentOf};
-ghost use Rattle.tape.specs.Load.{loadNamed, answerOf, blocksOf, tonesOf};
+ghost use Rattle.tape.specs.Load.{answerOf, blocksOf, tonesOf};
 ghost use Rattle.export.specs.declared.Phased.the-variants.{Is};
-ghost use Rattle.export.specs.Words.{flagOf, spotOf, spanOf, wordsOf, bare, halved, phaseFrom, spanFrom, joined, positionFrom};
-ghost use Rattle.export.specs.Export.{numberOf, valuesOf, ofNumber, ofMark, ofTime, ofPosition, ofSelected, standWords, ofReached, formatOf, ofLoaded, withPlace, loadNumber, loadTable, nameLeft};
+ghost use Rattle.export.specs.Words.{flagOf, spotOf, spanOf, bare, halved, phaseFrom, spanFrom, joined, positionFrom};
+ghost use Rattle.export.specs.Export.{numberOf, valuesOf, ofNumber, ofMark, ofTime, ofPosition, ofSelected, standWords, ofReached, formatOf, ofLoaded, loadIn, selectedAt, sourceAt, measuredAt, loadNumber, loadTable, nameLeft};
 
 // The words of a phase.
 struct Spot {
@@ -408,10 +406,10 @@ pub extern "C" fn glyvrask_load(
     tones: &mut [u64],
     answer: &mut [u64],
 ) -> u32
-    ensures { λ k. ⌜ k ≡ loadNumber (answerOf (loadNamed (lentOf (length (now (blocks .entry))) (length (now (tones .entry)))) (now (tape .entry)) model)) (now (answer .entry)) ⌝ }
-    ensures { λ _. ⌜ now (blocks .exit) ≡ loadTable (now (answer .entry)) (now (blocks .entry)) (blocksOf (length (now (blocks .entry))) (loadNamed (lentOf (length (now (blocks .entry))) (length (now (tones .entry)))) (now (tape .entry)) model)) ⌝ }
-    ensures { λ _. ⌜ now (tones .exit) ≡ loadTable (now (answer .entry)) (now (tones .entry)) (tonesOf (length (now (tones .entry))) (loadNamed (lentOf (length (now (blocks .entry))) (length (now (tones .entry)))) (now (tape .entry)) model)) ⌝ }
-    ensures { λ _. ⌜ now (answer .exit) ≡ valuesOf (ofLoaded (answerOf (loadNamed (lentOf (length (now (blocks .entry))) (length (now (tones .entry)))) (now (tape .entry)) model))) (now (answer .entry)) ⌝ }
+    ensures { λ k. ⌜ k ≡ loadNumber (answerOf (loadIn (now (blocks .entry)) (now (tones .entry)) (now (tape .entry)) model)) (now (answer .entry)) ⌝ }
+    ensures { λ _. ⌜ now (blocks .exit) ≡ loadTable (now (answer .entry)) (now (blocks .entry)) (blocksOf (length (now (blocks .entry))) (loadIn (now (blocks .entry)) (now (tones .entry)) (now (tape .entry)) model)) ⌝ }
+    ensures { λ _. ⌜ now (tones .exit) ≡ loadTable (now (answer .entry)) (now (tones .entry)) (tonesOf (length (now (tones .entry))) (loadIn (now (blocks .entry)) (now (tones .entry)) (now (tape .entry)) model)) ⌝ }
+    ensures { λ _. ⌜ now (answer .exit) ≡ valuesOf (ofLoaded (answerOf (loadIn (now (blocks .entry)) (now (tones .entry)) (now (tape .entry)) model))) (now (answer .entry)) ⌝ }
 {
     if answer.len() < 3 {
         return 10;
@@ -537,8 +535,8 @@ pub extern "C" fn glyvrask_position_block(
     position: &[u64],
     answer: &mut [u64],
 ) -> u32
-    ensures { λ k. ⌜ k ≡ numberOf (withPlace (λ q. ofSelected (blockAt (tapeOf (now (tape .entry)) (now (tones .entry)) (now (blocks .entry)) count) q)) (tapeOf (now (tape .entry)) (now (tones .entry)) (now (blocks .entry)) count) (positionFrom (now (position .entry)))) (now (answer .entry)) ⌝ }
-    ensures { λ _. ⌜ now (answer .exit) ≡ valuesOf (withPlace (λ q. ofSelected (blockAt (tapeOf (now (tape .entry)) (now (tones .entry)) (now (blocks .entry)) count) q)) (tapeOf (now (tape .entry)) (now (tones .entry)) (now (blocks .entry)) count) (positionFrom (now (position .entry)))) (now (answer .entry)) ⌝ }
+    ensures { λ k. ⌜ k ≡ numberOf (selectedAt (tapeOf (now (tape .entry)) (now (tones .entry)) (now (blocks .entry)) count) (now (position .entry))) (now (answer .entry)) ⌝ }
+    ensures { λ _. ⌜ now (answer .exit) ≡ valuesOf (selectedAt (tapeOf (now (tape .entry)) (now (tones .entry)) (now (blocks .entry)) count) (now (position .entry))) (now (answer .entry)) ⌝ }
 {
     match position_from(position) {
         Placed::Is(pos) => tell_selected(deck::block(tape, tones, blocks, count, pos), answer),
@@ -557,8 +555,8 @@ pub extern "C" fn glyvrask_play(
     n: u32,
     answer: &mut [u64],
 ) -> u32
-    ensures { λ k. ⌜ k ≡ numberOf (withPlace (λ q. ofReached (playSource (tapeOf (now (tape .entry)) (now (tones .entry)) (now (blocks .entry)) count) q n)) (tapeOf (now (tape .entry)) (now (tones .entry)) (now (blocks .entry)) count) (positionFrom (now (position .entry)))) (now (answer .entry)) ⌝ }
-    ensures { λ _. ⌜ now (answer .exit) ≡ valuesOf (withPlace (λ q. ofReached (playSource (tapeOf (now (tape .entry)) (now (tones .entry)) (now (blocks .entry)) count) q n)) (tapeOf (now (tape .entry)) (now (tones .entry)) (now (blocks .entry)) count) (positionFrom (now (position .entry)))) (now (answer .entry)) ⌝ }
+    ensures { λ k. ⌜ k ≡ numberOf (sourceAt (tapeOf (now (tape .entry)) (now (tones .entry)) (now (blocks .entry)) count) (now (position .entry)) n) (now (answer .entry)) ⌝ }
+    ensures { λ _. ⌜ now (answer .exit) ≡ valuesOf (sourceAt (tapeOf (now (tape .entry)) (now (tones .entry)) (now (blocks .entry)) count) (now (position .entry)) n) (now (answer .entry)) ⌝ }
 {
     match position_from(position) {
         Placed::Is(pos) => tell_reached(deck::play(tape, tones, blocks, count, pos, n), answer),
@@ -577,8 +575,8 @@ pub extern "C" fn glyvrask_play_measured(
     n: u32,
     answer: &mut [u64],
 ) -> u32
-    ensures { λ k. ⌜ k ≡ numberOf (withPlace (λ q. ofReached (playMeasured (tapeOf (now (tape .entry)) (now (tones .entry)) (now (blocks .entry)) count) q n)) (tapeOf (now (tape .entry)) (now (tones .entry)) (now (blocks .entry)) count) (positionFrom (now (position .entry)))) (now (answer .entry)) ⌝ }
-    ensures { λ _. ⌜ now (answer .exit) ≡ valuesOf (withPlace (λ q. ofReached (playMeasured (tapeOf (now (tape .entry)) (now (tones .entry)) (now (blocks .entry)) count) q n)) (tapeOf (now (tape .entry)) (now (tones .entry)) (now (blocks .entry)) count) (positionFrom (now (position .entry)))) (now (answer .entry)) ⌝ }
+    ensures { λ k. ⌜ k ≡ numberOf (measuredAt (tapeOf (now (tape .entry)) (now (tones .entry)) (now (blocks .entry)) count) (now (position .entry)) n) (now (answer .entry)) ⌝ }
+    ensures { λ _. ⌜ now (answer .exit) ≡ valuesOf (measuredAt (tapeOf (now (tape .entry)) (now (tones .entry)) (now (blocks .entry)) count) (now (position .entry)) n) (now (answer .entry)) ⌝ }
 {
     match position_from(position) {
         Placed::Is(pos) => {

@@ -24,16 +24,16 @@ use Rattle.loads.specs.Sizes.{Bytes}
 use Rattle.loads.specs.Made.{Reads, as-tzx, as-tap}
 use Rattle.loads.proofs.Room.{load-within}
 use Rattle.loads.proofs.Well.{table-length, loaded-well}
+use Rattle.loads.proofs.Left.{mounted}
 use Rattle.loads.proofs.Names.{loaded-names}
 use Rattle.tape.specs.declared.Loaded.the-variants as loaded
 use Rattle.listing.specs.Inner.{Ready}
-use Rattle.listing.specs.Listing.{blockWords, toneWords, loadedOf, text, refused, mounted, listed, listingText, Listing, listingOf, answerTo, bytesAfter}
+use Rattle.listing.specs.Listing.{blockWords, toneWords, loadedOf, text, refused, mounted as mountedOf, listed, listingText, Listing, listingOf, answerTo, bytesAfter}
 
 -- the load in the words that are lent
-pub lent-words : {B N : ℕ} {a : Loaded} {bt tt : List ℕ} (s : List ℕ) (model : ℕ) → B ≡ blockWords → N ≡ toneWords → Leaves B N (loadNamed (lentOf B N) s model) a bt tt → Leaves blockWords toneWords (loadedOf s model) a bt tt
+pub lent-words : {a : Loaded} {bt tt : List ℕ} (s : List ℕ) (model : ℕ) → Leaves blockWords toneWords (loadNamed (lentOf blockWords toneWords) s model) a bt tt → Leaves blockWords toneWords (loadedOf s model) a bt tt
 unfolding loadedOf
-lent-words {N = N} {a} {bt} {tt} s model p q l =
-    subst (λ (y : ℕ). Leaves blockWords y (loadNamed (lentOf blockWords y) s model) a bt tt) q (subst (λ (x : ℕ). Leaves x N (loadNamed (lentOf x N) s model) a bt tt) p l)
+lent-words s model l = l
 
 -- ready rows of a tape that was read
 module _ (s : List ℕ) (model : ℕ) (b : Bytes s) {t : Rows} (r : Reads (loadOf (lentOf blockWords toneWords) s model) t) where
@@ -48,14 +48,10 @@ module _ (s : List ℕ) (model : ℕ) (b : Bytes s) {t : Rows} (r : Reads (loadO
         rows = λ i h. record { lent = omega (arith, w .blocks); well = loaded-well blockWords toneWords s model b r i h; short = loaded-names blockWords toneWords s model b r i h };
       }
 
--- a mounted tape's tables, named otherwise
+-- tables that are equal
 same-ready : {s tt tt₀ bt bt₀ : List ℕ} {n n₀ : ℕ} → tt ≡ tt₀ → bt ≡ bt₀ → n ≡ n₀ → Ready s tt₀ bt₀ n₀ → Ready s tt bt n
 same-ready {s} {tt} {tt₀} {bt} {bt₀} {n} {n₀} p q e r =
     subst (λ (x : ℕ). Ready s tt bt x) (sym e) (subst (λ (x : List ℕ). Ready s tt x n₀) (sym q) (subst (λ (x : List ℕ). Ready s x bt₀ n₀) (sym p) r))
-
-same-tape : (s : List ℕ) {tt tt₀ bt bt₀ : List ℕ} {n n₀ : ℕ} → tt ≡ tt₀ → bt ≡ bt₀ → n ≡ n₀ → tapeOf s tt₀ bt₀ n₀ ≡ tapeOf s tt bt n
-same-tape s {tt} {tt₀} {bt} {bt₀} {n} {n₀} p q e =
-    ap (λ (x : List ℕ). tapeOf s x bt₀ n₀) (sym p) ∙ ap (λ (x : List ℕ). tapeOf s tt x n₀) (sym q) ∙ ap (λ (x : ℕ). tapeOf s tt bt x) (sym e)
 
 -- EVERY LOAD'S TABLES ARE READY
 pub load-ready : (s : List ℕ) (model : ℕ) {f : Format} {n k : ℕ} {bt tt : List ℕ} → Bytes s → Leaves blockWords toneWords (loadedOf s model) (loaded.Tape f n k) bt tt → Ready s tt bt n
@@ -76,17 +72,17 @@ load-ready s model {f} {n} {k} {bt} {tt} b l = by-cases (loadOf (lentOf blockWor
 -- WHAT IS LISTED OF A LOAD, by its answer
 module _ (s : List ℕ) (model : ℕ) {bt tt : List ℕ} where
   listed-text : {f : Format} {n k : ℕ} (x : Load) → Leaves blockWords toneWords x (loaded.Tape f n k) bt tt → listed s model x ≡ text (listingText model f (tapeOf s tt bt n))
-  unfolding listed mounted answerOf
+  unfolding listed mountedOf answerOf
   listed-text {f} {n} (tzx t) l =
       let a = l .answer in
       let e : n ≡ length (t .blocks) = cc in
       let g : f ≡ Tzx = cc in
-      rw g (ap (λ (w : Tape). text (listingText model Tzx w)) (same-tape s (l .tones) (l .blocks) e))
+      rw g (ap (λ (w : Tape). text (listingText model Tzx w)) (sym (mounted s (l .tones) (l .blocks) e)))
   listed-text {f} {n} (tapped t) l =
       let a = l .answer in
       let e : n ≡ length (t .blocks) = cc in
       let g : f ≡ Tap = cc in
-      rw g (ap (λ (w : Tape). text (listingText model Tap w)) (same-tape s (l .tones) (l .blocks) e))
+      rw g (ap (λ (w : Tape). text (listingText model Tap w)) (sym (mounted s (l .tones) (l .blocks) e)))
   listed-text (no j) l = let a = l .answer in absurd (let z : _≡_ {A = ℕ} 0 1 = cc in omega arith)
 
   listed-no : {k : ℕ} (x : Load) → Leaves blockWords toneWords x (loaded.Refused k) bt tt → listed s model x ≡ refused k

@@ -49,8 +49,8 @@ module _ {s tones blocks : List ℕ} {n b sum : ℕ} (ready : Ready s tones bloc
     pub pause-few : r .pause ≤ 229372500
     pause-few = omega (arith, numbers-most (get block blocks b) (block-clauses (sizeOf s) tones (get block blocks b) (ready .rows b h .well) .numbers) .pause ends, pauses)
 
-    pub sums-on : Sums (tapeOf s tones blocks n) (b + 1) (sum + t + r .pause)
-    sums-on =
+    pub sums-on : (next : ℕ) → next ≡ sum + t + r .pause → Sums (tapeOf s tones blocks n) (b + 1) next
+    sums-on next m =
         record {
           lasts = omega (arith, l .lasts, loading-on (tapeOf s tones blocks n) b h ends, sounds, pauses);
           few = omega (arith, l .few, sound-few, pause-few);

@@ -36,8 +36,8 @@ fn is_c1(name: &[u8], i: usize) -> bool
     false
 }
 
-// How a code point prints that is, or begins with, the byte b.
-fn mark_of(c1: bool, b: u8) -> u8
+// How a code point prints that begins with the byte b.
+fn shown_as(c1: bool, b: u8) -> u8
     ensures { λ r. ⌜ r ≡ printed c1 b ⌝ }
 {
     if c1 {
@@ -65,13 +65,13 @@ fn put_shown(out: &mut [u8], at: usize, name: &[u8]) -> usize
     let mut i = 0;
     while i < name.len() {
         let c1 = is_c1(name, i);
-        o = put(out, o, mark_of(c1, name[i]));
+        o = put(out, o, shown_as(c1, name[i]));
         i += width_of(c1);
     }
     o
 }
 
-// A block's name so; its callers know that 512 bytes hold it.
+// A block's name as it is shown; its callers know that 512 bytes hold it.
 fn put_name(out: &mut [u8], at: usize, tape: &[u8], r: Block) -> usize
     requires { ⌜ (r .start + r .size ≤ length (now tape)) × (r .text + r .chars ≤ length (now tape)) ⌝ }
     requires { ⌜ r .chars ≤ 1048576 ⌝ }

@@ -44,7 +44,7 @@ left-of s (tapped t) {n = n} l =
 left-of s (no j) l = let e = l .answer in absurd (let z : _≡_ {A = ℕ} 0 1 = cc in omega arith)
 
 -- a tape mounted over equal tables
-mounted : (s : List ℕ) {tt tt₀ bt bt₀ : List ℕ} {n n₀ : ℕ} → tt ≡ tt₀ → bt ≡ bt₀ → n ≡ n₀ → tapeOf s tt bt n ≡ tapeOf s tt₀ bt₀ n₀
+pub mounted : (s : List ℕ) {tt tt₀ bt bt₀ : List ℕ} {n n₀ : ℕ} → tt ≡ tt₀ → bt ≡ bt₀ → n ≡ n₀ → tapeOf s tt bt n ≡ tapeOf s tt₀ bt₀ n₀
 mounted s {tt₀ = tt₀} {bt} {bt₀} {n} p q e =
     ap (λ (x : List ℕ). tapeOf s x bt n) p ∙ ap (λ (x : List ℕ). tapeOf s tt₀ x n) q ∙ ap (λ (x : ℕ). tapeOf s tt₀ bt₀ x) e
 

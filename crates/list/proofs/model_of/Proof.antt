@@ -1,3 +1,4 @@
+-- `list::model_of` meets its contract: each arm is one model. Assumes nothing.
 use borrow.Author.Tests.{ne-eqb}
 use Rattle.list.specs.Heard.{modelOf}
 use Rattle.list.proofs.model_of.Statement.{statement}

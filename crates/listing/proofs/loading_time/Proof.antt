@@ -55,7 +55,7 @@ loop-less c =
 loop-again : tie.Need-loop-again Inv-loop μ-loop
 loop-again c =
     let l = c .before .before .before .before .before .before .loop in
-    (omega arith, sums-on (c .before .before .before .before .before .before .before .before .before .before .pre) (l .inv .1) _ (c .before .before .before .before .block-at .ensures) (c .before .before .before .before .before .loop-test .taken) _ (c .before .before .before .sound-time .ensures (l .b)) (omega arith))
+    (omega arith, sums-on (c .before .before .before .before .before .before .before .before .before .before .pre) (l .inv .1) _ (c .before .before .before .before .block-at .ensures) (c .before .before .before .before .before .loop-test .taken) _ (c .before .before .before .sound-time .ensures (l .b)) (omega arith) _ (omega arith))
 
 returns-2 : tie.Need-returns-2 Inv-loop μ-loop
 returns-2 c =

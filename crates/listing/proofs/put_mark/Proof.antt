@@ -1,4 +1,5 @@
 -- `listing::put_mark` meets its contract: each return is one mark. Assumes nothing.
+use native.Mathlib.Omega.{arith}
 use borrow.Author.Tests.{eq-eqb, ne-eqb}
 use borrow.Author.Needs.{needs}
 use Rattle.listing.specs.Listing.{markText}
@@ -17,7 +18,7 @@ same-length c = search needs
 returns : tie.Need-returns
 unfolding markText
 returns c =
-    rw (eq-eqb (c .before .before .before .before .before .before .args .selectable) 1 (c .before .before .before .before .if1 .taken)) (c .before .before .put .ensures)
+    rw (eq-eqb (c .before .before .before .before .before .before .args .selectable) 1 (omega arith)) (c .before .before .put .ensures)
 
 same-length-2 : tie.Need-same-length-2
 same-length-2 c = search needs
@@ -25,7 +26,7 @@ same-length-2 c = search needs
 returns-2 : tie.Need-returns-2
 unfolding markText
 returns-2 c =
-    rw (ne-eqb (c .before .before .before .before .before .before .args .selectable) 1 (c .before .before .before .before .if1 .left)) (c .before .before .put2 .ensures)
+    rw (ne-eqb (c .before .before .before .before .before .before .args .selectable) 1 (omega arith)) (c .before .before .put2 .ensures)
 
 pub put-mark-spec : {M : Type 1} → statement M
 put-mark-spec =

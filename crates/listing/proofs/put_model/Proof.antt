@@ -1,4 +1,5 @@
 -- `listing::put_model` meets its contract: each return is one model. Assumes nothing.
+use native.Mathlib.Omega.{arith}
 use borrow.Author.Tests.{eq-eqb, ne-eqb}
 use borrow.Author.Needs.{needs}
 use Rattle.listing.specs.Listing.{modelText}
@@ -17,7 +18,7 @@ same-length c = search needs
 returns : tie.Need-returns
 unfolding modelText
 returns c =
-    rw (eq-eqb (c .before .before .before .before .before .before .before .args .model) 0 (c .before .before .before .before .before .if1 .taken)) (c .before .before .put-all .ensures)
+    rw (eq-eqb (c .before .before .before .before .before .before .before .args .model) 0 (omega arith)) (c .before .before .put-all .ensures)
 
 slice-aggregate-put-all-2 : tie.Need-slice-aggregate-put-all-2
 slice-aggregate-put-all-2 c = search needs
@@ -31,7 +32,7 @@ same-length-2 c = search needs
 returns-2 : tie.Need-returns-2
 unfolding modelText
 returns-2 c =
-    rw (ne-eqb (c .before .before .before .before .before .before .before .before .args .model) 0 (c .before .before .before .before .before .before .if1 .left), eq-eqb (c .before .before .before .before .before .before .before .before .args .model) 1 (c .before .before .before .before .before .if2 .taken)) (c .before .before .put-all2 .ensures)
+    rw (ne-eqb (c .before .before .before .before .before .before .before .before .args .model) 0 (omega arith), eq-eqb (c .before .before .before .before .before .before .before .before .args .model) 1 (omega arith)) (c .before .before .put-all2 .ensures)
 
 slice-aggregate-put-all-3 : tie.Need-slice-aggregate-put-all-3
 slice-aggregate-put-all-3 c = search needs
@@ -45,7 +46,7 @@ same-length-3 c = search needs
 returns-3 : tie.Need-returns-3
 unfolding modelText
 returns-3 c =
-    rw (ne-eqb (c .before .before .before .before .before .before .before .before .args .model) 0 (c .before .before .before .before .before .before .if1 .left), ne-eqb (c .before .before .before .before .before .before .before .before .args .model) 1 (c .before .before .before .before .before .if2 .left)) (c .before .before .put-all3 .ensures)
+    rw (ne-eqb (c .before .before .before .before .before .before .before .before .args .model) 0 (omega arith), ne-eqb (c .before .before .before .before .before .before .before .before .args .model) 1 (omega arith)) (c .before .before .put-all3 .ensures)
 
 pub put-model-spec : {M : Type 1} → statement M
 put-model-spec =

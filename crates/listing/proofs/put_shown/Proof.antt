@@ -22,12 +22,12 @@ is-c1-requires : tie.Need-is-c1-requires Inv-loop μ-loop
 is-c1-requires c κs =
     search needs
 
-shared-slice-read-mark-of : tie.Need-shared-slice-read-mark-of Inv-loop μ-loop
-shared-slice-read-mark-of c =
+shared-slice-read-shown-as : tie.Need-shared-slice-read-shown-as Inv-loop μ-loop
+shared-slice-read-shown-as c =
     omega arith
 
-mark-of-requires : tie.Need-mark-of-requires Inv-loop μ-loop
-mark-of-requires c κs =
+shown-as-requires : tie.Need-shown-as-requires Inv-loop μ-loop
+shown-as-requires c κs =
     search needs
 
 put-requires : tie.Need-put-requires Inv-loop μ-loop
@@ -40,16 +40,16 @@ width-of-requires c κs =
 
 add-i : tie.Need-add-i Inv-loop μ-loop
 add-i c =
-    omega (arith, goes-on (c .before .before .before .before .before .before .before .before .before .loop .inv) (c .before .before .before .before .before .before .before .before .loop-test .taken) (c .before .before .before .before .before .before .before .is-c1 .ensures) (c .before .before .before .before .mark-of .ensures) (c .width-of .ensures) (c .before .before .before .put .ensures) .inside, c .before .before .before .before .before .before .before .before .before .before .before .before .pre)
+    omega (arith, goes-on (c .before .before .before .before .before .before .before .before .before .loop .inv) (c .before .before .before .before .before .before .before .before .loop-test .taken) (c .before .before .before .before .before .before .before .is-c1 .ensures) (c .before .before .before .before .shown-as .ensures) (c .width-of .ensures) (c .before .before .before .put .ensures) .inside, c .before .before .before .before .before .before .before .before .before .before .before .before .pre)
 
 loop-less : tie.Need-loop-less Inv-loop μ-loop
 loop-less c =
-    let g = goes-on (c .before .before .before .before .before .before .before .before .before .loop .inv) (c .before .before .before .before .before .before .before .before .loop-test .taken) (c .before .before .before .before .before .before .before .is-c1 .ensures) (c .before .before .before .before .mark-of .ensures) (c .width-of .ensures) (c .before .before .before .put .ensures) in
+    let g = goes-on (c .before .before .before .before .before .before .before .before .before .loop .inv) (c .before .before .before .before .before .before .before .before .loop-test .taken) (c .before .before .before .before .before .before .before .is-c1 .ensures) (c .before .before .before .before .shown-as .ensures) (c .width-of .ensures) (c .before .before .before .put .ensures) in
     omega (arith, g .inside, width-some (c .before .before .before .before .before .before .before .is-c1 .result), c .width-of .ensures)
 
 loop-again : tie.Need-loop-again Inv-loop μ-loop
 loop-again c =
-    goes-on (c .before .before .before .before .before .before .before .before .before .loop .inv) (c .before .before .before .before .before .before .before .before .loop-test .taken) (c .before .before .before .before .before .before .before .is-c1 .ensures) (c .before .before .before .before .mark-of .ensures) (c .width-of .ensures) (c .before .before .before .put .ensures)
+    goes-on (c .before .before .before .before .before .before .before .before .before .loop .inv) (c .before .before .before .before .before .before .before .before .loop-test .taken) (c .before .before .before .before .before .before .before .is-c1 .ensures) (c .before .before .before .before .shown-as .ensures) (c .width-of .ensures) (c .before .before .before .put .ensures)
 
 same-length : tie.Need-same-length Inv-loop μ-loop
 same-length c =
@@ -67,8 +67,8 @@ put-shown-spec =
     μ-loop
     loop-holds
     is-c1-requires
-    shared-slice-read-mark-of
-    mark-of-requires
+    shared-slice-read-shown-as
+    shown-as-requires
     put-requires
     width-of-requires
     add-i

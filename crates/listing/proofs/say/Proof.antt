@@ -17,7 +17,7 @@ same-length c = search needs
 returns : tie.Need-returns
 returns c =
     let a = c .before .before .before .before .before .before .before .before .before .before .before .args in
-    say-refusal (a .tape .now) (a .out .now) (a .model) (λ i. c .before .before .before .before .before .before .before .before .before .before .shared-slice-known .given i .fits) (c .before .before .before .before .before .before .before .before .before .before .before .pre) (c .before .before .before .before .before .before .before .glyvrask-listing .ensures .0) (c .before .before .before .before .before .before .before .glyvrask-listing .ensures .1) (c .before .before .before .before .if1 .taken) (c .before .before .say-refused .ensures)
+    say-refusal (a .tape .now) (a .out .now) (a .model) (λ i. c .before .before .before .before .before .before .before .before .before .before .shared-slice-known .given i .fits) (c .before .before .before .before .before .before .before .before .before .before .before .pre) (c .before .before .before .before .before .before .before .glyvrask-listing .ensures .0) (c .before .before .before .before .before .before .before .glyvrask-listing .ensures .1) (omega arith) (c .before .before .say-refused .ensures)
 
 cast-result : tie.Need-cast-result
 cast-result c = search needs

@@ -1,0 +1,4 @@
+pub mod Lengths
+pub mod Adds
+pub mod Examples
+pub mod Differ

@@ -17,7 +17,7 @@ use Rattle.blocks.specs.Blocks.{born, stopBlock, turboTones, turboBlock, pureTo
 use Rattle.blocks.specs.Adds.{addRows, add, addPairs, addGeneral, stopOn48}
 use Rattle.reader.specs.Source.{act, stopLength}
 use Rattle.format.specs.Format.{lasts, forever, each, bitPulses, bitsIn, bytePulses, dataPulses, bitsSaid, format11, format12, format13, format14, waveFrom, symbolPulse, waveOf, pilotSymbol, repetitions, pilotPulses, bitAt, groupAt, dataNumber, symbolPulses, every, symbolsSaid, format19, format20, format2A, formatOf, lengthsOf, lasting}
-use Rattle.format.specs.Kept.{evenCount, kept11, kept12, kept13, wholeWave, onePulse, keptEntry, keptPilot, keptData, kept19, kept, lengthOf, listOf}
+use Rattle.format.specs.Kept.{evenCount, kept11, kept12, kept13, firstPulse, secondPulse, wholeWave, keptTimes, keptEntry, keptPilot, keptSymbol, keptPairs, keptData, kept19, kept, lengthOf, listOf}
 use Rattle.format.specs.Heard.{Heard, plays, refused, errs, nothing, heardIn, playedBy, formatOn, sourceOn, keptOn, formatAt, sourceAt, keptAt, sameLength, sameLengths, same}
 
 pub record Example : Type 0 where
@@ -87,13 +87,13 @@ ways =
     row (0x19 ∷ 0x1D ∷ 0x00 ∷ 0x00 ∷ 0x00 ∷ 0x00 ∷ 0x00 ∷ 0x00 ∷ 0x00 ∷ 0x00 ∷ 0x00 ∷ 0x00 ∷ 0x00 ∷ 0x01 ∷ 0x00 ∷ 0x00 ∷ 0x00 ∷ 0x03 ∷ 0x02 ∷ 0x00 ∷ 0x01 ∷ 0x00 ∷ 0x02 ∷ 0x00 ∷ 0x03 ∷ 0x00 ∷ 0x00 ∷ 0x04 ∷ 0x00 ∷ 0x05 ∷ 0x00 ∷ 0x06 ∷ 0x00 ∷ 0x80 ∷ []) false (plays (lasts 4 ∷ lasts 5 ∷ lasts 6 ∷ [])) (plays (forever ∷ [])) ∷ []
 
 pub ways-said : map (λ e. formatAt (e .tape)) ways ≡ map (λ e. e .format) ways
-unfolding leAt numberAt fieldAt placeOf times eachAt groupsAt run over entryOf cyclesOf toneOf tonesOf bitsAt halfOf byteOf dataOf pauseOf soundOf entriesOf countedAt passAt textsAt wholeAt sealed enclosed fittingAt readAt digits orFull heldIf kind10 kind11 kind12 kind13 kind14 stream19 kind19 kind20 kind21 kind22 kind24 kind25 kind2A kind30 kind31 info32 kind32 kind33 kind35 kind5A kinds kindOf named cutAt symbolAt before rowsFrom cycles entrySymbol entryRepeat entryRow pilotOf equalHalves ordinary lastBits symbolNumber singleRow pairRow singlesOf pairsOf dataPart withPilot withData generalOf empty _⟫_ addTones addBlock startGroup noteText openLoop born stopBlock turboTones turboBlock pureTones pureBlock pureToneTones pulseAt pauseBlock pauseOrStop addRows add addPairs addGeneral stopOn48 act stopLength each bitPulses bitsIn bytePulses dataPulses bitsSaid format11 format12 format13 format14 waveFrom symbolPulse waveOf pilotSymbol repetitions pilotPulses bitAt groupAt dataNumber symbolPulses every symbolsSaid format19 format20 format2A formatOf lengthsOf lasting evenCount kept11 kept12 kept13 wholeWave onePulse keptEntry keptPilot keptData kept19 kept lengthOf listOf heardIn playedBy formatOn sourceOn keptOn sameLength sameLengths same ways
+unfolding leAt numberAt fieldAt placeOf times eachAt groupsAt run over entryOf cyclesOf toneOf tonesOf bitsAt halfOf byteOf dataOf pauseOf soundOf entriesOf countedAt passAt textsAt wholeAt sealed enclosed fittingAt readAt digits orFull heldIf kind10 kind11 kind12 kind13 kind14 stream19 kind19 kind20 kind21 kind22 kind24 kind25 kind2A kind30 kind31 info32 kind32 kind33 kind35 kind5A kinds kindOf named cutAt symbolAt before rowsFrom cycles entrySymbol entryRepeat entryRow pilotOf equalHalves ordinary lastBits symbolNumber singleRow pairRow singlesOf pairsOf dataPart withPilot withData generalOf empty _⟫_ addTones addBlock startGroup noteText openLoop born stopBlock turboTones turboBlock pureTones pureBlock pureToneTones pulseAt pauseBlock pauseOrStop addRows add addPairs addGeneral stopOn48 act stopLength each bitPulses bitsIn bytePulses dataPulses bitsSaid format11 format12 format13 format14 waveFrom symbolPulse waveOf pilotSymbol repetitions pilotPulses bitAt groupAt dataNumber symbolPulses every symbolsSaid format19 format20 format2A formatOf lengthsOf lasting evenCount kept11 kept12 kept13 firstPulse secondPulse wholeWave keptTimes keptEntry keptPilot keptSymbol keptPairs keptData kept19 kept lengthOf listOf heardIn playedBy formatOn sourceOn keptOn sameLength sameLengths same ways
 ways-said = refl
 
 pub ways-played : map (λ e. sourceAt (e .tape)) ways ≡ map (λ e. e .source) ways
-unfolding leAt numberAt fieldAt placeOf times eachAt groupsAt run over entryOf cyclesOf toneOf tonesOf bitsAt halfOf byteOf dataOf pauseOf soundOf entriesOf countedAt passAt textsAt wholeAt sealed enclosed fittingAt readAt digits orFull heldIf kind10 kind11 kind12 kind13 kind14 stream19 kind19 kind20 kind21 kind22 kind24 kind25 kind2A kind30 kind31 info32 kind32 kind33 kind35 kind5A kinds kindOf named cutAt symbolAt before rowsFrom cycles entrySymbol entryRepeat entryRow pilotOf equalHalves ordinary lastBits symbolNumber singleRow pairRow singlesOf pairsOf dataPart withPilot withData generalOf empty _⟫_ addTones addBlock startGroup noteText openLoop born stopBlock turboTones turboBlock pureTones pureBlock pureToneTones pulseAt pauseBlock pauseOrStop addRows add addPairs addGeneral stopOn48 act stopLength each bitPulses bitsIn bytePulses dataPulses bitsSaid format11 format12 format13 format14 waveFrom symbolPulse waveOf pilotSymbol repetitions pilotPulses bitAt groupAt dataNumber symbolPulses every symbolsSaid format19 format20 format2A formatOf lengthsOf lasting evenCount kept11 kept12 kept13 wholeWave onePulse keptEntry keptPilot keptData kept19 kept lengthOf listOf heardIn playedBy formatOn sourceOn keptOn sameLength sameLengths same ways
+unfolding leAt numberAt fieldAt placeOf times eachAt groupsAt run over entryOf cyclesOf toneOf tonesOf bitsAt halfOf byteOf dataOf pauseOf soundOf entriesOf countedAt passAt textsAt wholeAt sealed enclosed fittingAt readAt digits orFull heldIf kind10 kind11 kind12 kind13 kind14 stream19 kind19 kind20 kind21 kind22 kind24 kind25 kind2A kind30 kind31 info32 kind32 kind33 kind35 kind5A kinds kindOf named cutAt symbolAt before rowsFrom cycles entrySymbol entryRepeat entryRow pilotOf equalHalves ordinary lastBits symbolNumber singleRow pairRow singlesOf pairsOf dataPart withPilot withData generalOf empty _⟫_ addTones addBlock startGroup noteText openLoop born stopBlock turboTones turboBlock pureTones pureBlock pureToneTones pulseAt pauseBlock pauseOrStop addRows add addPairs addGeneral stopOn48 act stopLength each bitPulses bitsIn bytePulses dataPulses bitsSaid format11 format12 format13 format14 waveFrom symbolPulse waveOf pilotSymbol repetitions pilotPulses bitAt groupAt dataNumber symbolPulses every symbolsSaid format19 format20 format2A formatOf lengthsOf lasting evenCount kept11 kept12 kept13 firstPulse secondPulse wholeWave keptTimes keptEntry keptPilot keptSymbol keptPairs keptData kept19 kept lengthOf listOf heardIn playedBy formatOn sourceOn keptOn sameLength sameLengths same ways
 ways-played = refl
 
 pub ways-kept : map (λ e. keptAt (e .tape)) ways ≡ map (λ e. e .kept) ways
-unfolding leAt numberAt fieldAt placeOf times eachAt groupsAt run over entryOf cyclesOf toneOf tonesOf bitsAt halfOf byteOf dataOf pauseOf soundOf entriesOf countedAt passAt textsAt wholeAt sealed enclosed fittingAt readAt digits orFull heldIf kind10 kind11 kind12 kind13 kind14 stream19 kind19 kind20 kind21 kind22 kind24 kind25 kind2A kind30 kind31 info32 kind32 kind33 kind35 kind5A kinds kindOf named cutAt symbolAt before rowsFrom cycles entrySymbol entryRepeat entryRow pilotOf equalHalves ordinary lastBits symbolNumber singleRow pairRow singlesOf pairsOf dataPart withPilot withData generalOf empty _⟫_ addTones addBlock startGroup noteText openLoop born stopBlock turboTones turboBlock pureTones pureBlock pureToneTones pulseAt pauseBlock pauseOrStop addRows add addPairs addGeneral stopOn48 act stopLength each bitPulses bitsIn bytePulses dataPulses bitsSaid format11 format12 format13 format14 waveFrom symbolPulse waveOf pilotSymbol repetitions pilotPulses bitAt groupAt dataNumber symbolPulses every symbolsSaid format19 format20 format2A formatOf lengthsOf lasting evenCount kept11 kept12 kept13 wholeWave onePulse keptEntry keptPilot keptData kept19 kept lengthOf listOf heardIn playedBy formatOn sourceOn keptOn sameLength sameLengths same ways
+unfolding leAt numberAt fieldAt placeOf times eachAt groupsAt run over entryOf cyclesOf toneOf tonesOf bitsAt halfOf byteOf dataOf pauseOf soundOf entriesOf countedAt passAt textsAt wholeAt sealed enclosed fittingAt readAt digits orFull heldIf kind10 kind11 kind12 kind13 kind14 stream19 kind19 kind20 kind21 kind22 kind24 kind25 kind2A kind30 kind31 info32 kind32 kind33 kind35 kind5A kinds kindOf named cutAt symbolAt before rowsFrom cycles entrySymbol entryRepeat entryRow pilotOf equalHalves ordinary lastBits symbolNumber singleRow pairRow singlesOf pairsOf dataPart withPilot withData generalOf empty _⟫_ addTones addBlock startGroup noteText openLoop born stopBlock turboTones turboBlock pureTones pureBlock pureToneTones pulseAt pauseBlock pauseOrStop addRows add addPairs addGeneral stopOn48 act stopLength each bitPulses bitsIn bytePulses dataPulses bitsSaid format11 format12 format13 format14 waveFrom symbolPulse waveOf pilotSymbol repetitions pilotPulses bitAt groupAt dataNumber symbolPulses every symbolsSaid format19 format20 format2A formatOf lengthsOf lasting evenCount kept11 kept12 kept13 firstPulse secondPulse wholeWave keptTimes keptEntry keptPilot keptSymbol keptPairs keptData kept19 kept lengthOf listOf heardIn playedBy formatOn sourceOn keptOn sameLength sameLengths same ways
 ways-kept = refl

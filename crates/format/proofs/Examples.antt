@@ -17,7 +17,7 @@ use Rattle.blocks.specs.Blocks.{born, stopBlock, turboTones, turboBlock, pureTo
 use Rattle.blocks.specs.Adds.{addRows, add, addPairs, addGeneral, stopOn48}
 use Rattle.reader.specs.Source.{act, stopLength}
 use Rattle.format.specs.Format.{lasts, forever, each, bitPulses, bitsIn, bytePulses, dataPulses, bitsSaid, format11, format12, format13, format14, waveFrom, symbolPulse, waveOf, pilotSymbol, repetitions, pilotPulses, bitAt, groupAt, dataNumber, symbolPulses, every, symbolsSaid, format19, format20, format2A, formatOf, lengthsOf, lasting}
-use Rattle.format.specs.Kept.{evenCount, kept11, kept12, kept13, wholeWave, onePulse, keptEntry, keptPilot, keptData, kept19, kept, lengthOf, listOf}
+use Rattle.format.specs.Kept.{evenCount, kept11, kept12, kept13, firstPulse, secondPulse, wholeWave, keptTimes, keptEntry, keptPilot, keptSymbol, keptPairs, keptData, kept19, kept, lengthOf, listOf}
 use Rattle.format.specs.Heard.{Heard, plays, refused, errs, nothing, heardIn, playedBy, formatOn, sourceOn, keptOn, formatAt, sourceAt, keptAt, sameLength, sameLengths, same}
 
 pub record Example : Type 0 where
@@ -61,13 +61,13 @@ kepts =
     row (0x30 ∷ 0x01 ∷ 0x41 ∷ []) true (plays []) (plays []) ∷ []
 
 pub kepts-said : map (λ e. formatAt (e .tape)) kepts ≡ map (λ e. e .format) kepts
-unfolding leAt numberAt fieldAt placeOf times eachAt groupsAt run over entryOf cyclesOf toneOf tonesOf bitsAt halfOf byteOf dataOf pauseOf soundOf entriesOf countedAt passAt textsAt wholeAt sealed enclosed fittingAt readAt digits orFull heldIf kind10 kind11 kind12 kind13 kind14 stream19 kind19 kind20 kind21 kind22 kind24 kind25 kind2A kind30 kind31 info32 kind32 kind33 kind35 kind5A kinds kindOf named cutAt symbolAt before rowsFrom cycles entrySymbol entryRepeat entryRow pilotOf equalHalves ordinary lastBits symbolNumber singleRow pairRow singlesOf pairsOf dataPart withPilot withData generalOf empty _⟫_ addTones addBlock startGroup noteText openLoop born stopBlock turboTones turboBlock pureTones pureBlock pureToneTones pulseAt pauseBlock pauseOrStop addRows add addPairs addGeneral stopOn48 act stopLength each bitPulses bitsIn bytePulses dataPulses bitsSaid format11 format12 format13 format14 waveFrom symbolPulse waveOf pilotSymbol repetitions pilotPulses bitAt groupAt dataNumber symbolPulses every symbolsSaid format19 format20 format2A formatOf lengthsOf lasting evenCount kept11 kept12 kept13 wholeWave onePulse keptEntry keptPilot keptData kept19 kept lengthOf listOf heardIn playedBy formatOn sourceOn keptOn sameLength sameLengths same kepts
+unfolding leAt numberAt fieldAt placeOf times eachAt groupsAt run over entryOf cyclesOf toneOf tonesOf bitsAt halfOf byteOf dataOf pauseOf soundOf entriesOf countedAt passAt textsAt wholeAt sealed enclosed fittingAt readAt digits orFull heldIf kind10 kind11 kind12 kind13 kind14 stream19 kind19 kind20 kind21 kind22 kind24 kind25 kind2A kind30 kind31 info32 kind32 kind33 kind35 kind5A kinds kindOf named cutAt symbolAt before rowsFrom cycles entrySymbol entryRepeat entryRow pilotOf equalHalves ordinary lastBits symbolNumber singleRow pairRow singlesOf pairsOf dataPart withPilot withData generalOf empty _⟫_ addTones addBlock startGroup noteText openLoop born stopBlock turboTones turboBlock pureTones pureBlock pureToneTones pulseAt pauseBlock pauseOrStop addRows add addPairs addGeneral stopOn48 act stopLength each bitPulses bitsIn bytePulses dataPulses bitsSaid format11 format12 format13 format14 waveFrom symbolPulse waveOf pilotSymbol repetitions pilotPulses bitAt groupAt dataNumber symbolPulses every symbolsSaid format19 format20 format2A formatOf lengthsOf lasting evenCount kept11 kept12 kept13 firstPulse secondPulse wholeWave keptTimes keptEntry keptPilot keptSymbol keptPairs keptData kept19 kept lengthOf listOf heardIn playedBy formatOn sourceOn keptOn sameLength sameLengths same kepts
 kepts-said = refl
 
 pub kepts-played : map (λ e. sourceAt (e .tape)) kepts ≡ map (λ e. e .source) kepts
-unfolding leAt numberAt fieldAt placeOf times eachAt groupsAt run over entryOf cyclesOf toneOf tonesOf bitsAt halfOf byteOf dataOf pauseOf soundOf entriesOf countedAt passAt textsAt wholeAt sealed enclosed fittingAt readAt digits orFull heldIf kind10 kind11 kind12 kind13 kind14 stream19 kind19 kind20 kind21 kind22 kind24 kind25 kind2A kind30 kind31 info32 kind32 kind33 kind35 kind5A kinds kindOf named cutAt symbolAt before rowsFrom cycles entrySymbol entryRepeat entryRow pilotOf equalHalves ordinary lastBits symbolNumber singleRow pairRow singlesOf pairsOf dataPart withPilot withData generalOf empty _⟫_ addTones addBlock startGroup noteText openLoop born stopBlock turboTones turboBlock pureTones pureBlock pureToneTones pulseAt pauseBlock pauseOrStop addRows add addPairs addGeneral stopOn48 act stopLength each bitPulses bitsIn bytePulses dataPulses bitsSaid format11 format12 format13 format14 waveFrom symbolPulse waveOf pilotSymbol repetitions pilotPulses bitAt groupAt dataNumber symbolPulses every symbolsSaid format19 format20 format2A formatOf lengthsOf lasting evenCount kept11 kept12 kept13 wholeWave onePulse keptEntry keptPilot keptData kept19 kept lengthOf listOf heardIn playedBy formatOn sourceOn keptOn sameLength sameLengths same kepts
+unfolding leAt numberAt fieldAt placeOf times eachAt groupsAt run over entryOf cyclesOf toneOf tonesOf bitsAt halfOf byteOf dataOf pauseOf soundOf entriesOf countedAt passAt textsAt wholeAt sealed enclosed fittingAt readAt digits orFull heldIf kind10 kind11 kind12 kind13 kind14 stream19 kind19 kind20 kind21 kind22 kind24 kind25 kind2A kind30 kind31 info32 kind32 kind33 kind35 kind5A kinds kindOf named cutAt symbolAt before rowsFrom cycles entrySymbol entryRepeat entryRow pilotOf equalHalves ordinary lastBits symbolNumber singleRow pairRow singlesOf pairsOf dataPart withPilot withData generalOf empty _⟫_ addTones addBlock startGroup noteText openLoop born stopBlock turboTones turboBlock pureTones pureBlock pureToneTones pulseAt pauseBlock pauseOrStop addRows add addPairs addGeneral stopOn48 act stopLength each bitPulses bitsIn bytePulses dataPulses bitsSaid format11 format12 format13 format14 waveFrom symbolPulse waveOf pilotSymbol repetitions pilotPulses bitAt groupAt dataNumber symbolPulses every symbolsSaid format19 format20 format2A formatOf lengthsOf lasting evenCount kept11 kept12 kept13 firstPulse secondPulse wholeWave keptTimes keptEntry keptPilot keptSymbol keptPairs keptData kept19 kept lengthOf listOf heardIn playedBy formatOn sourceOn keptOn sameLength sameLengths same kepts
 kepts-played = refl
 
 pub kepts-kept : map (λ e. keptAt (e .tape)) kepts ≡ map (λ e. e .kept) kepts
-unfolding leAt numberAt fieldAt placeOf times eachAt groupsAt run over entryOf cyclesOf toneOf tonesOf bitsAt halfOf byteOf dataOf pauseOf soundOf entriesOf countedAt passAt textsAt wholeAt sealed enclosed fittingAt readAt digits orFull heldIf kind10 kind11 kind12 kind13 kind14 stream19 kind19 kind20 kind21 kind22 kind24 kind25 kind2A kind30 kind31 info32 kind32 kind33 kind35 kind5A kinds kindOf named cutAt symbolAt before rowsFrom cycles entrySymbol entryRepeat entryRow pilotOf equalHalves ordinary lastBits symbolNumber singleRow pairRow singlesOf pairsOf dataPart withPilot withData generalOf empty _⟫_ addTones addBlock startGroup noteText openLoop born stopBlock turboTones turboBlock pureTones pureBlock pureToneTones pulseAt pauseBlock pauseOrStop addRows add addPairs addGeneral stopOn48 act stopLength each bitPulses bitsIn bytePulses dataPulses bitsSaid format11 format12 format13 format14 waveFrom symbolPulse waveOf pilotSymbol repetitions pilotPulses bitAt groupAt dataNumber symbolPulses every symbolsSaid format19 format20 format2A formatOf lengthsOf lasting evenCount kept11 kept12 kept13 wholeWave onePulse keptEntry keptPilot keptData kept19 kept lengthOf listOf heardIn playedBy formatOn sourceOn keptOn sameLength sameLengths same kepts
+unfolding leAt numberAt fieldAt placeOf times eachAt groupsAt run over entryOf cyclesOf toneOf tonesOf bitsAt halfOf byteOf dataOf pauseOf soundOf entriesOf countedAt passAt textsAt wholeAt sealed enclosed fittingAt readAt digits orFull heldIf kind10 kind11 kind12 kind13 kind14 stream19 kind19 kind20 kind21 kind22 kind24 kind25 kind2A kind30 kind31 info32 kind32 kind33 kind35 kind5A kinds kindOf named cutAt symbolAt before rowsFrom cycles entrySymbol entryRepeat entryRow pilotOf equalHalves ordinary lastBits symbolNumber singleRow pairRow singlesOf pairsOf dataPart withPilot withData generalOf empty _⟫_ addTones addBlock startGroup noteText openLoop born stopBlock turboTones turboBlock pureTones pureBlock pureToneTones pulseAt pauseBlock pauseOrStop addRows add addPairs addGeneral stopOn48 act stopLength each bitPulses bitsIn bytePulses dataPulses bitsSaid format11 format12 format13 format14 waveFrom symbolPulse waveOf pilotSymbol repetitions pilotPulses bitAt groupAt dataNumber symbolPulses every symbolsSaid format19 format20 format2A formatOf lengthsOf lasting evenCount kept11 kept12 kept13 firstPulse secondPulse wholeWave keptTimes keptEntry keptPilot keptSymbol keptPairs keptData kept19 kept lengthOf listOf heardIn playedBy formatOn sourceOn keptOn sameLength sameLengths same kepts
 kepts-kept = refl

@@ -36,32 +36,45 @@ kept12 half count = eqb half 0 || ltb 1 count
 unfoldable pub kept13 : List ℕ → ℕ → ℕ → Bool
 kept13 s count from = eqb (count % 2) 0 || eqb (leAt s (from + (count - 1) * 2) 2) 0
 
--- 19: a symbol of two pulses, the first not 0 alone
-unfoldable pub wholeWave : List ℕ → ℕ → ℕ → ℕ → Bool
-wholeWave s place n i = eqb n 1 || (ltb 0 (symbolPulse s place n i 0) || eqb (symbolPulse s place n i 1) 0)
+-- 19: a symbol's first pulse, and its second, 0 where it has one alone
+unfoldable pub firstPulse : List ℕ → ℕ → ℕ → ℕ → ℕ
+firstPulse s place n i = symbolPulse s place n i 0
 
--- one pulse alone is played in cycles
-unfoldable pub onePulse : List ℕ → ℕ → ℕ → ℕ → Bool
-onePulse s place n i = eqb n 1 || eqb (symbolPulse s place n i 1) 0
+unfoldable pub secondPulse : List ℕ → ℕ → ℕ → ℕ → ℕ
+secondPulse s place n i = ltb 1 n ⇒ symbolPulse s place n i 1 ∣ 0
+
+-- a second pulse behind a first of 0 is played
+unfoldable pub wholeWave : ℕ → ℕ → Bool
+wholeWave a b = ltb 0 a || eqb b 0
+
+-- n times: none is played once, and one pulse alone in cycles, for which one is added to n in 16 bits
+unfoldable pub keptTimes : ℕ → ℕ → ℕ → Bool
+keptTimes a b n = eqb a 0 ⇒ (eqb b 0 && not (eqb n 65535)) ∣ eqb b 0 ⇒ evenCount n ∣ ltb 0 n
 
 unfoldable pub keptEntry : List ℕ → GeneralizedData → ℕ → Bool
 keptEntry s g i =
     let y = pilotSymbol s g i in
-    ltb y (g .asp)
-    && (wholeWave s (g .pilot) (g .npp) y
-    && (onePulse s (g .pilot) (g .npp) y ⇒ evenCount (repetitions s g i) ∣ ltb 0 (repetitions s g i)))
+    ltb y (g .asp) && keptTimes (firstPulse s (g .pilot) (g .npp) y) (secondPulse s (g .pilot) (g .npp) y) (repetitions s g i)
 
--- the pilot part: its alphabet not the full one, one or two pulses a symbol
+-- an alphabet's size of 0 in the tape is read as 255; other than one or two pulses a symbol make a stop
 unfoldable pub keptPilot : List ℕ → GeneralizedData → Bool
-keptPilot s g = eqb (g .totp) 0 || ((eqb (g .npp) 1 || eqb (g .npp) 2) && every (keptEntry s g) 0 (g .totp))
+keptPilot s g =
+    eqb (g .totp) 0
+    || (not (eqb (getD s (g .pilot - 7) 0) 0) && ((eqb (g .npp) 1 || eqb (g .npp) 2) && every (keptEntry s g) 0 (g .totp)))
 
--- the data part: symbols of one bit; of two pulses, the first not 0 alone; or of one, in pairs
+-- symbol i of the data
+unfoldable pub keptSymbol : List ℕ → GeneralizedData → ℕ → Bool
+keptSymbol s g i = wholeWave (firstPulse s (g .symbols) 2 (dataNumber s g i)) (secondPulse s (g .symbols) 2 (dataNumber s g i))
+
+-- one pulse each: an odd last one is dropped
+unfoldable pub keptPairs : List ℕ → GeneralizedData → Bool
+keptPairs s g = eqb (g .totd % 2) 0 || eqb (firstPulse s (g .symbols) 1 (dataNumber s g (g .totd - 1))) 0
+
+-- no data is refused; groups of one bit alone are read as they stand
 unfoldable pub keptData : List ℕ → GeneralizedData → Bool
 keptData s g =
     ltb 0 (g .totd)
-    && (eqb (g .asd) 2
-    && (eqb (g .npd) 2 && every (λ i. wholeWave s (g .symbols) 2 (dataNumber s g i)) 0 (g .totd)
-    || (eqb (g .npd) 1 && eqb (g .totd % 2) 0)))
+    && (eqb (g .asd) 2 && (eqb (g .npd) 2 ⇒ every (keptSymbol s g) 0 (g .totd) ∣ (eqb (g .npd) 1 && keptPairs s g)))
 
 unfoldable pub kept19 : List ℕ → GeneralizedData → Bool
 kept19 s g = keptPilot s g && keptData s g

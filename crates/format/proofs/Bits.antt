@@ -71,11 +71,11 @@ module _ (h : ℕ → ℕ → List ℕ) where
       let z : 0 + m ≡ m = omega arith in
       let zz : 0 + m * 8 ≡ m * 8 = omega arith in
       let whole : each f 0 m ≡ each (λ pos. each (h pos) 0 8) 0 m =
-          each-move f (λ pos. each (h pos) 0 8) 0 0 m (λ k n.
-          let q : eqb (0 + k + 1) (suc m) ≡ false = ne-eqb (0 + k + 1) (suc m) (omega arith) in
-          ap (λ (b : Bool). each (h (0 + k)) 0 (b ⇒ used ∣ 8)) q) in
+      each-move f (λ pos. each (h pos) 0 8) 0 0 m (λ k n.
+      let q : eqb (0 + k + 1) (suc m) ≡ false = ne-eqb (0 + k + 1) (suc m) (omega arith) in
+      ap (λ (b : Bool). each (h (0 + k)) 0 (b ⇒ used ∣ 8)) q) in
       let final : each f m 1 ≡ each all (m * 8) used =
-          single f m ∙ ap (λ (b : Bool). each (h m) 0 (b ⇒ used ∣ 8)) (eq-eqb (m + 1) (suc m) (omega arith)) ∙ byte-bits m used l in
+      single f m ∙ ap (λ (b : Bool). each (h m) 0 (b ⇒ used ∣ 8)) (eq-eqb (m + 1) (suc m) (omega arith)) ∙ byte-bits m used l in
       ap (each f 0) e
       ∙ each-split f 0 m 1
       ∙ ap₂ (λ (x y : List ℕ). x ++ y) (whole ∙ bytes-bits 0 m) (ap (λ (k : ℕ). each f k 1) z ∙ final)

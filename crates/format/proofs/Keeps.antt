@@ -6,7 +6,7 @@ use mathlib.Core.Bool.{Bool, true, false, _&&_, _||_}
 use mathlib.Core.List.{List, [], _∷_, _++_, map, append-assoc, append-nil}
 use lib.ListN.{length}
 use lib.Dec.{ltb, eqb}
-use borrow.Author.Tests.{ltb-true, eqb-true, eqb-false, ne-eqb}
+use borrow.Author.Tests.{ltb-true, lt-ltb, eqb-true, eqb-false, ne-eqb}
 use Rattle.laws.specs.Rules.{_⇒_, _∣_}
 use Rattle.laws.specs.Tests.{first, second, other}
 use Rattle.fields.specs.Field.{leAt}
@@ -14,15 +14,24 @@ use Rattle.rows.specs.declared.Block.{Block}
 use Rattle.rows.specs.declared.Tone.{Tone}
 use Rattle.entries.specs.Entries.{cyclesOf}
 use Rattle.pieces.specs.declared.TurboData.{TurboData}
-use Rattle.parser.specs.Parser.{Tape, on}
+use Rattle.pieces.specs.declared.GeneralizedData.{GeneralizedData}
+use Rattle.pieces.specs.declared.Piece.{Piece}
+use Rattle.pieces.specs.declared.Piece.the-variants.{Standard, Turbo, Tone as PureTone, Pulses, Pure, Generalized, Pause, GroupStart, GroupEnd, LoopStart, LoopEnd, Stop48, Text, Message, Archive, Hardware, Custom, Glue}
+use Rattle.pieces.specs.Places.{Places}
+use Rattle.general.specs.General.{Symbol, symbolAt, plain, toned, pilotOf, ordinary, lastBits, dataOf, withPilot, withData, generalOf}
+use Rattle.reader.specs.Source.{act}
+use Rattle.reader.specs.Does.{Fit}
+use Rattle.parser.specs.Parser.{Tape, on, startGroup, noteText, openLoop}
 use Rattle.parser.proofs.Kept.{Sure, sure, sure-also, sure-then}
 use Rattle.blocks.specs.Blocks.{ms, toneOf, born, stopBlock, turboTones, turboBlock, pureTones, pureBlock, pureToneTones, soundOnly, pulseAt, pauseBlock, pauseOrStop}
-use Rattle.blocks.specs.Adds.{Lent, add, addPairs, stopOn48}
-use Rattle.format.specs.Format.{Length, lasts, forever, Sound, Said, sounds, paused, each, again, dataPulses, bitsSaid, format11, format12, format13, format14, format20, format2A, lengthsOf, lasting}
-use Rattle.format.specs.Kept.{evenCount, kept11, kept12, kept13, Plays, Keeps, keeps}
-use Rattle.format.proofs.Lengths.{long, long-append, lasting-append, wavesOf, dataIn, pauseIn, blockLengths}
+use Rattle.blocks.specs.Adds.{Lent, add, addPairs, addGeneral, stopOn48}
+use Rattle.format.specs.Format.{Length, lasts, forever, Sound, Said, sounds, paused, each, again, dataPulses, bitsSaid, format11, format12, format13, format14, pilotPulses, symbolPulses, symbolsSaid, format19, format20, format2A, formatOf, lengthsOf, lasting}
+use Rattle.format.specs.Kept.{evenCount, kept11, kept12, kept13, keptPilot, keptData, kept19, kept, Plays, Keeps, keeps}
+use Rattle.format.proofs.Lengths.{long, long-append, lasting-append, waveIn, wavesOf, dataIn, pauseIn, blockLengths}
 use Rattle.format.proofs.Adds.{Over, plays-none, plays-then, plays-as, add-plays}
 use Rattle.format.proofs.Waves.{each-split, again-more, cycles-pulses, pilot-same, zero-none, zeros-none, data-same}
+use Rattle.format.proofs.Symbols.{Parts}
+use Rattle.format.proofs.Generals.{pilot-part, pilot-said, Data, data-clauses, data-said, data-part, plain-heard}
 
 abbrev soundWith : List ℕ → Length → Sound
 soundWith pulses pause = record { pulses = pulses; pause = pause }
@@ -272,3 +281,113 @@ keep13 : (lent : Lent) (s : List ℕ) (t : Tape) (count from : ℕ) → kept13 s
 unfolding format13
 keep13 lent s t count from e =
     sure-also (λ u p. keeps (plays-as (pairs-same s count from e ∙ sym (no-pause (each (pulseIn s from) 0 count))) p)) (pairs-play lent s from 0 (count / 2) t)
+
+-- 19: ordinary data behind a pilot
+abbrev plainRow : GeneralizedData → List Tone → ℕ → ℕ → ℕ → ℕ → Block
+plainRow g ts off one last tone = born 1 tone (length ts) (g .from) (g .size) off one last (ms (g .pause))
+
+-- or tones alone
+abbrev tonedRow : GeneralizedData → List Tone → ℕ → Block
+tonedRow g ts tone = born 1 tone (length ts) 0 0 0 0 0 (ms (g .pause))
+
+born-over : (ts : List Tone) (start size off one last pause : ℕ) → Over ts (λ tone. born 1 tone (length ts) start size off one last pause)
+unfolding born
+born-over ts start size off one last pause = record { first = λ n. refl; count = λ n. refl }
+
+born-pause : (tone tones start size off one last pause : ℕ) → pauseIn (born 1 tone tones start size off one last pause) ≡ lasts pause
+unfolding born pauseIn
+born-pause tone tones start size off one last pause = refl
+
+waves-append : (ps ts : List Tone) → wavesOf (ps ++ ts) ≡ wavesOf ps ++ wavesOf ts
+unfolding wavesOf
+waves-append [] ts = refl
+waves-append (p ∷ ps) ts = ap (λ (r : List ℕ). waveIn p ++ r) (waves-append ps ts) ∙ sym (append-assoc (waveIn p) (wavesOf ps) (wavesOf ts))
+
+-- two parts, each heard as it should be
+both : (a b x y : List ℕ) → long a ≡ long x → long b ≡ long y → long (a ++ b) ≡ long (x ++ y)
+both a b x y p q = long-append a b ∙ ap₂ (λ (c d : List Length). c ++ d) p q ∙ sym (long-append x y)
+
+toned-same : (s : List ℕ) (g : GeneralizedData) (ps ts : List Tone) (x y : List ℕ) (n : ℕ) → long (wavesOf ps) ≡ long x → long (wavesOf ts) ≡ long y
+    → long (wavesOf (ps ++ ts) ++ dataIn s (tonedRow g (ps ++ ts) n)) ≡ long (x ++ y)
+unfolding born dataPulses each
+toned-same s g ps ts x y n p q = ap long (append-nil (wavesOf (ps ++ ts)) ∙ waves-append ps ts) ∙ both (wavesOf ps) (wavesOf ts) x y p q
+
+plain-same : (s : List ℕ) (g : GeneralizedData) (ps : List Tone) (off one last : ℕ) (x y : List ℕ) (n : ℕ) → long (wavesOf ps) ≡ long x
+    → long (dataPulses s off one (max 1 last) (g .from) (g .size)) ≡ long y → long (wavesOf ps ++ dataIn s (plainRow g ps off one last n)) ≡ long (x ++ y)
+unfolding born
+plain-same s g ps off one last x y n p q = both (wavesOf ps) (dataPulses s off one (max 1 last) (g .from) (g .size)) x y p q
+
+module _ (lent : Lent) (s : List ℕ) (t : Tape) (g : GeneralizedData) where
+  abbrev pilotIn : List ℕ
+  pilotIn = each (pilotPulses s g) 0 (g .totp)
+
+  abbrev symbolsIn : List ℕ
+  symbolsIn = each (symbolPulses s g) 0 (g .totd)
+
+  abbrev sound19 : Sound
+  sound19 = soundWith (pilotIn ++ symbolsIn) (paused (g .pause))
+
+  keep-toned : (ps ts : List Tone) → long (wavesOf ps) ≡ long pilotIn → long (wavesOf ts) ≡ long symbolsIn → Sure (λ u. Keeps s t u (sounds sound19)) (addGeneral lent g (toned (ps ++ ts)) t)
+  unfolding addGeneral
+  keep-toned ps ts p q =
+      keep-add lent s t (ps ++ ts) (tonedRow g (ps ++ ts)) sound19 (born-over (ps ++ ts) 0 0 0 0 0 (ms (g .pause)))
+      (λ n. toned-same s g ps ts pilotIn symbolsIn n p q) (λ n. born-pause n (length (ps ++ ts)) 0 0 0 0 0 (ms (g .pause)))
+
+  keep-plain : (ps : List Tone) (off one last : ℕ) → long (wavesOf ps) ≡ long pilotIn → long (dataPulses s off one (max 1 last) (g .from) (g .size)) ≡ long symbolsIn
+      → Sure (λ u. Keeps s t u (sounds sound19)) (addGeneral lent g (plain ps off one last) t)
+  unfolding addGeneral
+  keep-plain ps off one last p q =
+      keep-add lent s t ps (plainRow g ps off one last) sound19 (born-over ps (g .from) (g .size) off one last (ms (g .pause)))
+      (λ n. plain-same s g ps off one last pilotIn symbolsIn n p q) (λ n. born-pause n (length ps) (g .from) (g .size) off one last (ms (g .pause)))
+
+  keep-general : Places s g → kept19 s g ≡ true → Sure (λ u. Keeps s t u (sounds sound19)) (addGeneral lent g (generalOf s g) t)
+  unfolding kept19 generalOf withPilot withData
+  keep-general places e =
+      let p = pilot-part s g (first (keptPilot s g) (keptData s g) e) in
+      let d = data-clauses s g places (second (keptPilot s g) (keptData s g) e) in
+      rw (p .given) (by-cases p d (ordinary s g) refl)
+    where
+      y : Symbol
+      y = symbolAt s (g .symbols) 2 0
+
+      z : Symbol
+      z = symbolAt s (g .symbols) 2 1
+
+      by-cases : (p : Parts (pilotOf s g) pilotIn) (d : Data s g) (b : Bool) → ordinary s g ≡ b
+          → Sure (λ u. Keeps s t u (sounds sound19)) (addGeneral lent g ((ltb 0 (g .totd) && ordinary s g) ⇒ plain (p .rows) (y .first) (z .first) (lastBits (g .totd)) ∣ withData (p .rows) (dataOf s g)) t)
+      by-cases p d true q = rw (lt-ltb 0 (g .totd) (d .some), q) (keep-plain (p .rows) (y .first) (z .first) (lastBits (g .totd)) (p .heard) (plain-heard s g d q))
+      by-cases p d false q =
+          let r = data-part s g d in
+          rw (lt-ltb 0 (g .totd) (d .some), q, r .given) (keep-toned (p .rows) (r .rows) (p .heard) (r .heard))
+
+  keep19 : Places s g → kept19 s g ≡ true → Sure (λ u. Keeps s t u (format19 s g)) (addGeneral lent g (generalOf s g) t)
+  unfolding kept19 format19 symbolsSaid
+  keep19 places e =
+      let pilot = pilot-said s g (first (keptPilot s g) (keptData s g) e) in
+      let symbols = data-said s g (data-clauses s g places (second (keptPilot s g) (keptData s g) e)) in
+      rw (pilot, symbols) (keep-general places e)
+
+unkept : false ≡ true → ⊥
+unkept e = let z : _≡_ {A = ℕ} 0 1 = cc in omega arith
+
+-- THE THEOREM: the blocks that a kept piece adds play the lengths above 0 that the format gives it, in order
+pub kept-keeps : (lent : Lent) (s : List ℕ) (model : ℕ) (piece : Piece) (t : Tape) → Fit s piece → kept s piece ≡ true → Sure (λ u. Keeps s t u (formatOf (eqb model 0) s piece)) (act lent s model piece t)
+unfolding kept formatOf act startGroup noteText openLoop
+kept-keeps lent s model (Standard pause from size) t fit e = absurd (unkept e)
+kept-keeps lent s model (Turbo d) t fit e = keep11 lent s t d e
+kept-keeps lent s model (PureTone half count) t fit e = keep12 lent s t half count e
+kept-keeps lent s model (Pulses count from) t fit e = keep13 lent s t count from e
+kept-keeps lent s model (Pure off one last pause from size) t fit e = keep14 lent s t off one last pause from size e
+kept-keeps lent s model (Generalized g) t fit e = keep19 lent s t g (fit .places) e
+kept-keeps lent s model (Pause n) t fit e = keep20 lent s t n
+kept-keeps lent s model (GroupStart from size) t fit e = sure (keep-none refl refl)
+kept-keeps lent s model GroupEnd t fit e = absurd (unkept e)
+kept-keeps lent s model (LoopStart times) t fit e = sure (keep-none refl refl)
+kept-keeps lent s model LoopEnd t fit e = absurd (unkept e)
+kept-keeps lent s model (Stop48 length) t fit e = keep2A lent s t model length e
+kept-keeps lent s model (Text from size) t fit e = sure (keep-none refl refl)
+kept-keeps lent s model (Message seconds from size) t fit e = sure (keep-none refl refl)
+kept-keeps lent s model (Archive count from) t fit e = sure (keep-none refl refl)
+kept-keeps lent s model (Hardware count from) t fit e = sure (keep-none refl refl)
+kept-keeps lent s model (Custom id from size) t fit e = sure (keep-none refl refl)
+kept-keeps lent s model Glue t fit e = sure (keep-none refl refl)

@@ -3,6 +3,7 @@ pub mod Adds
 pub mod Waves
 pub mod Symbols
 pub mod Bits
+pub mod Generals
 pub mod Keeps
 pub mod Examples
 pub mod Differ

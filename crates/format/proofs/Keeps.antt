@@ -26,7 +26,7 @@ use Rattle.parser.proofs.Kept.{Sure, sure, sure-also, sure-then}
 use Rattle.blocks.specs.Blocks.{ms, toneOf, born, stopBlock, turboTones, turboBlock, pureTones, pureBlock, pureToneTones, soundOnly, pulseAt, pauseBlock, pauseOrStop}
 use Rattle.blocks.specs.Adds.{Lent, add, addPairs, addGeneral, stopOn48}
 use Rattle.format.specs.Format.{Length, lasts, forever, Sound, Said, sounds, paused, each, again, dataPulses, bitsSaid, format11, format12, format13, format14, pilotPulses, symbolPulses, symbolsSaid, format19, format20, format2A, formatOf, lengthsOf, lasting}
-use Rattle.format.specs.Kept.{evenCount, kept11, kept12, kept13, keptPilot, keptData, kept19, kept, Plays, Keeps, keeps}
+use Rattle.format.specs.Kept.{evenCount, kept11, kept12, kept13, keptPilot, keptData, kept19, kept, Plays, Keeps, as-said}
 use Rattle.format.proofs.Lengths.{long, long-append, lasting-append, waveIn, wavesOf, dataIn, pauseIn, blockLengths}
 use Rattle.format.proofs.Adds.{Over, plays-none, plays-then, plays-as, add-plays}
 use Rattle.format.proofs.Waves.{each-split, again-more, cycles-pulses, pilot-same, zero-none, zeros-none, data-same}
@@ -42,7 +42,7 @@ keep-add : (lent : Lent) (s : List ℕ) (t : Tape) (ts : List Tone) (row : ℕ �
     → Sure (λ u. Keeps s t u (sounds x)) (add lent ts row t)
 unfolding lengthsOf blockLengths
 keep-add lent s t ts row x o p q =
-    sure-also (λ u h. keeps h)
+    sure-also (λ u h. as-said h)
     (add-plays s ts row o (lengthsOf x)
     (λ n.
     ap₂ (λ (a b : List Length). a ++ b) (sym (long-append (wavesOf ts) (dataIn s (row n))) ∙ p n) (ap (λ (l : Length). lasting (l ∷ [])) (q n))
@@ -198,7 +198,7 @@ keep20 lent s t n = by-cases (eqb n 0)
 -- no sound of its own
 keep-none : {s : List ℕ} {t u : Tape} → u .blocks ≡ t .blocks → u .tones ≡ t .tones → Keeps s t u (sounds (soundWith [] (lasts 0)))
 unfolding lengthsOf lasting
-keep-none p q = keeps (plays-none p q refl)
+keep-none p q = as-said (plays-none p q refl)
 
 keep2A : (lent : Lent) (s : List ℕ) (t : Tape) (model length : ℕ) → eqb length 0 ≡ true → Sure (λ u. Keeps s t u (format2A (eqb model 0) length)) (stopOn48 lent model t)
 unfolding format2A stopOn48
@@ -280,7 +280,7 @@ pairs-same s count from e = by-cases (eqb (count % 2) 0) refl
 keep13 : (lent : Lent) (s : List ℕ) (t : Tape) (count from : ℕ) → kept13 s count from ≡ true → Sure (λ u. Keeps s t u (format13 s count from)) (addPairs lent s from 0 (count / 2) t)
 unfolding format13
 keep13 lent s t count from e =
-    sure-also (λ u p. keeps (plays-as (pairs-same s count from e ∙ sym (no-pause (each (pulseIn s from) 0 count))) p)) (pairs-play lent s from 0 (count / 2) t)
+    sure-also (λ u p. as-said (plays-as (pairs-same s count from e ∙ sym (no-pause (each (pulseIn s from) 0 count))) p)) (pairs-play lent s from 0 (count / 2) t)
 
 -- 19: ordinary data behind a pilot
 abbrev plainRow : GeneralizedData → List Tone → ℕ → ℕ → ℕ → ℕ → Block
@@ -371,23 +371,23 @@ unkept : false ≡ true → ⊥
 unkept e = let z : _≡_ {A = ℕ} 0 1 = cc in omega arith
 
 -- THE THEOREM: the blocks that a kept piece adds play the lengths above 0 that the format gives it, in order
-pub kept-keeps : (lent : Lent) (s : List ℕ) (model : ℕ) (piece : Piece) (t : Tape) → Fit s piece → kept s piece ≡ true → Sure (λ u. Keeps s t u (formatOf (eqb model 0) s piece)) (act lent s model piece t)
+pub keeps : (lent : Lent) (s : List ℕ) (model : ℕ) (piece : Piece) (t : Tape) → Fit s piece → kept s piece ≡ true → Sure (λ u. Keeps s t u (formatOf (eqb model 0) s piece)) (act lent s model piece t)
 unfolding kept formatOf act startGroup noteText openLoop
-kept-keeps lent s model (Standard pause from size) t fit e = absurd (unkept e)
-kept-keeps lent s model (Turbo d) t fit e = keep11 lent s t d e
-kept-keeps lent s model (PureTone half count) t fit e = keep12 lent s t half count e
-kept-keeps lent s model (Pulses count from) t fit e = keep13 lent s t count from e
-kept-keeps lent s model (Pure off one last pause from size) t fit e = keep14 lent s t off one last pause from size e
-kept-keeps lent s model (Generalized g) t fit e = keep19 lent s t g (fit .places) e
-kept-keeps lent s model (Pause n) t fit e = keep20 lent s t n
-kept-keeps lent s model (GroupStart from size) t fit e = sure (keep-none refl refl)
-kept-keeps lent s model GroupEnd t fit e = absurd (unkept e)
-kept-keeps lent s model (LoopStart times) t fit e = sure (keep-none refl refl)
-kept-keeps lent s model LoopEnd t fit e = absurd (unkept e)
-kept-keeps lent s model (Stop48 length) t fit e = keep2A lent s t model length e
-kept-keeps lent s model (Text from size) t fit e = sure (keep-none refl refl)
-kept-keeps lent s model (Message seconds from size) t fit e = sure (keep-none refl refl)
-kept-keeps lent s model (Archive count from) t fit e = sure (keep-none refl refl)
-kept-keeps lent s model (Hardware count from) t fit e = sure (keep-none refl refl)
-kept-keeps lent s model (Custom id from size) t fit e = sure (keep-none refl refl)
-kept-keeps lent s model Glue t fit e = sure (keep-none refl refl)
+keeps lent s model (Standard pause from size) t fit e = absurd (unkept e)
+keeps lent s model (Turbo d) t fit e = keep11 lent s t d e
+keeps lent s model (PureTone half count) t fit e = keep12 lent s t half count e
+keeps lent s model (Pulses count from) t fit e = keep13 lent s t count from e
+keeps lent s model (Pure off one last pause from size) t fit e = keep14 lent s t off one last pause from size e
+keeps lent s model (Generalized g) t fit e = keep19 lent s t g (fit .places) e
+keeps lent s model (Pause n) t fit e = keep20 lent s t n
+keeps lent s model (GroupStart from size) t fit e = sure (keep-none refl refl)
+keeps lent s model GroupEnd t fit e = absurd (unkept e)
+keeps lent s model (LoopStart times) t fit e = sure (keep-none refl refl)
+keeps lent s model LoopEnd t fit e = absurd (unkept e)
+keeps lent s model (Stop48 length) t fit e = keep2A lent s t model length e
+keeps lent s model (Text from size) t fit e = sure (keep-none refl refl)
+keeps lent s model (Message seconds from size) t fit e = sure (keep-none refl refl)
+keeps lent s model (Archive count from) t fit e = sure (keep-none refl refl)
+keeps lent s model (Hardware count from) t fit e = sure (keep-none refl refl)
+keeps lent s model (Custom id from size) t fit e = sure (keep-none refl refl)
+keeps lent s model Glue t fit e = sure (keep-none refl refl)

@@ -126,4 +126,4 @@ pub record Plays (s : List ℕ) (ls : List Length) (t t′ : Tape) : Type 0 wher
 
 -- so of what the format says of a piece
 pub data Keeps (s : List ℕ) (t t′ : Tape) : Said → Type 0 where
-  keeps : {x : Sound} → Plays s (lengthsOf x) t t′ → Keeps s t t′ (sounds x)
+  as-said : {x : Sound} → Plays s (lengthsOf x) t t′ → Keeps s t t′ (sounds x)

@@ -29,7 +29,7 @@ use Rattle.format.specs.Format.{Length, lasts, forever, Sound, Said, sou
 use Rattle.format.specs.Kept.{evenCount, kept11, kept12, kept13, keptPilot, keptData, kept19, kept, Plays, Keeps, as-said}
 use Rattle.format.proofs.Lengths.{long, long-append, lasting-append, waveIn, wavesOf, dataIn, pauseIn, blockLengths}
 use Rattle.format.proofs.Adds.{Over, plays-none, plays-then, plays-as, add-plays}
-use Rattle.format.proofs.Waves.{each-split, again-more, cycles-pulses, pilot-same, zero-none, zeros-none, data-same}
+use Rattle.format.proofs.Waves.{each-split, once, again-more, cycles-pulses, pilot-same, zero-none, zeros-none, data-same}
 use Rattle.format.proofs.Symbols.{Parts}
 use Rattle.format.proofs.Generals.{pilot-part, pilot-said, Data, data-clauses, data-said, data-part, plain-heard}
 
@@ -48,10 +48,6 @@ keep-add lent s t ts row x o p q =
     ap₂ (λ (a b : List Length). a ++ b) (sym (long-append (wavesOf ts) (dataIn s (row n))) ∙ p n) (ap (λ (l : Length). lasting (l ∷ [])) (q n))
     ∙ sym (lasting-append (map lasts (x .pulses)) (x .pause ∷ [])))
     lent t)
-
-once : (w : List ℕ) → again 1 w ≡ w
-unfolding each
-once w = append-nil w
 
 -- 11
 turbo-same : (s : List ℕ) (d : TurboData) (n : ℕ) → (eqb (d .pilot) 0 || evenCount (d .pilots)) ≡ true → bitsSaid (d .last) (d .size) ≡ true
@@ -73,11 +69,11 @@ turbo-same s d n p q =
     two : syncs ≡ d .sync1 ∷ d .sync2 ∷ []
     two = append-nil (again (max 1 1) (d .sync1 ∷ d .sync2 ∷ [])) ∙ once (d .sync1 ∷ d .sync2 ∷ [])
 
-turbo-over : (d : TurboData) → Over (turboTones d) (turboBlock d)
+pub turbo-over : (d : TurboData) → Over (turboTones d) (turboBlock d)
 unfolding turboTones turboBlock born
 turbo-over d = record { first = λ n. refl; count = λ n. refl }
 
-turbo-pause : (d : TurboData) (n : ℕ) → pauseIn (turboBlock d n) ≡ paused (d .pause)
+pub turbo-pause : (d : TurboData) (n : ℕ) → pauseIn (turboBlock d n) ≡ paused (d .pause)
 unfolding turboBlock born pauseIn
 turbo-pause d n = refl
 
@@ -209,7 +205,7 @@ keep2A lent s t model length e = rw e (by-cases (eqb model 0))
     by-cases false = sure (keep-none refl refl)
 
 -- 13: pulse i
-abbrev pulseIn : List ℕ → ℕ → ℕ → List ℕ
+abbrev pub pulseIn : List ℕ → ℕ → ℕ → List ℕ
 pulseIn s from i = leAt s (from + i * 2) 2 ∷ []
 
 pair-over : (ts : List Tone) → length ts ≡ 1 → Over ts (soundOnly 1)
@@ -239,11 +235,11 @@ last-none xs f p e =
     long-append xs (f p ++ []) ∙ ap (λ (r : List ℕ). long xs ++ long (r ++ [])) e ∙ append-nil (long xs)
 
 -- a pause of 0
-no-pause : (xs : List ℕ) → lasting (lengthsOf (soundWith xs (lasts 0))) ≡ long xs
+pub no-pause : (xs : List ℕ) → lasting (lengthsOf (soundWith xs (lasts 0))) ≡ long xs
 unfolding lengthsOf lasting
 no-pause xs = lasting-append (map lasts xs) (lasts 0 ∷ []) ∙ append-nil (long xs)
 
-pairs-play : (lent : Lent) (s : List ℕ) (from i n : ℕ) (t : Tape) → Sure (Plays s (map lasts (each (pulseIn s from) i (n * 2))) t) (addPairs lent s from i n t)
+pub pairs-play : (lent : Lent) (s : List ℕ) (from i n : ℕ) (t : Tape) → Sure (Plays s (map lasts (each (pulseIn s from) i (n * 2))) t) (addPairs lent s from i n t)
 unfolding addPairs pulseAt
 pairs-play lent s from i zero t = sure (plays-none refl refl (none-heard (pulseIn s from) i))
 pairs-play lent s from i (suc n) t =

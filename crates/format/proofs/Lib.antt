@@ -5,5 +5,6 @@ pub mod Symbols
 pub mod Bits
 pub mod Generals
 pub mod Keeps
+pub mod Exact
 pub mod Examples
 pub mod Differ

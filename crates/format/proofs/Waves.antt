@@ -3,7 +3,7 @@ use Prim.Native.Nat.{ℕ, zero, suc, _+_, _*_, _/_, _%_, _≤_, _<_, max}
 use native.Mathlib.Omega.{arith}
 use mathlib.Core.Path.{_≡_, refl, sym, ap, ap₂, _∙_}
 use mathlib.Core.Bool.{Bool, true, false, _&&_, _||_}
-use mathlib.Core.List.{List, [], _∷_, _++_, append-assoc}
+use mathlib.Core.List.{List, [], _∷_, _++_, append-assoc, append-nil}
 use lib.Dec.{ltb, leb, eqb}
 use borrow.Author.Tests.{ltb-true, leb-true, eqb-true, ne-eqb}
 use Rattle.laws.specs.Arms.{between}
@@ -51,6 +51,11 @@ again-from w p q (suc n) = ap (λ (r : List ℕ). w ++ r) (again-from w (p + 1) 
 pub again-more : (w : List ℕ) (n : ℕ) → again (suc n) w ≡ w ++ again n w
 unfolding each
 again-more w n = ap (λ (r : List ℕ). w ++ r) (again-from w 1 0 n)
+
+-- a wave, once
+pub once : (w : List ℕ) → again 1 w ≡ w
+unfolding each
+once w = append-nil w
 
 again-none : (v w : List ℕ) → again 0 v ≡ again 0 w
 unfolding each

@@ -6,5 +6,6 @@ pub mod Bits
 pub mod Generals
 pub mod Keeps
 pub mod Exact
+pub mod Cuts
 pub mod Examples
 pub mod Differ

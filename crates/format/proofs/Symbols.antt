@@ -88,7 +88,7 @@ two-same zero (suc b) e = let z : suc b ≡ 0 = eqb-true (suc b) 0 e in absurd (
 two-same (suc a) zero e = rw (ne-eqb (suc a) 0 (omega arith))
 two-same (suc a) (suc b) e = rw (ne-eqb (suc a) 0 (omega arith), ne-eqb (suc b) 0 (omega arith))
 
-not-so : (b : Bool) → not b ≡ true → b ≡ false
+pub not-so : (b : Bool) → not b ≡ true → b ≡ false
 not-so true e = sym e
 not-so false e = refl
 

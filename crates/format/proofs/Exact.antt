@@ -25,7 +25,7 @@ use Rattle.blocks.specs.Blocks.{ms, toneOf, born, isHeader, standardCycles, sta
 use Rattle.blocks.specs.Adds.{Lent, add, addPairs}
 use Rattle.reader.specs.Source.{act}
 use Rattle.format.specs.Format.{Length, lasts, Sound, Said, sounds, unsaid, paused, each, again, dataPulses, bitsSaid, pilotCount, format10, format11, format12, format13, format14, format2A, formatOf, lengthsOf, lasting}
-use Rattle.format.specs.Kept.{evenCount, kept11, kept12, kept13, kept, lengths, listOf, Plays, Keeps, as-said}
+use Rattle.format.specs.Kept.{evenCount, kept11, kept12, kept13, kept, told, lengths, listOf, Plays, Keeps, as-said}
 use Rattle.format.proofs.Lengths.{long, long-append, lasting-append, wavesOf, dataIn, pauseIn, blockLengths}
 use Rattle.format.proofs.Adds.{Over, add-plays}
 use Rattle.format.proofs.Waves.{each-split, once, again-more, cycles-pulses, data-same}
@@ -264,27 +264,6 @@ unfolding format13
 differs13 lent s t count′ from e =
     sure-also (λ u p k. odd-last s count′ from e (keeps-once (record { pulses = each (pulseIn s from) 0 count′; pause = lasts 0 }) refl p k ∙ no-pause (each (pulseIn s from) 0 count′)))
     (pairs-play lent s from 0 (count′ / 2) t)
-
--- the kinds of which `kept` is exact
-unfoldable pub told : Piece → Bool
-told (Standard pause from size) = true
-told (Turbo d) = true
-told (PureTone half count′) = true
-told (Pulses count′ from) = true
-told (Pure off one last pause from size) = true
-told (Generalized g) = false
-told (Pause n) = true
-told (GroupStart from size) = true
-told GroupEnd = false
-told (LoopStart times) = true
-told LoopEnd = false
-told (Stop48 length) = true
-told (Text from size) = true
-told (Message seconds from size) = true
-told (Archive count′ from) = true
-told (Hardware count′ from) = true
-told (Custom id from size) = true
-told Glue = true
 
 -- THE CONVERSE: where `kept` is false, no block list that the piece adds plays what the format says
 pub unkept-differs : (lent : Lent) (s : List ℕ) (model : ℕ) (piece : Piece) (t : Tape) → told piece ≡ true → kept s piece ≡ false

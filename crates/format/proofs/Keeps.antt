@@ -20,13 +20,12 @@ use Rattle.pieces.specs.declared.Piece.the-variants.{Standard, Turbo, Tone as P
 use Rattle.pieces.specs.Places.{Places}
 use Rattle.general.specs.General.{Symbol, symbolAt, plain, toned, pilotOf, ordinary, lastBits, dataOf, withPilot, withData, generalOf}
 use Rattle.reader.specs.Source.{act}
-use Rattle.reader.specs.Does.{Fit}
 use Rattle.parser.specs.Parser.{Tape, on, startGroup, noteText, openLoop}
 use Rattle.parser.proofs.Kept.{Sure, sure, sure-also, sure-then}
 use Rattle.blocks.specs.Blocks.{ms, toneOf, born, stopBlock, turboTones, turboBlock, pureTones, pureBlock, pureToneTones, soundOnly, pulseAt, pauseBlock, pauseOrStop}
 use Rattle.blocks.specs.Adds.{Lent, add, addPairs, addGeneral, stopOn48}
 use Rattle.format.specs.Format.{Length, lasts, forever, Sound, Said, sounds, paused, each, again, dataPulses, bitsSaid, format11, format12, format13, format14, pilotPulses, symbolPulses, symbolsSaid, format19, format20, format2A, formatOf, lengthsOf, lasting}
-use Rattle.format.specs.Kept.{evenCount, kept11, kept12, kept13, keptPilot, keptData, kept19, kept, Plays, Keeps, as-said}
+use Rattle.format.specs.Kept.{evenCount, kept11, kept12, kept13, keptPilot, keptData, kept19, kept, Plays, Keeps, as-said, Tables}
 use Rattle.format.proofs.Lengths.{long, long-append, lasting-append, waveIn, wavesOf, dataIn, pauseIn, blockLengths}
 use Rattle.format.proofs.Adds.{Over, plays-none, plays-then, plays-as, add-plays}
 use Rattle.format.proofs.Waves.{each-split, once, again-more, cycles-pulses, pilot-same, zero-none, zeros-none, data-same}
@@ -367,23 +366,23 @@ unkept : false ≡ true → ⊥
 unkept e = let z : _≡_ {A = ℕ} 0 1 = cc in omega arith
 
 -- THE THEOREM: the blocks that a kept piece adds play the lengths above 0 that the format gives it, in order
-pub keeps : (lent : Lent) (s : List ℕ) (model : ℕ) (piece : Piece) (t : Tape) → Fit s piece → kept s piece ≡ true → Sure (λ u. Keeps s t u (formatOf (eqb model 0) s piece)) (act lent s model piece t)
+pub keeps : (lent : Lent) (s : List ℕ) (model : ℕ) (piece : Piece) (t : Tape) → Tables s piece → kept s piece ≡ true → Sure (λ u. Keeps s t u (formatOf (eqb model 0) s piece)) (act lent s model piece t)
 unfolding kept formatOf act startGroup noteText openLoop
-keeps lent s model (Standard pause from size) t fit e = absurd (unkept e)
-keeps lent s model (Turbo d) t fit e = keep11 lent s t d e
-keeps lent s model (PureTone half count) t fit e = keep12 lent s t half count e
-keeps lent s model (Pulses count from) t fit e = keep13 lent s t count from e
-keeps lent s model (Pure off one last pause from size) t fit e = keep14 lent s t off one last pause from size e
-keeps lent s model (Generalized g) t fit e = keep19 lent s t g (fit .places) e
-keeps lent s model (Pause n) t fit e = keep20 lent s t n
-keeps lent s model (GroupStart from size) t fit e = sure (keep-none refl refl)
-keeps lent s model GroupEnd t fit e = absurd (unkept e)
-keeps lent s model (LoopStart times) t fit e = sure (keep-none refl refl)
-keeps lent s model LoopEnd t fit e = absurd (unkept e)
-keeps lent s model (Stop48 length) t fit e = keep2A lent s t model length e
-keeps lent s model (Text from size) t fit e = sure (keep-none refl refl)
-keeps lent s model (Message seconds from size) t fit e = sure (keep-none refl refl)
-keeps lent s model (Archive count from) t fit e = sure (keep-none refl refl)
-keeps lent s model (Hardware count from) t fit e = sure (keep-none refl refl)
-keeps lent s model (Custom id from size) t fit e = sure (keep-none refl refl)
-keeps lent s model Glue t fit e = sure (keep-none refl refl)
+keeps lent s model (Standard pause from size) t places e = absurd (unkept e)
+keeps lent s model (Turbo d) t places e = keep11 lent s t d e
+keeps lent s model (PureTone half count) t places e = keep12 lent s t half count e
+keeps lent s model (Pulses count from) t places e = keep13 lent s t count from e
+keeps lent s model (Pure off one last pause from size) t places e = keep14 lent s t off one last pause from size e
+keeps lent s model (Generalized g) t places e = keep19 lent s t g (places g refl) e
+keeps lent s model (Pause n) t places e = keep20 lent s t n
+keeps lent s model (GroupStart from size) t places e = sure (keep-none refl refl)
+keeps lent s model GroupEnd t places e = absurd (unkept e)
+keeps lent s model (LoopStart times) t places e = sure (keep-none refl refl)
+keeps lent s model LoopEnd t places e = absurd (unkept e)
+keeps lent s model (Stop48 length) t places e = keep2A lent s t model length e
+keeps lent s model (Text from size) t places e = sure (keep-none refl refl)
+keeps lent s model (Message seconds from size) t places e = sure (keep-none refl refl)
+keeps lent s model (Archive count from) t places e = sure (keep-none refl refl)
+keeps lent s model (Hardware count from) t places e = sure (keep-none refl refl)
+keeps lent s model (Custom id from size) t places e = sure (keep-none refl refl)
+keeps lent s model Glue t places e = sure (keep-none refl refl)

@@ -7,5 +7,6 @@ pub mod Generals
 pub mod Keeps
 pub mod Exact
 pub mod Cuts
+pub mod Tapes
 pub mod Examples
 pub mod Differ

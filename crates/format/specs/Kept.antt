@@ -15,6 +15,7 @@ use Rattle.rows.specs.declared.Tone.{Tone as ToneRow}
 use Rattle.entries.specs.Entries.{Spot, entriesOf}
 use Rattle.parser.specs.Parser.{Tape}
 use Rattle.pieces.specs.declared.GeneralizedData.{GeneralizedData}
+use Rattle.pieces.specs.Places.{Places}
 use Rattle.pieces.specs.declared.TurboData.{TurboData}
 use Rattle.pieces.specs.declared.Piece.{Piece}
 use Rattle.pieces.specs.declared.Piece.the-variants.{Standard, Turbo, Tone, Pulses, Pure, Generalized, Pause, GroupStart, GroupEnd, LoopStart, LoopEnd, Stop48, Text, Message, Archive, Hardware, Custom, Glue}
@@ -103,6 +104,27 @@ kept s (Hardware count from) = true
 kept s (Custom id from size) = true
 kept s Glue = true
 
+-- the kinds of which `kept` is exact
+unfoldable pub told : Piece → Bool
+told (Standard pause from size) = true
+told (Turbo d) = true
+told (Tone half count) = true
+told (Pulses count from) = true
+told (Pure nil one last pause from size) = true
+told (Generalized g) = false
+told (Pause n) = true
+told (GroupStart from size) = true
+told GroupEnd = false
+told (LoopStart times) = true
+told LoopEnd = false
+told (Stop48 length) = true
+told (Text from size) = true
+told (Message seconds from size) = true
+told (Archive count from) = true
+told (Hardware count from) = true
+told (Custom id from size) = true
+told Glue = true
+
 -- an entry's length
 unfoldable pub lengthOf : {A : Type 0} → Entry A → Length
 lengthOf (pulse a v t) = lasts t
@@ -127,3 +149,7 @@ pub record Plays (s : List ℕ) (ls : List Length) (t t′ : Tape) : Type 0 wher
 -- so of what the format says of a piece
 pub data Keeps (s : List ℕ) (t t′ : Tape) : Said → Type 0 where
   as-said : {x : Sound} → Plays s (lengthsOf x) t t′ → Keeps s t t′ (sounds x)
+
+-- a 19's tables are where its numbers say
+abbrev pub Tables : List ℕ → Piece → Type 0
+Tables s piece = (g : GeneralizedData) → piece ≡ Generalized g → Places s g

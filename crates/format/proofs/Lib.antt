@@ -1,0 +1,12 @@
+pub mod Lengths
+pub mod Adds
+pub mod Waves
+pub mod Symbols
+pub mod Bits
+pub mod Generals
+pub mod Keeps
+pub mod Exact
+pub mod Cuts
+pub mod Tapes
+pub mod Examples
+pub mod Differ

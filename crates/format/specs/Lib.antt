@@ -1,0 +1,4 @@
+pub mod Format
+pub mod Kept
+pub mod Heard
+pub mod Tapes

@@ -22,15 +22,7 @@ use Rattle.reader.specs.Source as source
 use Rattle.format.specs.Format.{Length, lasts, forever, full, each, bitPulses, bitsIn, bytePulses, dataPulses, bitsSaid, pilotCount, format10, format11, format12, format13, format14, waveFrom, symbolPulse, waveOf, pilotSymbol, repetitions, pilotPulses, bitAt, groupAt, dataNumber, symbolPulses, every, symbolsSaid, format19, format20, format2A, formatOf, lengthsOf, lasting}
 use Rattle.format.specs.Kept.{evenCount, kept11, kept12, kept13, firstPulse, secondPulse, wholeWave, keptTimes, keptEntry, keptPilot, keptSymbol, keptPairs, keptData, kept19, kept, lengthOf, listOf}
 use Rattle.format.specs.Heard.{Heard, plays, refused, errs, nothing, most, heardIn, playedBy, formatOn, sourceOn, keptOn, formatAt, sourceAt, keptAt, sameLength, sameLengths, same}
-
-pub record Example : Type 0 where
-  pub tape : List ℕ
-  pub kept : Bool
-  pub format : Heard
-  pub source : Heard
-
-abbrev row : List ℕ → Bool → Heard → Heard → Example
-row tape kept format source = record { tape = tape; kept = kept; format = format; source = source }
+use Rattle.format.proofs.Examples.{Example, row}
 
 unfoldable pub ways : List Example
 ways =

@@ -16,7 +16,7 @@ use Rattle.rows.proofs.Tables.{get-row}
 use Rattle.entries.specs.Entries.{bitsAt, halfOf, byteOf, dataOf, pauseOf, tonesOf, soundOf, entriesOf}
 use Rattle.parser.specs.declared.Pending.{Pending}
 use Rattle.parser.specs.declared.Pending.the-variants.{Nothing, First, Later, Text}
-use Rattle.parser.specs.Parser.{Tape, Out, on, no, _⟫_, named, withTones, withBlock, addTones, addBlock}
+use Rattle.parser.specs.Parser.{Tape, on, no, _⟫_, named, withTones, withBlock, addTones, addBlock}
 use Rattle.parser.proofs.Kept.{Sure, sure, none}
 use Rattle.blocks.specs.Adds.{Lent, addRows, add}
 use Rattle.format.specs.Format.{Length, lasting}

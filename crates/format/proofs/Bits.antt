@@ -34,7 +34,7 @@ one-more : (f : ℕ → List ℕ) (p n : ℕ) → each f p (suc n) ≡ f p ++ ea
 unfolding each
 one-more f p n = refl
 
-single : (f : ℕ → List ℕ) (p : ℕ) → each f p 1 ≡ f p
+pub single : (f : ℕ → List ℕ) (p : ℕ) → each f p 1 ≡ f p
 unfolding each
 single f p = append-nil (f p)
 

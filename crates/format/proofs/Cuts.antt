@@ -1,14 +1,14 @@
 -- THE SAME PIECE: where a kept piece was cut with an alphabet size of 0 meaning 255, the format, where it means 256, cuts one there that ends where it
 -- ends and says the same. Assumes nothing.
-use Prim.Native.Nat.{ℕ, zero, suc, _+_, _*_, _-_, _/_, _<_, _≤_}
+use Prim.Native.Nat.{ℕ, _+_, _*_, _-_, _/_, _<_, _≤_}
 use native.Mathlib.Omega.{arith}
-use mathlib.Core.Path.{_≡_, refl, sym, ap, ap₂, subst, _∙_}
-use mathlib.Core.Bool.{Bool, true, false, _&&_, _||_, not}
+use mathlib.Core.Path.{_≡_, refl, sym, ap, subst, _∙_}
+use mathlib.Core.Bool.{Bool, true, false, _&&_, not}
 use mathlib.Core.List.{List, _++_}
 use mathlib.Core.Logic.{⊎-elim}
 use lib.ListN.{length, getD}
 use lib.Dec.{leb, ltb, eqb}
-use borrow.Author.Tests.{eqb-true, eqb-false, ne-eqb}
+use borrow.Author.Tests.{eqb-true}
 use Rattle.laws.specs.Rules.{_⇒_, _∣_}
 use Rattle.laws.specs.Numbers.{lt-or-ge}
 use Rattle.laws.specs.Tests.{first, second, other}
@@ -17,14 +17,14 @@ use Rattle.fields.specs.declared.Cursor.the-variants.{At}
 use Rattle.fields.specs.declared.Cursor.the-variants as cursor
 use Rattle.fields.specs.Field.{leAt, numberAt, fieldAt, placeOf}
 use Rattle.fields.specs.Run.{eachAt, groupsAt}
-use Rattle.fields.proofs.Runs.{Stood, field-there, field-short, each-stood, groups-stood}
+use Rattle.fields.proofs.Runs.{field-there, field-short, each-stood, groups-stood}
 use Rattle.pieces.specs.declared.GeneralizedData.{GeneralizedData}
 use Rattle.pieces.specs.declared.Piece.{Piece}
 use Rattle.pieces.specs.declared.Piece.the-variants.{Generalized}
 use Rattle.pieces.specs.declared.Body.{Body}
 use Rattle.pieces.specs.declared.Body.the-variants as body
 use Rattle.pieces.specs.declared.Taken.the-variants as taken
-use Rattle.pieces.specs.Grammar.{Layout, here, pass, groups, passAt, wholeAt, fittingAt, readAt, bitsOf, orFull, heldIf}
+use Rattle.pieces.specs.Grammar.{Layout, passAt, wholeAt, fittingAt, readAt, bitsOf, orFull, heldIf}
 use Rattle.pieces.specs.Kinds.{stream19, kind19, kinds, kindOf}
 use Rattle.pieces.specs.Cut.{named, cutAt}
 use Rattle.pieces.specs.Steps.{head19}
@@ -36,6 +36,7 @@ use Rattle.blocks.specs.Adds.{Lent}
 use Rattle.reader.specs.Source.{act}
 use Rattle.format.specs.Format.{Said, unsaid, soundOf, paused, each, pilotSymbol, repetitions, pilotPulses, dataNumber, symbolPulses, every, symbolsSaid, format19, formatOf, full}
 use Rattle.format.specs.Kept.{keptPilot, keptData, kept19, kept, Keeps, Tables}
+use Rattle.format.proofs.Waves.{differ}
 use Rattle.format.proofs.Symbols.{not-so}
 use Rattle.format.proofs.Keeps.{keeps}
 
@@ -210,9 +211,6 @@ pub record Same (s : List ℕ) (b : Body) (piece : Piece) (next : ℕ) : Type 0 
   pub whole : b ≡ body.Whole other next
   pub said : (on48 : Bool) → formatOf on48 s other ≡ formatOf on48 s piece
 
-two-truths : true ≡ false → ⊥
-two-truths e = let z : _≡_ {A = ℕ} 0 1 = cc in omega arith
-
 module _ (s : List ℕ) (c : Cursor) {piece : Piece} {next : ℕ} (e : readAt (kind19 255) s c ≡ body.Whole piece next) (k : kept s piece ≡ true) where
   abbrev heldBy : ℕ → ℕ
   heldBy full = heldIf (head19 s c .totp) (orFull full (head19 s c .asp))
@@ -274,7 +272,7 @@ module _ (s : List ℕ) (c : Cursor) {piece : Piece} {next : ℕ} (e : readAt (k
           record { other = Generalized (generalBy asd255 asp256 (heldBy 255)); whole = read256 ∙ ap (bodyBy asd255 asp256) n ∙ whole256; said = said256 t }
       by-totp false q z =
           let o : eqb (getD s (placeOf (head19 s c .cursor) - 7) 0) 0 ≡ false = kept-asp s (generalBy asd255 asp255 (heldBy 255)) kept255 q in
-          absurd (two-truths (sym z ∙ ap (λ (x : ℕ). eqb x 0) asp-byte ∙ o))
+          absurd (differ (sym z ∙ ap (λ (x : ℕ). eqb x 0) asp-byte ∙ o))
 
       by-asp : (b : Bool) → eqb (head19 s c .asp) 0 ≡ b → Same s (readAt (kind19 full) s c) piece next
       by-asp true z = by-totp (eqb (head19 s c .totp) 0) refl z

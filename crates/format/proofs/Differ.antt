@@ -22,15 +22,7 @@ use Rattle.reader.specs.Source as source
 use Rattle.format.specs.Format.{Length, lasts, forever, full, each, bitPulses, bitsIn, bytePulses, dataPulses, bitsSaid, pilotCount, format10, format11, format12, format13, format14, waveFrom, symbolPulse, waveOf, pilotSymbol, repetitions, pilotPulses, bitAt, groupAt, dataNumber, symbolPulses, every, symbolsSaid, format19, format20, format2A, formatOf, lengthsOf, lasting}
 use Rattle.format.specs.Kept.{evenCount, kept11, kept12, kept13, firstPulse, secondPulse, wholeWave, keptTimes, keptEntry, keptPilot, keptSymbol, keptPairs, keptData, kept19, kept, lengthOf, listOf}
 use Rattle.format.specs.Heard.{Heard, plays, refused, errs, nothing, most, heardIn, playedBy, formatOn, sourceOn, keptOn, formatAt, sourceAt, keptAt, sameLength, sameLengths, same}
-
-pub record Example : Type 0 where
-  pub tape : List ℕ
-  pub kept : Bool
-  pub format : Heard
-  pub source : Heard
-
-abbrev row : List ℕ → Bool → Heard → Heard → Example
-row tape kept format source = record { tape = tape; kept = kept; format = format; source = source }
+use Rattle.format.proofs.Examples.{Example, row}
 
 unfoldable pub ways : List Example
 ways =
@@ -123,6 +115,16 @@ same-self nothing = refl
 pub ways-differ : map (λ e. same (formatAt (e .tape)) (sourceAt (e .tape))) ways ≡ map (λ e. false) ways
 unfolding leAt numberAt fieldAt placeOf times eachAt groupsAt run over entryOf cyclesOf toneOf tonesOf bitsAt halfOf byteOf dataOf pauseOf soundOf entriesOf countedAt passAt textsAt wholeAt sealed enclosed fittingAt readAt digits orFull heldIf kind10 kind11 kind12 kind13 kind14 stream19 kind19 kind20 kind21 kind22 kind24 kind25 kind2A kind30 kind31 info32 kind32 kind33 kind35 kind5A kinds kindOf named cutAt symbolAt before rowsFrom cycles entrySymbol entryRepeat entryRow pilotOf equalHalves ordinary lastBits symbolNumber singleRow pairRow singlesOf pairsOf dataPart withPilot withData generalOf empty _⟫_ addTones addBlock startGroup noteText openLoop born stopBlock isHeader standardCycles standardTones standardBlock turboTones turboBlock pureTones pureBlock pureToneTones pulseAt pauseBlock pauseOrStop addRows add addPairs addGeneral stopOn48 act stopLength each bitPulses bitsIn bytePulses dataPulses bitsSaid pilotCount format10 format11 format12 format13 format14 waveFrom symbolPulse waveOf pilotSymbol repetitions pilotPulses bitAt groupAt dataNumber symbolPulses every symbolsSaid format19 format20 format2A formatOf lengthsOf lasting evenCount kept11 kept12 kept13 firstPulse secondPulse wholeWave keptTimes keptEntry keptPilot keptSymbol keptPairs keptData kept19 kept lengthOf listOf heardIn playedBy formatOn sourceOn keptOn sameLength sameLengths same ways
 ways-differ = refl
+
+-- not kept, and yet the same lengths, by chance: a pulse too many in the pilot and one dropped from the data; symbols of two bits, all of them 0
+unfoldable pub chances : List Example
+chances =
+    row (0x19 ∷ 0x17 ∷ 0x00 ∷ 0x00 ∷ 0x00 ∷ 0x00 ∷ 0x00 ∷ 0x01 ∷ 0x00 ∷ 0x00 ∷ 0x00 ∷ 0x01 ∷ 0x01 ∷ 0x01 ∷ 0x00 ∷ 0x00 ∷ 0x00 ∷ 0x01 ∷ 0x01 ∷ 0x00 ∷ 0x64 ∷ 0x00 ∷ 0x00 ∷ 0x01 ∷ 0x00 ∷ 0x00 ∷ 0x64 ∷ 0x00 ∷ []) false (plays (lasts 100 ∷ lasts 100 ∷ [])) (plays (lasts 100 ∷ lasts 100 ∷ [])) ∷
+    row (0x19 ∷ 0x1E ∷ 0x00 ∷ 0x00 ∷ 0x00 ∷ 0x00 ∷ 0x00 ∷ 0x00 ∷ 0x00 ∷ 0x00 ∷ 0x00 ∷ 0x00 ∷ 0x00 ∷ 0x01 ∷ 0x00 ∷ 0x00 ∷ 0x00 ∷ 0x02 ∷ 0x03 ∷ 0x00 ∷ 0x01 ∷ 0x00 ∷ 0x01 ∷ 0x00 ∷ 0x00 ∷ 0x02 ∷ 0x00 ∷ 0x02 ∷ 0x00 ∷ 0x00 ∷ 0x03 ∷ 0x00 ∷ 0x03 ∷ 0x00 ∷ 0x00 ∷ []) false (plays (lasts 1 ∷ lasts 1 ∷ [])) (plays (lasts 1 ∷ lasts 1 ∷ [])) ∷ []
+
+pub chances-same : map (λ e. row (e .tape) (keptAt (e .tape)) (formatAt (e .tape)) (sourceAt (e .tape))) chances ≡ chances
+unfolding leAt numberAt fieldAt placeOf times eachAt groupsAt run over entryOf cyclesOf toneOf tonesOf bitsAt halfOf byteOf dataOf pauseOf soundOf entriesOf countedAt passAt textsAt wholeAt sealed enclosed fittingAt readAt digits orFull heldIf kind10 kind11 kind12 kind13 kind14 stream19 kind19 kind20 kind21 kind22 kind24 kind25 kind2A kind30 kind31 info32 kind32 kind33 kind35 kind5A kinds kindOf named cutAt symbolAt before rowsFrom cycles entrySymbol entryRepeat entryRow pilotOf equalHalves ordinary lastBits symbolNumber singleRow pairRow singlesOf pairsOf dataPart withPilot withData generalOf empty _⟫_ addTones addBlock startGroup noteText openLoop born stopBlock isHeader standardCycles standardTones standardBlock turboTones turboBlock pureTones pureBlock pureToneTones pulseAt pauseBlock pauseOrStop addRows add addPairs addGeneral stopOn48 act stopLength each bitPulses bitsIn bytePulses dataPulses bitsSaid pilotCount format10 format11 format12 format13 format14 waveFrom symbolPulse waveOf pilotSymbol repetitions pilotPulses bitAt groupAt dataNumber symbolPulses every symbolsSaid format19 format20 format2A formatOf lengthsOf lasting evenCount kept11 kept12 kept13 firstPulse secondPulse wholeWave keptTimes keptEntry keptPilot keptSymbol keptPairs keptData kept19 kept lengthOf listOf heardIn playedBy formatOn sourceOn keptOn sameLength sameLengths same chances
+chances-same = refl
 
 -- so many lengths
 unfoldable pub countOf : Heard → ℕ

@@ -8,7 +8,7 @@ use mathlib.Core.List.{List, [], _∷_, _++_, map, append-assoc, append-nil}
 use lib.ListN.{length, getD, drop, length-append}
 use lib.Seq.{drop-at}
 use lib.Dec.{ltb, eqb}
-use borrow.Author.Tests.{lt-ltb, ltb-false, eq-eqb, eqb-true, eqb-false, ne-eqb}
+use borrow.Author.Tests.{lt-ltb, ltb-false, eq-eqb, eqb-false, ne-eqb}
 use Rattle.laws.specs.Rules.{_⇒_, _∣_}
 use Rattle.fields.specs.Field.{leAt}
 use Rattle.rows.specs.Table.{tableOf}
@@ -28,7 +28,8 @@ use Rattle.format.specs.Format.{Length, lasts, Sound, Said, sounds, unsa
 use Rattle.format.specs.Kept.{evenCount, kept11, kept12, kept13, kept, told, lengths, listOf, Plays, Keeps, as-said}
 use Rattle.format.proofs.Lengths.{long, long-append, lasting-append, wavesOf, dataIn, pauseIn, blockLengths}
 use Rattle.format.proofs.Adds.{Over, add-plays}
-use Rattle.format.proofs.Waves.{each-split, once, again-more, cycles-pulses, data-same}
+use Rattle.format.proofs.Waves.{differ, each-split, once, again-more, cycles-pulses, data-same}
+use Rattle.format.proofs.Bits.{single}
 use Rattle.format.proofs.Keeps.{turbo-over, turbo-pause, pulseIn, no-pause, pairs-play}
 
 -- blocks that were added play one list of lengths
@@ -106,9 +107,6 @@ tone-count x zero l e = omega arith
 tone-count x (suc zero) l e = omega arith
 tone-count x (suc (suc n)) l e = omega arith
 
-unkept : true ≡ false → ⊥
-unkept e = let z : _≡_ {A = ℕ} 0 1 = cc in omega arith
-
 -- neither test held
 neither : (a b : Bool) → (a || b) ≡ false → (a ≡ false) × (b ≡ false)
 neither true b e = (e, cc)
@@ -120,7 +118,7 @@ few x n e = let l = ltb-false 1 n (neither (eqb (suc x) 0) (ltb 1 n) e .1) in om
 differs12 : (lent : Lent) (s : List ℕ) (t : Tape) (half count′ : ℕ) → kept12 half count′ ≡ false
     → Sure (λ u. Keeps s t u (format12 half count′) → ⊥) (add lent (pureToneTones half count′) (soundOnly (length (pureToneTones half count′))) t)
 unfolding kept12 format12 born dataPulses each pauseIn
-differs12 lent s t zero count′ e = absurd (unkept e)
+differs12 lent s t zero count′ e = absurd (differ e)
 differs12 lent s t (suc x) count′ e =
     let l : count′ ≤ 1 = few x count′ e in
     add-differs lent s t (pureToneTones (suc x) count′) (soundOnly (length (pureToneTones (suc x) count′))) [] (lasts 0) (again count′ (suc x ∷ [])) refl
@@ -143,7 +141,7 @@ odd-count x n e q =
     let h : max 1 ((n + 1) / 2) * 2 ≡ n = sym (count-cycles x (max 1 ((n + 1) / 2))) ∙ q ∙ count-again x n in
     let l : 0 < n = omega arith in
     let z : n % 2 ≡ 0 = omega arith in
-    unkept (sym (rw (lt-ltb 0 n l, eq-eqb (n % 2) 0 z)) ∙ e)
+    differ (sym (rw (lt-ltb 0 n l, eq-eqb (n % 2) 0 z)) ∙ e)
 
 turbo-count : (x : ℕ) (d : TurboData) (bits : List ℕ) → d .pilot ≡ suc x → evenCount (d .pilots) ≡ false
     → count (wavesOf (turboTones d) ++ bits) ≡ count (again (d .pilots) (d .pilot ∷ []) ++ d .sync1 ∷ d .sync2 ∷ bits) → ⊥
@@ -170,7 +168,7 @@ differs11 lent s t d e = by-bits (bitsSaid (d .last) (d .size)) refl
 
     by-pilot : (x : ℕ) → d .pilot ≡ x → bitsSaid (d .last) (d .size) ≡ true
         → Sure (λ u. Keeps s t u (sounds (record { pulses = again (d .pilots) (d .pilot ∷ []) ++ d .sync1 ∷ d .sync2 ∷ bits; pause = paused (d .pause) })) → ⊥) (add lent (turboTones d) (turboBlock d) t)
-    by-pilot zero p b = absurd (unkept (sym (rw (b, eq-eqb (d .pilot) 0 p)) ∙ e))
+    by-pilot zero p b = absurd (differ (sym (rw (b, eq-eqb (d .pilot) 0 p)) ∙ e))
     by-pilot (suc x) p b =
         let z : eqb (d .pilot) 0 ≡ false = ne-eqb (d .pilot) 0 (omega arith) in
         let c : evenCount (d .pilots) ≡ false = odd-of (eqb (d .pilot) 0) (evenCount (d .pilots)) (bitsSaid (d .last) (d .size)) e b z in
@@ -231,10 +229,6 @@ differs10 lent s t pause from size = by-size (eqb size 0)
         add-differs lent s t (standardTones flag) (standardBlock from size (ms pause)) bits (paused pause) (again (flag ⇒ 8063 ∣ 3223) (2168 ∷ []) ++ 667 ∷ 735 ∷ bits) refl
         (standard-over flag from size (ms pause)) (standard-bits s from size (ms pause)) (standard-pause from size (ms pause)) (standard-count flag bits)
 
-one-item : (f : ℕ → List ℕ) (p : ℕ) → each f p 1 ≡ f p
-unfolding each
-one-item f p = append-nil (f p)
-
 one-heard : (v : ℕ) → (v ≡ 0 → ⊥) → count (v ∷ []) ≡ 1
 unfolding lasting
 one-heard zero h = absurd (h refl)
@@ -254,7 +248,7 @@ odd-last s count′ from e q =
     let w : f (0 + m) ≡ v ∷ [] = ap f (sym l) in
     let c : count (each f 0 count′) ≡ count (each f 0 m) + count (v ∷ []) =
     ap (λ (n : ℕ). count (each f 0 n)) k ∙ ap count (each-split f 0 m 1) ∙ count-append (each f 0 m) (each f (0 + m) 1)
-    ∙ ap (λ (x : List ℕ). count (each f 0 m) + count x) (one-item f (0 + m) ∙ w) in
+    ∙ ap (λ (x : List ℕ). count (each f 0 m) + count x) (single f (0 + m) ∙ w) in
     let d : count (v ∷ []) ≡ 1 = one-heard v (eqb-false v 0 (b .1)) in
     let n : count (each f 0 m) ≡ count (each f 0 count′) = ap length q in
     omega arith
@@ -274,16 +268,16 @@ unkept-differs lent s model (Turbo d) t k e = differs11 lent s t d e
 unkept-differs lent s model (PureTone half count′) t k e = differs12 lent s t half count′ e
 unkept-differs lent s model (Pulses count′ from) t k e = differs13 lent s t count′ from e
 unkept-differs lent s model (Pure off one last pause from size) t k e = differs14 s t off one last pause from size e _
-unkept-differs lent s model (Generalized g) t k e = absurd (unkept (sym k))
-unkept-differs lent s model (Pause n) t k e = absurd (unkept e)
-unkept-differs lent s model (GroupStart from size) t k e = absurd (unkept e)
-unkept-differs lent s model GroupEnd t k e = absurd (unkept (sym k))
-unkept-differs lent s model (LoopStart times) t k e = absurd (unkept e)
-unkept-differs lent s model LoopEnd t k e = absurd (unkept (sym k))
+unkept-differs lent s model (Generalized g) t k e = absurd (differ (sym k))
+unkept-differs lent s model (Pause n) t k e = absurd (differ e)
+unkept-differs lent s model (GroupStart from size) t k e = absurd (differ e)
+unkept-differs lent s model GroupEnd t k e = absurd (differ (sym k))
+unkept-differs lent s model (LoopStart times) t k e = absurd (differ e)
+unkept-differs lent s model LoopEnd t k e = absurd (differ (sym k))
 unkept-differs lent s model (Stop48 length) t k e = differs2A s t (eqb model 0) length e _
-unkept-differs lent s model (Text from size) t k e = absurd (unkept e)
-unkept-differs lent s model (Message seconds from size) t k e = absurd (unkept e)
-unkept-differs lent s model (Archive count′ from) t k e = absurd (unkept e)
-unkept-differs lent s model (Hardware count′ from) t k e = absurd (unkept e)
-unkept-differs lent s model (Custom id from size) t k e = absurd (unkept e)
-unkept-differs lent s model Glue t k e = absurd (unkept e)
+unkept-differs lent s model (Text from size) t k e = absurd (differ e)
+unkept-differs lent s model (Message seconds from size) t k e = absurd (differ e)
+unkept-differs lent s model (Archive count′ from) t k e = absurd (differ e)
+unkept-differs lent s model (Hardware count′ from) t k e = absurd (differ e)
+unkept-differs lent s model (Custom id from size) t k e = absurd (differ e)
+unkept-differs lent s model Glue t k e = absurd (differ e)

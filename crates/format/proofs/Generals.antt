@@ -3,23 +3,22 @@ use Prim.Native.Nat.{ℕ, zero, suc, _+_, _*_, _-_, _/_, _%_, _≤_, _<_, max}
 use native.Mathlib.Omega.{arith}
 use mathlib.Core.Path.{_≡_, refl, sym, ap, ap₂, _∙_}
 use mathlib.Core.Bool.{Bool, true, false, _&&_, _||_, not}
-use mathlib.Core.List.{List, [], _∷_, _++_, append-assoc, append-nil}
+use mathlib.Core.List.{List, [], _∷_, _++_, append-nil}
 use lib.ListN.{getD}
 use lib.Dec.{ltb, leb, eqb}
 use borrow.Author.Tests.{ltb-true, lt-ltb, lt-leb, eqb-true, eqb-false, eq-eqb, ne-eqb}
 use Rattle.laws.specs.Rules.{_⇒_, _∣_}
 use Rattle.laws.specs.Tests.{first, second, other}
-use Rattle.rows.specs.declared.Tone.{Tone}
 use Rattle.entries.specs.Entries.{cyclesOf}
 use Rattle.pieces.specs.declared.GeneralizedData.{GeneralizedData}
 use Rattle.pieces.specs.Grammar.{digits, bitsOf}
 use Rattle.pieces.specs.Places.{Places}
 use Rattle.general.specs.declared.Row.{Row}
 use Rattle.general.specs.declared.Row.the-variants.{Refused, Gives}
-use Rattle.general.specs.General.{Symbol, symbolAt, toneOf, Part, refused, stops, tones, rowsFrom, cycles, entrySymbol, entryRepeat, entryRow, pilotOf, equalHalves, ordinary, lastBits, numberAt, singleRow, pairRow, singlesOf, pairsOf, dataOf}
-use Rattle.format.specs.Format.{Length, each, again, bitPulses, dataPulses, waveOf, pilotSymbol, repetitions, pilotPulses, bitAt, dataNumber, symbolPulses, every, symbolsSaid, lasting}
-use Rattle.format.specs.Kept.{firstPulse, secondPulse, wholeWave, keptTimes, keptEntry, keptPilot, keptSymbol, keptPairs, keptData, kept19}
-use Rattle.format.proofs.Lengths.{long, long-append, waveIn, wavesOf}
+use Rattle.general.specs.General.{Symbol, symbolAt, toneOf, refused, stops, tones, rowsFrom, cycles, entrySymbol, entryRepeat, entryRow, pilotOf, equalHalves, ordinary, lastBits, numberAt, singleRow, pairRow, singlesOf, pairsOf, dataOf}
+use Rattle.format.specs.Format.{Length, each, again, bitPulses, dataPulses, waveOf, pilotSymbol, repetitions, pilotPulses, bitAt, dataNumber, symbolPulses, every, lasting}
+use Rattle.format.specs.Kept.{firstPulse, secondPulse, wholeWave, keptTimes, keptEntry, keptPilot, keptSymbol, keptPairs, keptData}
+use Rattle.format.proofs.Lengths.{long, long-append, wavesOf}
 use Rattle.format.proofs.Waves.{each-split, each-same}
 use Rattle.format.proofs.Symbols.{every-at, every-of, Waves, Parts, rows-wave, two, first-same, second-same, wave-one, wave-two, two-same, times-wave}
 use Rattle.format.proofs.Bits.{data-flat, number-bit, single-bit, second-bit, bit-small, each-pairs}

@@ -1,7 +1,7 @@
 -- KEEPS: the source reading plays a kept piece as the format says, in lengths. Assumes nothing but, of a 19, that its tables are where its numbers say.
-use Prim.Native.Nat.{ℕ, zero, suc, _+_, _*_, _-_, _/_, _%_, _≤_, _<_, max}
+use Prim.Native.Nat.{ℕ, zero, suc, _+_, _*_, _-_, _/_, _%_, _<_, max}
 use native.Mathlib.Omega.{arith}
-use mathlib.Core.Path.{_≡_, refl, sym, ap, ap₂, subst, _∙_}
+use mathlib.Core.Path.{_≡_, refl, sym, ap, ap₂, _∙_}
 use mathlib.Core.Bool.{Bool, true, false, _&&_, _||_}
 use mathlib.Core.List.{List, [], _∷_, _++_, map, append-assoc, append-nil}
 use lib.ListN.{length}
@@ -24,11 +24,11 @@ use Rattle.parser.specs.Parser.{Tape, on, startGroup, noteText, openLoop}
 use Rattle.parser.proofs.Kept.{Sure, sure, sure-also, sure-then}
 use Rattle.blocks.specs.Blocks.{ms, toneOf, born, stopBlock, turboTones, turboBlock, pureTones, pureBlock, pureToneTones, soundOnly, pulseAt, pauseBlock, pauseOrStop}
 use Rattle.blocks.specs.Adds.{Lent, add, addPairs, addGeneral, stopOn48}
-use Rattle.format.specs.Format.{Length, lasts, forever, Sound, Said, sounds, paused, each, again, dataPulses, bitsSaid, format11, format12, format13, format14, pilotPulses, symbolPulses, symbolsSaid, format19, format20, format2A, formatOf, lengthsOf, lasting}
+use Rattle.format.specs.Format.{Length, lasts, forever, Sound, sounds, paused, each, again, dataPulses, bitsSaid, format11, format12, format13, format14, pilotPulses, symbolPulses, symbolsSaid, format19, format20, format2A, formatOf, lengthsOf, lasting}
 use Rattle.format.specs.Kept.{evenCount, kept11, kept12, kept13, keptPilot, keptData, kept19, kept, Plays, Keeps, as-said, Tables}
 use Rattle.format.proofs.Lengths.{long, long-append, lasting-append, waveIn, wavesOf, dataIn, pauseIn, blockLengths}
 use Rattle.format.proofs.Adds.{Over, plays-none, plays-then, plays-as, add-plays}
-use Rattle.format.proofs.Waves.{each-split, once, again-more, cycles-pulses, pilot-same, zero-none, zeros-none, data-same}
+use Rattle.format.proofs.Waves.{differ, each-split, once, again-more, cycles-pulses, pilot-same, zero-none, zeros-none, data-same}
 use Rattle.format.proofs.Symbols.{Parts}
 use Rattle.format.proofs.Generals.{pilot-part, pilot-said, Data, data-clauses, data-said, data-part, plain-heard}
 
@@ -362,13 +362,10 @@ module _ (lent : Lent) (s : List ℕ) (t : Tape) (g : GeneralizedData) where
       let symbols = data-said s g (data-clauses s g places (second (keptPilot s g) (keptData s g) e)) in
       rw (pilot, symbols) (keep-general places e)
 
-unkept : false ≡ true → ⊥
-unkept e = let z : _≡_ {A = ℕ} 0 1 = cc in omega arith
-
 -- THE THEOREM: the blocks that a kept piece adds play the lengths above 0 that the format gives it, in order
 pub keeps : (lent : Lent) (s : List ℕ) (model : ℕ) (piece : Piece) (t : Tape) → Tables s piece → kept s piece ≡ true → Sure (λ u. Keeps s t u (formatOf (eqb model 0) s piece)) (act lent s model piece t)
 unfolding kept formatOf act startGroup noteText openLoop
-keeps lent s model (Standard pause from size) t places e = absurd (unkept e)
+keeps lent s model (Standard pause from size) t places e = absurd (differ (sym e))
 keeps lent s model (Turbo d) t places e = keep11 lent s t d e
 keeps lent s model (PureTone half count) t places e = keep12 lent s t half count e
 keeps lent s model (Pulses count from) t places e = keep13 lent s t count from e
@@ -376,9 +373,9 @@ keeps lent s model (Pure off one last pause from size) t places e = keep14 lent 
 keeps lent s model (Generalized g) t places e = keep19 lent s t g (places g refl) e
 keeps lent s model (Pause n) t places e = keep20 lent s t n
 keeps lent s model (GroupStart from size) t places e = sure (keep-none refl refl)
-keeps lent s model GroupEnd t places e = absurd (unkept e)
+keeps lent s model GroupEnd t places e = absurd (differ (sym e))
 keeps lent s model (LoopStart times) t places e = sure (keep-none refl refl)
-keeps lent s model LoopEnd t places e = absurd (unkept e)
+keeps lent s model LoopEnd t places e = absurd (differ (sym e))
 keeps lent s model (Stop48 length) t places e = keep2A lent s t model length e
 keeps lent s model (Text from size) t places e = sure (keep-none refl refl)
 keeps lent s model (Message seconds from size) t places e = sure (keep-none refl refl)

@@ -2,19 +2,19 @@
 use Prim.Native.Nat.{ℕ, zero, suc, _+_, _*_, _/_, _%_, _≤_, _<_, max}
 use native.Mathlib.Omega.{arith}
 use mathlib.Core.Path.{_≡_, refl, sym, ap, ap₂, _∙_}
-use mathlib.Core.Bool.{Bool, true, false, _&&_, _||_, not}
-use mathlib.Core.List.{List, [], _∷_, _++_, append-assoc}
-use lib.Dec.{ltb, leb, eqb}
-use borrow.Author.Tests.{ltb-true, lt-leb, eqb-true, eqb-false, ne-eqb, lt-ltb}
+use mathlib.Core.Bool.{Bool, true, false, not}
+use mathlib.Core.List.{List, [], _∷_, _++_}
+use lib.Dec.{ltb, eqb}
+use borrow.Author.Tests.{ltb-true, eqb-true, eqb-false, ne-eqb}
 use Rattle.laws.specs.Rules.{_⇒_, _∣_}
-use Rattle.laws.specs.Tests.{first, second, other}
+use Rattle.laws.specs.Tests.{first, second}
 use Rattle.fields.specs.Field.{leAt}
 use Rattle.rows.specs.declared.Tone.{Tone}
 use Rattle.entries.specs.Entries.{cyclesOf}
 use Rattle.general.specs.declared.Row.{Row}
-use Rattle.general.specs.declared.Row.the-variants.{Refused, Gives}
-use Rattle.general.specs.General.{Symbol, symbolAt, toneOf, Part, refused, stops, tones, before, rowsFrom, cycles}
-use Rattle.format.specs.Format.{Length, lasts, each, again, waveFrom, symbolPulse, waveOf, every, lasting}
+use Rattle.general.specs.declared.Row.the-variants.{Gives}
+use Rattle.general.specs.General.{symbolAt, toneOf, Part, tones, before, rowsFrom, cycles}
+use Rattle.format.specs.Format.{Length, each, again, waveFrom, symbolPulse, waveOf, every, lasting}
 use Rattle.format.specs.Kept.{evenCount, firstPulse, secondPulse, wholeWave, keptTimes}
 use Rattle.format.proofs.Lengths.{long, long-append, waveIn, wavesOf}
 use Rattle.format.proofs.Waves.{each-none, even-of, pilot-same, zeros-none}

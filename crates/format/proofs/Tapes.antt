@@ -1,15 +1,14 @@
 -- A TAPE OF KEPT PIECES is played, in lengths, as the format says: its pieces one after the other. Assumes nothing.
 use Prim.Native.Nat.{ℕ, zero, suc, _+_}
 use native.Mathlib.Omega.{arith}
-use mathlib.Core.Path.{_≡_, refl, sym, ap, subst, _∙_}
-use mathlib.Core.Bool.{Bool, true, false, _&&_}
+use mathlib.Core.Path.{_≡_, refl, sym, ap}
+use mathlib.Core.Bool.{Bool, true, false}
 use mathlib.Core.List.{List, [], _++_}
 use lib.ListN.{length, getD}
 use lib.Dec.{leb, ltb, eqb}
 use Rattle.laws.specs.Rules.{_⇒_, _∣_}
 use Rattle.laws.specs.Tests.{first, second}
 use Rattle.fields.specs.declared.Cursor.the-variants.{At}
-use Rattle.pieces.specs.declared.Piece.{Piece}
 use Rattle.pieces.specs.declared.Body.{Body}
 use Rattle.pieces.specs.declared.Body.the-variants as body
 use Rattle.pieces.specs.declared.Taken.{Taken}
@@ -19,13 +18,13 @@ use Rattle.pieces.specs.declared.Heading.the-variants as heading
 use Rattle.pieces.specs.Grammar.{readAt}
 use Rattle.pieces.specs.Kinds.{kindOf}
 use Rattle.pieces.specs.Cut.{named, cutAt, headAt}
-use Rattle.parser.specs.Parser.{Tape, Out, on, no as refuse, empty}
+use Rattle.parser.specs.Parser.{Tape, Out, empty}
 use Rattle.parser.proofs.Kept.{Sure, sure, none}
 use Rattle.blocks.specs.Adds.{Lent}
-use Rattle.reader.specs.Source.{Read, done, failed, refused, after, seeing, foldFrom, stopLength, act, tooManyBits, judged, tzxOf, tzxSee, headed, readTzx, readTap, Loaded, tzx, tapped, no, orTap, orElse, loadOf}
+use Rattle.reader.specs.Source.{Read, done, failed, refused, after, seeing, foldFrom, stopLength, act, tooManyBits, judged, tzxOf, tzxSee, headed, readTzx, readTap, tzx, no, orTap, orElse, loadOf}
 use Rattle.reader.specs.Source as source
 use Rattle.reader.specs.declared.Failure.the-variants as failure
-use Rattle.format.specs.Format.{Length, Said, formatOf, full, lasting}
+use Rattle.format.specs.Format.{Said, formatOf, full, lasting}
 use Rattle.format.specs.Kept.{kept, Plays, Keeps, as-said}
 use Rattle.format.specs.Tapes.{keptThen, keptFrom, saidOf, saidThen, formatFrom}
 use Rattle.format.proofs.Adds.{plays-none, plays-then}

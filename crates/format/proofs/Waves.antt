@@ -2,15 +2,19 @@
 use Prim.Native.Nat.{ℕ, zero, suc, _+_, _*_, _/_, _%_, _≤_, _<_, max}
 use native.Mathlib.Omega.{arith}
 use mathlib.Core.Path.{_≡_, refl, sym, ap, ap₂, _∙_}
-use mathlib.Core.Bool.{Bool, true, false, _&&_, _||_}
+use mathlib.Core.Bool.{true, false, _||_}
 use mathlib.Core.List.{List, [], _∷_, _++_, append-assoc, append-nil}
 use lib.Dec.{ltb, leb, eqb}
 use borrow.Author.Tests.{ltb-true, leb-true, eqb-true, ne-eqb}
 use Rattle.laws.specs.Arms.{between}
 use Rattle.laws.specs.Tests.{first, second, other}
-use Rattle.format.specs.Format.{Length, lasts, each, again, dataPulses, bitsSaid, lasting}
+use Rattle.format.specs.Format.{Length, each, again, dataPulses, bitsSaid, lasting}
 use Rattle.format.specs.Kept.{evenCount}
 use Rattle.format.proofs.Lengths.{long, long-append}
+
+-- two truths
+pub differ : true ≡ false → ⊥
+differ e = let z : _≡_ {A = ℕ} 0 1 = cc in omega arith
 
 -- k items, then m
 pub each-split : (f : ℕ → List ℕ) (p k m : ℕ) → each f p (k + m) ≡ each f p k ++ each f (p + k) m

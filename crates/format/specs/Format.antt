@@ -1,7 +1,7 @@
 -- What TZX 1.20 gives one piece: the lengths of its pulses in T-states, in order, and the pause behind them. Written from docs/FORMAT.md alone,
 -- in its order and words. Lengths only: no levels, so a pause's first millisecond is not told apart. Assumes nothing.
 use Prim.Native.Nat.{ℕ, zero, suc, _+_, _*_, _-_, _/_, _%_, _^_}
-use mathlib.Core.Bool.{Bool, true, false, _&&_, _||_}
+use mathlib.Core.Bool.{Bool, true, _&&_, _||_}
 use mathlib.Core.List.{List, [], _∷_, _++_, map}
 use lib.ListN.{getD}
 use lib.Dec.{ltb, eqb}

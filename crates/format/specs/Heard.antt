@@ -1,12 +1,11 @@
 -- The piece at the head of a tape in both readings, for worked examples. Definitions alone; assumes nothing.
-use Prim.Native.Nat.{ℕ, suc}
+use Prim.Native.Nat.{ℕ}
 use mathlib.Core.Bool.{Bool, true, false, _&&_}
 use mathlib.Core.List.{List, [], _∷_}
 use lib.Dec.{eqb}
 use Rattle.laws.specs.Rules.{_⇒_, _∣_}
 use Rattle.rows.specs.Table.{tableOf}
 use Rattle.rows.specs.Rows.{tone}
-use Rattle.pieces.specs.declared.Piece.{Piece}
 use Rattle.pieces.specs.declared.Taken.{Taken}
 use Rattle.pieces.specs.declared.Taken.the-variants as taken
 use Rattle.pieces.specs.Cut.{cutAt}

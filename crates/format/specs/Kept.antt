@@ -1,10 +1,10 @@
 -- Where the source reading keeps to the format, kind by kind, and what keeping is. Definitions alone; assumes nothing.
-use Prim.Native.Nat.{ℕ, zero, suc, _+_, _*_, _-_, _/_, _%_}
+use Prim.Native.Nat.{ℕ, _+_, _*_, _-_, _%_}
 use mathlib.Core.Path.{_≡_}
 use mathlib.Core.Bool.{Bool, true, false, _&&_, _||_, not}
 use mathlib.Core.List.{List, [], _∷_, _++_, map}
 use lib.ListN.{length, getD}
-use lib.Dec.{ltb, leb, eqb}
+use lib.Dec.{ltb, eqb}
 use Rattle.laws.specs.Rules.{_⇒_, _∣_}
 use Rattle.fields.specs.Field.{leAt}
 use Rattle.pulses.specs.Play.{Entry, pulse, endless}
@@ -19,7 +19,7 @@ use Rattle.pieces.specs.Places.{Places}
 use Rattle.pieces.specs.declared.TurboData.{TurboData}
 use Rattle.pieces.specs.declared.Piece.{Piece}
 use Rattle.pieces.specs.declared.Piece.the-variants.{Standard, Turbo, Tone, Pulses, Pure, Generalized, Pause, GroupStart, GroupEnd, LoopStart, LoopEnd, Stop48, Text, Message, Archive, Hardware, Custom, Glue}
-use Rattle.format.specs.Format.{Length, lasts, forever, Sound, Said, sounds, unsaid, lengthsOf, lasting, bitsSaid, every, symbolPulse, pilotSymbol, repetitions, dataNumber}
+use Rattle.format.specs.Format.{Length, lasts, forever, Sound, Said, sounds, lengthsOf, lasting, bitsSaid, every, symbolPulse, pilotSymbol, repetitions, dataNumber}
 
 -- 2, 4, 6 ..
 unfoldable pub evenCount : ℕ → Bool

@@ -3,3 +3,4 @@ pub mod Queries
 pub mod Outcomes
 pub mod Readings
 pub mod Exported
+pub mod Excluded

@@ -90,7 +90,7 @@ cycles-same : (half count : ℕ) → kept12 half count ≡ true → count % 2 �
 unfolding kept12
 cycles-same zero count e q = zeros-none (max 1 (count / 2)) ∙ sym (zero-none count)
 cycles-same (suc x) count e q =
-    let l : 1 < count = ltb-true 1 count (other (eqb (suc x) 0) (ltb 1 count) e (ne-eqb (suc x) 0 (omega arith))) in
+    let l = ltb-true _ count (other (eqb (suc x) 0) _ e (ne-eqb (suc x) 0 (omega arith))) in
     let m : max 1 (count / 2) * 2 ≡ count = omega arith in
     ap long (cycles-pulses (suc x) (max 1 (count / 2)) ∙ ap (λ (k : ℕ). again k (suc x ∷ [])) m)
 
@@ -99,7 +99,7 @@ odd-same : (half count : ℕ) → kept12 half count ≡ true → (count % 2 ≡ 
 unfolding kept12 lasting
 odd-same zero count e q = zeros-none (max 1 (count / 2)) ∙ sym (zero-none count)
 odd-same (suc x) count e q =
-    let l : 1 < count = ltb-true 1 count (other (eqb (suc x) 0) (ltb 1 count) e (ne-eqb (suc x) 0 (omega arith))) in
+    let l = ltb-true _ count (other (eqb (suc x) 0) _ e (ne-eqb (suc x) 0 (omega arith))) in
     let m : suc (max 1 (count / 2) * 2) ≡ count = omega arith in
     ap (λ (r : List ℕ). long (suc x ∷ r)) (cycles-pulses (suc x) (max 1 (count / 2)))
     ∙ ap long (sym (again-more (suc x ∷ []) (max 1 (count / 2) * 2)) ∙ ap (λ (k : ℕ). again k (suc x ∷ [])) m)

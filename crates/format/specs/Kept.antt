@@ -87,16 +87,22 @@ kept s (Standard pause from size) = false
 kept s (Turbo d) = kept11 d
 kept s (Tone half count) = kept12 half count
 kept s (Pulses count from) = kept13 s count from
+-- as 11: the tones in front have no length
 kept s (Pure nil one last pause from size) = bitsSaid last size
 kept s (Generalized g) = kept19 s g
+-- the same pause, the same stop
 kept s (Pause n) = true
+-- no sound of its own, and no block
 kept s (GroupStart from size) = true
 -- the block before it may be given a pause
 kept s GroupEnd = false
+-- no sound of its own; the copies come at the loop's end
 kept s (LoopStart times) = true
 -- one body more
 kept s LoopEnd = false
+-- another length errs
 kept s (Stop48 length) = eqb length 0
+-- no sound of their own, and no block
 kept s (Text from size) = true
 kept s (Message seconds from size) = true
 kept s (Archive count from) = true

@@ -4,5 +4,6 @@ pub mod Answers
 pub mod Whole
 pub mod Plays
 pub mod Sources
+pub mod Agree
 pub mod Unreached
 pub mod Examples

@@ -27,6 +27,7 @@ ghost use lib.Dec.{eqb};
 ghost use Rattle.laws.specs.Rules.{_⇒_, _∣_};
 ghost use Rattle.walks.specs.Heads.{walkFrom};
 ghost use Rattle.deck.specs.declared.Check.the-variants.{Fine};
+ghost use Rattle.deck.specs.Inside.{inside, lessBy, inPlace};
 ghost use Rattle.deck.specs.Deck.{atStart, judged, stays, playMeasured, sourceFrom, playSource, backTo, blockAt, headAfter, playMounted};
 
 // What the checks of a position come to.
@@ -113,6 +114,46 @@ fn stay(tape: &[u8], tones: &[u64], blocks: &[u64], count: u64, pos: Position) -
     }
 }
 
+// Whether a call of n ends inside an entry of which so much is left.
+fn ends_inside(left: Duration, n: u64) -> bool
+    ensures { λ v. ⌜ v ≡ inside left n ⌝ }
+{
+    match left {
+        Duration::T(t) => n < t,
+        Duration::Endless => false,
+    }
+}
+
+// What is left of an entry in which a call of n ends.
+fn less(left: Duration, n: u64) -> Duration
+    requires { ⌜ inside left n ≡ true ⌝ }
+    ensures { λ d. ⌜ d ≡ lessBy left n ⌝ }
+{
+    match left {
+        Duration::T(t) => Duration::T(t - n),
+        Duration::Endless => Duration::Endless,
+    }
+}
+
+// A call of n that ends inside the entry where the head stands: nothing is passed.
+fn stand_inside(pos: Position, n: u64) -> Reached
+    requires { ⌜ inside (pos .left) n ≡ true ⌝ }
+    ensures { λ r. ⌜ r ≡ inPlace pos n ⌝ }
+{
+    let phase = pos.phase;
+    let left = pos.left;
+    let position = Position {
+        block: pos.block,
+        phase,
+        left: less(left, n),
+    };
+    Reached::At(Stand {
+        position,
+        passed: 0,
+        level: mic(phase),
+    })
+}
+
 // A call of n from a position that its callers know to be fine.
 fn measure(tape: &[u8], tones: &[u64], blocks: &[u64], count: u64, pos: Position, n: u64) -> Reached
     requires { ⌜ judged (tapeOf (now tape) (now tones) (now blocks) count) pos ≡ Fine ⌝ }
@@ -124,6 +165,10 @@ fn measure(tape: &[u8], tones: &[u64], blocks: &[u64], count: u64, pos: Position
     }
     if count <= pos.block {
         return ends(count, 0);
+    }
+    let left = pos.left;
+    if ends_inside(left, n) {
+        return stand_inside(pos, n);
     }
     walk(tape, tones, blocks, count, pos, n)
 }
@@ -158,6 +203,10 @@ fn follow(tape: &[u8], tones: &[u64], blocks: &[u64], count: u64, pos: Position,
     }
     if count <= pos.block {
         return ends(count, 0);
+    }
+    let left = pos.left;
+    if ends_inside(left, n as u64) {
+        return stand_inside(pos, n as u64);
     }
     let more = ran_ahead(tape, tones, blocks, count, pos, n as u64);
     walk(tape, tones, blocks, count, pos, n as u64 + more)

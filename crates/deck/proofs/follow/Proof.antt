@@ -1,6 +1,7 @@
 -- `follow` meets its contract. Assumes nothing.
 use Rattle.deck.proofs.Sourced.{source-walk}
 use Rattle.deck.proofs.Checks as checks
+use Rattle.deck.proofs.Inside.{inside-source}
 use Rattle.walks.proofs.Drops.{dropped-most}
 use Rattle.walks.specs.Heads.{walkFrom}
 use borrow.Author.Tests.{eq-eqb, ne-eqb}
@@ -31,36 +32,51 @@ returns-2 c =
     let q : Position = a .pos in
     rw (ne-eqb _ _ (c .before .before .before .if1 .left)) (c .ends .ensures ∙ sym (source-walk w q (a .n) ∙ checks.past-ends w q (s .pre) (c .before .if2 .taken) _ (omega (arith, c .before .before .before .if1 .left))))
 
-ran-ahead-requires : tie.Need-ran-ahead-requires
-ran-ahead-requires c κs =
-    let s = c .before .before .before .before .before .before in
-    let a = s .args in
-    let w = tapeOf (a .tape .now) (a .tones .now) (a .blocks .now) (a .count) in
-    let q : Position = a .pos in
-    checks.fine-below w q (s .pre) (c .if2 .left)
+ends-inside-requires : tie.Need-ends-inside-requires
+ends-inside-requires c κs = search needs
 
-add-walk : tie.Need-add-walk
-add-walk c =
-    let s = c .before .before .before .before .before .before .before in
-    let a = s .args in
-    let w = tapeOf (a .tape .now) (a .tones .now) (a .blocks .now) (a .count) in
-    let q : Position = a .pos in
-    omega (arith, c .ran-ahead .ensures, dropped-most w q (a .n) (checks.fine-below w q (s .pre) (c .before .if2 .left)), s .fits)
-
-walk-requires : tie.Need-walk-requires
-walk-requires c κs =
-    let s = c .before .before .before .before .before .before .before in
-    let a = s .args in
-    let w = tapeOf (a .tape .now) (a .tones .now) (a .blocks .now) (a .count) in
-    let q : Position = a .pos in
-    checks.fine-below w q (s .pre) (c .before .if2 .left)
+stand-inside-requires : tie.Need-stand-inside-requires
+stand-inside-requires c κs = sym (c .before .ends-inside .ensures) ∙ c .if3 .taken
 
 returns-3 : tie.Need-returns-3
 returns-3 c =
-    let a = c .before .before .before .before .before .before .before .before .args in
+    let s = c .before .before .before .before .before .before .before .before .before in
+    let a = s .args in
     let w = tapeOf (a .tape .now) (a .tones .now) (a .blocks .now) (a .count) in
     let q : Position = a .pos in
-    rw (ne-eqb _ _ (c .before .before .before .before .if1 .left)) (c .walk .ensures ∙ ap (λ (x : ℕ). walkFrom w q (a .n + x)) (c .before .ran-ahead .ensures) ∙ sym (source-walk w q (a .n)))
+    rw (ne-eqb _ _ (c .before .before .before .before .before .if1 .left))
+    (c .stand-inside .ensures ∙ inside-source w q (a .n) (checks.fine-below w q (s .pre) (c .before .before .before .if2 .left)) (sym (c .before .before .ends-inside .ensures) ∙ c .before .if3 .taken))
+
+ran-ahead-requires : tie.Need-ran-ahead-requires
+ran-ahead-requires c κs =
+    let s = c .before .before .before .before .before .before .before .before in
+    let a = s .args in
+    let w = tapeOf (a .tape .now) (a .tones .now) (a .blocks .now) (a .count) in
+    let q : Position = a .pos in
+    checks.fine-below w q (s .pre) (c .before .before .if2 .left)
+
+add-walk : tie.Need-add-walk
+add-walk c =
+    let s = c .before .before .before .before .before .before .before .before .before in
+    let a = s .args in
+    let w = tapeOf (a .tape .now) (a .tones .now) (a .blocks .now) (a .count) in
+    let q : Position = a .pos in
+    omega (arith, c .ran-ahead .ensures, dropped-most w q (a .n) (checks.fine-below w q (s .pre) (c .before .before .before .if2 .left)), s .fits)
+
+walk-requires : tie.Need-walk-requires
+walk-requires c κs =
+    let s = c .before .before .before .before .before .before .before .before .before in
+    let a = s .args in
+    let w = tapeOf (a .tape .now) (a .tones .now) (a .blocks .now) (a .count) in
+    let q : Position = a .pos in
+    checks.fine-below w q (s .pre) (c .before .before .before .if2 .left)
+
+returns-4 : tie.Need-returns-4
+returns-4 c =
+    let a = c .before .before .before .before .before .before .before .before .before .before .args in
+    let w = tapeOf (a .tape .now) (a .tones .now) (a .blocks .now) (a .count) in
+    let q : Position = a .pos in
+    rw (ne-eqb _ _ (c .before .before .before .before .before .before .if1 .left)) (c .walk .ensures ∙ ap (λ (x : ℕ). walkFrom w q (a .n + x)) (c .before .ran-ahead .ensures) ∙ sym (source-walk w q (a .n)))
 
 pub follow-spec : {M : Type 1} → statement M
 follow-spec =
@@ -70,7 +86,10 @@ follow-spec =
     returns
     ends-requires
     returns-2
+    ends-inside-requires
+    stand-inside-requires
+    returns-3
     ran-ahead-requires
     add-walk
     walk-requires
-    returns-3)
+    returns-4)

@@ -1,19 +1,9 @@
 // Lists the tapes on standard input one after the other: 4 bytes give how many there are; each has a model's number (1 byte), the tape's length (4 bytes),
 // at most 65,536, and the tape. Numbers are little-endian.
-use fields::Cursor;
-use fields::field;
+use fields::number_up_to;
 use listing::say;
 ghost use Prim.Native.Nat.{_≤_};
 ghost use lib.ListN.{length};
-
-// The number of w bytes at a place, at most `most`.
-fn number(head: &[u8], at: u64, w: u64, most: usize) -> usize
-    ensures { λ r. ⌜ r ≤ most ⌝ }
-{
-    let read = field(head, Cursor::At(at), w);
-    let n = read.value as usize;
-    if n <= most { n } else { most }
-}
 
 // A tape that fills `tape`, and what is printed of it.
 fn answer(tape: &mut [u8], model: u32, out: &mut [u8])
@@ -30,8 +20,8 @@ fn list_one(bytes: &mut [u8], out: &mut [u8])
 {
     let mut head = [0u8; 5];
     io::read_full(0, &mut head);
-    let model = number(&head, 0, 1, 255) as u32;
-    let n = number(&head, 1, 4, bytes.len());
+    let model = number_up_to(&head, 0, 1, 255) as u32;
+    let n = number_up_to(&head, 1, 4, bytes.len());
     answer(&mut bytes[..n], model, out);
 }
 
@@ -49,7 +39,7 @@ fn list_all(bytes: &mut [u8], out: &mut [u8], n: usize)
 fn main() {
     let mut head = [0u8; 4];
     io::read_full(0, &mut head);
-    let n = number(&head, 0, 4, 1000000);
+    let n = number_up_to(&head, 0, 4, 1000000);
     let mut bytes = io::large_buffer();
     let mut out = [0u8; 300000];
     list_all(&mut bytes, &mut out, n);

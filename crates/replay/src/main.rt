@@ -1,7 +1,6 @@
 // Loads the tapes on standard input one after the other and prints each answer: 4 bytes give how many there are; each has a model's number (1 byte), how many
 // words of block table and of tone table are lent (4 bytes each), the tape's length (4 bytes), and the tape. Numbers are little-endian.
-use fields::Cursor;
-use fields::field;
+use fields::number_up_to;
 use printing::print_loaded;
 use tape::load;
 ghost use mathlib.Core.Path.{_≡_};
@@ -12,15 +11,6 @@ ghost use lib.ListN.{length};
 const BLOCK_WORDS: usize = 53300;
 
 const TONE_WORDS: usize = 196700;
-
-// The number of w bytes at a place, at most `most`.
-fn number(head: &[u8], at: u64, w: u64, most: usize) -> usize
-    ensures { λ r. ⌜ r ≤ most ⌝ }
-{
-    let read = field(head, Cursor::At(at), w);
-    let n = read.value as usize;
-    if n <= most { n } else { most }
-}
 
 // A tape that fills `tape`, and its answer.
 fn answer(tape: &mut [u8], model: u32, blocks: &mut [u64], tones: &mut [u64])
@@ -37,10 +27,10 @@ fn replay(bytes: &mut [u8], blocks: &mut [u64], tones: &mut [u64])
 {
     let mut head = [0u8; 13];
     io::read_full(0, &mut head);
-    let model = number(&head, 0, 1, 255) as u32;
-    let b = number(&head, 1, 4, blocks.len());
-    let t = number(&head, 5, 4, tones.len());
-    let n = number(&head, 9, 4, bytes.len());
+    let model = number_up_to(&head, 0, 1, 255) as u32;
+    let b = number_up_to(&head, 1, 4, blocks.len());
+    let t = number_up_to(&head, 5, 4, tones.len());
+    let n = number_up_to(&head, 9, 4, bytes.len());
     answer(&mut bytes[..n], model, &mut blocks[..b], &mut tones[..t]);
 }
 
@@ -58,7 +48,7 @@ fn replay_all(bytes: &mut [u8], blocks: &mut [u64], tones: &mut [u64], n: usize)
 fn main() {
     let mut head = [0u8; 4];
     io::read_full(0, &mut head);
-    let n = number(&head, 0, 4, 1000000);
+    let n = number_up_to(&head, 0, 4, 1000000);
     let mut bytes = io::large_buffer();
     let mut blocks = [0u64; BLOCK_WORDS];
     let mut tones = [0u64; TONE_WORDS];

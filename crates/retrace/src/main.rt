@@ -1,17 +1,7 @@
 // Prints the runs on standard input one after the other: 4 bytes give how many there are; each has its length (4 bytes) and its description.
-use fields::Cursor;
-use fields::field;
+use fields::number_up_to;
 use playback::print_trace;
 ghost use Prim.Native.Nat.{_≤_};
-
-// The number of 4 bytes, at most `most`.
-fn number(head: &[u8], most: usize) -> usize
-    ensures { λ r. ⌜ r ≤ most ⌝ }
-{
-    let read = field(head, Cursor::At(0), 4);
-    let n = read.value as usize;
-    if n <= most { n } else { most }
-}
 
 // A run that fills `input`.
 fn run(input: &mut [u8], blocks: &mut [u64], tones: &mut [u64]) {
@@ -23,7 +13,7 @@ fn run(input: &mut [u8], blocks: &mut [u64], tones: &mut [u64]) {
 fn retrace(bytes: &mut [u8], blocks: &mut [u64], tones: &mut [u64]) {
     let mut head = [0u8; 4];
     io::read_full(0, &mut head);
-    let n = number(&head, bytes.len());
+    let n = number_up_to(&head, 0, 4, bytes.len());
     run(&mut bytes[..n], blocks, tones);
 }
 
@@ -39,7 +29,7 @@ fn retrace_all(bytes: &mut [u8], blocks: &mut [u64], tones: &mut [u64], n: usize
 fn main() {
     let mut head = [0u8; 4];
     io::read_full(0, &mut head);
-    let n = number(&head, 1000000);
+    let n = number_up_to(&head, 0, 4, 1000000);
     let mut bytes = io::large_buffer();
     let mut blocks = [0u64; 6656];
     let mut tones = [0u64; 6144];

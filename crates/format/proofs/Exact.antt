@@ -30,7 +30,8 @@ use Rattle.format.proofs.Lengths.{long, long-append, lasting-append, wa
 use Rattle.format.proofs.Adds.{Over, add-plays}
 use Rattle.format.proofs.Waves.{differ, each-split, once, again-more, cycles-pulses, data-same}
 use Rattle.format.proofs.Bits.{single}
-use Rattle.format.proofs.Keeps.{turbo-over, turbo-pause, pulseIn, no-pause, pairs-play}
+use Rattle.format.proofs.KeepSounds.{turbo-over, turbo-pause}
+use Rattle.format.proofs.KeepPulses.{pulseIn, no-pause, pairs-play}
 
 -- blocks that were added play one list of lengths
 plays-once : {s : List ℕ} {ls ms : List Length} {t u : Tape} → Plays s ls t u → Plays s ms t u → lasting ls ≡ lasting ms

@@ -4,8 +4,12 @@ pub mod Waves
 pub mod Symbols
 pub mod Bits
 pub mod Generals
+pub mod KeepSounds
+pub mod KeepPulses
+pub mod KeepGeneral
 pub mod Keeps
 pub mod Exact
+pub mod CutFields
 pub mod Cuts
 pub mod Tapes
 pub mod Examples

@@ -28,7 +28,7 @@ use Rattle.pieces.specs.Kinds.{kind10, kind11, kind12, kind13, kind14, stream19
 use Rattle.pieces.specs.Cut.{named, cutAt, blockOf, tapAt}
 use Rattle.pieces.proofs.Layouts.{Ends, ends, none, short, wide, stuck, forward}
 use Rattle.pieces.proofs.Cutting.{cut-there, cut-inside}
-use Rattle.pieces.proofs.Places.{found-every, unnamed}
+use Rattle.pieces.proofs.Others.{found-every, unnamed}
 use Rattle.reader.specs.Source.{full}
 use Rattle.reader.proofs.Rest.{cut-fit}
 use Rattle.loads.specs.Sizes.{Bytes, Range, Numbers, Sized}

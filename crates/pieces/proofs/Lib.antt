@@ -1,6 +1,8 @@
 pub mod Layouts
 pub mod Cutting
+pub mod Others
 pub mod Places
+pub mod PulsePlaces
 pub mod CuttingTap
 mod Turns
 pub mod Examples

@@ -1,17 +1,16 @@
--- A whole 19 has its tables where its places say, inside the tape, a whole 13 its pulses, and no other kind gives one. Assumes nothing.
-use Prim.Native.Nat.{ℕ, zero, suc, _+_, _*_, _-_, _/_, _≤_, _<_}
+-- A whole 19 has its tables where its places say, inside the tape, and no other kind gives one. Assumes nothing.
+use Prim.Native.Nat.{ℕ, _+_, _*_, _-_, _/_, _≤_, _<_}
 use mathlib.Core.Path.{_≡_, refl, sym, ap, subst, _∙_}
-use mathlib.Core.Bool.{Bool, true, false, cond}
-use mathlib.Core.List.{List, [], _∷_}
+use mathlib.Core.Bool.{Bool, true, false}
+use mathlib.Core.List.{List}
 use mathlib.Core.Logic.{⊎-elim}
 use native.Mathlib.Omega.{arith}
 use native.Mathlib.Nat.{le-trans}
-use lib.ListN.{length, getD, take}
+use lib.ListN.{length, getD}
 use lib.Dec.{leb, eqb}
 use borrow.Author.Tests.{leb-true}
 use Rattle.laws.specs.Numbers.{lt-or-ge}
 use Rattle.laws.specs.Rules.{_⇒_, _∣_}
-use Rattle.laws.specs.Arms.{Arm, lookup}
 use Rattle.fields.specs.declared.Cursor.{Cursor}
 use Rattle.fields.specs.declared.Cursor.the-variants.{At}
 use Rattle.fields.specs.declared.Cursor.the-variants as cursor
@@ -22,15 +21,15 @@ use Rattle.pieces.specs.declared.GeneralizedData.{GeneralizedData}
 use Rattle.pieces.specs.declared.Piece.{Piece}
 use Rattle.pieces.specs.declared.Piece.the-variants as piece
 use Rattle.pieces.specs.declared.Body.{Body}
-use Rattle.pieces.specs.declared.Body.the-variants.{Whole, Unknown, Short, Overflow}
-use Rattle.pieces.specs.declared.Taken.{Taken}
+use Rattle.pieces.specs.declared.Body.the-variants.{Whole, Short, Overflow}
 use Rattle.pieces.specs.declared.Taken.the-variants as taken
-use Rattle.pieces.specs.Grammar.{Passed, Layout, number, counted, here, pass, within, fitting, whole, unknown, countedAt, passAt, wholeAt, sealed, enclosed, fittingAt, readAt, bitsOf, orFull, heldIf}
+use Rattle.pieces.specs.Grammar.{Layout, whole, unknown, passAt, wholeAt, fittingAt, readAt, bitsOf, orFull, heldIf}
 use Rattle.pieces.specs.Kinds.{kind10, kind11, kind12, kind13, kind14, stream19, kind19, kind20, kind21, kind22, kind24, kind25, kind2A, kind30, kind31, info32, kind32, kind33, kind35, kind5A, unread, kinds, kindOf}
-use Rattle.pieces.specs.Cut.{named, cutAt}
+use Rattle.pieces.specs.Cut.{cutAt}
 use Rattle.pieces.specs.Steps.{head19}
 use Rattle.pieces.specs.Places.{Places}
 use Rattle.pieces.proofs.Cutting.{cut-there, cut-inside, cut-forward}
+use Rattle.pieces.proofs.Others.{Other, other-none, found-every, unnamed}
 
 unfoldable isGeneral : Piece → Bool
 isGeneral (piece.Standard a b d) = false
@@ -51,82 +50,6 @@ isGeneral (piece.Archive a b) = false
 isGeneral (piece.Hardware a b) = false
 isGeneral (piece.Custom a b d) = false
 isGeneral piece.Glue = false
-
-unfoldable isPulses : Piece → Bool
-isPulses (piece.Standard a b d) = false
-isPulses (piece.Turbo a) = false
-isPulses (piece.Tone a b) = false
-isPulses (piece.Pulses a b) = true
-isPulses (piece.Pure a b d x y z) = false
-isPulses (piece.Generalized g) = false
-isPulses (piece.Pause a) = false
-isPulses (piece.GroupStart a b) = false
-isPulses piece.GroupEnd = false
-isPulses (piece.LoopStart a) = false
-isPulses piece.LoopEnd = false
-isPulses (piece.Stop48 a) = false
-isPulses (piece.Text a b) = false
-isPulses (piece.Message a b d) = false
-isPulses (piece.Archive a b) = false
-isPulses (piece.Hardware a b) = false
-isPulses (piece.Custom a b d) = false
-isPulses piece.Glue = false
-
-module _ (is : Piece → Bool) where
-  -- a layout that gives no such piece, whatever it reads
-  abbrev Other : Layout → Type 0
-  Other (number w rest) = (v : ℕ) → Other (rest v)
-  Other (counted w rest) = (p n : ℕ) → Other (rest p n)
-  Other (here rest) = (p : ℕ) → Other (rest p)
-  Other (pass part rest) = Other rest
-  Other (within n inner) = Other inner
-  Other (fitting bits rest) = Other rest
-  Other (whole x) = is x ≡ false
-  Other (unknown described) = Unit {0}
-
-  -- an answer that is no such piece
-  abbrev Never : Body → Type 0
-  Never b = (x : Piece) (next : ℕ) → is x ≡ true → b ≡ Whole x next → ⊥
-
-  whole-other : (x : Piece) (c : Cursor) → is x ≡ false → Never (wholeAt x c)
-  unfolding wholeAt
-  whole-other x (At p) h y next t e =
-      let i : x ≡ y = cc in let z : false ≡ true = sym h ∙ ap is i ∙ t in let n : _≡_ {A = ℕ} 0 1 = cc in omega arith
-  whole-other x (cursor.Short p w) h y next t e = let z : _≡_ {A = ℕ} 0 1 = cc in omega arith
-
-  sealed-other : (end : ℕ) (b : Body) → Never b → Never (sealed end b)
-  unfolding sealed
-  sealed-other end (Whole x p) h y next t e = let i : x ≡ y = cc in h y p t (ap (λ (z : Piece). Whole z p) i)
-  sealed-other end (Unknown described) h y next t e = let z : _≡_ {A = ℕ} 0 1 = cc in omega arith
-  sealed-other end (Short p w) h y next t e = let z : _≡_ {A = ℕ} 0 1 = cc in omega arith
-  sealed-other end (Overflow p) h y next t e = let z : _≡_ {A = ℕ} 0 1 = cc in omega arith
-
-  enclosed-other : (inner : ℕ → Body) (c : Cursor) → ((end : ℕ) → Never (inner end)) → Never (enclosed inner c)
-  unfolding enclosed
-  enclosed-other inner (At end) h y next t e = sealed-other end (inner end) (h end) y next t e
-  enclosed-other inner (cursor.Short p w) h y next t e = let z : _≡_ {A = ℕ} 0 1 = cc in omega arith
-
-  fitting-other : (bits : ℕ) (c : Cursor) (rest : Body) → Never rest → Never (fittingAt bits c rest)
-  unfolding fittingAt
-  fitting-other bits (At p) rest h y next t e = by-cases (leb bits 4294967295) e
-    where
-      by-cases : (b : Bool) → (b ⇒ rest ∣ Overflow p) ≡ Whole y next → ⊥
-      by-cases true q = h y next t q
-      by-cases false q = let z : _≡_ {A = ℕ} 0 1 = cc in omega arith
-  fitting-other bits (cursor.Short p w) rest h y next t e = h y next t e
-
-  other-none : (l : Layout) → Other l → (s : List ℕ) (c : Cursor) → Never (readAt l s c)
-  unfolding readAt
-  other-none (number w rest) o s c = other-none (rest (fieldAt s c w .value)) (o (fieldAt s c w .value)) s (fieldAt s c w .cursor)
-  other-none (counted w rest) o s c =
-      other-none (rest (countedAt s c w .from) (countedAt s c w .size)) (o (countedAt s c w .from) (countedAt s c w .size)) s (countedAt s c w .cursor)
-  other-none (here rest) o s c = other-none (rest (placeOf c)) (o (placeOf c)) s c
-  other-none (pass part rest) o s c = other-none rest o s (passAt part s c)
-  other-none (within n inner) o s c =
-      enclosed-other (λ end. readAt inner (take end s) c) (fieldAt s c n .cursor) (λ end. other-none inner o (take end s) c)
-  other-none (fitting bits rest) o s c = fitting-other bits c (readAt rest s c) (other-none rest o s c)
-  other-none (whole x) o s c = whole-other x c o
-  other-none (unknown described) o s c = λ y next t e. let z : _≡_ {A = ℕ} 0 1 = cc in omega arith
 
 -- the end of 19: its data bytes are there, and their bits fit
 record Streamed (s : List ℕ) (bits : ℕ) (g₀ g : GeneralizedData) (c : Cursor) (next : ℕ) : Type 0 where
@@ -218,27 +141,6 @@ general-placed : (full : ℕ) (s : List ℕ) (c : Cursor) → Placed full s (rea
 unfolding readAt kind19 passAt head19
 general-placed full s c = tables full s _ _ _ (head19 s c .cursor) _ _ _ refl refl refl refl refl refl refl refl refl refl refl
 
--- what holds of every row of a table holds of what is found there
-abbrev pub Every : {A : Type 0} → (A → Type 0) → List (Arm A) → Type 0
-Every P [] = Unit {0}
-Every P (a ∷ more) = P (a .val) × Every P more
-
-pub found-every : {A : Type 0} (P : A → Type 0) (arms : List (Arm A)) (x : ℕ) (d : A) → Every P arms → P d → P (lookup arms x d)
-found-every P [] x d h k = k
-found-every P (a ∷ more) x d h k = by-cases (eqb x (a .key)) (found-every P more x d (h .1) k)
-  where
-    by-cases : (t : Bool) → P (lookup more x d) → P (cond t (a .val) (lookup more x d))
-    by-cases true r = h .0
-    by-cases false r = r
-
--- a body under its name
-pub unnamed : (kind at : ℕ) (b : Body) {k a next : ℕ} {x : Piece} → named kind at b ≡ taken.Whole k a next x → b ≡ Whole x next
-unfolding named
-unnamed kind at (Whole y p) e = cc
-unnamed kind at (Unknown described) e = absurd (let z : _≡_ {A = ℕ} 0 1 = cc in omega arith)
-unnamed kind at (Short p w) e = absurd (let z : _≡_ {A = ℕ} 0 1 = cc in omega arith)
-unnamed kind at (Overflow p) e = absurd (let z : _≡_ {A = ℕ} 0 1 = cc in omega arith)
-
 -- of all rows, that of 19 alone gives a 19
 module _ (full : ℕ) where
   abbrev Row : Layout → Type 0
@@ -320,107 +222,3 @@ module _ (full : ℕ) where
 pub cut-places : (s : List ℕ) (at full : ℕ) {k a next : ℕ} {g : GeneralizedData} → cutAt s at full ≡ taken.Whole k a next (piece.Generalized g) → Found full s g next
 cut-places s at full {next = next} {g = g} e =
     rows-placed full (getD s at 0) s (At (at + 1)) g next (unnamed (getD s at 0) at _ (sym (cut-there s at full (cut-inside s at full e)) ∙ e)) (cut-forward s at full e .1)
-
--- pulses that end at `next`
-abbrev Ended : Body → Type 0
-Ended b = (count from next : ℕ) → b ≡ Whole (piece.Pulses count from) next → next ≡ from + count * 2
-
-other-ended : (l : Layout) → Other isPulses l → (s : List ℕ) (c : Cursor) → Ended (readAt l s c)
-unfolding isPulses
-other-ended l o s c count from next e = absurd (other-none isPulses l o s c (piece.Pulses count from) next refl e)
-
-whole-ended : (s : List ℕ) (n : ℕ) (c d : Cursor) → eachAt s c n 2 ≡ d → Ended (wholeAt (piece.Pulses n (placeOf c)) d)
-unfolding wholeAt
-whole-ended s n c (At q) f count from next e =
-    let i : q ≡ next = cc in
-    let j : n ≡ count = cc in
-    let k : placeOf c ≡ from = cc in
-    let m = each-stood s n 2 c f .moved in
-    omega arith
-whole-ended s n c (cursor.Short q w) f count from next e = absurd (let z : _≡_ {A = ℕ} 0 1 = cc in omega arith)
-
-pulses-ended : (s : List ℕ) (c : Cursor) → Ended (readAt kind13 s c)
-unfolding readAt kind13 passAt
-pulses-ended s c = whole-ended s (fieldAt s c 1 .value) (fieldAt s c 1 .cursor) _ refl
-
--- of all rows, that of 13 alone gives pulses
-abbrev RowEnded : Layout → Type 0
-RowEnded l = (s : List ℕ) (c : Cursor) → Ended (readAt l s c)
-
-rows-ended : (full kind : ℕ) → RowEnded (kindOf full kind)
-unfolding isPulses kindOf kinds kind10 kind11 kind12 kind14 stream19 kind19 kind20 kind21 kind22 kind24 kind25 kind2A kind30 kind31 info32 kind32 kind33 kind35 kind5A
-rows-ended full kind =
-    found-every RowEnded (kinds full) kind (unknown _) (
-      other-ended kind10 (λ _ _ _. refl),
-      (
-        other-ended kind11 (λ _ _ _ _ _ _ _ _ _ _. refl),
-        (
-          other-ended kind12 (λ _ _. refl),
-          (
-            pulses-ended,
-            (
-              other-ended kind14 (λ _ _ _ _ _ _. refl),
-              (
-                other-ended (kind19 full) (λ _ _ _ _ _ _ _ _ _ _ _ _. refl),
-                (
-                  other-ended kind20 (λ _. refl),
-                  (
-                    other-ended kind21 (λ _ _. refl),
-                    (
-                      other-ended kind22 refl,
-                      (
-                        other-ended unread tt,
-                        (
-                          other-ended kind24 (λ _. refl),
-                          (
-                            other-ended kind25 refl,
-                            (
-                              other-ended kind2A (λ _. refl),
-                              (
-                                other-ended unread tt,
-                                (
-                                  other-ended kind30 (λ _ _. refl),
-                                  (
-                                    other-ended kind31 (λ _ _ _. refl),
-                                    (
-                                      other-ended kind32 (λ _ _ _. refl),
-                                      (
-                                        other-ended kind33 (λ _ _. refl),
-                                        (
-                                          other-ended unread tt,
-                                          (
-                                            other-ended kind35 (λ _ _ _. refl),
-                                            (
-                                              other-ended unread tt,
-                                              (
-                                                other-ended kind5A refl,
-                                                tt,
-                                              ),
-                                            ),
-                                          ),
-                                        ),
-                                      ),
-                                    ),
-                                  ),
-                                ),
-                              ),
-                            ),
-                          ),
-                        ),
-                      ),
-                    ),
-                  ),
-                ),
-              ),
-            ),
-          ),
-        ),
-      ),
-    )
-    (other-ended (unknown _) tt)
-
--- a whole 13 ends where its pulses do, inside the tape
-pub cut-pulses : (s : List ℕ) (at full : ℕ) {k a next count from : ℕ} → cutAt s at full ≡ taken.Whole k a next (piece.Pulses count from) → from + count * 2 ≤ length s
-cut-pulses s at full {next = next} {count} {from} e =
-    let m = rows-ended full (getD s at 0) s (At (at + 1)) count from next (unnamed (getD s at 0) at _ (sym (cut-there s at full (cut-inside s at full e)) ∙ e)) in
-    omega (arith, m, cut-forward s at full e .1)

@@ -14,7 +14,8 @@ use Rattle.parser.proofs.Laws.{went-on, refused}
 use Rattle.rows.specs.Table.{zeros}
 use Rattle.pieces.specs.declared.Piece.{Piece}
 use Rattle.pieces.specs.declared.Piece.the-variants.{Standard, Turbo, Tone, Pulses, Pure, Generalized, Pause, GroupStart, GroupEnd, LoopStart, LoopEnd, Stop48, Text, Message, Archive, Hardware, Custom, Glue}
-use Rattle.pieces.proofs.Places.{cut-places, cut-pulses}
+use Rattle.pieces.proofs.Places.{cut-places}
+use Rattle.pieces.proofs.PulsePlaces.{cut-pulses}
 use Rattle.pieces.specs.declared.Taken.{Taken}
 use Rattle.pieces.specs.declared.Taken.the-variants.{Whole}
 use Rattle.pieces.specs.declared.TakenTap.{TakenTap}

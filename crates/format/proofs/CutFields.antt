@@ -71,7 +71,7 @@ head-byte s c {q} e =
     f5 .told ∙ byte-at s (placeOf (npp .cursor)) ∙ ap (λ (p : ℕ). getD s p 0) k
 
 -- a whole piece behind its bits: any other piece would be whole there too
-record Fitted (x y : Piece) (bits : ℕ) (c d : Cursor) (next : ℕ) : Type 0 where
+pub record Fitted (x y : Piece) (bits : ℕ) (c d : Cursor) (next : ℕ) : Type 0 where
   pub same : x ≡ y
   pub stood : d ≡ At next
   pub any : (z : Piece) → fittingAt bits c (wholeAt z d) ≡ body.Whole z next

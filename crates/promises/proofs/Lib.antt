@@ -4,3 +4,7 @@ pub mod Outcomes
 pub mod Readings
 pub mod Exported
 pub mod Excluded
+pub mod Runs
+pub mod Loads
+pub mod Dues
+pub mod Numbers

@@ -1,0 +1,88 @@
+-- Document 01's 'Numbers for no', its words 'given exactly when' where no definition has them yet. Definitions alone; assumes nothing.
+use Prim.Native.Nat.{ℕ, zero, suc, _≤_, _<_}
+use mathlib.Core.Path.{_≡_}
+use mathlib.Core.Bool.{true, false}
+use mathlib.Core.Logic.{_⊎_}
+use mathlib.Core.List.{List, _∷_}
+use lib.ListN.{length}
+use lib.Dec.{eqb}
+use Rattle.rows.specs.declared.Block.{Block}
+use Rattle.pieces.specs.declared.Piece.{Piece}
+use Rattle.pieces.specs.declared.Piece.the-variants.{Generalized}
+use Rattle.pieces.specs.declared.GeneralizedData.{GeneralizedData}
+use Rattle.pieces.specs.declared.Taken.the-variants as taken
+use Rattle.pieces.specs.declared.TakenTap.the-variants as tap
+use Rattle.pieces.specs.declared.Heading.the-variants.{Version}
+use Rattle.pieces.specs.Cut.{cutAt, tapAt, headAt}
+use Rattle.general.specs.General.{generalOf, refused4}
+use Rattle.parser.specs.Parser.{Tape, Out, on, no, empty}
+use Rattle.blocks.specs.Blocks.{isHeader, standardTones, standardBlock, standardPause}
+use Rattle.blocks.specs.Adds.{Lent, add}
+use Rattle.reader.specs.declared.Failure.{Failure}
+use Rattle.reader.specs.Source.{See, over, bad, refuses, thing, Read, done, failed, refused, act, stopLength, tooManyBits, full, tzxSee, readTzx, tapSee}
+use Rattle.entries.specs.Places.{Tape as Mounted, blockIn}
+use Rattle.entries.specs.Mounted.{wellRow}
+
+-- neither 1 nor 2: the model is 0, 1 or 2, and the tape is not over `most` bytes
+pub record Admitted (most : ℕ) (s : List ℕ) (model : ℕ) : Type 0 where
+  pub known : model < 3
+  pub short : length s ≤ most
+
+-- a reading errs
+abbrev pub Errs : Read → Type 0
+Errs r = (f : Failure) × (r ≡ failed f)
+
+-- the first 10 bytes are a TZX's; version ignored
+abbrev pub Headed : List ℕ → Type 0
+Headed s = (major : ℕ) × (minor : ℕ) × (headAt s ≡ Version major minor)
+
+-- A READING COMES to a place and a tape read so far of which P holds: it stands there, or what stands here is done and from past it the reading comes there
+pub data Comes (see : ℕ → See) (P : ℕ → Tape → Type 0) : ℕ → Tape → Type 0 where
+  here : {at : ℕ} {t : Tape} → P at t → Comes see P at t
+  past : {at next : ℕ} {does : Tape → Out} {t u : Tape} → see at ≡ thing next does → does t ≡ on u → Comes see P next u → Comes see P at t
+
+-- a reading's answer is due at a place: the end; an error; a refusal, by what stands there or by what it does
+pub data Due (see : ℕ → See) : Read → ℕ → Tape → Type 0 where
+  ends : {at : ℕ} {t : Tape} → see at ≡ over → Due see (done t) at t
+  errs : {at : ℕ} {t : Tape} {f : Failure} → see at ≡ bad f → Due see (failed f) at t
+  stands : {at k : ℕ} {t : Tape} → see at ≡ refuses k → Due see (refused k) at t
+  answers : {at next k : ℕ} {does : Tape → Out} {t : Tape} → see at ≡ thing next does → does t ≡ no k → Due see (refused k) at t
+
+-- a TZX is read from 10 on, a TAP from 0 on, both with nothing read so far
+abbrev pub ByTzx : Lent → List ℕ → ℕ → (ℕ → Tape → Type 0) → Type 0
+ByTzx lent s model P = Headed s × Comes (tzxSee lent s model) P 10 empty
+
+abbrev pub ByTap : Lent → List ℕ → (ℕ → Tape → Type 0) → Type 0
+ByTap lent s P = Comes (tapSee lent s) P 0 empty
+
+-- 4: a generalised piece on which the Rust panics: before its data bytes, or by its entries and symbols
+pub data Panics (s : List ℕ) (at : ℕ) (t : Tape) : Type 0 where
+  before : {kind p : ℕ} → cutAt s at full ≡ taken.Overflow kind p → Panics s at t
+  within : {kind from next : ℕ} {g : GeneralizedData} → cutAt s at full ≡ taken.Whole kind from next (Generalized g) → generalOf s g ≡ refused4 → Panics s at t
+
+-- 5, 6: the piece here, on the tape read so far, is answered by k (a 2A of another length than 0 errs)
+pub data Lacks (lent : Lent) (s : List ℕ) (model k at : ℕ) (t : Tape) : Type 0 where
+  lacks : {kind from next : ℕ} {piece : Piece} → cutAt s at full ≡ taken.Whole kind from next piece → stopLength piece ≡ 0 → act lent s model piece t ≡ no k → Lacks lent s model k at t
+
+-- the same of a TAP's block
+pub data LacksTap (lent : Lent) (s : List ℕ) (k at : ℕ) (t : Tape) : Type 0 where
+  lacks : {from size next : ℕ} → tapAt s at ≡ tap.Block from size next → add lent (standardTones (isHeader s from size)) (standardBlock from size (standardPause (isHeader s from size))) t ≡ no k → LacksTap lent s k at t
+
+-- by the TZX's pieces, or, where TZX errs, by the TAP's blocks
+abbrev pub Lacking : Lent → List ℕ → ℕ → ℕ → Type 0
+Lacking lent s model k = ByTzx lent s model (Lacks lent s model k) ⊎ (Errs (readTzx lent s model) × ByTap lent s (LacksTap lent s k))
+
+-- 7: a block with data has last bits above 8
+pub data Overlong : List Block → Type 0 where
+  this : {r : Block} {rs : List Block} → 0 < r .size → 8 < r .last → Overlong (r ∷ rs)
+  later : {r : Block} {rs : List Block} → Overlong rs → Overlong (r ∷ rs)
+
+-- .. where TZX was read whole
+pub record Judged (lent : Lent) (s : List ℕ) (model at : ℕ) (t : Tape) : Type 0 where
+  pub whole : tzxSee lent s model at ≡ over
+  pub bits : Overlong (t .blocks)
+
+-- from block b back to a selectable block, or 0: a row on the way is not well formed
+pub data BadBack (w : Mounted) : ℕ → Type 0 where
+  this : {b : ℕ} → wellRow w b ≡ false → BadBack w b
+  back : {b : ℕ} → wellRow w (suc b) ≡ true → eqb (blockIn w (suc b) .selectable) 1 ≡ false → BadBack w b → BadBack w (suc b)

@@ -8,3 +8,6 @@ pub mod Runs
 pub mod Loads
 pub mod Dues
 pub mod Numbers
+pub mod Asks
+pub mod Positions
+pub mod Listings

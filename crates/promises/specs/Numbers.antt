@@ -6,6 +6,7 @@ use mathlib.Core.Logic.{_⊎_}
 use mathlib.Core.List.{List, _∷_}
 use lib.ListN.{length}
 use lib.Dec.{eqb}
+use Rattle.pulses.specs.Play.{Status, ended}
 use Rattle.rows.specs.declared.Block.{Block}
 use Rattle.pieces.specs.declared.Piece.{Piece}
 use Rattle.pieces.specs.declared.Piece.the-variants.{Generalized}
@@ -21,7 +22,9 @@ use Rattle.blocks.specs.Adds.{Lent, add}
 use Rattle.reader.specs.declared.Failure.{Failure}
 use Rattle.reader.specs.Source.{See, over, bad, refuses, thing, Read, done, failed, refused, act, stopLength, tooManyBits, full, tzxSee, readTzx, tapSee}
 use Rattle.entries.specs.Places.{Tape as Mounted, blockIn}
-use Rattle.entries.specs.Mounted.{wellRow}
+use Rattle.entries.specs.Mounted.{overfull, wellRow, formed}
+use Rattle.walks.specs.declared.Position.{Position}
+use Rattle.deck.specs.Deck.{validAt}
 
 -- neither 1 nor 2: the model is 0, 1 or 2, and the tape is not over `most` bytes
 pub record Admitted (most : ℕ) (s : List ℕ) (model : ℕ) : Type 0 where
@@ -86,3 +89,28 @@ pub record Judged (lent : Lent) (s : List ℕ) (model at : ℕ) (t : Tape) : Typ
 pub data BadBack (w : Mounted) : ℕ → Type 0 where
   this : {b : ℕ} → wellRow w b ≡ false → BadBack w b
   back : {b : ℕ} → wellRow w (suc b) ≡ true → eqb (blockIn w (suc b) .selectable) 1 ≡ false → BadBack w b → BadBack w (suc b)
+
+-- 8: block number not below the count; 11 for the count comes first
+abbrev pub PastCount : Mounted → ℕ → Type 0
+PastCount w i = (overfull w ≡ false) × (w .count ≤ i)
+
+-- 11: the count exceeds capacity, or the row of block i, below the count, is not well formed
+abbrev pub Unformed : Mounted → ℕ → Type 0
+Unformed w i = (overfull w ≡ true) ⊎ ((i < w .count) × (wellRow w i ≡ false))
+
+-- neither 8 nor 11
+pub record Asked (w : Mounted) (i : ℕ) : Type 0 where
+  pub few : overfull w ≡ false
+  pub there : i < w .count
+  pub well : wellRow w i ≡ true
+
+-- 9: position not valid on this tape; 11 for the count and 11 for its row, if it has one, come first
+pub record Invalid (w : Mounted) (q : Position) : Type 0 where
+  pub few : overfull w ≡ false
+  pub well : q .block < w .count → wellRow w (q .block) ≡ true
+  pub bad : validAt w q ≡ false
+
+-- 11: a walk from block b reaches a bad row: it has come to the end of what is well formed from b on, and that is not all
+pub record Runs (w : Mounted) (b : ℕ) (end : Status) : Type 0 where
+  pub over : end ≡ ended
+  pub cut : formed w b .count < w .count

@@ -11,3 +11,4 @@ pub mod Numbers
 pub mod Asks
 pub mod Positions
 pub mod Listings
+pub mod Errors

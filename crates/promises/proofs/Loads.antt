@@ -136,7 +136,7 @@ module _ (lent : Lent) (s : List ℕ) (model : ℕ) where
   unfolding readTzx
   tzx-judges k e = heads k (headAt s) refl e
 
-  tzx-headed : Headed s → readTzx lent s model ≡ judged pieces
+  pub tzx-headed : Headed s → readTzx lent s model ≡ judged pieces
   unfolding readTzx headed
   tzx-headed (major, minor, q) = rw q
 

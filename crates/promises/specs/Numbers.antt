@@ -58,6 +58,10 @@ ByTzx lent s model P = Headed s × Comes (tzxSee lent s model) P 10 empty
 abbrev pub ByTap : Lent → List ℕ → (ℕ → Tape → Type 0) → Type 0
 ByTap lent s P = Comes (tapSee lent s) P 0 empty
 
+-- 3: what stands here errs: a short read, or a 2A of another length than 0
+abbrev pub Bad : (ℕ → See) → ℕ → Tape → Type 0
+Bad see at t = (f : Failure) × (see at ≡ bad f)
+
 -- 4: a generalised piece on which the Rust panics: before its data bytes, or by its entries and symbols
 pub data Panics (s : List ℕ) (at : ℕ) (t : Tape) : Type 0 where
   before : {kind p : ℕ} → cutAt s at full ≡ taken.Overflow kind p → Panics s at t

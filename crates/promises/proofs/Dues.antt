@@ -1,5 +1,5 @@
 -- WHERE EACH NUMBER OF A READING IS DUE: 4 at a generalised piece on which the Rust panics, 5 and 6 at a piece that lacks rows, 7 at the end. Assumes nothing.
-use Prim.Native.Nat.{ℕ, zero, suc, _+_, _/_, _≤_, _<_}
+use Prim.Native.Nat.{ℕ, _+_, _/_, _≤_, _<_}
 use native.Mathlib.Omega.{arith}
 use borrow.Author.Tests.{eqb-true, lt-ltb, ltb-true}
 use mathlib.Core.Path.{_≡_, refl, sym, ap, subst, _∙_}
@@ -26,17 +26,21 @@ use Rattle.parser.specs.Parser.{Tape, Out, on, no as refuse, startGroup, noteTe
 use Rattle.blocks.specs.Blocks.{isHeader, standardTones, standardBlock, standardPause, stopBlock}
 use Rattle.blocks.specs.Adds.{Lent, add, addGeneral, stopOn48}
 use Rattle.reader.specs.declared.Failure.the-variants as failure
-use Rattle.reader.specs.Source.{See, over, bad, refuses, thing, Read, done, failed, refused, act, stopLength, tooManyBits, full, tzxOf, tzxSee, tapOf, tapSee}
-use Rattle.reader.proofs.Rest.{tzx-stops, tzx-sees, sees-piece, tap-stops, tap-sees}
+use Rattle.reader.specs.Source.{See, bad, refuses, thing, Read, done, refused, act, stopLength, tooManyBits, full, tzxOf, tzxSee, tapOf, tapSee}
+use Rattle.reader.proofs.Rest.{tzx-stops, tzx-sees, sees-piece, tap-stops}
 use Rattle.loads.proofs.Refusals.{Says, goes, says, add-says, pairs-say, closed-says}
-use Rattle.promises.specs.Numbers.{Comes, here, past, Due, ends, errs, stands, answers, Panics, before, within, Lacks, LacksTap, Overlong, this, later, Judged}
-use Rattle.promises.specs.Numbers as numbers
+use Rattle.promises.specs.Numbers.{Comes, here, past, Due, ends, errs, stands, answers, Panics, before, within, Lacks, Needs, needs, Overlong, this, later, Judged}
+use Rattle.promises.proofs.Lacking.{lacks-no, add-lacks, act-lacks}
 use Rattle.promises.proofs.Runs.{Bounded, comes-map}
 
 -- a block is not refused by 4
 never-four : {A : Type 0} {o : Out} → Says 5 6 o → o ≡ refuse 4 → A
 never-four goes e = let z : _≡_ {A = ℕ} 0 1 = cc in absurd (omega arith)
 never-four (says {k = k} b) e = let z : k ≡ 4 = cc in absurd (omega (arith, b .low))
+
+-- what lacks rows is refused
+needs-due : (lent : Lent) {see : ℕ → See} {k at : ℕ} {t : Tape} → Needs see lent k at t → Due see (refused k) at t
+needs-due lent (needs e l) = answers e (lacks-no lent l)
 
 -- the piece is a generalised one, and refused by 4
 data Refused4 (s : List ℕ) : Piece → Type 0 where
@@ -142,25 +146,23 @@ module _ (lent : Lent) (s : List ℕ) (model : ℕ) where
   four-due {at} {t} (within {g = g} q e) = answers (sees-piece lent s model at (sym q) refl) (ap (λ (x : general.Given). addGeneral lent g x t) e)
 
   -- 5 and 6
-  due-lacks : (k : ℕ) → 5 ≤ k → {r : Read} {at : ℕ} {t : Tape} → Due (tzxSee lent s model) r at t → r ≡ refused k → Lacks lent s model k at t
-  due-lacks k h (ends e) f = let z : _≡_ {A = ℕ} 0 1 = cc in absurd (omega arith)
-  due-lacks k h (errs e) f = let z : _≡_ {A = ℕ} 0 1 = cc in absurd (omega arith)
-  due-lacks k h (stands {at = at} {k = j} {t = t} e) f = let z : j ≡ k = cc in absurd (omega (arith, tzx-stands at j t e .0))
-  due-lacks k h (answers {at = at} {next = next} {k = j} {does = does} {t = t} e d) f =
-      let z : j ≡ k = cc in of (tzx-thing at next does e) (d ∙ ap refuse z)
+  due-needs : (k : ℕ) → 5 ≤ k → {r : Read} {at : ℕ} {t : Tape} → Due (tzxSee lent s model) r at t → r ≡ refused k → Needs (tzxSee lent s model) lent k at t
+  due-needs k h (ends e) f = let z : _≡_ {A = ℕ} 0 1 = cc in absurd (omega arith)
+  due-needs k h (errs e) f = let z : _≡_ {A = ℕ} 0 1 = cc in absurd (omega arith)
+  due-needs k h (stands {at = at} {k = j} {t = t} e) f = let z : j ≡ k = cc in absurd (omega (arith, tzx-stands at j t e .0))
+  due-needs k h (answers {at = at} {next = next} {k = j} {does = does} {t = t} e d) f =
+      let z : j ≡ k = cc in needs e (of (tzx-thing at next does e) (d ∙ ap refuse z))
     where
-      of : Thing at next does → does t ≡ refuse k → Lacks lent s model k at t
-      of (whole q l x) y = numbers.Lacks.lacks q l (ap (λ (h : Tape → Out). h t) (sym x) ∙ y)
-      of (skip q x) y = let u : on t ≡ refuse k = ap (λ (h : Tape → Out). h t) (sym x) ∙ y in let z : _≡_ {A = ℕ} 0 1 = cc in absurd (omega arith)
-
-  lacks-due : (k : ℕ) {at : ℕ} {t : Tape} → Lacks lent s model k at t → Due (tzxSee lent s model) (refused k) at t
-  lacks-due k {at} (numbers.Lacks.lacks q l e) = answers (sees-piece lent s model at (sym q) l) e
+      of : Thing at next does → does t ≡ refuse k → Lacks lent k does t
+      of (whole {piece = piece} q l x) y =
+          subst (λ (f : Tape → Out). Lacks lent k f t) (sym x) (act-lacks lent s model k h piece t (ap (λ (f : Tape → Out). f t) (sym x) ∙ y))
+      of (skip q x) y = let u : on t ≡ refuse k = ap (λ (f : Tape → Out). f t) (sym x) ∙ y in let z : _≡_ {A = ℕ} 0 1 = cc in absurd (omega arith)
 
   pub panics-due : (at : ℕ) (t : Tape) → Due (tzxSee lent s model) (refused 4) at t ↔ Panics s at t
   panics-due at t = (λ d. due-four d refl, λ p. four-due p)
 
-  pub piece-due : (k : ℕ) → 5 ≤ k → (at : ℕ) (t : Tape) → Due (tzxSee lent s model) (refused k) at t ↔ Lacks lent s model k at t
-  piece-due k h at t = (λ d. due-lacks k h d refl, λ p. lacks-due k p)
+  pub piece-due : (k : ℕ) → 5 ≤ k → (at : ℕ) (t : Tape) → Due (tzxSee lent s model) (refused k) at t ↔ Needs (tzxSee lent s model) lent k at t
+  piece-due k h at t = (λ d. due-needs k h d refl, λ p. needs-due lent p)
 
 -- a TAP's things are blocks
 module _ (lent : Lent) (s : List ℕ) where
@@ -199,22 +201,19 @@ module _ (lent : Lent) (s : List ℕ) where
       of : (at next : ℕ) (does : Tape → Out) → TapThing at next does → at < next
       of at next does (is-block q d) = omega (arith, tap-forward s at q .0)
 
-  due-tap : (k : ℕ) {r : Read} {at : ℕ} {t : Tape} → Due (tapSee lent s) r at t → r ≡ refused k → LacksTap lent s k at t
+  due-tap : (k : ℕ) {r : Read} {at : ℕ} {t : Tape} → Due (tapSee lent s) r at t → r ≡ refused k → Needs (tapSee lent s) lent k at t
   due-tap k (ends e) f = let z : _≡_ {A = ℕ} 0 1 = cc in absurd (omega arith)
   due-tap k (errs e) f = let z : _≡_ {A = ℕ} 0 1 = cc in absurd (omega arith)
   due-tap k (stands {at = at} {k = j} e) f = absurd (tap-stands at j e)
   due-tap k (answers {at = at} {next = next} {k = j} {does = does} {t = t} e d) f =
-      let z : j ≡ k = cc in of (tap-thing at next does e) (d ∙ ap refuse z)
+      let z : j ≡ k = cc in needs e (of (tap-thing at next does e) (d ∙ ap refuse z))
     where
-      of : TapThing at next does → does t ≡ refuse k → LacksTap lent s k at t
-      of (is-block q x) y = numbers.LacksTap.lacks q (ap (λ (h : Tape → Out). h t) (sym x) ∙ y)
+      of : TapThing at next does → does t ≡ refuse k → Lacks lent k does t
+      of (is-block q x) y =
+          subst (λ (f : Tape → Out). Lacks lent k f t) (sym x) (add-lacks lent k _ _ t (ap (λ (f : Tape → Out). f t) (sym x) ∙ y))
 
-  pub block-due : (k at : ℕ) (t : Tape) → Due (tapSee lent s) (refused k) at t ↔ LacksTap lent s k at t
-  unfolding tapOf
-  block-due k at t = (λ d. due-tap k d refl, of)
-    where
-      of : LacksTap lent s k at t → Due (tapSee lent s) (refused k) at t
-      of (numbers.LacksTap.lacks q e) = answers (tap-sees lent s at (sym q)) e
+  pub block-due : (k at : ℕ) (t : Tape) → Due (tapSee lent s) (refused k) at t ↔ Needs (tapSee lent s) lent k at t
+  block-due k at t = (λ d. due-tap k d refl, λ p. needs-due lent p)
 
 -- 7: a block with data has last bits above 8
 bits-long : (rs : List Block) → tooManyBits rs ≡ true → Overlong rs

@@ -58,9 +58,10 @@ module _ (lent : Lent) (s : List ℕ) where
     -- TZX: a short read or bad signature is an error
     pub tzx-errs : Errs (readTzx lent s model) ↔ ((Headed s → ⊥) ⊎ ByTzx lent s model (Bad (tzxSee lent s model)))
     unfolding readTzx headed judged
-    tzx-errs =
-        (λ x. of (headAt s) refl (x .0) (x .1),
-        λ h. ⊎-elim (λ n. none (headAt s) refl n) (λ x. let y = bad-due (x .1) in (y .0, tzx-headed lent s model (x .0) ∙ ap judged (run (y .0) .1 (y .1)))) h)
+    tzx-errs = (
+      λ x. of (headAt s) refl (x .0) (x .1),
+      λ h. ⊎-elim (λ n. none (headAt s) refl n) (λ x. let y = bad-due (x .1) in (y .0, tzx-headed lent s model (x .0) ∙ ap judged (run (y .0) .1 (y .1)))) h,
+    )
       where
         of : (h : Heading) → headAt s ≡ h → (f : Failure) → headed lent s model h ≡ failed f → (Headed s → ⊥) ⊎ ByTzx lent s model (Bad (tzxSee lent s model))
         of (heading.Version major minor) q f e = inr ((major, minor, q), comes-map (λ at t d. due-bad d refl) (run f .0 (judged-bad _ e)))

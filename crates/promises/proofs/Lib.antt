@@ -6,6 +6,7 @@ pub mod Exported
 pub mod Excluded
 pub mod Runs
 pub mod Loads
+pub mod Lacking
 pub mod Dues
 pub mod Numbers
 pub mod Asks

@@ -1,8 +1,8 @@
 -- NUMBERS FOR NO, OF THE LISTING: 1, 2 over 65,535 bytes, then the load's, and 10. Assumes nothing.
-use Prim.Native.Nat.{ℕ, zero, suc, _≤_, _<_}
+use Prim.Native.Nat.{ℕ, _≤_, _<_}
 use native.Mathlib.Omega.{arith}
 use borrow.Author.Tests.{le-leb, lt-leb, leb-true, leb-false, lt-ltb, le-ltb, ltb-true, ltb-false}
-use mathlib.Core.Path.{_≡_, refl, sym, ap, _∙_}
+use mathlib.Core.Path.{_≡_, refl, ap}
 use mathlib.Core.Bool.{Bool, true, false}
 use mathlib.Core.Logic.{_↔_, Iff·trans}
 use mathlib.Core.List.{List}
@@ -12,7 +12,7 @@ use Rattle.text.specs.Out.{fits}
 use Rattle.laws.specs.Rules.{_⇒_, _∣_}
 use Rattle.reader.specs.Source.{Loaded as Load, tzx, tapped, no}
 use Rattle.tape.specs.declared.Loaded.the-variants.{Refused}
-use Rattle.tape.specs.Load.{loadNamed, answerOf}
+use Rattle.tape.specs.Load.{answerOf}
 use Rattle.listing.specs.Listing.{loadedOf, Listing, text, refused, listed, listingOf, answerTo}
 use Rattle.listing.proofs.Numbers.{Sized, long, small, listing-sized}
 use Rattle.promises.specs.Numbers.{Admitted}

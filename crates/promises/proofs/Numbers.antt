@@ -1,24 +1,17 @@
 -- NUMBERS FOR NO, 1 TO 7: document 01's table, number by number, 'given exactly when'. Assumes nothing.
-use Prim.Native.Nat.{ℕ, zero, suc, _+_, _≤_, _<_}
+use Prim.Native.Nat.{ℕ, _≤_, _<_}
 use native.Mathlib.Omega.{arith}
-use borrow.Author.Tests.{le-leb, lt-leb, leb-true, leb-false, lt-ltb, le-ltb, ltb-true, ltb-false}
-use mathlib.Core.Path.{_≡_, refl, sym, ap, _∙_}
-use mathlib.Core.Bool.{Bool, true, false}
-use mathlib.Core.Logic.{_↔_, _⊎_, inl, inr, ⊎-elim}
+use mathlib.Core.Path.{_≡_, refl}
+use mathlib.Core.Logic.{_↔_, inl, inr, ⊎-elim}
 use mathlib.Core.List.{List}
 use lib.ListN.{length}
-use lib.Dec.{leb, ltb}
-use Rattle.laws.specs.Rules.{_⇒_, _∣_}
 use Rattle.rows.specs.Table.{zeros}
-use Rattle.rows.specs.declared.Block.{Block}
-use Rattle.rows.specs.declared.Tone.{Tone}
-use Rattle.parser.specs.Parser.{Tape, Out, on, no as refuse, empty, _⟫_, withTones, addTones, addBlock}
-use Rattle.blocks.specs.Adds.{Lent, addRows, add}
+use Rattle.parser.specs.Parser.{Tape, empty}
+use Rattle.blocks.specs.Adds.{Lent}
 use Rattle.reader.specs.Source.{done, refused, readTzx, readTap, foldFrom, tzxSee, tapSee, Loaded, tzx, tapped, no}
 use Rattle.tape.specs.declared.Loaded.the-variants.{Refused}
 use Rattle.tape.specs.Load.{loadNamed, answerOf, blocksOf, tonesOf, Leaves}
-use Rattle.loads.proofs.Refusals.{Between}
-use Rattle.promises.specs.Numbers.{Admitted, Errs, Comes, ByTzx, ByTap, Due, Lacking, Panics, Lacks, LacksTap, Judged}
+use Rattle.promises.specs.Numbers.{Admitted, Errs, Comes, ByTzx, ByTap, Due, Lacking, Panics, Needs, Judged}
 use Rattle.promises.proofs.Runs.{comes-map, run-due}
 use Rattle.promises.proofs.Loads.{Given, model-no, size-no, both-no, tzx-no, tap-no, given, tzx-piece, tzx-last}
 use Rattle.promises.proofs.Dues.{tzx-bounded, panics-due, piece-due, tap-bounded, block-due, end-due}
@@ -73,7 +66,7 @@ module _ (lent : Lent) (s : List ℕ) (model : ℕ) where
       run : (u : Tape) → (foldFrom (tzxSee lent s model) (length s) 10 empty ≡ done u) ↔ Comes (tzxSee lent s model) (Due (tzxSee lent s model) (done u)) 10 empty
       run u = run-due (tzx-bounded lent s model) (length s) 10 empty (done u) (omega arith)
 
-  tap-comes : (k : ℕ) → (readTap lent s ≡ refused k) ↔ ByTap lent s (LacksTap lent s k)
+  tap-comes : (k : ℕ) → (readTap lent s ≡ refused k) ↔ ByTap lent s (Needs (tapSee lent s) lent k)
   unfolding readTap
   tap-comes k =
       let y = run-due (tap-bounded lent s) (length s) 0 empty (refused k) (omega arith) in
@@ -106,7 +99,7 @@ module _ (lent : Lent) (s : List ℕ) (model : ℕ) where
         (h .1),
   )
     where
-      comes : (readTzx lent s model ≡ refused k) ↔ ByTzx lent s model (Lacks lent s model k)
+      comes : (readTzx lent s model ≡ refused k) ↔ ByTzx lent s model (Needs (tzxSee lent s model) lent k)
       comes = tzx-comes k m (piece-due lent s model k l)
 
       of : Given lent s model k → Admitted 1048576 s model × Lacking lent s model k
@@ -137,40 +130,6 @@ module _ (lent : Lent) (s : List ℕ) (model : ℕ) where
       of (both-no a x y q) = absurd (omega arith)
       of (tzx-no a x b) = (a, tzx-ends .0 x)
       of (tap-no a x y b) = absurd (omega (arith, b .high))
-
--- BLOCK BY BLOCK 5, 6: a block's tone rows, then its row
-module _ (lent : Lent) (ts : List Tone) (row : ℕ → Block) (t : Tape) where
-  data Adding (k : ℕ) : Type 0 where
-    no-tones : lent .tones < length (t .tones) + length ts → k ≡ 5 → Adding k
-    no-block : length (t .tones) + length ts ≤ lent .tones → lent .blocks ≤ length (t .blocks) → k ≡ 6 → Adding k
-
-  adding : (k : ℕ) → add lent ts row t ≡ refuse k → Adding k
-  unfolding add addRows addTones addBlock _⟫_
-  adding k e = by-tones (leb (length (t .tones) + length ts) (lent .tones)) refl e
-    where
-      by-blocks : length (t .tones) + length ts ≤ lent .tones → (x : Tape) (b : Bool) → ltb (length (t .blocks)) (lent .blocks) ≡ b → (b ⇒ on x ∣ refuse 6) ≡ refuse k → Adding k
-      by-blocks h x true q f = let z : _≡_ {A = ℕ} 0 1 = cc in absurd (omega arith)
-      by-blocks h x false q f = let z : 6 ≡ k = cc in no-block h (ltb-false _ _ q) (sym z)
-
-      by-tones : (b : Bool) → leb (length (t .tones) + length ts) (lent .tones) ≡ b → ((b ⇒ on (withTones ts t) ∣ refuse 5) ⟫ addBlock (lent .blocks) (row (length (t .tones)))) ≡ refuse k → Adding k
-      by-tones true q f = by-blocks (leb-true _ _ q) _ (ltb (length (t .blocks)) (lent .blocks)) refl f
-      by-tones false q f = let z : 5 ≡ k = cc in no-tones (leb-false _ _ q) (sym z)
-
-  pub add-5 : (add lent ts row t ≡ refuse 5) ↔ (lent .tones < length (t .tones) + length ts)
-  unfolding add addRows addTones _⟫_
-  add-5 = (λ e. of (adding 5 e), λ h. rw (lt-leb (length (t .tones) + length ts) (lent .tones) h))
-    where
-      of : Adding 5 → lent .tones < length (t .tones) + length ts
-      of (no-tones h q) = h
-      of (no-block h l q) = absurd (omega arith)
-
-  pub add-6 : (add lent ts row t ≡ refuse 6) ↔ ((length (t .tones) + length ts ≤ lent .tones) × (lent .blocks ≤ length (t .blocks)))
-  unfolding add addRows addTones addBlock _⟫_
-  add-6 = (λ e. of (adding 6 e), λ h. rw (le-leb (length (t .tones) + length ts) (lent .tones) (h .0), le-ltb (length (t .blocks)) (lent .blocks) (h .1)))
-    where
-      of : Adding 6 → (length (t .tones) + length ts ≤ lent .tones) × (lent .blocks ≤ length (t .blocks))
-      of (no-tones h q) = absurd (omega arith)
-      of (no-block h l q) = (h, l)
 
 -- 1 to 7 leave both tables all zero
 pub refused-blank : (B N k : ℕ) (l : Loaded) (bt tt : List ℕ) → Leaves B N l (Refused k) bt tt → (bt ≡ zeros B) × (tt ≡ zeros N)

@@ -1,14 +1,12 @@
 -- NUMBERS FOR NO, 9 AND 11 WITH A POSITION: document 01's table, 'given exactly when'. Assumes nothing.
 use Prim.Native.Nat.{ℕ, zero, suc, _≤_, _<_}
 use native.Mathlib.Omega.{arith}
-use borrow.Author.Tests.{le-leb, lt-leb, leb-true, leb-false, lt-ltb, le-ltb, ltb-true, ltb-false, eqb-false, ne-eqb, not-true, not-false}
-use mathlib.Core.Path.{_≡_, refl, sym, ap, _∙_}
-use mathlib.Core.Bool.{Bool, true, false, not, _&&_, _||_}
+use borrow.Author.Tests.{lt-leb, leb-true, leb-false, lt-ltb, le-ltb, ltb-true, eqb-false, ne-eqb, not-true, not-false}
+use mathlib.Core.Path.{_≡_, refl}
+use mathlib.Core.Bool.{Bool, true, false, not, _&&_}
 use mathlib.Core.Logic.{_↔_, _⊎_, inl, inr, ⊎-elim, Iff·trans}
-use mathlib.Core.List.{List}
 use lib.Dec.{leb, ltb, eqb}
 use Rattle.laws.specs.Rules.{_⇒_, _∣_}
-use Rattle.laws.specs.Numbers.{lt-or-ge}
 use Rattle.laws.specs.Tests.{first, second}
 use Rattle.pulses.specs.Play.{Status, standing, stopped, ended, Answer, answer}
 use Rattle.pulses.specs.Source.{isEnded}
@@ -23,7 +21,7 @@ use Rattle.walks.specs.Heads.{numberOf, ahead, toldAs, told, walked, walkFrom}
 use Rattle.deck.specs.declared.Check.{Check}
 use Rattle.deck.specs.declared.Check.the-variants.{Fine, NotValid, NotFormed}
 use Rattle.deck.specs.declared.Head.{Head}
-use Rattle.deck.specs.declared.Selected.the-variants.{Block, BadPosition, BadRow}
+use Rattle.deck.specs.declared.Selected.the-variants.{Block, BadRow}
 use Rattle.deck.specs.Deck.{atStart, ruledOut, badRow, validAt, judged, unless, stays, playMeasured, sourceAnswer, sourceFrom, playSource, backTo, numberFor, blockOf, blockAt, headAfter, playMounted}
 use Rattle.promises.specs.Numbers.{Unformed, Invalid, Runs, BadBack, this, back}
 use Rattle.promises.proofs.Asks.{ended-is}

@@ -4,7 +4,7 @@ use native.Mathlib.Omega.{arith}
 use mathlib.Core.Path.{_≡_, refl, subst, _∙_}
 use mathlib.Core.Logic.{_↔_}
 use Rattle.parser.specs.Parser.{Tape, Out, on, no}
-use Rattle.reader.specs.Source.{See, over, bad, refuses, thing, Read, done, failed, refused, after, seeing, foldFrom}
+use Rattle.reader.specs.Source.{See, over, bad, refuses, thing, Read, after, seeing, foldFrom}
 use Rattle.promises.specs.Numbers.{Comes, here, past, Due, ends, errs, stands, answers}
 
 -- things move forward, and at the size all is over: so as many turns as there are bytes are enough

@@ -1,26 +1,25 @@
 -- Document 01's 'Numbers for no', its words 'given exactly when' where no definition has them yet. Definitions alone; assumes nothing.
-use Prim.Native.Nat.{ℕ, zero, suc, _≤_, _<_}
+use Prim.Native.Nat.{ℕ, suc, _+_, _≤_, _<_}
 use mathlib.Core.Path.{_≡_}
 use mathlib.Core.Bool.{true, false}
 use mathlib.Core.Logic.{_⊎_}
 use mathlib.Core.List.{List, _∷_}
-use lib.ListN.{length}
+use lib.ListN.{length, drop}
 use lib.Dec.{eqb}
 use Rattle.pulses.specs.Play.{Status, ended}
 use Rattle.rows.specs.declared.Block.{Block}
-use Rattle.pieces.specs.declared.Piece.{Piece}
+use Rattle.rows.specs.declared.Tone.{Tone}
 use Rattle.pieces.specs.declared.Piece.the-variants.{Generalized}
 use Rattle.pieces.specs.declared.GeneralizedData.{GeneralizedData}
 use Rattle.pieces.specs.declared.Taken.the-variants as taken
-use Rattle.pieces.specs.declared.TakenTap.the-variants as tap
 use Rattle.pieces.specs.declared.Heading.the-variants.{Version}
-use Rattle.pieces.specs.Cut.{cutAt, tapAt, headAt}
+use Rattle.pieces.specs.Cut.{cutAt, headAt}
 use Rattle.general.specs.General.{generalOf, refused4}
-use Rattle.parser.specs.Parser.{Tape, Out, on, no, empty}
-use Rattle.blocks.specs.Blocks.{isHeader, standardTones, standardBlock, standardPause}
-use Rattle.blocks.specs.Adds.{Lent, add}
+use Rattle.parser.specs.declared.Loop.the-variants.{Closed, Open}
+use Rattle.parser.specs.Parser.{Tape, Out, on, no, empty, _⟫_, withBody, addTones, addBlock, copies, closeLoop}
+use Rattle.blocks.specs.Adds.{Lent}
 use Rattle.reader.specs.declared.Failure.{Failure}
-use Rattle.reader.specs.Source.{See, over, bad, refuses, thing, Read, done, failed, refused, act, stopLength, tooManyBits, full, tzxSee, readTzx, tapSee}
+use Rattle.reader.specs.Source.{See, over, bad, refuses, thing, Read, done, failed, refused, full, tzxSee, readTzx, tapSee}
 use Rattle.entries.specs.Places.{Tape as Mounted, blockIn}
 use Rattle.entries.specs.Mounted.{overfull, wellRow, formed}
 use Rattle.walks.specs.declared.Position.{Position}
@@ -67,17 +66,20 @@ pub data Panics (s : List ℕ) (at : ℕ) (t : Tape) : Type 0 where
   before : {kind p : ℕ} → cutAt s at full ≡ taken.Overflow kind p → Panics s at t
   within : {kind from next : ℕ} {g : GeneralizedData} → cutAt s at full ≡ taken.Whole kind from next (Generalized g) → generalOf s g ≡ refused4 → Panics s at t
 
--- 5, 6: the piece here, on the tape read so far, is answered by k (a 2A of another length than 0 errs)
-pub data Lacks (lent : Lent) (s : List ℕ) (model k at : ℕ) (t : Tape) : Type 0 where
-  lacks : {kind from next : ℕ} {piece : Piece} → cutAt s at full ≡ taken.Whole kind from next piece → stopLength piece ≡ 0 → act lent s model piece t ≡ no k → Lacks lent s model k at t
+-- 5, 6, BLOCK BY BLOCK: of the steps that are done here, one after the other, one needs more tone rows than remain of those lent, or more block rows
+pub data Lacks (lent : Lent) : ℕ → (Tape → Out) → Tape → Type 0 where
+  tones : (ts : List Tone) {t : Tape} → lent .tones < length (t .tones) + length ts → Lacks lent 5 (addTones (lent .tones) ts) t
+  row : (r : Block) {t : Tape} → lent .blocks ≤ length (t .blocks) → Lacks lent 6 (addBlock (lent .blocks) r) t
+  first : (f : Tape → Out) (g : Tape → Tape → Out) {k : ℕ} {t : Tape} → Lacks lent k f t → Lacks lent k (λ v. f v ⟫ g v) t
+  next : (f : Tape → Out) (g : Tape → Tape → Out) {k : ℕ} {t u : Tape} → f t ≡ on u → Lacks lent k (g t) u → Lacks lent k (λ v. f v ⟫ g v) t
+  copy : {k start times : ℕ} {t : Tape} → t .body ≡ Open start times → Lacks lent k (copies (lent .blocks) times (drop start (t .blocks))) (withBody Closed t) → Lacks lent k (closeLoop (lent .blocks)) t
 
--- the same of a TAP's block
-pub data LacksTap (lent : Lent) (s : List ℕ) (k at : ℕ) (t : Tape) : Type 0 where
-  lacks : {from size next : ℕ} → tapAt s at ≡ tap.Block from size next → add lent (standardTones (isHeader s from size)) (standardBlock from size (standardPause (isHeader s from size))) t ≡ no k → LacksTap lent s k at t
+pub data Needs (see : ℕ → See) (lent : Lent) (k at : ℕ) (t : Tape) : Type 0 where
+  needs : {next : ℕ} {does : Tape → Out} → see at ≡ thing next does → Lacks lent k does t → Needs see lent k at t
 
--- by the TZX's pieces, or, where TZX errs, by the TAP's blocks
+-- .. by the TZX's pieces, or, where TZX errs, by the TAP's blocks
 abbrev pub Lacking : Lent → List ℕ → ℕ → ℕ → Type 0
-Lacking lent s model k = ByTzx lent s model (Lacks lent s model k) ⊎ (Errs (readTzx lent s model) × ByTap lent s (LacksTap lent s k))
+Lacking lent s model k = ByTzx lent s model (Needs (tzxSee lent s model) lent k) ⊎ (Errs (readTzx lent s model) × ByTap lent s (Needs (tapSee lent s) lent k))
 
 -- 7: a block with data has last bits above 8
 pub data Overlong : List Block → Type 0 where

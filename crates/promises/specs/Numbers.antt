@@ -74,10 +74,11 @@ pub data Lacks (lent : Lent) : ℕ → (Tape → Out) → Tape → Type 0 where
   next : (f : Tape → Out) (g : Tape → Tape → Out) {k : ℕ} {t u : Tape} → f t ≡ on u → Lacks lent k (g t) u → Lacks lent k (λ v. f v ⟫ g v) t
   copy : {k start times : ℕ} {t : Tape} → t .body ≡ Open start times → Lacks lent k (copies (lent .blocks) times (drop start (t .blocks))) (withBody Closed t) → Lacks lent k (closeLoop (lent .blocks)) t
 
+-- .. of what stands at a place
 pub data Needs (see : ℕ → See) (lent : Lent) (k at : ℕ) (t : Tape) : Type 0 where
   needs : {next : ℕ} {does : Tape → Out} → see at ≡ thing next does → Lacks lent k does t → Needs see lent k at t
 
--- .. by the TZX's pieces, or, where TZX errs, by the TAP's blocks
+-- .. at a place to which the TZX reading comes or, where it errs, the TAP reading
 abbrev pub Lacking : Lent → List ℕ → ℕ → ℕ → Type 0
 Lacking lent s model k = ByTzx lent s model (Needs (tzxSee lent s model) lent k) ⊎ (Errs (readTzx lent s model) × ByTap lent s (Needs (tapSee lent s) lent k))
 

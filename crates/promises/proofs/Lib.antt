@@ -4,3 +4,12 @@ pub mod Outcomes
 pub mod Readings
 pub mod Exported
 pub mod Excluded
+pub mod Runs
+pub mod Loads
+pub mod Lacking
+pub mod Dues
+pub mod Numbers
+pub mod Asks
+pub mod Positions
+pub mod Listings
+pub mod Errors

@@ -135,7 +135,7 @@ fn entry_row(tape: &[u8], a: &[[u16; 2]; SYMBOLS], g: GeneralizedData, i: u32) -
     cycles(a[n as usize], low_first(tape, at + 1, 2))
 }
 
-// The numbers that k bits can have.
+// How many numbers k bits can have.
 fn power(k: u32) -> u32
     requires { ⌜ k < 8 ⌝ }
     ensures { λ r. ⌜ r ≡ 2 ^ k ⌝ }

@@ -16,7 +16,7 @@ ghost use mathlib.Core.List.{List, [], _∷_};
 ghost use Prim.Native.Nat.{ℕ, _+_, _*_, _≤_};
 ghost use lib.ListN.{length};
 ghost use Rattle.general.specs.General.{generalOf};
-ghost use Rattle.general.specs.Ways.{Held};
+ghost use Rattle.general.specs.Held.{Held};
 ghost use Rattle.blocks.specs.Blocks.{born, stopBlock, isHeader, standardCycles, standardTones, standardBlock, standardPause, turboTones, turboBlock, pureTones, pureBlock, pureToneTones, soundOnly, pulseAt, pauseOrStop};
 ghost use Rattle.blocks.specs.Adds.{addRows, add, addPairs, addGeneral, stopOn48};
 ghost use Rattle.blocks.specs.Does.{Does, withUsed};

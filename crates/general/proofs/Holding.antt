@@ -9,7 +9,7 @@ use Rattle.pieces.specs.declared.Piece.the-variants.{Generalized}
 use Rattle.pieces.specs.declared.Taken.the-variants.{Whole}
 use Rattle.pieces.specs.Cut.{cutAt}
 use Rattle.pieces.proofs.Places.{cut-places}
-use Rattle.general.specs.Ways.{Held}
+use Rattle.general.specs.Held.{Held}
 
 pub cut-held : (s : List ℕ) (at : ℕ) {k a next : ℕ} {g : GeneralizedData} → ((i : ℕ) → getD s i 0 < 256) → cutAt s at 255 ≡ Whole k a next (Generalized g) → Held s g
 cut-held s at b e =

@@ -1,5 +1,7 @@
 mod Symbols
 mod Parts
+mod Loops
+mod Given
 mod Answers
 pub mod Holding
 pub mod Examples

@@ -1,5 +1,5 @@
 -- The rows of a part: judged one by one, counted, and put one after the other. Assumes nothing.
-use Prim.Native.Nat.{ℕ, zero, suc, _+_, _-_, _≤_, _<_}
+use Prim.Native.Nat.{ℕ, zero, suc, _+_, _-_, _/_, _≤_, _<_}
 use mathlib.Core.Path.{_≡_, refl, sym, ap, _∙_}
 use mathlib.Core.Bool.{Bool, true, false, _&&_, _||_}
 use mathlib.Core.List.{List}
@@ -15,11 +15,8 @@ use Rattle.rows.specs.declared.Tone.{Tone}
 use Rattle.general.specs.declared.Row.{Row}
 use Rattle.general.specs.declared.Row.the-variants.{Refused, Gives}
 use Rattle.general.specs.declared.Judged.the-variants as judged
-use Rattle.general.specs.General.{Part, refused, stops, tones, before, rowsFrom, entrySymbol, entryRow, pilotOf, singlesOf, pairsOf, dataOf}
+use Rattle.general.specs.General.{Part, refused, stops, tones, before, rowsFrom, entrySymbol, entryRow, singleRow, pairRow, pilotOf, singlesOf, pairsOf, dataOf}
 use Rattle.general.specs.Made.{isGiven, putGiven, judgedOf, isTones, tonesOf}
-use Rattle.general.specs.Ways.{Ready, rowAt, countOf}
-use Rattle.general.specs.declared.Way.{Way}
-use Rattle.general.specs.declared.Way.the-variants.{Pilot, Singles, Pairs}
 
 -- two truths
 pub differ : true ≡ false → ⊥
@@ -36,6 +33,11 @@ before-given Refused p e = absurd (differ (sym e))
 before-given (Gives t) refused e = refl
 before-given (Gives t) stops e = refl
 before-given (Gives t) (tones ts) e = refl
+
+before-row : (r : Row) (p : Part) → isTones (before r p) ≡ true → isGiven r ≡ true
+unfolding before isGiven isTones
+before-row Refused p e = e
+before-row (Gives t) p e = refl
 
 -- a row before tones is put before them
 pub record Put (r : Row) (p : Part) : Type 0 where
@@ -87,6 +89,9 @@ module _ (row : ℕ → Row) (i n : ℕ) (h : i < n) where
   pub turn-given : isGiven (row i) ≡ true → isTones (rowsFrom row (i + 1) (n - (i + 1))) ≡ isTones (rowsFrom row i (n - i))
   turn-given e = rw turn (sym (before-given (row i) (rowsFrom row (i + 1) (n - (i + 1))) e))
 
+  pub turn-row : isTones (rowsFrom row i (n - i)) ≡ true → isGiven (row i) ≡ true
+  turn-row e = before-row (row i) (rowsFrom row (i + 1) (n - (i + 1))) (rw turn at e)
+
   pub turn-put : isTones (rowsFrom row i (n - i)) ≡ true → Put (row i) (rowsFrom row (i + 1) (n - (i + 1)))
   turn-put e = before-put (row i) (rowsFrom row (i + 1) (n - (i + 1))) (rw turn at e)
 
@@ -95,6 +100,12 @@ module _ (row : ℕ → Row) (i n : ℕ) (h : i < n) where
   turn-puts e t used =
       let k : used + i + 1 ≡ used + (i + 1) = omega arith in
       rw turn (turn-put e .puts t (used + i) ∙ ap (λ (m : ℕ). putAll tone (putGiven t (used + i) (row i)) m (tonesOf (rowsFrom row (i + 1) (n - (i + 1))))) k)
+
+-- rows that are all given
+pub all-given : (row : ℕ → Row) → ((j : ℕ) → isGiven (row j) ≡ true) → (i n : ℕ) → isTones (rowsFrom row i n) ≡ true
+unfolding rowsFrom isTones
+all-given row h i zero = refl
+all-given row h i (suc n) = before-given (row i) (rowsFrom row (i + 1) n) (h i) ∙ all-given row h (i + 1) n
 
 -- no row is left
 pub end-tones : (row : ℕ → Row) (n : ℕ) → isTones (rowsFrom row n (n - n)) ≡ true
@@ -139,10 +150,10 @@ unfolding isTones tonesOf
 rowed-length none e = absurd (differ (sym e))
 rowed-length (all h) e = h
 
--- a part that is tones is the rows of one sort, which is ready
-pub record Sorted (s : List ℕ) (g : GeneralizedData) (way : Way) (p : Part) : Type 0 where
-  pub ready : Ready g way
-  pub rows : p ≡ rowsFrom (rowAt s g way) 0 (countOf g way)
+-- a part that is tones is n rows of one sort, which is ready
+pub record Sorted (Ready : Type 0) (row : ℕ → Row) (n : ℕ) (p : Part) : Type 0 where
+  pub ready : Ready
+  pub rows : p ≡ rowsFrom row 0 n
 
 -- a rule that refuses did not hold, and one without which there are no tones did
 passes : (b : Bool) (p : Part) → isTones (b ⇒ refused ∣ p) ≡ true → b ≡ false
@@ -160,12 +171,12 @@ no-tones true = refl
 no-tones false = refl
 
 module _ (s : List ℕ) (g : GeneralizedData) where
-  pub pilot-sorted : 0 < g .totp → isTones (pilotOf s g) ≡ true → Sorted s g Pilot (pilotOf s g)
+  pub pilot-sorted : 0 < g .totp → isTones (pilotOf s g) ≡ true → Sorted (0 < g .npp) (entryRow s g) (g .totp) (pilotOf s g)
   unfolding pilotOf
   pilot-sorted h e =
       let z = ne-eqb (g .totp) 0 (λ q. omega arith) in
       let p = holds (eqb (g .npp) 1 || eqb (g .npp) 2) (rowsFrom (entryRow s g) 0 (g .totp)) _ (no-tones (leb (g .asp) (entrySymbol s g 0))) (rw z at e) in
-      record { ready = (h, some-pulses (g .npp) p); rows = rw (z, p) }
+      record { ready = some-pulses (g .npp) p; rows = rw (z, p) }
 
   -- where the data part is tones, there are symbols, of fewer than 8 bits
   module _ (e : isTones (dataOf s g) ≡ true) where
@@ -184,7 +195,7 @@ module _ (s : List ℕ) (g : GeneralizedData) where
     some : 0 < g .totd
     some = let z = eqb-false (g .totd) 0 used in omega arith
 
-    pub singles-sorted : g .npd ≡ 2 → Sorted s g Singles (dataOf s g)
+    pub singles-sorted : g .npd ≡ 2 → Sorted ((0 < g .totd) × (0 < g .npd) × (0 < g .nb) × (g .nb < 8)) (singleRow s g) (g .totd) (dataOf s g)
     unfolding dataOf singlesOf
     singles-sorted h =
         let p = eq-eqb (g .npd) 2 h in
@@ -192,7 +203,7 @@ module _ (s : List ℕ) (g : GeneralizedData) where
         let z = eqb-false (g .nb) 0 b in
         record { ready = (some, omega arith, omega arith, leb-false 8 (g .nb) narrow); rows = rw (used, narrow, p, b) }
 
-    pub pairs-sorted : (g .npd ≡ 2 → ⊥) → Sorted s g Pairs (dataOf s g)
+    pub pairs-sorted : (g .npd ≡ 2 → ⊥) → Sorted ((0 < g .totd) × (0 < g .npd) × (1 < g .totd → 0 < g .nb) × (g .nb < 8)) (pairRow s g) (g .totd / 2) (dataOf s g)
     unfolding dataOf pairsOf isTones
     pairs-sorted h =
         let p = ne-eqb (g .npd) 2 h in
@@ -203,13 +214,13 @@ module _ (s : List ℕ) (g : GeneralizedData) where
         record { ready = (some, omega arith, some-bits (g .nb) (g .totd) b, leb-false 8 (g .nb) narrow); rows = rw (used, narrow, p, o, b) }
 
 -- what the rows of a sort have from the part that they are
-module _ {s : List ℕ} {g : GeneralizedData} {way : Way} {p : Part} (o : Sorted s g way p) (e : isTones p ≡ true) where
-  pub sorted-tones : isTones (rowsFrom (rowAt s g way) 0 (countOf g way)) ≡ true
+module _ {Ready : Type 0} {row : ℕ → Row} {n : ℕ} {p : Part} (o : Sorted Ready row n p) (e : isTones p ≡ true) where
+  pub sorted-tones : isTones (rowsFrom row 0 n) ≡ true
   sorted-tones = rw (o .rows) at e
 
-  pub sorted-count : {room : ℕ} → length (tonesOf p) ≤ room → countOf g way ≤ room
+  pub sorted-count : {room : ℕ} → length (tonesOf p) ≤ room → n ≤ room
   sorted-count h =
-      let l = rowed-length (rowed (rowAt s g way) 0 (countOf g way)) sorted-tones in omega (arith, ap (λ (q : Part). length (tonesOf q)) (o .rows))
+      let l = rowed-length (rowed row 0 n) sorted-tones in omega (arith, ap (λ (q : Part). length (tonesOf q)) (o .rows))
 
 pub told-tones : (p : Part) {n : ℕ} → judgedOf p ≡ judged.Rows n → isTones p ≡ true
 unfolding isTones

@@ -1,7 +1,7 @@
 -- Alphabets: where their symbols stand, and how an array is filled with them. Assumes nothing.
-use Prim.Native.Nat.{ℕ, zero, suc, _+_, _*_, _-_, _/_, _%_, _^_, _≤_, _<_}
-use mathlib.Core.Path.{_≡_, refl, ap, _∙_}
-use mathlib.Core.List.{List, [], _∷_}
+use Prim.Native.Nat.{ℕ, _+_, _*_, _/_, _%_, _≤_, _<_}
+use mathlib.Core.Path.{_≡_, ap, _∙_}
+use mathlib.Core.List.{List, []}
 use mathlib.Core.Logic.{⊎-elim}
 use native.Mathlib.Omega.{arith}
 use native.Mathlib.Nat.{suc-mul, mul-comm, mul-assoc, mul-le-mul-right, mul-lt-mul-of-pos-right}
@@ -13,7 +13,7 @@ use Rattle.pieces.specs.declared.GeneralizedData.{GeneralizedData}
 use Rattle.pieces.specs.Grammar.{heldIf}
 use Rattle.pieces.specs.Places.{Places}
 use Rattle.general.specs.General.{Symbol, symbolAt}
-use Rattle.general.specs.Ways.{Kept, pulsesOf, symbolOf}
+use Rattle.general.specs.Held.{Kept, pulsesOf, symbolOf}
 
 -- an alphabet in use is there
 held : (uses size : ℕ) → 0 < uses → heldIf uses size ≡ size
@@ -37,18 +37,6 @@ kept-more s place pulses i a row k h e j l =
     (λ (b : j < i). getD-set-other a i j row [] (λ q. omega arith) ∙ k j b)
     (λ (b : i ≤ j). let q : j ≡ i = omega arith in rw q (getD-set-same a i row [] h ∙ e))
     (lt-or-ge j i)
-
--- the powers of 2 that a byte can be divided by
-pub powers : (k : ℕ) → k < 8 → getD (1 ∷ 2 ∷ 4 ∷ 8 ∷ 16 ∷ 32 ∷ 64 ∷ 128 ∷ []) k 0 ≡ 2 ^ k
-powers zero h = refl
-powers (suc zero) h = refl
-powers (suc (suc zero)) h = refl
-powers (suc (suc (suc zero))) h = refl
-powers (suc (suc (suc (suc zero)))) h = refl
-powers (suc (suc (suc (suc (suc zero))))) h = refl
-powers (suc (suc (suc (suc (suc (suc zero)))))) h = refl
-powers (suc (suc (suc (suc (suc (suc (suc zero))))))) h = refl
-powers (suc (suc (suc (suc (suc (suc (suc (suc k)))))))) h = absurd (omega arith)
 
 -- the bit of a symbol is among those of the data bytes
 pub single-bit : (i n t : ℕ) → i < t → 0 < n → i * n < n * t

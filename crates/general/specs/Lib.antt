@@ -1,3 +1,3 @@
 pub mod General
 pub mod Made
-pub mod Ways
+pub mod Held

@@ -6,18 +6,19 @@ use rows::put_tone;
 use rows::tone_capacity;
 ghost use mathlib.Core.Path.{_≡_};
 ghost use mathlib.Core.Bool.{true, _&&_, _||_};
-ghost use Prim.Native.Nat.{_+_, _*_, _-_, _/_, _%_, _^_, _≤_, _<_};
+ghost use Prim.Native.Nat.{ℕ, _+_, _*_, _-_, _/_, _%_, _^_, _≤_, _<_};
 ghost use lib.ListN.{length, getD};
 ghost use lib.Dec.{leb, ltb, eqb};
 ghost use Rattle.fields.specs.Field.{leAt};
 ghost use Rattle.rows.specs.Table.{putAll, capacityOf};
 ghost use Rattle.rows.specs.Rows.{tone, toneMost};
+ghost use Rattle.general.specs.declared.Row.{Row};
 ghost use Rattle.general.specs.declared.Row.the-variants.{Gives};
 ghost use Rattle.general.specs.declared.Judged.the-variants.{Rows};
 ghost use Rattle.general.specs.declared.Made.the-variants.{Data};
 ghost use Rattle.general.specs.General.{symbolAt, toneOf, cycles, entryRow, singleRow, pairRow, rowsFrom, pilotOf, equalHalves, ordinary, lastBits, numberAt, singlesOf, pairsOf, dataOf, withData, withPilot, generalOf};
 ghost use Rattle.general.specs.Made.{judgedOf, isGiven, putGiven, isTones, tonesOf, Done};
-ghost use Rattle.general.specs.Ways.{Held, Kept, Ready, rowAt, countOf, placeFor, sizeFor, pulsesFor, pulsesOf, symbolOf};
+ghost use Rattle.general.specs.Held.{Held, Kept, pulsesOf, symbolOf};
 
 // The symbols of an alphabet at the most.
 const SYMBOLS: usize = 255;
@@ -26,13 +27,6 @@ const SYMBOLS: usize = 255;
 pub enum Row {
     Refused,
     Gives(Tone),
-}
-
-// The sorts of rows: one for a pilot entry, for a data symbol, for a pair of them.
-pub enum Way {
-    Pilot,
-    Singles,
-    Pairs,
 }
 
 // What a part of the piece comes to: refusal 4, a stop block, or so many rows.
@@ -103,18 +97,6 @@ fn alphabet(tape: &[u8], place: u64, n: u32, pulses: u32) -> [[u16; 2]; SYMBOLS]
     a
 }
 
-// The alphabet that a sort of rows uses.
-fn alphabet_for(tape: &[u8], g: GeneralizedData, way: Way) -> [[u16; 2]; SYMBOLS]
-    requires { ⌜ Held (now tape) g × Ready g way ⌝ }
-    ensures { λ a. ⌜ Kept (now (tape .entry)) (placeFor g way) (pulsesFor g way) (sizeFor g way) a ⌝ }
-{
-    match way {
-        Way::Pilot => alphabet(tape, g.pilot, g.asp, g.npp),
-        Way::Singles => alphabet(tape, g.symbols, g.asd, g.npd),
-        Way::Pairs => alphabet(tape, g.symbols, g.asd, g.npd),
-    }
-}
-
 // A row of cycles.
 fn gives(num: u32, len1: u16, len2: u16) -> Row
     ensures { λ r. ⌜ r ≡ Gives (toneOf num len1 len2) ⌝ }
@@ -153,13 +135,12 @@ fn entry_row(tape: &[u8], a: &[[u16; 2]; SYMBOLS], g: GeneralizedData, i: u32) -
     cycles(a[n as usize], low_first(tape, at + 1, 2))
 }
 
-// A power of 2 that a byte can be divided by.
+// How many numbers k bits can have.
 fn power(k: u32) -> u32
     requires { ⌜ k < 8 ⌝ }
     ensures { λ r. ⌜ r ≡ 2 ^ k ⌝ }
 {
-    let powers = [1u32, 2, 4, 8, 16, 32, 64, 128];
-    powers[k as usize]
+    1 << k
 }
 
 // How far a byte is shifted to have a bit, or the bit `more` further down, at its low end.
@@ -176,51 +157,7 @@ fn number_at(tape: &[u8], g: GeneralizedData, bit: u32, more: u32) -> u32
     ensures { λ r. ⌜ r ≡ numberAt (now (tape .entry)) g bit more ⌝ }
 {
     let byte = byte_at(tape, g.from + bit as u64 / 8);
-    byte / power(shift(bit, more)) % power(g.nb)
-}
-
-// Data symbol i.
-fn single_row(tape: &[u8], a: &[[u16; 2]; SYMBOLS], g: GeneralizedData, i: u32) -> Row
-    requires { ⌜ Held (now tape) g × Kept (now tape) (g .symbols) (g .npd) (g .asd) (now a) × (0 < g .nb) × (g .nb < 8) × (i < g .totd) ⌝ }
-    ensures { λ r. ⌜ r ≡ singleRow (now (tape .entry)) g i ⌝ }
-{
-    let b = number_at(tape, g, i * g.nb, 0);
-    if g.asd <= b {
-        return Row::Refused;
-    }
-    let y = a[b as usize];
-    gives(1, y[0], y[1])
-}
-
-// Pair i of data symbols, one pulse each.
-fn pair_row(tape: &[u8], a: &[[u16; 2]; SYMBOLS], g: GeneralizedData, i: u32) -> Row
-    requires { ⌜ Held (now tape) g × Kept (now tape) (g .symbols) (g .npd) (g .asd) (now a) × (0 < g .nb) × (g .nb < 8) × (i < g .totd / 2) ⌝ }
-    ensures { λ r. ⌜ r ≡ pairRow (now (tape .entry)) g i ⌝ }
-{
-    let bit = 2 * i * g.nb;
-    let b = number_at(tape, g, bit, 0);
-    if g.asd <= b {
-        return Row::Refused;
-    }
-    let d = number_at(tape, g, bit, 1);
-    if g.asd <= d {
-        return Row::Refused;
-    }
-    let y = a[b as usize];
-    let z = a[d as usize];
-    gives(1, y[0], z[0])
-}
-
-// Row i of a sort.
-fn row_at(tape: &[u8], a: &[[u16; 2]; SYMBOLS], g: GeneralizedData, way: Way, i: u32) -> Row
-    requires { ⌜ Held (now tape) g × Ready g way × Kept (now tape) (placeFor g way) (pulsesFor g way) (sizeFor g way) (now a) × (i < countOf g way) ⌝ }
-    ensures { λ r. ⌜ r ≡ rowAt (now (tape .entry)) g way i ⌝ }
-{
-    match way {
-        Way::Pilot => entry_row(tape, a, g, i),
-        Way::Singles => single_row(tape, a, g, i),
-        Way::Pairs => pair_row(tape, a, g, i),
-    }
+    (byte >> shift(bit, more)) & (power(g.nb) - 1)
 }
 
 // How many pairs n symbols make; an odd last one is dropped.
@@ -228,17 +165,6 @@ fn pairs_of(n: u32) -> u32
     ensures { λ r. ⌜ r ≡ n / 2 ⌝ }
 {
     n / 2
-}
-
-// How many rows a sort has.
-fn count(g: GeneralizedData, way: Way) -> u32
-    ensures { λ r. ⌜ r ≡ countOf g way ⌝ }
-{
-    match way {
-        Way::Pilot => g.totp,
-        Way::Singles => g.totd,
-        Way::Pairs => pairs_of(g.totd),
-    }
 }
 
 // Whether a row is one.
@@ -251,16 +177,15 @@ fn is_given(r: Row) -> bool
     }
 }
 
-// Whether all rows of a sort are given.
-fn all_given(tape: &[u8], g: GeneralizedData, way: Way) -> bool
-    requires { ⌜ Held (now tape) g × Ready g way ⌝ }
-    ensures { λ b. ⌜ b ≡ isTones (rowsFrom (rowAt (now (tape .entry)) g way) 0 (countOf g way)) ⌝ }
+// Whether all pilot entries are given.
+fn entries_given(tape: &[u8], g: GeneralizedData) -> bool
+    requires { ⌜ Held (now tape) g × (0 < g .totp) × (0 < g .npp) ⌝ }
+    ensures { λ b. ⌜ b ≡ isTones (rowsFrom (entryRow (now (tape .entry)) g) 0 (g .totp)) ⌝ }
 {
-    let a = alphabet_for(tape, g, way);
-    let n = count(g, way);
+    let a = alphabet(tape, g.pilot, g.asp, g.npp);
     let mut i = 0;
-    while i < n {
-        if !is_given(row_at(tape, &a, g, way, i)) {
+    while i < g.totp {
+        if !is_given(entry_row(tape, &a, g, i)) {
             return false;
         }
         i += 1;
@@ -268,13 +193,74 @@ fn all_given(tape: &[u8], g: GeneralizedData, way: Way) -> bool
     true
 }
 
-// What a part of one sort of rows comes to.
-fn part_of(tape: &[u8], g: GeneralizedData, way: Way) -> Judged
-    requires { ⌜ Held (now tape) g × Ready g way ⌝ }
-    ensures { λ r. ⌜ r ≡ judgedOf (rowsFrom (rowAt (now (tape .entry)) g way) 0 (countOf g way)) ⌝ }
+// Whether every number of nb bits is a symbol's: then no data symbol has to be looked at.
+fn every_number(g: GeneralizedData) -> bool
+    requires { ⌜ g .nb < 8 ⌝ }
+    ensures { λ b. ⌜ b ≡ leb (2 ^ g .nb) (g .asd) ⌝ }
 {
-    if all_given(tape, g, way) {
-        Judged::Rows(count(g, way))
+    power(g.nb) <= g.asd
+}
+
+// Whether data symbol i is given.
+fn single_given(tape: &[u8], g: GeneralizedData, i: u32) -> bool
+    requires { ⌜ Held (now tape) g × (0 < g .nb) × (g .nb < 8) × (i < g .totd) ⌝ }
+    ensures { λ b. ⌜ b ≡ isGiven (singleRow (now (tape .entry)) g i) ⌝ }
+{
+    number_at(tape, g, i * g.nb, 0) < g.asd
+}
+
+// Whether all data symbols are given.
+fn singles_given(tape: &[u8], g: GeneralizedData) -> bool
+    requires { ⌜ Held (now tape) g × (0 < g .nb) × (g .nb < 8) ⌝ }
+    ensures { λ b. ⌜ b ≡ isTones (rowsFrom (singleRow (now (tape .entry)) g) 0 (g .totd)) ⌝ }
+{
+    if every_number(g) {
+        return true;
+    }
+    let mut i = 0;
+    while i < g.totd {
+        if !single_given(tape, g, i) {
+            return false;
+        }
+        i += 1;
+    }
+    true
+}
+
+// Whether pair i of data symbols is given.
+fn pair_given(tape: &[u8], g: GeneralizedData, i: u32) -> bool
+    requires { ⌜ Held (now tape) g × (0 < g .nb) × (g .nb < 8) × (i < g .totd / 2) ⌝ }
+    ensures { λ b. ⌜ b ≡ isGiven (pairRow (now (tape .entry)) g i) ⌝ }
+{
+    let bit = 2 * i * g.nb;
+    number_at(tape, g, bit, 0) < g.asd && number_at(tape, g, bit, 1) < g.asd
+}
+
+// Whether all pairs of data symbols are given.
+fn pairs_given(tape: &[u8], g: GeneralizedData) -> bool
+    requires { ⌜ Held (now tape) g × (1 < g .totd → 0 < g .nb) × (g .nb < 8) ⌝ }
+    ensures { λ b. ⌜ b ≡ isTones (rowsFrom (pairRow (now (tape .entry)) g) 0 (g .totd / 2)) ⌝ }
+{
+    if every_number(g) {
+        return true;
+    }
+    let n = pairs_of(g.totd);
+    let mut i = 0;
+    while i < n {
+        if !pair_given(tape, g, i) {
+            return false;
+        }
+        i += 1;
+    }
+    true
+}
+
+// What n rows of any sort come to, where `given` says whether all are given.
+fn part_of(given: bool, n: u32) -> Judged
+    ensures { λ r. ⌜ ((row : ℕ → Row) → given ≡ isTones (rowsFrom row 0 n) → r ≡ judgedOf (rowsFrom row 0 n)) ⌝ }
+{
+    if given {
+        Judged::Rows(n)
     } else {
         Judged::Refused
     }
@@ -296,7 +282,7 @@ fn pilot_part(tape: &[u8], g: GeneralizedData) -> Judged
         return Judged::Rows(0);
     }
     if one_or_two(g.npp) {
-        return part_of(tape, g, Way::Pilot);
+        return part_of(entries_given(tape, g), g.totp);
     }
     if g.asp <= byte_at(tape, g.entries) {
         Judged::Refused
@@ -347,7 +333,7 @@ fn singles_part(tape: &[u8], g: GeneralizedData) -> Judged
     if g.nb == 0 {
         Judged::Refused
     } else {
-        part_of(tape, g, Way::Singles)
+        part_of(singles_given(tape, g), g.totd)
     }
 }
 
@@ -359,7 +345,7 @@ fn pairs_part(tape: &[u8], g: GeneralizedData) -> Judged
     if no_bits(g) {
         Judged::Refused
     } else {
-        part_of(tape, g, Way::Pairs)
+        part_of(pairs_given(tape, g), pairs_of(g.totd))
     }
 }
 
@@ -394,16 +380,76 @@ fn put_row(tones: &mut [u64], i: usize, r: Row)
     }
 }
 
-// The rows of a sort, all of which are given and fit, from row `used` on.
-fn put_rows(tape: &[u8], g: GeneralizedData, way: Way, tones: &mut [u64], used: usize)
-    requires { ⌜ Held (now tape) g × Ready g way × (isTones (rowsFrom (rowAt (now tape) g way) 0 (countOf g way)) ≡ true) × (countOf g way ≤ capacityOf tone toneMost (now tones) - used) ⌝ }
-    ensures { λ _. ⌜ now (tones .exit) ≡ putAll tone (now (tones .entry)) used (tonesOf (rowsFrom (rowAt (now (tape .entry)) g way) 0 (countOf g way))) ⌝ }
+// The pilot entries, all of which are given and fit, from row `used` on.
+fn put_entries(tape: &[u8], g: GeneralizedData, tones: &mut [u64], used: usize)
+    requires { ⌜ Held (now tape) g × (0 < g .totp) × (0 < g .npp) × (isTones (rowsFrom (entryRow (now tape) g) 0 (g .totp)) ≡ true) × (g .totp ≤ capacityOf tone toneMost (now tones) - used) ⌝ }
+    ensures { λ _. ⌜ now (tones .exit) ≡ putAll tone (now (tones .entry)) used (tonesOf (rowsFrom (entryRow (now (tape .entry)) g) 0 (g .totp))) ⌝ }
 {
-    let a = alphabet_for(tape, g, way);
-    let n = count(g, way);
+    let a = alphabet(tape, g.pilot, g.asp, g.npp);
+    let mut i = 0;
+    while i < g.totp {
+        put_row(tones, used + i as usize, entry_row(tape, &a, g, i));
+        i += 1;
+    }
+}
+
+// One cycle.
+fn one_cycle(len1: u16, len2: u16) -> Tone
+    ensures { λ r. ⌜ r ≡ toneOf 1 len1 len2 ⌝ }
+{
+    Tone {
+        num: 1,
+        len1: len1 as u64,
+        len2: len2 as u64,
+    }
+}
+
+// Data symbol i, which is given.
+fn single_tone(tape: &[u8], a: &[[u16; 2]; SYMBOLS], g: GeneralizedData, i: u32) -> Tone
+    requires { ⌜ Held (now tape) g × Kept (now tape) (g .symbols) (g .npd) (g .asd) (now a) × (0 < g .nb) × (g .nb < 8) × (i < g .totd) × (isGiven (singleRow (now tape) g i) ≡ true) ⌝ }
+    ensures { λ r. ⌜ singleRow (now (tape .entry)) g i ≡ Gives r ⌝ }
+{
+    let b = number_at(tape, g, i * g.nb, 0);
+    let y = a[b as usize];
+    one_cycle(y[0], y[1])
+}
+
+// Pair i of data symbols, one pulse each, which is given.
+fn pair_tone(tape: &[u8], a: &[[u16; 2]; SYMBOLS], g: GeneralizedData, i: u32) -> Tone
+    requires { ⌜ Held (now tape) g × Kept (now tape) (g .symbols) (g .npd) (g .asd) (now a) × (0 < g .nb) × (g .nb < 8) × (i < g .totd / 2) × (isGiven (pairRow (now tape) g i) ≡ true) ⌝ }
+    ensures { λ r. ⌜ pairRow (now (tape .entry)) g i ≡ Gives r ⌝ }
+{
+    let bit = 2 * i * g.nb;
+    let b = number_at(tape, g, bit, 0);
+    let d = number_at(tape, g, bit, 1);
+    let y = a[b as usize];
+    let z = a[d as usize];
+    one_cycle(y[0], z[0])
+}
+
+// The data symbols, all of which are given and fit, from row `used` on.
+fn put_singles(tape: &[u8], g: GeneralizedData, tones: &mut [u64], used: usize)
+    requires { ⌜ Held (now tape) g × (0 < g .totd) × (0 < g .npd) × (0 < g .nb) × (g .nb < 8) × (isTones (rowsFrom (singleRow (now tape) g) 0 (g .totd)) ≡ true) × (g .totd ≤ capacityOf tone toneMost (now tones) - used) ⌝ }
+    ensures { λ _. ⌜ now (tones .exit) ≡ putAll tone (now (tones .entry)) used (tonesOf (rowsFrom (singleRow (now (tape .entry)) g) 0 (g .totd))) ⌝ }
+{
+    let a = alphabet(tape, g.symbols, g.asd, g.npd);
+    let mut i = 0;
+    while i < g.totd {
+        put_tone(tones, used + i as usize, single_tone(tape, &a, g, i));
+        i += 1;
+    }
+}
+
+// The pairs of data symbols, all of which are given and fit, from row `used` on.
+fn put_pairs(tape: &[u8], g: GeneralizedData, tones: &mut [u64], used: usize)
+    requires { ⌜ Held (now tape) g × (0 < g .totd) × (0 < g .npd) × (1 < g .totd → 0 < g .nb) × (g .nb < 8) × (isTones (rowsFrom (pairRow (now tape) g) 0 (g .totd / 2)) ≡ true) × (g .totd / 2 ≤ capacityOf tone toneMost (now tones) - used) ⌝ }
+    ensures { λ _. ⌜ now (tones .exit) ≡ putAll tone (now (tones .entry)) used (tonesOf (rowsFrom (pairRow (now (tape .entry)) g) 0 (g .totd / 2))) ⌝ }
+{
+    let a = alphabet(tape, g.symbols, g.asd, g.npd);
+    let n = pairs_of(g.totd);
     let mut i = 0;
     while i < n {
-        put_row(tones, used + i as usize, row_at(tape, &a, g, way, i));
+        put_tone(tones, used + i as usize, pair_tone(tape, &a, g, i));
         i += 1;
     }
 }
@@ -426,7 +472,7 @@ fn put_pilot(tape: &[u8], g: GeneralizedData, tones: &mut [u64], used: usize)
     ensures { λ _. ⌜ now (tones .exit) ≡ putAll tone (now (tones .entry)) used (tonesOf (pilotOf (now (tape .entry)) g)) ⌝ }
 {
     if 0 < g.totp {
-        put_rows(tape, g, Way::Pilot, tones, used)
+        put_entries(tape, g, tones, used)
     }
 }
 
@@ -436,9 +482,9 @@ fn put_data(tape: &[u8], g: GeneralizedData, tones: &mut [u64], used: usize)
     ensures { λ _. ⌜ now (tones .exit) ≡ putAll tone (now (tones .entry)) used (tonesOf (dataOf (now (tape .entry)) g)) ⌝ }
 {
     if g.npd == 2 {
-        put_rows(tape, g, Way::Singles, tones, used)
+        put_singles(tape, g, tones, used)
     } else {
-        put_rows(tape, g, Way::Pairs, tones, used)
+        put_pairs(tape, g, tones, used)
     }
 }
 

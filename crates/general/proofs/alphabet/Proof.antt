@@ -3,7 +3,7 @@ use Prim.Native.Nat.{_+_, _*_, _-_, _≤_}
 use mathlib.Core.Path.{_≡_, refl}
 use native.Mathlib.Omega.{arith}
 use lib.ListN.{length, length-set}
-use Rattle.general.specs.Ways.{Kept}
+use Rattle.general.specs.Held.{Kept}
 use Rattle.general.proofs.Symbols.{below, kept-more}
 use Rattle.general.proofs.alphabet.Statement.{statement}
 use Rattle.general.proofs.alphabet.Tie as tie

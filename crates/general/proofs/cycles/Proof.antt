@@ -1,5 +1,5 @@
 -- `cycles` meets its contract. Assumes nothing.
-use Rattle.general.specs.Ways.{symbolOf}
+use Rattle.general.specs.Held.{symbolOf}
 use Rattle.general.specs.General.{cycles}
 use borrow.Author.Tests.{eq-eqb, ne-eqb}
 use borrow.Author.Needs.{needs}

@@ -5,7 +5,7 @@ use Prim.Native.Nat.{_-_, _≤_}
 use Rattle.general.proofs.Answers.{pilot-plain, plain-fits, plain-full, plain-two}
 use Rattle.general.proofs.Parts.{told-rows, told-tones}
 use Rattle.general.proofs.Symbols.{two-inside}
-use Rattle.general.specs.Ways.{pulsesOf}
+use Rattle.general.specs.Held.{pulsesOf}
 use Rattle.general.specs.Made.{tonesOf}
 use Rattle.general.specs.General.{pilotOf, symbolAt, lastBits}
 use borrow.Author.Tests.{leb-true}

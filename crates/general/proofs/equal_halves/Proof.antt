@@ -1,6 +1,6 @@
 -- `equal_halves` meets its contract. Assumes nothing.
 use mathlib.Core.Path.{refl}
-use Rattle.general.specs.Ways.{symbolOf}
+use Rattle.general.specs.Held.{symbolOf}
 use Rattle.general.specs.General.{equalHalves}
 use borrow.Author.Needs.{needs}
 use Rattle.general.proofs.equal_halves.Statement.{statement}

@@ -1,7 +1,7 @@
 -- `pilot_part` meets its contract. Assumes nothing.
 use Rattle.general.proofs.Parts.{some-pulses}
 use Rattle.general.specs.Made.{judgedOf}
-use Rattle.general.specs.General.{pilotOf, entrySymbol}
+use Rattle.general.specs.General.{pilotOf, entrySymbol, entryRow}
 use borrow.Author.Tests.{eq-eqb, ne-eqb, le-leb, lt-leb}
 use native.Mathlib.Omega.{arith}
 use mathlib.Core.Path.{_≡_, sym, _∙_}
@@ -18,14 +18,17 @@ returns c =
 one-or-two-requires : tie.Need-one-or-two-requires
 one-or-two-requires c κs = search needs
 
+entries-given-requires : tie.Need-entries-given-requires
+entries-given-requires c κs =
+    (c .before .before .before .before .before .pre, omega arith, some-pulses _ (sym (c .before .one-or-two .ensures) ∙ c .if2 .taken))
+
 part-of-requires : tie.Need-part-of-requires
-part-of-requires c κs =
-    (c .before .before .before .before .before .pre, (omega arith, some-pulses _ (sym (c .before .one-or-two .ensures) ∙ c .if2 .taken)))
+part-of-requires c κs = search needs
 
 returns-2 : tie.Need-returns-2
 unfolding pilotOf
 returns-2 c =
-    rw (ne-eqb _ _ (c .before .before .before .if1 .left), ← c .before .before .one-or-two .ensures, c .before .if2 .taken) (c .part-of .ensures)
+    let a = c .before .before .before .before .before .before .before .args in rw (ne-eqb _ _ (c .before .before .before .before .if1 .left), ← c .before .before .before .one-or-two .ensures, c .before .before .if2 .taken) (c .part-of .ensures (entryRow (a .tape .now) (a .g)) (c .before .entries-given .ensures))
 
 byte-at-requires : tie.Need-byte-at-requires
 byte-at-requires c κs = search needs
@@ -46,6 +49,7 @@ pilot-part-spec =
     (tie.spec
     returns
     one-or-two-requires
+    entries-given-requires
     part-of-requires
     returns-2
     byte-at-requires

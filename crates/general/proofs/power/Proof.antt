@@ -1,18 +1,18 @@
 -- `power` meets its contract. Assumes nothing.
-use Rattle.general.proofs.Symbols.{powers}
+use mathlib.Core.Path.{_∙_}
+use native.Mathlib.Nat.{one-mul}
+use native.Mathlib.Omega.{arith}
+use lib.Pow.{shl-exact}
 use borrow.Author.Needs.{needs}
 use Rattle.general.proofs.power.Statement.{statement}
 use Rattle.general.proofs.power.Tie as tie
 
-mul-result : tie.Need-mul-result
-mul-result c = search needs
-
-array-read-result : tie.Need-array-read-result
-array-read-result c = search needs
+shl-result : tie.Need-shl-result
+shl-result c = search needs
 
 returns : tie.Need-returns
 returns c =
-    powers (c .args .k) (c .pre)
+    shl-exact 1 (c .args .k) 32 (omega arith) (omega arith) ∙ one-mul _
 
 pub power-spec : {M : Type 1} → statement M
-power-spec = tie.close (tie.spec mul-result array-read-result returns)
+power-spec = tie.close (tie.spec shl-result returns)

@@ -9,16 +9,16 @@ use borrow.Author.Needs.{needs}
 use Rattle.general.proofs.put_pilot.Statement.{statement}
 use Rattle.general.proofs.put_pilot.Tie as tie
 
-put-rows-requires : tie.Need-put-rows-requires
-put-rows-requires c κs =
-    let a = c .before .before .before .before .before .args in let p = c .before .before .before .before .before .pre in let o = pilot-sorted (a .tape .now) (a .g) (c .before .if1 .taken) (p .1) in (p .0, o .ready, sorted-tones o (p .1), sorted-count o (p .1) (p .2))
+put-entries-requires : tie.Need-put-entries-requires
+put-entries-requires c κs =
+    let a = c .before .before .before .before .before .args in let p = c .before .before .before .before .before .pre in let o = pilot-sorted (a .tape .now) (a .g) (c .before .if1 .taken) (p .1) in (p .0, c .before .if1 .taken, o .ready, sorted-tones o (p .1), sorted-count o (p .1) (p .2))
 
 same-length : tie.Need-same-length
 same-length c = search needs
 
 returns : tie.Need-returns
 returns c =
-    let a = c .before .before .before .before .before .before .before .before .args in let o = pilot-sorted (a .tape .now) (a .g) (c .before .before .before .before .if1 .taken) (c .before .before .before .before .before .before .before .before .pre .1) in rw (o .rows) (c .before .before .put-rows .ensures)
+    let a = c .before .before .before .before .before .before .before .before .args in let o = pilot-sorted (a .tape .now) (a .g) (c .before .before .before .before .if1 .taken) (c .before .before .before .before .before .before .before .before .pre .1) in rw (o .rows) (c .before .before .put-entries .ensures)
 
 returns-2 : tie.Need-returns-2
 unfolding pilotOf tonesOf putAll
@@ -26,4 +26,4 @@ returns-2 c =
     rw (eq-eqb (c .before .before .before .before .args .g .totp) 0 (omega arith))
 
 pub put-pilot-spec : {M : Type 1} → statement M
-put-pilot-spec = tie.close (tie.spec put-rows-requires same-length returns returns-2)
+put-pilot-spec = tie.close (tie.spec put-entries-requires same-length returns returns-2)

@@ -1,5 +1,5 @@
 -- `symbol` meets its contract. Assumes nothing.
-use Rattle.general.specs.Ways.{pulsesOf}
+use Rattle.general.specs.Held.{pulsesOf}
 use Rattle.general.specs.General.{symbolAt}
 use borrow.Author.Tests.{lt-ltb, le-ltb}
 use borrow.Author.Needs.{needs}

@@ -1,8 +1,7 @@
 -- A WELL-FORMED BLOCK LASTS LESS THAN 2 ^ 50 T-STATES, and so do its parts. Assumes nothing.
-use Prim.Native.Nat.{ℕ, _+_, _-_, _*_, _/_, _^_, _≤_, _<_, max}
+use Prim.Native.Nat.{ℕ, _+_, _*_, _^_, _≤_, _<_, max}
 use native.Mathlib.Nat.{mul-le-mul}
 use native.Mathlib.Omega.{arith}
-use lib.Count.{ones}
 use native.Mathlib.Decide.{ℕ-discrete}
 use borrow.Author.Tests.{eq-eqb, ne-eqb}
 use mathlib.Core.Path.{_≡_}
@@ -17,7 +16,7 @@ use Rattle.rows.specs.Rows.{tone}
 use Rattle.rows.specs.Well.{wellTone, wellTones, wellNumbers, wellBlock}
 use Rattle.rows.proofs.WellLaws.{block-clauses, ranges-inside, numbers-most, tone-most, tones-each}
 use Rattle.entries.specs.Entries.{entryOf, cyclesOf, toneOf, rowOf, tonesOf, bitsAt, bitOf, halfOf, bitEntries, byteOf, byteEntries, dataOf, pauseOf, pauseEntry, soundOf, entriesOf}
-use Rattle.entries.proofs.Runs.{few-ones, tone-time, bit-finite, bit-time, row-finite, bytes-finite, sound-finite, sound-time}
+use Rattle.entries.proofs.Runs.{tone-time, bit-finite, bit-time, row-finite, bytes-finite, sound-finite, sound-time}
 
 pub tone-most-time : (b i : ℕ) (t : Tone) → wellTone t ≡ true → time (toneOf b i t) ≤ 8589672450
 unfolding cyclesOf
@@ -64,22 +63,17 @@ bits-any r pos = bits-ways (λ n. n ≤ max 8 (r .last)) r pos (omega arith) (om
 pub bits-some : (r : Block) (pos : ℕ) → 0 < bitsAt r pos
 bits-some r pos = bits-ways (λ n. 0 < n) r pos (omega arith) (omega arith)
 
--- the ones among a byte's first n bits, and what they and the zeros last
-pub record Few (r : Block) (k n : ℕ) : Type 0 where
-  pub ones : k ≤ n
-  pub long : k * r .one ≤ 524280
-  pub short : (n - k) * r .zero ≤ 524280
+-- what k halves last, of ones and of zeros, no more bits than a tape has
+pub record Few (r : Block) (k : ℕ) : Type 0 where
+  pub long : k * r .one ≤ 549747425280
+  pub short : k * r .zero ≤ 549747425280
 
-pub few : (r : Block) (v n : ℕ) → wellNumbers r ≡ true → v < 256 → n ≤ 8 → Few r (ones (v / 2 ^ (8 - n))) n
-few r v n e small h =
+pub few : (r : Block) (k : ℕ) → wellNumbers r ≡ true → k ≤ 8388608 → Few r k
+few r k e h =
     let w = numbers-most r e in
-    let k = ones (v / 2 ^ (8 - n)) in
-    let l : k ≤ n = few-ones v n small h in
-    let i : k ≤ 8 = omega arith in
-    let o : n - k ≤ 8 = omega arith in
-    let a : k * r .one ≤ 8 * 65535 = mul-le-mul i (w .one) in
-    let b : (n - k) * r .zero ≤ 8 * 65535 = mul-le-mul o (w .zero) in
-    record { ones = l; long = omega arith; short = omega arith }
+    let a : k * r .one ≤ 8388608 * 65535 = mul-le-mul h (w .one) in
+    let b : k * r .zero ≤ 8388608 * 65535 = mul-le-mul h (w .zero) in
+    record { long = omega arith; short = omega arith }
 
 pub byte-most-time : (b : ℕ) (r : Block) (pos v : ℕ) → wellNumbers r ≡ true → pos < r .size → time (byteOf b r pos v) ≤ 1048560
 unfolding byteOf

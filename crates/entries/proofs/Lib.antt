@@ -2,6 +2,7 @@ pub mod Examples
 pub mod Readings
 pub mod Runs
 pub mod Bounds
+pub mod Counted
 pub mod Follows
 pub mod Valid
 pub mod Lent

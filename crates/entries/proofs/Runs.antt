@@ -16,6 +16,7 @@ use Rattle.pulses.specs.Runs.{run, run-length, run-finite, run-time, run-time-n
 use Rattle.rows.specs.declared.Tone.{Tone}
 use Rattle.rows.specs.declared.Block.{Block}
 use Rattle.entries.specs.declared.Duration.the-variants.{T, Endless}
+use Rattle.entries.specs.Counted.{bitsTime}
 use Rattle.entries.specs.Entries.{entryOf, cyclesOf, cycleOf, toneOf, rowOf, tonesOf, bitsAt, bitOf, halfOf, bitEntries, byteOf, byteEntries, dataOf, pauseOf, soundOf, entriesOf, lastsOf}
 
 module _ (b i : ℕ) (t : Tone) where
@@ -34,10 +35,6 @@ module _ (b i : ℕ) (t : Tone) where
   pub tone-time : time (toneOf b i t) ≡ cyclesOf t * (t .len1 + t .len2)
   unfolding toneOf time
   tone-time = run-time (cycleOf b i t) cycle-finite (t .len1 + t .len2) 0 (cyclesOf t) (λ p l g. omega arith)
-
--- two halves of each one and of each zero among n bits, k of them ones
-abbrev pub bitsTime : Block → ℕ → ℕ → ℕ
-bitsTime r k n = 2 * (k * r .one + (n - k) * r .zero)
 
 module _ (r : Block) where
   -- one bit more

@@ -1,3 +1,4 @@
 pub mod Entries
 pub mod Places
 pub mod Mounted
+pub mod Counted

@@ -17,6 +17,7 @@ ghost use Rattle.rows.specs.Well.{wellTone, wellTones, wellNumbers, wellBlock};
 ghost use Rattle.entries.specs.Entries.{cyclesOf, toneOf, toneAt, tonesOf, bitsAt, bitOf, halfOf, bitEntries, byteEntries, dataOf, pauseOf, soundOf, entriesOf, lastsOf};
 ghost use Rattle.entries.specs.Places.{cycleHalf, hasEntry, lengthAt, remains, levelOf};
 ghost use Rattle.entries.specs.Mounted.{sizeOf};
+ghost use Rattle.entries.specs.Counted.{onesFrom, bitsTime};
 
 // Where an entry stands in its block; the Rust's `TapePhase`.
 pub enum Phase {
@@ -97,14 +98,22 @@ pub fn bits_at(r: Block, pos: u64) -> u64
     }
 }
 
+// T-states of n bits, k of them ones, which its callers know to be those of a tape's bytes at most, in a row whose numbers are well formed.
+fn counted_time(k: u64, n: u64, r: Block) -> u64
+    requires { ⌜ (k ≤ n) × (n ≤ 8388608) ⌝ }
+    requires { ⌜ wellNumbers r ≡ true ⌝ }
+    ensures { λ t. ⌜ t ≡ bitsTime r k n ⌝ }
+{
+    2 * (k * r.one + (n - k) * r.zero)
+}
+
 // T-states of the first n bits of a byte, which its callers know to be 1 to 8 in a row whose numbers are well formed.
 pub fn bits_time(v: u8, n: u64, r: Block) -> u64
     requires { ⌜ (0 < n) × (n ≤ 8) ⌝ }
     requires { ⌜ wellNumbers r ≡ true ⌝ }
     ensures { λ t. ⌜ ((b pos : ℕ) → t ≡ time (run (bitEntries b r pos v) 0 n)) ⌝ }
 {
-    let ones = u8::count_ones(v >> (8 - n)) as u64;
-    2 * (ones * r.one + (n - ones) * r.zero)
+    counted_time(u8::count_ones(v >> (8 - n)) as u64, n, r)
 }
 
 // T-states of a block's data byte at pos, which its callers know to lie in the tape, in a row whose numbers are well formed.
@@ -117,19 +126,32 @@ pub fn byte_time(tape: &[u8], r: Block, pos: u64) -> u64
     bits_time(tape[at], bits_at(r, pos), r)
 }
 
+// One-bits of n bytes of a tape from a place on, which its callers know to lie in it and to be within its limit.
+fn ones(tape: &[u8], from: u64, n: u64) -> u32
+    requires { ⌜ (from + n ≤ length (now tape)) × (n ≤ 1048576) ⌝ }
+    ensures { λ k. ⌜ k ≡ onesFrom (now (tape .entry)) from n ⌝ }
+{
+    let mut sum = 0;
+    let mut i = 0;
+    while i < n {
+        let at = (from + i) as usize;
+        sum += u8::count_ones(tape[at]);
+        i += 1;
+    }
+    sum
+}
+
 // T-states of a block's data, which its callers know to lie in the tape and to be within its limit, in a row whose numbers are well formed.
 pub fn data_time(tape: &[u8], r: Block) -> u64
     requires { ⌜ (r .start + r .size ≤ length (now tape)) × (r .size ≤ 1048576) ⌝ }
     requires { ⌜ wellNumbers r ≡ true ⌝ }
     ensures { λ t. ⌜ ((b : ℕ) → t ≡ time (dataOf (now (tape .entry)) b r)) ⌝ }
 {
-    let mut sum = 0;
-    let mut pos = 0;
-    while pos < r.size {
-        sum += byte_time(tape, r, pos);
-        pos += 1;
+    if r.size == 0 {
+        return 0;
     }
-    sum
+    let last = r.size - 1;
+    counted_time(ones(tape, r.start, last) as u64, 8 * last, r) + byte_time(tape, r, last)
 }
 
 // T-states of a block without its pause; its callers know the row to be well formed.

@@ -1,5 +1,6 @@
 pub mod Shown
 pub mod Texts
+pub mod Lines
 pub mod Total
 pub mod Mounting
 pub mod Numbers

@@ -7,9 +7,10 @@ use mathlib.Core.Bool.{Bool, true, false}
 use mathlib.Core.List.{List, [], _∷_, _++_, append-assoc}
 use lib.ListN.{length, length-append}
 use lib.Dec.{eqb, ltb}
+use borrow.Author.Tests.{lt-leb, le-leb}
 use Rattle.laws.specs.Rules.{_⇒_, _∣_}
-use Rattle.text.specs.Out.{Wrote, digits, decimal}
-use Rattle.text.proofs.Writing.{then, dry-told, dry-short, decimal-length}
+use Rattle.text.specs.Out.{Wrote, digits, decimal, told}
+use Rattle.text.proofs.Writing.{then, whole, counted, decimal-length}
 use Rattle.rows.specs.declared.Block.{Block}
 use Rattle.rows.specs.Table.{get}
 use Rattle.rows.specs.Rows.{block}
@@ -120,15 +121,18 @@ rows-most {s} {tones} {blocks} {n} r (suc i) h =
     let b = row-most (tapeOf s tones blocks n) i (r .rows i (omega arith) .short) in
     simp length-append (omega arith)
 
--- THE WHOLE TEXT
-pub text-most : {s tones blocks : List ℕ} {n : ℕ} (m : ℕ) (f : Format) → Ready s tones blocks n → length (listingText m f (tapeOf s tones blocks n)) ≤ 300000
+-- THE WHOLE TEXT, by its rows; there are at most 512
+pub text-rows : {s tones blocks : List ℕ} {n : ℕ} (m : ℕ) (f : Format) → Ready s tones blocks n → length (listingText m f (tapeOf s tones blocks n)) ≤ 77 + 576 * n
 unfolding listingText restText
-text-most {s} {tones} {blocks} {n} m f r =
+text-rows {s} {tones} {blocks} {n} m f r =
     let a = model-long m in
     let b = count-long f n in
     let c = rows-most r n (omega arith) in
     let d = loading-long (tapeOf s tones blocks n) in
-    simp length-append (omega (arith, r .few))
+    simp length-append (omega arith)
+
+pub text-most : {s tones blocks : List ℕ} {n : ℕ} (m : ℕ) (f : Format) → Ready s tones blocks n → length (listingText m f (tapeOf s tones blocks n)) ≤ 300000
+text-most m f r = omega (arith, text-rows m f r, r .few)
 
 pub text-least : (m : ℕ) (f : Format) (w : Tape) → 37 ≤ length (listingText m f w)
 unfolding listingText restText
@@ -143,25 +147,23 @@ pub rows-next : {d d1 d2 : List ℕ} {at o1 o2 : ℕ} (w : Tape) (i : ℕ) → W
 unfolding rowsText
 rows-next w i p q = rw add-one (then p q)
 
--- what was written of a row's two parts, and of the parts of the whole text
-pub row-written : {d d1 d2 : List ℕ} {at o1 o2 : ℕ} (s tones blocks : List ℕ) (n i : ℕ) (r : Block) → r ≡ get block blocks i → Wrote d at (headText i r) d1 o1
-    → Wrote d1 o1 (tailText (lastsOf (entriesOf s tones i r)) (nameOf s r)) d2 o2 → Wrote d at (rowText (tapeOf s tones blocks n) i) d2 o2
-row-written {d} {d2 = d2} {at} {o2 = o2} s tones blocks n i r e p q = subst (λ (t : List ℕ). Wrote d at t d2 o2) (row-joins s tones blocks n i r e) (then p q)
+-- what was written of a row's two parts, up to q, and of the parts of the whole text
+pub row-written : {out d1 d2 : List ℕ} {at o1 o2 q : ℕ} (s tones blocks : List ℕ) (n i : ℕ) (r : Block) (d : Duration) → r ≡ get block blocks i → d ≡ lastsOf (entriesOf s tones i r) → q ≡ o2
+    → Wrote out at (headText i r) d1 o1 → Wrote d1 o1 (tailText d (nameOf s r)) d2 o2 → Wrote out at (rowText (tapeOf s tones blocks n) i) d2 q
+row-written {out} {d2 = d2} {at} {q = q} s tones blocks n i r d e f g u v =
+    subst (λ (t : List ℕ). Wrote out at t d2 q) (ap (λ (x : Duration). headText i r ++ tailText x (nameOf s r)) f ∙ row-joins s tones blocks n i r e)
+    (subst (λ (o : ℕ). Wrote out at (headText i r ++ tailText d (nameOf s r)) d2 o) (sym g) (then u v))
 
 pub listing-written : {d d1 d2 d3 d4 d5 : List ℕ} {o1 o2 o3 o4 o5 : ℕ} (m : ℕ) (f : Format) (w : Tape) (total : ℕ) → total ≡ time (listFrom w 0) → Wrote d 0 (0x6D ∷ 0x6F ∷ 0x64 ∷ 0x65 ∷ 0x6C ∷ 0x20 ∷ []) d1 o1
     → Wrote d1 o1 (modelText m) d2 o2 → Wrote d2 o2 (countText f (w .count)) d3 o3 → Wrote d3 o3 (rowsText w (w .count)) d4 o4 → Wrote d4 o4 (totalText total) d5 o5 → Wrote d 0 (listingText m f w) d5 o5
 unfolding listingText restText loadingText
 listing-written {d4 = d4} {d5} {o4 = o4} {o5} m f w total e p q r u v = then (then p q) (then (then r u) (subst (λ (n : ℕ). Wrote d4 o4 (totalText n) d5 o5) e v))
 
--- what is told of a text that was written twice: it has room, or not
-pub tells-short : {dry dry′ t : List ℕ} {n : ℕ} (out : List ℕ) → Wrote dry 0 t dry′ n → length out < n → (10 ≡ answerTo (text t) out) × (out ≡ bytesAfter (text t) out)
-unfolding answerTo bytesAfter
-tells-short out p h = let d = dry-short out p h in (rw (d .0), sym (d .1))
+-- what is told of a text that has no room, and of one that has
+pub tells-short : (t out : List ℕ) → length out < length t → (10 ≡ answerTo (text t) out) × (out ≡ bytesAfter (text t) out)
+unfolding answerTo bytesAfter told
+tells-short t out h = let e = lt-leb (length t) (length out) h in (rw e, rw e)
 
-pub tells : {dry dry′ out out′ t : List ℕ} {n n′ : ℕ} → Wrote dry 0 t dry′ n → Wrote out 0 t out′ n′ → n ≤ length out → (n ≡ answerTo (text t) out) × (out′ ≡ bytesAfter (text t) out)
-unfolding answerTo bytesAfter
-tells p q h = let d = dry-told p q h in (rw (d .room) (d .count), d .bytes)
-
--- a time that is another's
-pub lasting : {d d1 : List ℕ} {at r : ℕ} {x y : Duration} → x ≡ y → Wrote d at (timeText x) d1 r → Wrote d at (timeText y) d1 r
-lasting {d} {d1} {at} {r} e p = subst (λ (t : Duration). Wrote d at (timeText t) d1 r) e p
+pub tells : {out out′ t : List ℕ} {n : ℕ} → length t ≤ length out → Wrote out 0 t out′ n → (n ≡ answerTo (text t) out) × (out′ ≡ bytesAfter (text t) out)
+unfolding answerTo bytesAfter told
+tells {out} {t = t} h p = let e = le-leb (length t) (length out) h in (rw e (counted p), rw e (whole p h))

@@ -13,7 +13,9 @@ use Rattle.rows.specs.Rows.{block}
 use Rattle.rows.specs.Well.{wellBlock}
 use Rattle.names.specs.Names.{nameOf}
 use Rattle.entries.specs.declared.Duration.{Duration}
+use Rattle.entries.specs.declared.Duration.the-variants.{T, Endless}
 use Rattle.entries.specs.Mounted.{sizeOf}
+use Rattle.listing.specs.declared.Told.{Told}
 use Rattle.listing.specs.Listing.{shown, timeText, markText}
 
 -- a code point from 128 to 159 begins at i
@@ -37,6 +39,18 @@ tailText d name = timeText d ++ (0x20 ∷ []) ++ shown name ++ (0x0A ∷ [])
 -- the last line, of a number
 abbrev pub totalText : ℕ → List ℕ
 totalText n = (0x74 ∷ 0x69 ∷ 0x6D ∷ 0x65 ∷ 0x20 ∷ []) ++ decimal n ++ (0x0A ∷ [])
+
+-- what a row lasts by its sound's T-states
+abbrev pub lastsBy : ℕ → Block → Duration
+lastsBy sound r = eqb (r .endless) 1 ⇒ Endless ∣ T (sound + r .pause)
+
+-- one row more, whose text ends at `at`: nothing behind a stop counts
+abbrev pub toldBy : Told → ℕ → ℕ → Block → Told
+toldBy s at sound r = record {
+  at = at;
+  sum = s .over ⇒ s .sum ∣ eqb (r .endless) 1 ⇒ s .sum + sound ∣ s .sum + sound + r .pause;
+  over = s .over || eqb (r .endless) 1;
+}
 
 -- row i is lent and well formed, and its name is at most 510 bytes long
 pub record ReadyRow (bytes tones blocks : List ℕ) (i : ℕ) : Type 0 where

@@ -1,6 +1,5 @@
 // The listing: a loaded tape as text, and the function that our catalogue host calls.
 use entries::Duration;
-use entries::block_time;
 use entries::sound_time;
 use rows::Block;
 use rows::block_at;
@@ -14,16 +13,25 @@ ghost use mathlib.Core.Bool.{true};
 ghost use Prim.Native.Nat.{ℕ, _+_, _^_, _<_, _≤_};
 ghost use lib.ListN.{length};
 ghost use lib.Dec.{eqb};
-ghost use Rattle.rows.specs.Well.{wellBlock};
+ghost use Rattle.rows.specs.Table.{get};
+ghost use Rattle.rows.specs.Rows.{block};
+ghost use Rattle.rows.specs.Well.{wellNumbers};
 ghost use Rattle.pulses.specs.Play.{time};
 ghost use Rattle.text.specs.Out.{Wrote};
 ghost use Rattle.entries.specs.Places.{listFrom};
-ghost use Rattle.entries.specs.Mounted.{tapeOf, sizeOf};
-ghost use Rattle.entries.specs.Entries.{entriesOf, lastsOf};
+ghost use Rattle.entries.specs.Mounted.{tapeOf};
+ghost use Rattle.entries.specs.Entries.{soundOf};
 ghost use Rattle.names.specs.Names.{nameOf};
 ghost use Rattle.listing.specs.Printed.{refusedText, printedOf, Says};
-ghost use Rattle.listing.specs.Inner.{isC1, printed, width, headText, tailText, totalText, ReadyRow, Ready};
+ghost use Rattle.listing.specs.Inner.{isC1, printed, width, headText, tailText, totalText, lastsBy, toldBy, ReadyRow, Ready};
 ghost use Rattle.listing.specs.Listing.{shown, timeText, markText, rowText, rowsText, modelText, formatText, countText, listingText, text, listingOf, answerTo, bytesAfter};
+
+// How far the rows are told: where their text ends, the T-states up to the first stop, and whether it was met.
+struct Told {
+    at: usize,
+    sum: u64,
+    over: bool,
+}
 
 // Whether a code point from 128 to 159 begins at i: C2 and a byte below A0.
 fn is_c1(name: &[u8], i: usize) -> bool
@@ -120,62 +128,91 @@ fn put_head(out: &mut [u8], at: usize, i: u64, r: Block) -> usize
     put(out, e, b' ')
 }
 
-// Its T-states and its name; its callers know it to be well formed, and its name to be short.
-fn put_tail(out: &mut [u8], at: usize, tape: &[u8], tones: &[u64], r: Block) -> usize
-    requires { ⌜ wellBlock (sizeOf (now tape)) (now tones) r ≡ true ⌝ }
+// Its T-states and its name, which its callers know to be short, and to lie in the tape.
+fn put_tail(out: &mut [u8], at: usize, tape: &[u8], r: Block, d: Duration) -> usize
+    requires { ⌜ (r .start + r .size ≤ length (now tape)) × (r .text + r .chars ≤ length (now tape)) ⌝ }
+    requires { ⌜ r .chars ≤ 1048576 ⌝ }
     requires { ⌜ length (nameOf (now tape) r) ≤ 510 ⌝ }
     requires { ⌜ at + 600 < 2 ^ 63 ⌝ }
-    ensures { λ n. ⌜ ((b : ℕ) → Wrote (now (out .entry)) at (tailText (lastsOf (entriesOf (now (tape .entry)) (now (tones .entry)) b r)) (nameOf (now (tape .entry)) r)) (now (out .exit)) n) ⌝ }
+    ensures { λ n. ⌜ Wrote (now (out .entry)) at (tailText d (nameOf (now (tape .entry)) r)) (now (out .exit)) n ⌝ }
 {
-    let a = put_time(out, at, block_time(tape, tones, r));
+    let a = put_time(out, at, d);
     let b = put(out, a, b' ');
     let c = put_name(out, b, tape, r);
     put(out, c, b'\n')
 }
 
+// What a row lasts by its sound's T-states, which its callers know to be those of a well-formed row.
+fn lasts(sound: u64, r: Block) -> Duration
+    requires { ⌜ (sound < 2 ^ 50) × (wellNumbers r ≡ true) ⌝ }
+    ensures { λ d. ⌜ d ≡ lastsBy sound r ⌝ }
+{
+    if r.endless == 1 {
+        Duration::Endless
+    } else {
+        Duration::T(sound + r.pause)
+    }
+}
+
+// One row more, whose text ends at `at`; what stands behind a stop isn't counted.
+fn after(s: Told, at: usize, sound: u64, r: Block) -> Told
+    requires { ⌜ (s .sum ≤ 2 ^ 60) × (sound < 2 ^ 50) ⌝ }
+    requires { ⌜ wellNumbers r ≡ true ⌝ }
+    ensures { λ q. ⌜ q ≡ toldBy s at sound r ⌝ }
+{
+    if s.over {
+        return Told {
+            at,
+            sum: s.sum,
+            over: true,
+        };
+    }
+    if r.endless == 1 {
+        return Told {
+            at,
+            sum: s.sum + sound,
+            over: true,
+        };
+    }
+    Told {
+        at,
+        sum: s.sum + sound + r.pause,
+        over: false,
+    }
+}
+
 // The line of row i, which its callers know to be ready; the tape's count is no matter.
-fn put_row(out: &mut [u8], at: usize, tape: &[u8], tones: &[u64], blocks: &[u64], i: u64) -> usize
+fn put_row(out: &mut [u8], s: Told, tape: &[u8], tones: &[u64], blocks: &[u64], i: u64) -> Told
     requires { ⌜ ReadyRow (now tape) (now tones) (now blocks) i ⌝ }
-    requires { ⌜ at + 1024 < 2 ^ 63 ⌝ }
-    ensures { λ r. ⌜ ((n : ℕ) → Wrote (now (out .entry)) at (rowText (tapeOf (now (tape .entry)) (now (tones .entry)) (now (blocks .entry)) n) i) (now (out .exit)) r) ⌝ }
+    requires { ⌜ (s .at + 1024 < 2 ^ 63) × (s .sum ≤ 2 ^ 60) ⌝ }
+    ensures { λ q. ⌜ ((n : ℕ) → Wrote (now (out .entry)) (s .at) (rowText (tapeOf (now (tape .entry)) (now (tones .entry)) (now (blocks .entry)) n) i) (now (out .exit)) (q .at)) ⌝ }
+    ensures { λ q. ⌜ q ≡ toldBy s (q .at) (time (soundOf (now (tape .entry)) (now (tones .entry)) i (get block (now (blocks .entry)) i))) (get block (now (blocks .entry)) i) ⌝ }
 {
     let r = block_at(blocks, i as usize);
-    let a = put_head(out, at, i, r);
-    put_tail(out, a, tape, tones, r)
+    let sound = sound_time(tape, tones, r);
+    let a = put_head(out, s.at, i, r);
+    let b = put_tail(out, a, tape, r, lasts(sound, r));
+    after(s, b, sound, r)
 }
 
-// The lines of the first n rows.
-fn put_rows(out: &mut [u8], at: usize, tape: &[u8], tones: &[u64], blocks: &[u64], n: u64) -> usize
+// The lines of the first n rows, and the loading time: all entries up to the first stop or the end.
+fn put_rows(out: &mut [u8], at: usize, tape: &[u8], tones: &[u64], blocks: &[u64], n: u64) -> Told
     requires { ⌜ Ready (now tape) (now tones) (now blocks) n ⌝ }
     requires { ⌜ at ≤ 1024 ⌝ }
-    ensures { λ r. ⌜ Wrote (now (out .entry)) at (rowsText (tapeOf (now (tape .entry)) (now (tones .entry)) (now (blocks .entry)) n) n) (now (out .exit)) r ⌝ }
+    ensures { λ q. ⌜ Wrote (now (out .entry)) at (rowsText (tapeOf (now (tape .entry)) (now (tones .entry)) (now (blocks .entry)) n) n) (now (out .exit)) (q .at) ⌝ }
+    ensures { λ q. ⌜ q .sum ≡ time (listFrom (tapeOf (now (tape .entry)) (now (tones .entry)) (now (blocks .entry)) n) 0) ⌝ }
 {
-    let mut o = at;
+    let mut s = Told {
+        at,
+        sum: 0,
+        over: false,
+    };
     let mut i = 0;
     while i < n {
-        o = put_row(out, o, tape, tones, blocks, i);
+        s = put_row(out, s, tape, tones, blocks, i);
         i += 1;
     }
-    o
-}
-
-// All entries up to the first stop or the end.
-fn loading_time(tape: &[u8], tones: &[u64], blocks: &[u64], n: u64) -> u64
-    requires { ⌜ Ready (now tape) (now tones) (now blocks) n ⌝ }
-    ensures { λ t. ⌜ t ≡ time (listFrom (tapeOf (now (tape .entry)) (now (tones .entry)) (now (blocks .entry)) n) 0) ⌝ }
-{
-    let mut sum = 0;
-    let mut b = 0;
-    while b < n {
-        let r = block_at(blocks, b as usize);
-        sum += sound_time(tape, tones, r);
-        if r.endless == 1 {
-            return sum;
-        }
-        sum += r.pause;
-        b += 1;
-    }
-    sum
+    s
 }
 
 // The model's name.
@@ -225,7 +262,7 @@ fn put_total(out: &mut [u8], at: usize, total: u64) -> usize
     put(out, b, b'\n')
 }
 
-// The whole text; its callers give the loading time.
+// The whole text of rows that its callers know to be ready.
 fn put_listing(
     out: &mut [u8],
     model: u32,
@@ -234,17 +271,37 @@ fn put_listing(
     tones: &[u64],
     blocks: &[u64],
     n: u64,
-    total: u64,
 ) -> usize
     requires { ⌜ Ready (now tape) (now tones) (now blocks) n ⌝ }
-    requires { ⌜ total ≡ time (listFrom (tapeOf (now tape) (now tones) (now blocks) n) 0) ⌝ }
     ensures { λ r. ⌜ Wrote (now (out .entry)) 0 (listingText model format (tapeOf (now (tape .entry)) (now (tones .entry)) (now (blocks .entry)) n)) (now (out .exit)) r ⌝ }
 {
     let a = put_all(out, 0, b"model ");
     let b = put_model(out, a, model);
     let c = put_count(out, b, format, n);
-    let d = put_rows(out, c, tape, tones, blocks, n);
-    put_total(out, d, total)
+    let s = put_rows(out, c, tape, tones, blocks, n);
+    put_total(out, s.at, s.sum)
+}
+
+// Bytes that hold the text: where `len` are as many, its most, which is 576 a row; else its own length, by a dry run.
+fn enough(
+    len: usize,
+    model: u32,
+    format: Format,
+    tape: &[u8],
+    tones: &[u64],
+    blocks: &[u64],
+    n: u64,
+) -> usize
+    requires { ⌜ Ready (now tape) (now tones) (now blocks) n ⌝ }
+    ensures { λ k. ⌜ length (listingText model format (tapeOf (now (tape .entry)) (now (tones .entry)) (now (blocks .entry)) n)) ≤ k ⌝ }
+    ensures { λ k. ⌜ (len < k → k ≡ length (listingText model format (tapeOf (now (tape .entry)) (now (tones .entry)) (now (blocks .entry)) n))) ⌝ }
+{
+    let most = 77 + 576 * n as usize;
+    if most <= len {
+        return most;
+    }
+    let mut none = [0u8; 1];
+    put_listing(&mut none, model, format, tape, tones, blocks, n)
 }
 
 // The text where `out` has room for it, and its length; else 10, and no byte is written.
@@ -261,14 +318,11 @@ fn tell(
     ensures { λ r. ⌜ r ≡ answerTo (text (listingText model format (tapeOf (now (tape .entry)) (now (tones .entry)) (now (blocks .entry)) n))) (now (out .entry)) ⌝ }
     ensures { λ _. ⌜ now (out .exit) ≡ bytesAfter (text (listingText model format (tapeOf (now (tape .entry)) (now (tones .entry)) (now (blocks .entry)) n))) (now (out .entry)) ⌝ }
 {
-    let total = loading_time(tape, tones, blocks, n);
-    let mut none = [0u8; 1];
-    let k = put_listing(&mut none, model, format, tape, tones, blocks, n, total);
+    let k = enough(out.len(), model, format, tape, tones, blocks, n);
     if out.len() < k {
         return 10;
     }
-    put_listing(out, model, format, tape, tones, blocks, n, total);
-    k as u32
+    put_listing(out, model, format, tape, tones, blocks, n) as u32
 }
 
 // The listing of a tape's bytes for a model; the text's length, or the refusal's number.

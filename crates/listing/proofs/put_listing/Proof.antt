@@ -21,13 +21,14 @@ put-count-requires c κs =
 
 put-rows-requires : tie.Need-put-rows-requires
 put-rows-requires c κs =
-    let a = c .before .before .before .before .before .before .before .before .before .before .before .before .before .before .before .before .before .before .args in
-    (c .before .before .before .before .before .before .before .before .before .before .before .before .before .before .before .before .before .before .pre .0, omega (arith, c .before .before .before .before .before .before .before .before .before .before .before .put-all .ensures .count, c .before .before .before .before .before .before .before .put-model .ensures .count, model-long (a .model), c .before .before .before .put-count .ensures .count, count-long (a .format) (a .n)))
+    let s = c .before .before .before .before .before .before .before .before .before .before .before .before .before .before .before .before .before .before in
+    (s .pre, omega (arith, c .before .before .before .before .before .before .before .before .before .before .before .put-all .ensures .count, c .before .before .before .before .before .before .before .put-model .ensures .count, model-long (s .args .model), c .before .before .before .put-count .ensures .count, count-long (s .args .format) (s .args .n)))
 
 put-total-requires : tie.Need-put-total-requires
 put-total-requires c κs =
-    let a = c .before .before .before .before .before .before .before .before .before .before .before .before .before .before .before .before .before .before .before .before .before .before .args in
-    omega (arith, c .before .before .before .before .before .before .before .before .before .before .before .before .before .before .before .put-all .ensures .count, c .before .before .before .before .before .before .before .before .before .before .before .put-model .ensures .count, model-long (a .model), c .before .before .before .before .before .before .before .put-count .ensures .count, count-long (a .format) (a .n), c .before .before .before .put-rows .ensures .count, rows-most (c .before .before .before .before .before .before .before .before .before .before .before .before .before .before .before .before .before .before .before .before .before .before .pre .0) (a .n) (omega arith), c .before .before .before .before .before .before .before .before .before .before .before .before .before .before .before .before .before .before .before .before .before .before .pre .0 .few)
+    let s = c .before .before .before .before .before .before .before .before .before .before .before .before .before .before .before .before .before .before .before .before .before .before in
+    let a = s .args in
+    omega (arith, c .before .before .before .before .before .before .before .before .before .before .before .before .before .before .before .put-all .ensures .count, c .before .before .before .before .before .before .before .before .before .before .before .put-model .ensures .count, model-long (a .model), c .before .before .before .before .before .before .before .put-count .ensures .count, count-long (a .format) (a .n), c .before .before .before .put-rows .ensures .0 .count, rows-most (s .pre) (a .n) (omega arith), s .pre .few)
 
 same-length : tie.Need-same-length
 same-length c = search needs
@@ -35,7 +36,8 @@ same-length c = search needs
 returns : tie.Need-returns
 returns c =
     let a = c .before .before .before .before .before .before .before .before .before .before .before .before .before .before .before .before .before .before .before .before .before .before .before .before .before .args in
-    listing-written (a .model) (a .format) (tapeOf (a .tape .now) (a .tones .now) (a .blocks .now) (a .n)) (a .total) (c .before .before .before .before .before .before .before .before .before .before .before .before .before .before .before .before .before .before .before .before .before .before .before .before .before .pre .1) (c .before .before .before .before .before .before .before .before .before .before .before .before .before .before .before .before .before .before .put-all .ensures) (c .before .before .before .before .before .before .before .before .before .before .before .before .before .before .put-model .ensures) (c .before .before .before .before .before .before .before .before .before .before .put-count .ensures) (c .before .before .before .before .before .before .put-rows .ensures) (c .before .before .put-total .ensures)
+    let w = c .before .before .before .before .before .before .put-rows in
+    listing-written (a .model) (a .format) (tapeOf (a .tape .now) (a .tones .now) (a .blocks .now) (a .n)) (w .result .sum) (w .ensures .1) (c .before .before .before .before .before .before .before .before .before .before .before .before .before .before .before .before .before .before .put-all .ensures) (c .before .before .before .before .before .before .before .before .before .before .before .before .before .before .put-model .ensures) (c .before .before .before .before .before .before .before .before .before .before .put-count .ensures) (w .ensures .0) (c .before .before .put-total .ensures)
 
 pub put-listing-spec : {M : Type 1} → statement M
 put-listing-spec =

@@ -1,52 +1,38 @@
--- `listing::tell` meets its contract: the dry run tells the length, and the run is made where the text fits. Assumes nothing.
+-- `listing::tell` meets its contract: the text is written where it has room. Assumes nothing.
 use native.Mathlib.Omega.{arith}
 use borrow.Author.Needs.{needs}
+use Rattle.entries.specs.Mounted.{tapeOf}
 use Rattle.text.proofs.Writing.{counted}
+use Rattle.listing.specs.Listing.{listingText}
 use Rattle.listing.proofs.Texts.{text-most, tells-short, tells}
 use Rattle.listing.proofs.tell.Statement.{statement}
 use Rattle.listing.proofs.tell.Tie as tie
 
-loading-time-requires : tie.Need-loading-time-requires
-loading-time-requires c κs =
-    c .before .before .before .before .pre
-
-slice-aggregate-put-listing : tie.Need-slice-aggregate-put-listing
-slice-aggregate-put-listing c =
-    search needs
-
-put-listing-requires : tie.Need-put-listing-requires
-put-listing-requires c κs =
-    (c .before .before .before .before .before .before .pre, c .before .loading-time .ensures)
+enough-requires : tie.Need-enough-requires
+enough-requires c κs = search needs
 
 returns : tie.Need-returns
 returns c =
-    tells-short (c .before .before .before .before .before .before .before .before .before .args .out .now) (c .before .before .put-listing .ensures) (omega arith)
+    let a = c .before .before .before .before .before .before .args in
+    let t = listingText (a .model) (a .format) (tapeOf (a .tape .now) (a .tones .now) (a .blocks .now) (a .n)) in
+    tells-short t (a .out .now) (omega (arith, c .before .enough .ensures .1 (omega arith)))
 
-put-listing-requires-2 : tie.Need-put-listing-requires-2
-put-listing-requires-2 c κs =
-    (c .before .before .before .before .before .before .before .before .before .before .pre, c .before .before .before .before .before .loading-time .ensures)
+put-listing-requires : tie.Need-put-listing-requires
+put-listing-requires c κs = search needs
 
 cast-result : tie.Need-cast-result
 cast-result c =
-    omega (arith, counted (c .before .before .before .before .before .before .put-listing .ensures), text-most (c .before .before .before .before .before .before .before .before .before .before .before .before .before .args .model) (c .before .before .before .before .before .before .before .before .before .before .before .before .before .args .format) (c .before .before .before .before .before .before .before .before .before .before .before .before .before .pre))
+    let s = c .before .before .before .before .before .before .before .before .before .before in
+    omega (arith, counted (c .before .before .put-listing .ensures), text-most (s .args .model) (s .args .format) (s .pre))
 
 same-length : tie.Need-same-length
-same-length c =
-    search needs
+same-length c = search needs
 
 returns-2 : tie.Need-returns-2
 returns-2 c =
-    tells (c .before .before .before .before .before .before .put-listing .ensures) (c .before .before .put-listing2 .ensures) (omega arith)
+    tells (omega (arith, c .before .before .before .before .before .enough .ensures .0)) (c .before .before .put-listing .ensures)
 
 pub tell-spec : {M : Type 1} → statement M
 tell-spec =
     tie.close
-    (tie.spec
-    loading-time-requires
-    slice-aggregate-put-listing
-    put-listing-requires
-    returns
-    put-listing-requires-2
-    cast-result
-    same-length
-    returns-2)
+    (tie.spec enough-requires returns put-listing-requires cast-result same-length returns-2)

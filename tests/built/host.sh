@@ -1,11 +1,10 @@
 #!/bin/sh
-# The listing from C: each of its refusals; and the C host lists each tape under tapes/ as the program `list` does, for all three models.
+# The listing from C: each of its refusals; and the C host lists each tape under tapes/ as the program `list` does, for all three models. What it needs is built by host/build.
 set -eu
 cd "$(dirname "$0")/../.."
 . host/kit.sh
 room=$(mktemp -d)
 trap 'rm -rf "$room"' EXIT
-{ rt staticlib listing && rt check list; } > "$room/said" 2>&1 || { cat "$room/said"; exit 1; }
 link_host "$room/refusals" host/refusals.c target/staticlib/liblisting.a
 run_host "$room/refusals"
 link_host "$room/list" host/list.c target/staticlib/liblisting.a

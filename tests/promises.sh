@@ -1,14 +1,18 @@
 #!/bin/sh
-# Each name that docs/PROMISES.md gives as `FILE` `NAME` is declared in that file.
+# Each name that docs/PROMISES.md gives as `FILE` `NAME` is declared in that file, and each file that it names is there.
 set -eu
 cd "$(dirname "$0")/.."
-bad=$(grep -o '`[^` ]*\.\(antt\|rt\|edit\)`\( `[^`]*`\)*' docs/PROMISES.md | tr -d '`' | while read -r file names; do
+bad=$(grep -o '`[^` ]*\.\(antt\|rt\|edit\|sh\|c\)`\( `[^`]*`\)*' docs/PROMISES.md | tr -d '`' | sort -u | while read -r file names; do
     if [ ! -f "$file" ]; then
         echo "no file $file"
         continue
     fi
+    case $file in
+        *.rt) declares='(fn|enum|struct|const) ' ;;
+        *) declares='^ *((unfoldable|abbrev|pub|record|data) )*' ;;
+    esac
     for name in $names; do
-        grep -qE "(^|[ :])(fn )?$name( :|\(| *=| )" "$file" || echo "no $name in $file"
+        grep -qE "$declares$name([^A-Za-z0-9_-]|\$)" "$file" || echo "no $name in $file"
     done
 done)
 if [ -n "$bad" ]; then

@@ -2,3 +2,4 @@ pub mod Rules
 pub mod Arms
 pub mod Numbers
 pub mod Tests
+pub mod Parts

@@ -1,11 +1,10 @@
 -- What is written of a part fits the buffer. Assumes nothing.
 use Prim.Native.Nat.{ℕ, _+_, _*_, _≤_}
 use native.Mathlib.Omega.{arith}
-use mathlib.Core.Path.{_≡_, sym}
+use mathlib.Core.Path.{_≡_}
 use mathlib.Core.Bool.{Bool, true}
 use mathlib.Core.List.{List, [], _∷_, _++_}
 use lib.ListN.{length, take, drop, length-append, length-take}
-use lib.Seq.{length-take-le}
 use Rattle.rows.specs.Rows.{tone}
 use Rattle.rows.specs.Well.{wellBlock}
 use Rattle.rows.specs.declared.Block.{Block}
@@ -17,9 +16,6 @@ use Rattle.text.proofs.Writing.{same-len, each-length, decimal-length}
 use Rattle.views.specs.View.{tonesFrom}
 use Rattle.views.specs.Dump.{hex, hexAll, tonesText, headText}
 use Rattle.views.proofs.Parts.{hex-length, tones-length, head-length}
-
-pub counted : (d : List ℕ) (r : ℕ) → r ≤ length d → r ≡ length (take r d)
-counted d r h = sym (length-take-le r d h)
 
 module _ {d d1 : List ℕ} {r : ℕ} where
   pub text-room : (t : List ℕ) (n : ℕ) → Wrote d 0 t d1 r → length t ≤ n → n ≤ length d → r ≤ length d1

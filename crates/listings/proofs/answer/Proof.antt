@@ -1,6 +1,6 @@
 -- `listings::answer` meets its contract: what is said is the front of the bytes lent. Assumes nothing.
 use borrow.Author.Needs.{needs}
-use Rattle.listings.proofs.Parts.{counted}
+use Rattle.laws.specs.Parts.{counted}
 use Rattle.listings.proofs.answer.Statement.{statement}
 use Rattle.listings.proofs.answer.Tie as tie
 

@@ -1,6 +1,7 @@
 -- `listings::list_one` meets its contract: the part of the bytes that the tape takes is as long as it says. Assumes nothing.
 use borrow.Author.Needs.{needs}
-use Rattle.listings.proofs.Parts.{counted}
+use native.Mathlib.Omega.{arith}
+use Rattle.laws.specs.Parts.{counted}
 use Rattle.listings.proofs.list_one.Statement.{statement}
 use Rattle.listings.proofs.list_one.Tie as tie
 
@@ -10,27 +11,27 @@ slice-aggregate-read-full c = search needs
 read-full-requires : tie.Need-read-full-requires
 read-full-requires c κs = search needs
 
-slice-aggregate-number : tie.Need-slice-aggregate-number
-slice-aggregate-number c = search needs
+slice-aggregate-number-up-to : tie.Need-slice-aggregate-number-up-to
+slice-aggregate-number-up-to c = search needs
 
-number-requires : tie.Need-number-requires
-number-requires c κs = search needs
+number-up-to-requires : tie.Need-number-requires
+number-up-to-requires c κs = search needs
 
 cast-model : tie.Need-cast-model
 cast-model c = search needs
 
-slice-aggregate-number-2 : tie.Need-slice-aggregate-number-2
-slice-aggregate-number-2 c = search needs
+slice-aggregate-number-up-to-2 : tie.Need-slice-aggregate-number-up-to-2
+slice-aggregate-number-up-to-2 c = search needs
 
-number-requires-2 : tie.Need-number-requires-2
-number-requires-2 c κs = search needs
+number-up-to-requires-2 : tie.Need-number-requires-2
+number-up-to-requires-2 c κs = search needs
 
 slice-relend-prefix-answer : tie.Need-slice-relend-prefix-answer
 slice-relend-prefix-answer c = search needs
 
 slice-aggregate-answer : tie.Need-slice-aggregate-answer
 slice-aggregate-answer c =
-    counted _ _ (c .before .number2 .ensures)
+    counted _ _ (omega (arith, c .before .number-up-to2 .ensures))
 
 answer-requires : tie.Need-answer-requires
 answer-requires c κs = search needs
@@ -50,11 +51,11 @@ list-one-spec =
     (tie.spec
     slice-aggregate-read-full
     read-full-requires
-    slice-aggregate-number
-    number-requires
+    slice-aggregate-number-up-to
+    number-up-to-requires
     cast-model
-    slice-aggregate-number-2
-    number-requires-2
+    slice-aggregate-number-up-to-2
+    number-up-to-requires-2
     slice-relend-prefix-answer
     slice-aggregate-answer
     answer-requires

@@ -1,6 +1,6 @@
 -- `print_line` meets its contract. Assumes nothing.
 use Rattle.playback.proofs.Room.{line-room}
-use Rattle.printing.proofs.Room.{counted}
+use Rattle.laws.specs.Parts.{counted}
 use borrow.Author.Needs.{needs}
 use Rattle.playback.proofs.print_line.Statement.{statement}
 use Rattle.playback.proofs.print_line.Tie as tie

@@ -1,5 +1,6 @@
 -- `print_block` meets its contract. Assumes nothing.
-use Rattle.printing.proofs.Room.{counted, head-room, row-inside}
+use Rattle.laws.specs.Parts.{counted}
+use Rattle.printing.proofs.Room.{head-room, row-inside}
 use native.Mathlib.Omega.{arith}
 use borrow.Author.Needs.{needs}
 use Rattle.printing.proofs.print_block.Statement.{statement}

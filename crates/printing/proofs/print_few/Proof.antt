@@ -1,5 +1,6 @@
 -- `print_few` meets its contract. Assumes nothing.
-use Rattle.printing.proofs.Room.{counted, hex-room}
+use Rattle.laws.specs.Parts.{counted}
+use Rattle.printing.proofs.Room.{hex-room}
 use borrow.Author.Needs.{needs}
 use Rattle.printing.proofs.print_few.Statement.{statement}
 use Rattle.printing.proofs.print_few.Tie as tie

@@ -1,5 +1,6 @@
 -- `print_line` meets its contract. Assumes nothing.
-use Rattle.printing.proofs.Room.{counted, line-room}
+use Rattle.laws.specs.Parts.{counted}
+use Rattle.printing.proofs.Room.{line-room}
 use Rattle.text.proofs.Writing.{then, decimal-length}
 use native.Mathlib.Omega.{arith}
 use borrow.Author.Needs.{needs}

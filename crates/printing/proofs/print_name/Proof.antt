@@ -1,5 +1,5 @@
 -- `print_name` meets its contract. Assumes nothing.
-use Rattle.printing.proofs.Room.{counted}
+use Rattle.laws.specs.Parts.{counted}
 use Rattle.text.proofs.Writing.{same-len}
 use native.Mathlib.Omega.{arith}
 use borrow.Author.Needs.{needs}

@@ -1,5 +1,6 @@
 -- `print_rows` meets its contract. Assumes nothing.
-use Rattle.printing.proofs.Room.{counted, rows-room}
+use Rattle.laws.specs.Parts.{counted}
+use Rattle.printing.proofs.Room.{rows-room}
 use borrow.Author.Needs.{needs}
 use Rattle.printing.proofs.print_rows.Statement.{statement}
 use Rattle.printing.proofs.print_rows.Tie as tie

@@ -1,5 +1,5 @@
 -- `replay` meets its contract. Assumes nothing.
-use Rattle.printing.proofs.Room.{counted}
+use Rattle.laws.specs.Parts.{counted}
 use native.Mathlib.Omega.{arith}
 use borrow.Author.Needs.{needs}
 use Rattle.replay.proofs.replay.Statement.{statement}
@@ -11,57 +11,57 @@ slice-aggregate-read-full c = search needs
 read-full-requires : tie.Need-read-full-requires
 read-full-requires c κs = search needs
 
-slice-aggregate-number : tie.Need-slice-aggregate-number
-slice-aggregate-number c = search needs
+slice-aggregate-number-up-to : tie.Need-slice-aggregate-number-up-to
+slice-aggregate-number-up-to c = search needs
 
-number-requires : tie.Need-number-requires
-number-requires c κs = search needs
+number-up-to-requires : tie.Need-number-requires
+number-up-to-requires c κs = search needs
 
 cast-model : tie.Need-cast-model
 cast-model c = search needs
 
-slice-aggregate-number-2 : tie.Need-slice-aggregate-number-2
-slice-aggregate-number-2 c = search needs
+slice-aggregate-number-up-to-2 : tie.Need-slice-aggregate-number-up-to-2
+slice-aggregate-number-up-to-2 c = search needs
 
-number-requires-2 : tie.Need-number-requires-2
-number-requires-2 c κs = search needs
+number-up-to-requires-2 : tie.Need-number-requires-2
+number-up-to-requires-2 c κs = search needs
 
-slice-aggregate-number-3 : tie.Need-slice-aggregate-number-3
-slice-aggregate-number-3 c = search needs
+slice-aggregate-number-up-to-3 : tie.Need-slice-aggregate-number-up-to-3
+slice-aggregate-number-up-to-3 c = search needs
 
-number-requires-3 : tie.Need-number-requires-3
-number-requires-3 c κs = search needs
+number-up-to-requires-3 : tie.Need-number-requires-3
+number-up-to-requires-3 c κs = search needs
 
-slice-aggregate-number-4 : tie.Need-slice-aggregate-number-4
-slice-aggregate-number-4 c = search needs
+slice-aggregate-number-up-to-4 : tie.Need-slice-aggregate-number-up-to-4
+slice-aggregate-number-up-to-4 c = search needs
 
-number-requires-4 : tie.Need-number-requires-4
-number-requires-4 c κs = search needs
+number-up-to-requires-4 : tie.Need-number-requires-4
+number-up-to-requires-4 c κs = search needs
 
 slice-relend-prefix-answer : tie.Need-slice-relend-prefix-answer
 slice-relend-prefix-answer c = search needs
 
 slice-aggregate-answer : tie.Need-slice-aggregate-answer
 slice-aggregate-answer c =
-    counted _ _ (c .before .number4 .ensures)
+    counted _ _ (omega (arith, c .before .number-up-to4 .ensures))
 
 slice-relend-prefix-answer-2 : tie.Need-slice-relend-prefix-answer-2
 slice-relend-prefix-answer-2 c = search needs
 
 slice-aggregate-answer-2 : tie.Need-slice-aggregate-answer-2
 slice-aggregate-answer-2 c =
-    counted _ _ (c .before .before .before .before .before .before .number2 .ensures)
+    counted _ _ (omega (arith, c .before .before .before .before .before .before .number-up-to2 .ensures))
 
 slice-relend-prefix-answer-3 : tie.Need-slice-relend-prefix-answer-3
 slice-relend-prefix-answer-3 c = search needs
 
 slice-aggregate-answer-3 : tie.Need-slice-aggregate-answer-3
 slice-aggregate-answer-3 c =
-    counted _ _ (c .before .before .before .before .before .number3 .ensures)
+    counted _ _ (omega (arith, c .before .before .before .before .before .number-up-to3 .ensures))
 
 answer-requires : tie.Need-answer-requires
 answer-requires c κs =
-    omega (arith, c .before .before .before .before .before .before .before .before .before .before .before .before .before .before .before .before .before .pre, c .before .before .before .number4 .ensures, counted (c .before .before .before .before .before .before .before .before .before .before .before .before .before .before .before .before .before .args .bytes .now) (c .before .before .before .number4 .result) (c .before .before .before .number4 .ensures))
+    omega (arith, c .before .before .before .before .before .before .before .before .before .before .before .before .before .before .before .before .before .pre, c .before .before .before .number-up-to4 .ensures, counted (c .before .before .before .before .before .before .before .before .before .before .before .before .before .before .before .before .before .args .bytes .now) (c .before .before .before .number-up-to4 .result) (omega (arith, c .before .before .before .number-up-to4 .ensures)))
 
 same-length : tie.Need-same-length
 same-length c = search needs
@@ -81,15 +81,15 @@ replay-spec =
     (tie.spec
     slice-aggregate-read-full
     read-full-requires
-    slice-aggregate-number
-    number-requires
+    slice-aggregate-number-up-to
+    number-up-to-requires
     cast-model
-    slice-aggregate-number-2
-    number-requires-2
-    slice-aggregate-number-3
-    number-requires-3
-    slice-aggregate-number-4
-    number-requires-4
+    slice-aggregate-number-up-to-2
+    number-up-to-requires-2
+    slice-aggregate-number-up-to-3
+    number-up-to-requires-3
+    slice-aggregate-number-up-to-4
+    number-up-to-requires-4
     slice-relend-prefix-answer
     slice-aggregate-answer
     slice-relend-prefix-answer-2

@@ -1,6 +1,7 @@
 -- `retrace` meets its contract. Assumes nothing.
-use Rattle.printing.proofs.Room.{counted}
+use Rattle.laws.specs.Parts.{counted}
 use borrow.Author.Needs.{needs}
+use native.Mathlib.Omega.{arith}
 use Rattle.retrace.proofs.retrace.Statement.{statement}
 use Rattle.retrace.proofs.retrace.Tie as tie
 
@@ -10,18 +11,18 @@ slice-aggregate-read-full c = search needs
 read-full-requires : tie.Need-read-full-requires
 read-full-requires c κs = search needs
 
-slice-aggregate-number : tie.Need-slice-aggregate-number
-slice-aggregate-number c = search needs
+slice-aggregate-number-up-to : tie.Need-slice-aggregate-number-up-to
+slice-aggregate-number-up-to c = search needs
 
-number-requires : tie.Need-number-requires
-number-requires c κs = search needs
+number-up-to-requires : tie.Need-number-requires
+number-up-to-requires c κs = search needs
 
 slice-relend-prefix-run : tie.Need-slice-relend-prefix-run
 slice-relend-prefix-run c = search needs
 
 slice-aggregate-run : tie.Need-slice-aggregate-run
 slice-aggregate-run c =
-    counted _ _ (c .before .number .ensures)
+    counted _ _ (omega (arith, c .before .number-up-to .ensures))
 
 run-requires : tie.Need-run-requires
 run-requires c κs = search needs
@@ -44,8 +45,8 @@ retrace-spec =
     (tie.spec
     slice-aggregate-read-full
     read-full-requires
-    slice-aggregate-number
-    number-requires
+    slice-aggregate-number-up-to
+    number-up-to-requires
     slice-relend-prefix-run
     slice-aggregate-run
     run-requires

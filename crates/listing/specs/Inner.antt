@@ -6,7 +6,7 @@ use mathlib.Core.List.{List, [], _∷_, _++_}
 use lib.ListN.{length, getD}
 use lib.Dec.{ltb, eqb}
 use Rattle.laws.specs.Rules.{_⇒_, _∣_}
-use Rattle.text.specs.Out.{decimal}
+use Rattle.text.specs.Out.{ascii, decimal}
 use Rattle.rows.specs.declared.Block.{Block}
 use Rattle.rows.specs.Table.{get}
 use Rattle.rows.specs.Rows.{block}
@@ -31,14 +31,14 @@ width c1 = c1 ⇒ 2 ∣ 1
 
 -- a row's line in two parts: number, mark and size; T-states and name
 abbrev pub headText : ℕ → Block → List ℕ
-headText i r = decimal i ++ (0x20 ∷ []) ++ markText (eqb (r .selectable) 1) ++ (0x20 ∷ []) ++ decimal (r .size) ++ (0x20 ∷ [])
+headText i r = decimal i ++ ascii " " ++ markText (eqb (r .selectable) 1) ++ ascii " " ++ decimal (r .size) ++ ascii " "
 
 abbrev pub tailText : Duration → List ℕ → List ℕ
-tailText d name = timeText d ++ (0x20 ∷ []) ++ shown name ++ (0x0A ∷ [])
+tailText d name = timeText d ++ ascii " " ++ shown name ++ ascii "\n"
 
 -- the last line, of a number
 abbrev pub totalText : ℕ → List ℕ
-totalText n = (0x74 ∷ 0x69 ∷ 0x6D ∷ 0x65 ∷ 0x20 ∷ []) ++ decimal n ++ (0x0A ∷ [])
+totalText n = ascii "time " ++ decimal n ++ ascii "\n"
 
 -- what a row lasts by its sound's T-states
 abbrev pub lastsBy : ℕ → Block → Duration

@@ -6,7 +6,7 @@ use lib.Dec.{ltb, leb, eqb}
 use lib.ListN.{length}
 use Rattle.laws.specs.Rules.{_⇒_, _∣_}
 use Rattle.pulses.specs.Play.{time}
-use Rattle.text.specs.Out.{decimal, fits, told}
+use Rattle.text.specs.Out.{ascii, decimal, fits, told}
 use Rattle.entries.specs.declared.Duration.{Duration}
 use Rattle.entries.specs.declared.Duration.the-variants.{T, Endless}
 use Rattle.entries.specs.Entries.{entriesOf, lastsOf}
@@ -22,7 +22,7 @@ use Rattle.tape.specs.Load.{loadNamed, blocksOf, tonesOf}
 -- code points below 32 and 127 to 159 print as `?`; in UTF-8 those from 128 to 159 are C2 and a byte below A0
 unfoldable pub shown : List ℕ → List ℕ
 shown [] = []
-shown (b ∷ []) = (ltb b 32 || eqb b 127) ⇒ (0x3F ∷ []) ∣ (b ∷ [])
+shown (b ∷ []) = (ltb b 32 || eqb b 127) ⇒ ascii "?" ∣ (b ∷ [])
 shown (b ∷ c ∷ bs) =
     (eqb b 0xC2 && ltb c 0xA0) ⇒ 0x3F ∷ shown bs
     ∣ (ltb b 32 || eqb b 127) ⇒ 0x3F ∷ shown (c ∷ bs)
@@ -31,20 +31,20 @@ shown (b ∷ c ∷ bs) =
 -- T-states (`stop` if endless)
 unfoldable pub timeText : Duration → List ℕ
 timeText (T n) = decimal n
-timeText Endless = 0x73 ∷ 0x74 ∷ 0x6F ∷ 0x70 ∷ []
+timeText Endless = ascii "stop"
 
 -- selectable mark (`*` or `-`)
 unfoldable pub markText : Bool → List ℕ
-markText selectable = selectable ⇒ (0x2A ∷ []) ∣ (0x2D ∷ [])
+markText selectable = selectable ⇒ ascii "*" ∣ ascii "-"
 
 -- A ROW has number, selectable mark, data size, T-states, name
 unfoldable pub rowText : Tape → ℕ → List ℕ
 rowText w i =
-    decimal i ++ (0x20 ∷ [])
-    ++ markText (eqb (blockIn w i .selectable) 1) ++ (0x20 ∷ [])
-    ++ decimal (blockIn w i .size) ++ (0x20 ∷ [])
-    ++ timeText (lastsOf (entriesOf (w .bytes) (w .tones) i (blockIn w i))) ++ (0x20 ∷ [])
-    ++ shown (nameOf (w .bytes) (blockIn w i)) ++ (0x0A ∷ [])
+    decimal i ++ ascii " "
+    ++ markText (eqb (blockIn w i .selectable) 1) ++ ascii " "
+    ++ decimal (blockIn w i .size) ++ ascii " "
+    ++ timeText (lastsOf (entriesOf (w .bytes) (w .tones) i (blockIn w i))) ++ ascii " "
+    ++ shown (nameOf (w .bytes) (blockIn w i)) ++ ascii "\n"
 
 -- the first n rows
 unfoldable pub rowsText : Tape → ℕ → List ℕ
@@ -54,24 +54,24 @@ rowsText w (suc n) = rowsText w n ++ rowText w n
 -- models print as 48K, 128K, Plus3
 unfoldable pub modelText : ℕ → List ℕ
 modelText model =
-    eqb model 0 ⇒ (0x34 ∷ 0x38 ∷ 0x4B ∷ [])
-    ∣ eqb model 1 ⇒ (0x31 ∷ 0x32 ∷ 0x38 ∷ 0x4B ∷ [])
-    ∣ (0x50 ∷ 0x6C ∷ 0x75 ∷ 0x73 ∷ 0x33 ∷ [])
+    eqb model 0 ⇒ ascii "48K"
+    ∣ eqb model 1 ⇒ ascii "128K"
+    ∣ ascii "Plus3"
 
 -- formats TAP, TZX
 unfoldable pub formatText : Format → List ℕ
-formatText Tap = 0x54 ∷ 0x41 ∷ 0x50 ∷ []
-formatText Tzx = 0x54 ∷ 0x5A ∷ 0x58 ∷ []
+formatText Tap = ascii "TAP"
+formatText Tzx = ascii "TZX"
 
 -- ` format F blocks N`
 unfoldable pub countText : Format → ℕ → List ℕ
 countText format n =
-    (0x20 ∷ 0x66 ∷ 0x6F ∷ 0x72 ∷ 0x6D ∷ 0x61 ∷ 0x74 ∷ 0x20 ∷ []) ++ formatText format
-    ++ (0x20 ∷ 0x62 ∷ 0x6C ∷ 0x6F ∷ 0x63 ∷ 0x6B ∷ 0x73 ∷ 0x20 ∷ []) ++ decimal n ++ (0x0A ∷ [])
+    ascii " format " ++ formatText format
+    ++ ascii " blocks " ++ decimal n ++ ascii "\n"
 
 -- `time T`: all entries up to the first stop or the end
 unfoldable pub loadingText : Tape → List ℕ
-loadingText w = (0x74 ∷ 0x69 ∷ 0x6D ∷ 0x65 ∷ 0x20 ∷ []) ++ decimal (time (listFrom w 0)) ++ (0x0A ∷ [])
+loadingText w = ascii "time " ++ decimal (time (listFrom w 0)) ++ ascii "\n"
 
 -- what follows the model's name
 unfoldable pub restText : Format → Tape → List ℕ
@@ -79,7 +79,7 @@ restText format w = countText format (w .count) ++ rowsText w (w .count) ++ load
 
 -- THE TEXT
 unfoldable pub listingText : ℕ → Format → Tape → List ℕ
-listingText model format w = (0x6D ∷ 0x6F ∷ 0x64 ∷ 0x65 ∷ 0x6C ∷ 0x20 ∷ []) ++ modelText model ++ restText format w
+listingText model format w = ascii "model " ++ modelText model ++ restText format w
 
 -- 512 block and 2,048 tone rows
 abbrev pub blockWords : ℕ

@@ -3,11 +3,11 @@ use Prim.Native.Nat.{ℕ, _≤_}
 use mathlib.Core.Path.{_≡_}
 use mathlib.Core.List.{List, [], _∷_, _++_}
 use lib.ListN.{length, take}
-use Rattle.text.specs.Out.{decimal}
+use Rattle.text.specs.Out.{ascii, decimal}
 use Rattle.listing.specs.Listing.{Listing, text, refused}
 
 unfoldable pub refusedText : ℕ → List ℕ
-refusedText k = (0x72 ∷ 0x65 ∷ 0x66 ∷ 0x75 ∷ 0x73 ∷ 0x65 ∷ 0x64 ∷ 0x20 ∷ []) ++ decimal k ++ (0x0A ∷ [])
+refusedText k = ascii "refused " ++ decimal k ++ ascii "\n"
 
 unfoldable pub printedOf : Listing → List ℕ
 printedOf (text t) = t

@@ -5,7 +5,7 @@ use mathlib.Core.List.{List, [], _∷_, _++_}
 use lib.ListN.{getD, take, drop}
 use lib.Dec.{eqb}
 use Rattle.laws.specs.Rules.{_⇒_, _∣_}
-use Rattle.text.specs.Out.{decimal, latin}
+use Rattle.text.specs.Out.{ascii, decimal, latin}
 use Rattle.rows.specs.declared.Block.{Block}
 use Rattle.encoding.specs.Encoding.{spelled}
 
@@ -16,21 +16,21 @@ isHeader s r = eqb (r .size) 19 && eqb (getD s (r .start) 0) 0
 -- `Program`, `Array`, `Bytes` for second byte 0, 1, 3, else `Type x`
 unfoldable pub typeName : ℕ → List ℕ
 typeName b =
-    eqb b 0 ⇒ (0x50 ∷ 0x72 ∷ 0x6F ∷ 0x67 ∷ 0x72 ∷ 0x61 ∷ 0x6D ∷ [])
-    ∣ eqb b 1 ⇒ (0x41 ∷ 0x72 ∷ 0x72 ∷ 0x61 ∷ 0x79 ∷ [])
-    ∣ eqb b 3 ⇒ (0x42 ∷ 0x79 ∷ 0x74 ∷ 0x65 ∷ 0x73 ∷ [])
-    ∣ (0x54 ∷ 0x79 ∷ 0x70 ∷ 0x65 ∷ 0x20 ∷ []) ++ decimal b
+    eqb b 0 ⇒ ascii "Program"
+    ∣ eqb b 1 ⇒ ascii "Array"
+    ∣ eqb b 3 ⇒ ascii "Bytes"
+    ∣ ascii "Type " ++ decimal b
 
 -- then `: ` and bytes 2 to 11 through `SPECTRUM_ENCODING`; the header's data begin at `start`
 unfoldable pub headerName : List ℕ → ℕ → List ℕ
-headerName s start = typeName (getD s (start + 1) 0) ++ ((0x3A ∷ 0x20 ∷ []) ++ spelled (take 10 (drop (start + 2) s)))
+headerName s start = typeName (getD s (start + 1) 0) ++ (ascii ": " ++ spelled (take 10 (drop (start + 2) s)))
 
 -- `n bytes`, n the data size or, without data, tones/8
 unfoldable pub sizeShown : Block → ℕ
 sizeShown r = eqb (r .size) 0 ⇒ r .tones / 8 ∣ r .size
 
 unfoldable pub sizeName : Block → List ℕ
-sizeName r = decimal (sizeShown r) ++ (0x20 ∷ 0x62 ∷ 0x79 ∷ 0x74 ∷ 0x65 ∷ 0x73 ∷ [])
+sizeName r = decimal (sizeShown r) ++ ascii " bytes"
 
 -- the name of a block to which none was given: the header's or the size's
 unfoldable pub guessed : List ℕ → Block → List ℕ
@@ -40,7 +40,7 @@ guessed s r = isHeader s r ⇒ headerName s (r .start) ∣ sizeName r
 unfoldable pub nameOf : List ℕ → Block → List ℕ
 nameOf s r =
     eqb (r .named) 0 ⇒ guessed s r
-    ∣ eqb (r .named) 1 ⇒ (0x73 ∷ 0x74 ∷ 0x6F ∷ 0x70 ∷ [])
+    ∣ eqb (r .named) 1 ⇒ ascii "stop"
     ∣ latin (take (r .chars) (drop (r .text) s))
 
 -- the naming pass, in order over blocks: the next non-header block after a header loses selectability

@@ -1,5 +1,7 @@
 -- Text as a list of bytes, and what writing it into lent bytes leaves. Assumes nothing.
 use Prim.Native.Nat.{ℕ, zero, suc, _+_, _/_, _%_}
+use Prim.Native.Char.{code}
+use Prim.Native.String.{String, [] as []ᵗ, _∷_ as _∷ᵗ_}
 use mathlib.Core.Path.{_≡_}
 use mathlib.Core.Bool.{Bool}
 use mathlib.Core.List.{List, [], _∷_, _++_}
@@ -12,6 +14,22 @@ use Rattle.laws.specs.Rules.{_⇒_, _∣_}
 pub record Wrote (dst : List ℕ) (at : ℕ) (text : List ℕ) (dst′ : List ℕ) (next : ℕ) : Type 0 where
   pub count : next ≡ at + length text
   pub bytes : dst′ ≡ sets dst at text
+
+-- the bytes of an ASCII text
+abbrev pub ascii : String → List ℕ
+ascii []ᵗ = []
+ascii (c ∷ᵗ t) = code c ∷ ascii t
+
+-- a code point below 65,536 in UTF-8, and a text of such
+abbrev pub utf8Of : ℕ → List ℕ
+utf8Of n =
+    ltb n 128 ⇒ (n ∷ [])
+    ∣ ltb n 2048 ⇒ ((192 + n / 64) ∷ (128 + n % 64) ∷ [])
+    ∣ ((224 + n / 4096) ∷ (128 + n / 64 % 64) ∷ (128 + n % 64) ∷ [])
+
+abbrev pub utf8 : String → List ℕ
+utf8 []ᵗ = []
+utf8 (c ∷ᵗ t) = utf8Of (code c) ++ utf8 t
 
 -- a number in decimal, of f digits at the most; a number of 64 bits has no more than 20
 unfoldable pub digits : ℕ → ℕ → List ℕ

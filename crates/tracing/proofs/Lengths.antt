@@ -13,7 +13,7 @@ use Rattle.walks.specs.declared.Reached.{Reached}
 use Rattle.walks.specs.declared.Reached.the-variants.{At, Stopped, Ended, NotValid, NotFormed}
 use Rattle.deck.specs.declared.Selected.{Selected}
 use Rattle.deck.specs.declared.Selected.the-variants.{Block, BadPosition, BadRow}
-use Rattle.tracing.specs.Lines.{ascii, flag, spaced, numbers, phaseText, leftText, restText, placeText, selectedText, shown, told, sourceLine, measuredLine, lineOf}
+use Rattle.tracing.specs.Lines.{flag, spaced, numbers, phaseText, leftText, restText, placeText, selectedText, shown, told, sourceLine, measuredLine, lineOf}
 
 pub flag-length : (v : Bool) → length (flag v) ≤ 1
 unfolding flag
@@ -30,19 +30,19 @@ numbers-length n m v =
     simp length-append (omega (arith, spaced-length n, spaced-length m, flag-length v))
 
 pub phase-length : (f : Phase) → length (phaseText f) ≤ 48
-unfolding phaseText ascii
+unfolding phaseText
 phase-length Start = omega arith
 phase-length (Tones i p v) = omega (arith, numbers-length i p v)
 phase-length (Data pos k v) = omega (arith, numbers-length pos k v)
 phase-length Pause = omega arith
 
 pub left-length : (d : Duration) → length (leftText d) ≤ 20
-unfolding leftText ascii
+unfolding leftText
 left-length (T n) = decimal-length n
 left-length Endless = omega arith
 
 pub rest-length : (d : Duration) (v : Bool) → length (restText d v) ≤ 34
-unfolding restText ascii
+unfolding restText
 rest-length d v = simp length-append (omega (arith, left-length d, flag-length v))
 
 pub place-length : (s : Stand) → length (placeText s) ≤ 103
@@ -51,21 +51,21 @@ place-length s =
     simp length-append (omega (arith, decimal-length (s .position .block), phase-length (s .position .phase), rest-length (s .position .left) (s .level)))
 
 pub selected-length : (b : Selected) → length (selectedText b) ≤ 20
-unfolding selectedText ascii
+unfolding selectedText
 selected-length (Block n) = decimal-length n
 selected-length BadPosition = omega arith
 selected-length BadRow = omega arith
 
 pub shown-length : (s : Stand) (b : Selected) → length (shown s b) ≤ 134
-unfolding shown ascii
+unfolding shown
 shown-length s b = simp length-append (omega (arith, place-length s, selected-length b))
 
 told-length : (s : Stand) (b : Selected) → length (told s b) ≤ 166
-unfolding told ascii
+unfolding told
 told-length s b = simp length-append (omega (arith, decimal-length (s .passed), shown-length s b))
 
 source-length : (r : Reached) (b : Selected) → length (sourceLine r b) ≤ 256
-unfolding sourceLine ascii
+unfolding sourceLine
 source-length (At s) b = omega (arith, shown-length s b)
 source-length (Stopped s) b = omega (arith, shown-length s b)
 source-length (Ended s) b = omega arith
@@ -73,7 +73,7 @@ source-length NotValid b = omega arith
 source-length NotFormed b = omega arith
 
 measured-length : (r : Reached) (b : Selected) → length (measuredLine r b) ≤ 256
-unfolding measuredLine ascii
+unfolding measuredLine
 measured-length (At s) b = omega (arith, told-length s b)
 measured-length (Stopped s) b = omega (arith, told-length s b)
 measured-length (Ended s) b = omega (arith, told-length s b)

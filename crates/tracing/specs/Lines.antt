@@ -1,10 +1,8 @@
 -- The line of a call's answer, as a trace prints it; the words are the oracle's. Definitions alone; assumes nothing.
 use Prim.Native.Nat.{ℕ}
-use Prim.Native.Char.{code}
-use Prim.Native.String.{String, [] as []ᵗ, _∷_ as _∷ᵗ_}
 use mathlib.Core.Bool.{Bool, true, false}
 use mathlib.Core.List.{List, [], _∷_, _++_}
-use Rattle.text.specs.Out.{decimal}
+use Rattle.text.specs.Out.{ascii, decimal}
 use Rattle.entries.specs.declared.Phase.{Phase}
 use Rattle.entries.specs.declared.Phase.the-variants.{Start, Tones, Data, Pause}
 use Rattle.entries.specs.declared.Duration.{Duration}
@@ -15,15 +13,10 @@ use Rattle.walks.specs.declared.Reached.the-variants.{At, Stopped, Ended, NotVa
 use Rattle.deck.specs.declared.Selected.{Selected}
 use Rattle.deck.specs.declared.Selected.the-variants.{Block, BadPosition, BadRow}
 
--- the bytes of an ASCII text
-unfoldable pub ascii : String → List ℕ
-ascii []ᵗ = []
-ascii (c ∷ᵗ t) = code c ∷ ascii t
-
 -- a half or a level: `0`, or `1` for the last half and for high
 unfoldable pub flag : Bool → List ℕ
-flag false = 0x30 ∷ []
-flag true = 0x31 ∷ []
+flag false = ascii "0"
+flag true = ascii "1"
 
 -- ` n`
 unfoldable pub spaced : ℕ → List ℕ
@@ -51,7 +44,7 @@ restText left level = ascii " left " ++ leftText left ++ ascii " level " ++ flag
 
 -- `BLOCK PHASE left LEFT level LEVEL`
 unfoldable pub placeText : Stand → List ℕ
-placeText s = decimal (s .position .block) ++ (0x20 ∷ []) ++ phaseText (s .position .phase) ++ restText (s .position .left) (s .level)
+placeText s = decimal (s .position .block) ++ ascii " " ++ phaseText (s .position .phase) ++ restText (s .position .left) (s .level)
 
 -- the block's number; `refused n` where it is refused
 unfoldable pub selectedText : Selected → List ℕ
@@ -61,7 +54,7 @@ selectedText BadRow = ascii "refused 11"
 
 -- `PLACE selected BLOCK`, and the line's end
 unfoldable pub shown : Stand → Selected → List ℕ
-shown s b = placeText s ++ ascii " selected " ++ selectedText b ++ (0x0A ∷ [])
+shown s b = placeText s ++ ascii " selected " ++ selectedText b ++ ascii "\n"
 
 -- A LINE OF THE SOURCE'S PLAY: the place, or `ended`; `refused n` where the call is refused
 unfoldable pub sourceLine : Reached → Selected → List ℕ

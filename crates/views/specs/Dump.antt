@@ -4,7 +4,7 @@ use mathlib.Core.Bool.{Bool}
 use mathlib.Core.List.{List, [], _∷_, _++_}
 use lib.Dec.{ltb}
 use Rattle.laws.specs.Rules.{_⇒_, _∣_}
-use Rattle.text.specs.Out.{decimal, each}
+use Rattle.text.specs.Out.{ascii, decimal, each}
 use Rattle.rows.specs.declared.Tone.{Tone}
 use Rattle.entries.specs.declared.Duration.{Duration}
 use Rattle.entries.specs.declared.Duration.the-variants.{T, Endless}
@@ -22,7 +22,7 @@ hexAll bs = each hex bs
 
 -- cycles `x` first half `/` second half `,`
 unfoldable pub toneText : Tone → List ℕ
-toneText t = decimal (t .num) ++ (0x78 ∷ []) ++ decimal (t .len1) ++ (0x2F ∷ []) ++ decimal (t .len2) ++ (0x2C ∷ [])
+toneText t = decimal (t .num) ++ ascii "x" ++ decimal (t .len1) ++ ascii "/" ++ decimal (t .len2) ++ ascii ","
 
 unfoldable pub tonesText : List Tone → List ℕ
 tonesText [] = []
@@ -31,10 +31,10 @@ tonesText (t ∷ ts) = toneText t ++ tonesText ts
 -- `endless`, or its T-states
 unfoldable pub pauseText : Duration → List ℕ
 pauseText (T n) = decimal n
-pauseText Endless = 0x65 ∷ 0x6E ∷ 0x64 ∷ 0x6C ∷ 0x65 ∷ 0x73 ∷ 0x73 ∷ []
+pauseText Endless = ascii "endless"
 
 unfoldable pub flag : Bool → List ℕ
-flag b = b ⇒ (0x31 ∷ []) ∣ (0x30 ∷ [])
+flag b = b ⇒ ascii "1" ∣ ascii "0"
 
 -- a word and a number
 unfoldable pub field : List ℕ → ℕ → List ℕ
@@ -42,20 +42,20 @@ field word n = word ++ decimal n
 
 -- `i sel=s`
 unfoldable pub markText : ℕ → Bool → List ℕ
-markText i selectable = decimal i ++ (0x20 ∷ 0x73 ∷ 0x65 ∷ 0x6C ∷ 0x3D ∷ []) ++ flag selectable
+markText i selectable = decimal i ++ ascii " sel=" ++ flag selectable
 
 -- ` zero=z one=o last=l`
 unfoldable pub bitsText : ℕ → ℕ → ℕ → List ℕ
 bitsText nil one last =
-    field (0x20 ∷ 0x7A ∷ 0x65 ∷ 0x72 ∷ 0x6F ∷ 0x3D ∷ []) nil
-    ++ field (0x20 ∷ 0x6F ∷ 0x6E ∷ 0x65 ∷ 0x3D ∷ []) one
-    ++ field (0x20 ∷ 0x6C ∷ 0x61 ∷ 0x73 ∷ 0x74 ∷ 0x3D ∷ []) last
+    field (ascii " zero=") nil
+    ++ field (ascii " one=") one
+    ++ field (ascii " last=") last
 
 -- ` pause=p name=`
 unfoldable pub endText : Duration → List ℕ
 endText pause =
-    (0x20 ∷ 0x70 ∷ 0x61 ∷ 0x75 ∷ 0x73 ∷ 0x65 ∷ 0x3D ∷ []) ++ pauseText pause
-    ++ (0x20 ∷ 0x6E ∷ 0x61 ∷ 0x6D ∷ 0x65 ∷ 0x3D ∷ [])
+    ascii " pause=" ++ pauseText pause
+    ++ ascii " name="
 
 unfoldable pub headText : ℕ → Bool → ℕ → ℕ → ℕ → Duration → List ℕ
 headText i selectable nil one last pause = markText i selectable ++ bitsText nil one last ++ endText pause
@@ -65,6 +65,6 @@ unfoldable pub lineOf : ℕ → View → List ℕ
 lineOf i v =
     headText i (v .selectable) (v .zero) (v .one) (v .last) (v .pause)
     ++ hexAll (v .name)
-    ++ (0x20 ∷ 0x64 ∷ 0x61 ∷ 0x74 ∷ 0x61 ∷ 0x3D ∷ []) ++ hexAll (v .bytes)
-    ++ (0x20 ∷ 0x74 ∷ 0x6F ∷ 0x6E ∷ 0x65 ∷ 0x73 ∷ 0x3D ∷ []) ++ tonesText (v .tones)
-    ++ (0x0A ∷ [])
+    ++ ascii " data=" ++ hexAll (v .bytes)
+    ++ ascii " tones=" ++ tonesText (v .tones)
+    ++ ascii "\n"

@@ -14,7 +14,7 @@ read-full-requires c κs = search needs
 slice-aggregate-number-up-to : tie.Need-slice-aggregate-number-up-to
 slice-aggregate-number-up-to c = search needs
 
-number-up-to-requires : tie.Need-number-requires
+number-up-to-requires : tie.Need-number-up-to-requires
 number-up-to-requires c κs = search needs
 
 slice-relend-prefix-run : tie.Need-slice-relend-prefix-run

@@ -1,5 +1,5 @@
 -- `put_left` meets its contract. Assumes nothing.
-use Rattle.tracing.specs.Lines.{ascii, leftText}
+use Rattle.tracing.specs.Lines.{leftText}
 use borrow.Author.Needs.{needs}
 use Rattle.tracing.proofs.put_left.Statement.{statement}
 use Rattle.tracing.proofs.put_left.Tie as tie
@@ -23,7 +23,7 @@ same-length : tie.Need-same-length
 same-length c = search needs
 
 returns : tie.Need-returns
-unfolding leftText ascii
+unfolding leftText
 returns c =
     rw (c .before .before .before .before .before .left .given .1) (c .before .before .put-decimal .ensures)
 
@@ -31,7 +31,7 @@ same-length-2 : tie.Need-same-length-2
 same-length-2 c = search needs
 
 returns-2 : tie.Need-returns-2
-unfolding leftText ascii
+unfolding leftText
 returns-2 c =
     rw (c .before .before .before .before .before .enum-told .given .1) (c .before .before .put-all .ensures)
 

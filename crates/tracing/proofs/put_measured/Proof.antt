@@ -1,5 +1,5 @@
 -- `put_measured` meets its contract. Assumes nothing.
-use Rattle.tracing.specs.Lines.{ascii, measuredLine}
+use Rattle.tracing.specs.Lines.{measuredLine}
 use Rattle.text.proofs.Writing.{then}
 use borrow.Author.Needs.{needs}
 use Rattle.tracing.proofs.put_measured.Statement.{statement}
@@ -63,7 +63,7 @@ same-length : tie.Need-same-length
 same-length c = search needs
 
 returns : tie.Need-returns
-unfolding measuredLine ascii
+unfolding measuredLine
 returns c =
     rw (c .before .before .before .before .before .before .before .before .before .before .answer .given .1) (then (c .before .before .before .before .before .before .put-all .ensures) (c .before .before .put-told .ensures))
 
@@ -71,7 +71,7 @@ same-length-2 : tie.Need-same-length-2
 same-length-2 c = search needs
 
 returns-2 : tie.Need-returns-2
-unfolding measuredLine ascii
+unfolding measuredLine
 returns-2 c =
     rw (c .before .before .before .before .before .before .before .before .before .before .answer2 .given .1) (then (c .before .before .before .before .before .before .put-all2 .ensures) (c .before .before .put-told2 .ensures))
 
@@ -79,7 +79,7 @@ same-length-3 : tie.Need-same-length-3
 same-length-3 c = search needs
 
 returns-3 : tie.Need-returns-3
-unfolding measuredLine ascii
+unfolding measuredLine
 returns-3 c =
     rw (c .before .before .before .before .before .before .before .before .before .before .answer3 .given .1) (then (c .before .before .before .before .before .before .put-all3 .ensures) (c .before .before .put-told3 .ensures))
 
@@ -87,7 +87,7 @@ same-length-4 : tie.Need-same-length-4
 same-length-4 c = search needs
 
 returns-4 : tie.Need-returns-4
-unfolding measuredLine ascii
+unfolding measuredLine
 returns-4 c =
     rw (c .before .before .before .before .before .enum-told .given .1) (c .before .before .put-all4 .ensures)
 
@@ -95,7 +95,7 @@ same-length-5 : tie.Need-same-length-5
 same-length-5 c = search needs
 
 returns-5 : tie.Need-returns-5
-unfolding measuredLine ascii
+unfolding measuredLine
 returns-5 c =
     rw (c .before .before .before .before .before .enum-told2 .given .1) (c .before .before .put-all5 .ensures)
 

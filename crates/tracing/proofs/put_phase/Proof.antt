@@ -1,5 +1,5 @@
 -- `put_phase` meets its contract. Assumes nothing.
-use Rattle.tracing.specs.Lines.{ascii, phaseText}
+use Rattle.tracing.specs.Lines.{phaseText}
 use Rattle.text.proofs.Writing.{then}
 use borrow.Author.Needs.{needs}
 use Rattle.tracing.proofs.put_phase.Statement.{statement}
@@ -51,7 +51,7 @@ same-length : tie.Need-same-length
 same-length c = search needs
 
 returns : tie.Need-returns
-unfolding phaseText ascii
+unfolding phaseText
 returns c =
     rw (c .before .before .before .before .before .enum-told .given .1) (c .before .before .put-all .ensures)
 
@@ -59,7 +59,7 @@ same-length-2 : tie.Need-same-length-2
 same-length-2 c = search needs
 
 returns-2 : tie.Need-returns-2
-unfolding phaseText ascii
+unfolding phaseText
 returns-2 c =
     rw (c .before .before .before .before .before .before .before .before .before .before .f .given .1) (then (c .before .before .before .before .before .before .put-all2 .ensures) (c .before .before .put-numbers .ensures))
 
@@ -67,7 +67,7 @@ same-length-3 : tie.Need-same-length-3
 same-length-3 c = search needs
 
 returns-3 : tie.Need-returns-3
-unfolding phaseText ascii
+unfolding phaseText
 returns-3 c =
     rw (c .before .before .before .before .before .before .before .before .before .before .f2 .given .1) (then (c .before .before .before .before .before .before .put-all3 .ensures) (c .before .before .put-numbers2 .ensures))
 
@@ -75,7 +75,7 @@ same-length-4 : tie.Need-same-length-4
 same-length-4 c = search needs
 
 returns-4 : tie.Need-returns-4
-unfolding phaseText ascii
+unfolding phaseText
 returns-4 c =
     rw (c .before .before .before .before .before .enum-told2 .given .1) (c .before .before .put-all4 .ensures)
 

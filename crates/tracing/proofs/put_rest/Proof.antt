@@ -1,5 +1,5 @@
 -- `put_rest` meets its contract. Assumes nothing.
-use Rattle.tracing.specs.Lines.{ascii, restText}
+use Rattle.tracing.specs.Lines.{restText}
 use Rattle.tracing.proofs.Lengths.{left-length}
 use native.Mathlib.Omega.{arith}
 use Rattle.text.proofs.Writing.{then}
@@ -31,7 +31,7 @@ same-length : tie.Need-same-length
 same-length c = search needs
 
 returns : tie.Need-returns
-unfolding restText ascii
+unfolding restText
 returns c =
     then (then (then (c .before .before .before .before .before .before .before .before .before .before .before .before .before .before .before .put-all .ensures) (c .before .before .before .before .before .before .before .before .before .before .before .put-left .ensures)) (c .before .before .before .before .before .before .put-all2 .ensures)) (c .before .before .put-flag .ensures)
 

@@ -1,5 +1,5 @@
 -- `put_selected` meets its contract. Assumes nothing.
-use Rattle.tracing.specs.Lines.{ascii, selectedText}
+use Rattle.tracing.specs.Lines.{selectedText}
 use borrow.Author.Needs.{needs}
 use Rattle.tracing.proofs.put_selected.Statement.{statement}
 use Rattle.tracing.proofs.put_selected.Tie as tie
@@ -32,7 +32,7 @@ same-length : tie.Need-same-length
 same-length c = search needs
 
 returns : tie.Need-returns
-unfolding selectedText ascii
+unfolding selectedText
 returns c =
     rw (c .before .before .before .before .before .b .given .1) (c .before .before .put-decimal .ensures)
 
@@ -40,7 +40,7 @@ same-length-2 : tie.Need-same-length-2
 same-length-2 c = search needs
 
 returns-2 : tie.Need-returns-2
-unfolding selectedText ascii
+unfolding selectedText
 returns-2 c =
     rw (c .before .before .before .before .before .enum-told .given .1) (c .before .before .put-all .ensures)
 
@@ -48,7 +48,7 @@ same-length-3 : tie.Need-same-length-3
 same-length-3 c = search needs
 
 returns-3 : tie.Need-returns-3
-unfolding selectedText ascii
+unfolding selectedText
 returns-3 c =
     rw (c .before .before .before .before .before .enum-told2 .given .1) (c .before .before .put-all2 .ensures)
 

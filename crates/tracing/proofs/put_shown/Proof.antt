@@ -1,5 +1,5 @@
 -- `put_shown` meets its contract. Assumes nothing.
-use Rattle.tracing.specs.Lines.{ascii, shown}
+use Rattle.tracing.specs.Lines.{shown}
 use Rattle.tracing.proofs.Lengths.{place-length, selected-length}
 use native.Mathlib.Omega.{arith}
 use Rattle.text.proofs.Writing.{then}
@@ -30,7 +30,7 @@ same-length : tie.Need-same-length
 same-length c = search needs
 
 returns : tie.Need-returns
-unfolding shown ascii
+unfolding shown
 returns c =
     then (then (then (c .before .before .before .before .before .before .before .before .before .before .before .before .before .before .before .put-place .ensures) (c .before .before .before .before .before .before .before .before .before .before .put-all .ensures)) (c .before .before .before .before .before .before .put-selected .ensures)) (c .before .before .put .ensures)
 

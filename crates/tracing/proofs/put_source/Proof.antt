@@ -1,5 +1,5 @@
 -- `put_source` meets its contract. Assumes nothing.
-use Rattle.tracing.specs.Lines.{ascii, sourceLine}
+use Rattle.tracing.specs.Lines.{sourceLine}
 use borrow.Author.Needs.{needs}
 use Rattle.tracing.proofs.put_source.Statement.{statement}
 use Rattle.tracing.proofs.put_source.Tie as tie
@@ -47,7 +47,7 @@ same-length : tie.Need-same-length
 same-length c = search needs
 
 returns : tie.Need-returns
-unfolding sourceLine ascii
+unfolding sourceLine
 returns c =
     rw (c .before .before .before .before .before .answer .given .1) (c .before .before .put-shown .ensures)
 
@@ -55,7 +55,7 @@ same-length-2 : tie.Need-same-length-2
 same-length-2 c = search needs
 
 returns-2 : tie.Need-returns-2
-unfolding sourceLine ascii
+unfolding sourceLine
 returns-2 c =
     rw (c .before .before .before .before .before .answer2 .given .1) (c .before .before .put-shown2 .ensures)
 
@@ -63,7 +63,7 @@ same-length-3 : tie.Need-same-length-3
 same-length-3 c = search needs
 
 returns-3 : tie.Need-returns-3
-unfolding sourceLine ascii
+unfolding sourceLine
 returns-3 c =
     rw (c .before .before .before .before .before .enum-told .given .1) (c .before .before .put-all .ensures)
 
@@ -71,7 +71,7 @@ same-length-4 : tie.Need-same-length-4
 same-length-4 c = search needs
 
 returns-4 : tie.Need-returns-4
-unfolding sourceLine ascii
+unfolding sourceLine
 returns-4 c =
     rw (c .before .before .before .before .before .enum-told2 .given .1) (c .before .before .put-all2 .ensures)
 
@@ -79,7 +79,7 @@ same-length-5 : tie.Need-same-length-5
 same-length-5 c = search needs
 
 returns-5 : tie.Need-returns-5
-unfolding sourceLine ascii
+unfolding sourceLine
 returns-5 c =
     rw (c .before .before .before .before .before .enum-told3 .given .1) (c .before .before .put-all3 .ensures)
 

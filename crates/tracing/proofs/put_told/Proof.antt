@@ -1,5 +1,5 @@
 -- `put_told` meets its contract. Assumes nothing.
-use Rattle.tracing.specs.Lines.{ascii, told}
+use Rattle.tracing.specs.Lines.{told}
 use Rattle.text.proofs.Writing.{decimal-length}
 use native.Mathlib.Omega.{arith}
 use Rattle.text.proofs.Writing.{then}
@@ -31,7 +31,7 @@ same-length : tie.Need-same-length
 same-length c = search needs
 
 returns : tie.Need-returns
-unfolding told ascii
+unfolding told
 returns c =
     then (then (then (c .before .before .before .before .before .before .before .before .before .before .before .before .before .before .before .put-all .ensures) (c .before .before .before .before .before .before .before .before .before .before .before .put-decimal .ensures)) (c .before .before .before .before .before .before .put-all2 .ensures)) (c .before .before .put-shown .ensures)
 

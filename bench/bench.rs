@@ -213,6 +213,7 @@ pub mod bench {
         plays("48 KB played whole", &game(48 * 1024), 69888);
         plays("4,096 blocks of 65,534 empty pulses", &looped(4096, &[0x12, 0, 0, 0xfe, 0xff]), 1);
         plays("1,000,000 bytes of no length", &empty_data(1_000_000), 1);
+        plays("a block of 60,000 tone rows", &general(60000), 69888);
         for n in [12, 24, 48, 96] {
             loads(&format!("(growth) {n} KB"), &game(n * 1024 / 2));
         }

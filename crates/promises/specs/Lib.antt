@@ -1,3 +1,4 @@
 pub mod Demands
 pub mod Determined
 pub mod Numbers
+pub mod Four

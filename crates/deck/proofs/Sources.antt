@@ -1,5 +1,5 @@
 -- THE SOURCE'S PLAY OVER TAPES: on well-formed rows it comes to what its turns over the list come to, and agrees with the measured player. Assumes nothing.
-use Prim.Native.Nat.{ℕ, _+_, _-_, _<_}
+use Prim.Native.Nat.{ℕ, _+_, _<_}
 use native.Mathlib.Omega.{arith}
 use borrow.Author.Tests.{ne-eqb}
 use mathlib.Core.Path.{_≡_, sym, ap, _∙_}

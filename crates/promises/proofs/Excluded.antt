@@ -5,7 +5,7 @@ use native.Mathlib.Omega.{arith}
 use mathlib.Core.Path.{_≡_, refl, sym, ap, _∙_}
 use mathlib.Core.Bool.{true, false}
 use mathlib.Core.List.{List, [], _∷_}
-use lib.ListN.{length, replicate}
+use lib.ListN.{replicate}
 use Rattle.fields.specs.Field.{leAt, numberAt, fieldAt, placeOf}
 use Rattle.pulses.specs.Play.{time, comesTo, low, high, answer, rest, over, shown as shownAt, status}
 use Rattle.pulses.specs.Runs.{run}
@@ -31,7 +31,7 @@ use Rattle.walks.specs.declared.Reached.the-variants.{At, Ended}
 use Rattle.walks.specs.Heads.{startAt, stand, placed, levelHere, toldAs, told, walked, walkFrom}
 use Rattle.deck.specs.Deck.{ruledOut, badRow, judged, unless, playMeasured}
 use Rattle.deck.proofs.Answers.{positionIn, passedIn}
-use Rattle.listing.specs.Listing.{shown, timeText, markText, rowText, rowsText, modelText, formatText, countText, loadingText, restText, listingText, loadedOf, Listing, text, refused, mounted, listed, listingOf, answerTo}
+use Rattle.listing.specs.Listing.{shown, timeText, markText, rowText, rowsText, modelText, formatText, countText, loadingText, restText, listingText, loadedOf, Listing, mounted, listed, listingOf, answerTo}
 
 -- an empty tape is listed in 37 bytes, and `00 00` in 67
 lists : (answerTo (listingOf [] 0) (replicate 99 0) ≡ 37) × (answerTo (listingOf (0 ∷ 0 ∷ []) 0) (replicate 99 0) ≡ 67)

@@ -2,7 +2,7 @@
 use Prim.Native.Nat.{ℕ, zero, suc, _+_, _*_, _-_, _/_, _≤_, _<_}
 use native.Mathlib.Omega.{arith}
 use native.Mathlib.Nat.{eq-zero-or-pos}
-use borrow.Author.Tests.{eqb-true, eqb-false, eq-eqb, ne-eqb, leb-true, leb-false, le-leb, lt-leb, ltb-true, ltb-false, lt-ltb}
+use borrow.Author.Tests.{eqb-true, eqb-false, eq-eqb, ne-eqb, leb-true, le-leb, ltb-true, lt-ltb}
 use mathlib.Core.Path.{_≡_, refl, sym, ap, _∙_}
 use mathlib.Core.Bool.{Bool, true, false, _&&_, _||_}
 use mathlib.Core.Logic.{_⊎_, inl, inr, ⊎-elim, _↔_}
@@ -13,8 +13,8 @@ use Rattle.rows.specs.declared.Tone.{Tone}
 use Rattle.pieces.specs.declared.GeneralizedData.{GeneralizedData}
 use Rattle.general.specs.declared.Row.{Row}
 use Rattle.general.specs.declared.Row.the-variants.{Refused, Gives}
-use Rattle.general.specs.General.{Symbol, toneOf, dataSymbol, Part, refused, stops, tones, Given, refused4, stop, plain, toned, before, rowsFrom, cycles, symbolAt, entrySymbol, entryRepeat, entryRow, pilotOf, ordinary, lastBits, numberAt, singleRow, pairRow, singlesOf, pairsOf, dataOf, withData, withPilot, generalOf}
-use Rattle.promises.specs.Four.{BadEntry, symbol, repeat, BadPilot, entry, first, BadData, none, eight, no-bits, no-bits-paired, single, pair, Reached, Four}
+use Rattle.general.specs.General.{Symbol, toneOf, dataSymbol, Part, refused, stops, tones, refused4, plain, before, rowsFrom, cycles, symbolAt, entrySymbol, entryRepeat, entryRow, pilotOf, ordinary, lastBits, numberAt, singleRow, pairRow, singlesOf, pairsOf, dataOf, withData, withPilot, generalOf}
+use Rattle.promises.specs.Four.{BadEntry, symbol, repeat, BadPilot, entry, first, BadData, none, eight, no-bits, no-bits-paired, single, pair, Four}
 
 -- a row of a part that is refused
 pub data Bad (row : ℕ → Row) (from n : ℕ) : Type 0 where

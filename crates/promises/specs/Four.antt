@@ -1,12 +1,12 @@
 -- Document 01's 'Refusal 4 exactly', of a piece that was cut whole, clause by clause. Definitions alone; assumes nothing.
 use Prim.Native.Nat.{ℕ, _*_, _/_, _≤_, _<_}
 use mathlib.Core.Path.{_≡_}
-use mathlib.Core.Bool.{false, _&&_, _||_}
+use mathlib.Core.Bool.{false, _&&_}
 use mathlib.Core.Logic.{_⊎_}
 use mathlib.Core.List.{List}
-use lib.Dec.{ltb, eqb}
+use lib.Dec.{ltb}
 use Rattle.pieces.specs.declared.GeneralizedData.{GeneralizedData}
-use Rattle.general.specs.General.{Part, tones, symbolAt, entrySymbol, entryRepeat, numberAt, ordinary, pilotOf}
+use Rattle.general.specs.General.{tones, symbolAt, entrySymbol, entryRepeat, numberAt, ordinary, pilotOf}
 use Rattle.rows.specs.declared.Tone.{Tone}
 
 module _ (s : List ℕ) (g : GeneralizedData) where

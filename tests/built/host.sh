@@ -1,5 +1,5 @@
 #!/bin/sh
-# The listing from C: each of its refusals; and the C host lists each sample tape on each model as tapes/listings.txt has it. What it needs is built by host/build.
+# The listing from C: each of its refusals; and the C host lists each tape under tapes/ as the program `list` does, for all three models. What it needs is built by host/build.
 set -eu
 cd "$(dirname "$0")/../.."
 . host/kit.sh
@@ -8,12 +8,19 @@ trap 'rm -rf "$room"' EXIT
 link_host "$room/refusals" host/refusals.c target/staticlib/liblisting.a
 run_host "$room/refusals"
 link_host "$room/list" host/list.c target/staticlib/liblisting.a
-grep '^== ' tapes/listings.txt > "$room/wanted"
-while read -r mark tape model; do
-    echo "$mark $tape $model"
-    run_host "$room/list" "$model" "tapes/$tape" < /dev/null
-done < "$room/wanted" > "$room/got"
-cmp "$room/got" tapes/listings.txt || { echo "host.sh: not as tapes/listings.txt has it"; exit 1; }
-seen=$(wc -l < "$room/wanted")
-[ "$seen" -gt 3 ] || { echo "host.sh: no tape in tapes/listings.txt"; exit 1; }
+: > "$room/none"
+{ echo "$room/none"; find tapes -type f | sort; } > "$room/files"
+seen=0
+while IFS= read -r file; do
+    for model in 48K 128K Plus3; do
+        # the program's model byte is the first letter of the model's name, or 3
+        case $model in Plus3) first=3 ;; *) first=${model%"${model#?}"} ;; esac
+        { printf %s "$first"; cat "$file"; } > "$room/in"
+        run_host target/bin/list < "$room/in" > "$room/wanted"
+        run_host "$room/list" "$model" "$file" < /dev/null > "$room/got"
+        cmp "$room/got" "$room/wanted" || { echo "host.sh: $file on a $model"; exit 1; }
+        seen=$((seen + 1))
+    done
+done < "$room/files"
+[ "$seen" -gt 3 ] || { echo "host.sh: no tape under tapes/"; exit 1; }
 echo "host.sh: $seen listings alike"

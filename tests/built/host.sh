@@ -1,8 +1,10 @@
 #!/bin/sh
-# The listing from C: each of its refusals; and the C host lists each tape under tapes/ as the program `list` does, for all three models. What it needs is built by host/build.
+# The listing from C: each of its refusals; and the C host lists each tape under tapes/ as the program `list` does, for all three models.
 set -eu
 cd "$(dirname "$0")/../.."
 . host/kit.sh
+host/build listing
+[ -x target/bin/list ] || rt check list
 room=$(mktemp -d)
 trap 'rm -rf "$room"' EXIT
 link_host "$room/refusals" host/refusals.c target/staticlib/liblisting.a

@@ -1,8 +1,9 @@
 #!/bin/sh
-# A C host over tables of its own: document 01's limits, and what each refusal leaves. What it needs is built by host/build.
+# A C host over tables of its own: document 01's limits, and what each refusal leaves.
 set -eu
 cd "$(dirname "$0")/../.."
 . host/kit.sh
+host/build export
 room=$(mktemp -d)
 trap 'rm -rf "$room"' EXIT
 link_host "$room/limits" host/limits.c target/staticlib/libexport.a

@@ -1,7 +1,3 @@
-pub mod Telling
 pub mod Placing
 pub mod Loading
 pub mod Naming
-pub mod Positions
-pub mod Numbers
-pub mod Readings

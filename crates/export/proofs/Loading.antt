@@ -9,8 +9,9 @@ use Rattle.reader.specs.Source.{Loaded as Load}
 use Rattle.tape.specs.declared.Loaded.{Loaded}
 use Rattle.tape.specs.declared.Loaded.the-variants.{Tape, Refused}
 use Rattle.tape.specs.Load.{Leaves, answerOf, blocksOf, tonesOf}
-use Rattle.export.specs.Export.{numberOf, valuesOf, ofLoaded, loadNumber, loadTable}
-use Rattle.export.proofs.Telling.{tell-refused}
+use Rattle.answers.specs.Answers.{numberOf, valuesOf, ofLoaded}
+use Rattle.export.specs.Export.{loadNumber, loadTable}
+use Rattle.answers.proofs.Telling.{tell-refused}
 
 -- three words hold any answer
 whole : (a : Loaded) (row : List ℕ) → 3 ≤ length row → numberOf (ofLoaded a) row ≡ ofLoaded a .no

@@ -11,8 +11,9 @@ use Rattle.entries.specs.Places.{Tape, blockIn}
 use Rattle.queries.specs.declared.Number.{Number}
 use Rattle.queries.specs.declared.Number.the-variants.{Is, Refused}
 use Rattle.queries.specs.Queries.{refusalOf, numberUnless, sizeOf, nameIn, lengthOr10, nameAnswer, nameBytes}
-use Rattle.export.specs.Export.{numberOf, valuesOf, ofNumber, nameLeft}
-use Rattle.export.proofs.Telling.{tell-refused}
+use Rattle.answers.specs.Answers.{numberOf, valuesOf, ofNumber}
+use Rattle.export.specs.Export.{nameLeft}
+use Rattle.answers.proofs.Telling.{tell-refused}
 
 -- a number for which there is no word
 no-word : (n : ℕ) (row : List ℕ) → length row < 1 → (numberOf (ofNumber (Is n)) row ≡ 10) × (valuesOf (ofNumber (Is n)) row ≡ row)

@@ -10,9 +10,10 @@ use Rattle.queries.specs.declared.Number.{Number}
 use Rattle.queries.specs.declared.Number.the-variants.{Is, Refused}
 use Rattle.queries.specs.Queries.{lenOf}
 use Rattle.walks.specs.declared.Position.{Position}
-use Rattle.export.specs.declared.Placed.the-variants.{Not}
-use Rattle.export.specs.Export.{Answer, refused, numberOf, valuesOf, withPlace}
-use Rattle.export.proofs.Telling.{tell-refused}
+use Rattle.words.specs.declared.Placed.the-variants.{Not}
+use Rattle.answers.specs.Answers.{Answer, refused, numberOf, valuesOf}
+use Rattle.export.specs.Export.{withPlace}
+use Rattle.answers.proofs.Telling.{tell-refused}
 
 by-none : (t : Bool) (n m : ℕ) → Is n ≡ (t ⇒ Refused 11 ∣ Is m) → _≡_ {A = ℕ} 9 (t ⇒ 11 ∣ 9)
 by-none true n m e = cc

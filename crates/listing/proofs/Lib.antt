@@ -1,7 +1,4 @@
-pub mod Shown
 pub mod Texts
-pub mod Lines
-pub mod Total
 pub mod Mounting
 pub mod Numbers
 pub mod Models

@@ -27,7 +27,7 @@ use Rattle.loads.proofs.Well.{table-length, loaded-well}
 use Rattle.loads.proofs.Left.{mounted}
 use Rattle.loads.proofs.Names.{loaded-names}
 use Rattle.tape.specs.declared.Loaded.the-variants as loaded
-use Rattle.listing.specs.Inner.{Ready}
+use Rattle.lines.specs.Inner.{Ready}
 use Rattle.listing.specs.Listing.{blockWords, toneWords, loadedOf, text, refused, mounted as mountedOf, listed, listingText, Listing, listingOf, answerTo, bytesAfter}
 
 -- the load in the words that are lent

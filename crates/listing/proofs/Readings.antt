@@ -21,7 +21,8 @@ use Rattle.names.specs.Names.{isHeader as isHeading, typeName, headerName, size
 use Rattle.entries.specs.Entries.{entryOf, cyclesOf, toneOf, tonesOf as toneEntries, bitsAt, halfOf, byteOf, dataOf, pauseOf, soundOf, entriesOf, lastsOf}
 use Rattle.entries.specs.Places.{listFrom}
 use Rattle.tape.specs.Load.{namedTape, named, loadNamed, blocksOf, tonesOf}
-use Rattle.listing.specs.Listing.{shown, timeText, markText, rowText, rowsText, modelText, formatText, countText, loadingText, restText, listingText, loadedOf, Listing, text, refused, mounted, listed, listingOf}
+use Rattle.lines.specs.Lines.{shown, timeText, markText, rowText, rowsText}
+use Rattle.listing.specs.Listing.{modelText, formatText, countText, loadingText, restText, listingText, loadedOf, Listing, text, refused, mounted, listed, listingOf}
 
 -- a TZX of these pieces
 abbrev pieces : List ℕ → List ℕ

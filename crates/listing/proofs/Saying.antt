@@ -16,8 +16,9 @@ use Rattle.tape.specs.Load.{answerOf, blocksOf, tonesOf, Leaves}
 use Rattle.loads.specs.Sizes.{Bytes}
 use Rattle.listing.specs.Listing.{blockWords, toneWords, loadedOf, Listing, text, refused, mounted, listed, listingOf, answerTo, bytesAfter}
 use Rattle.listing.specs.Printed.{refusedText, printedOf, Says}
-use Rattle.listing.proofs.Shown.{name-part}
-use Rattle.listing.proofs.Texts.{decimal-long, text-most}
+use Rattle.lines.proofs.Shown.{name-part}
+use Rattle.lines.proofs.Texts.{decimal-long}
+use Rattle.listing.proofs.Texts.{text-most}
 use Rattle.listing.proofs.Mounting.{load-ready}
 use Rattle.listing.proofs.Numbers.{Tells, refusal, no-room, listing, listing-sized, tells-number}
 

@@ -1,64 +1,8 @@
--- What the contracts of a listing's inner functions cite: a name's code points, and what every load's tape has. Definitions alone; assumes nothing.
-use Prim.Native.Nat.{ℕ, _+_, _*_, _≤_, _<_}
-use mathlib.Core.Path.{_≡_}
-use mathlib.Core.Bool.{Bool, true, false, _&&_, _||_}
-use mathlib.Core.List.{List, [], _∷_, _++_}
-use lib.ListN.{length, getD}
-use lib.Dec.{ltb, eqb}
-use Rattle.laws.specs.Rules.{_⇒_, _∣_}
+-- What the contract of the last line's function cites. Definitions alone; assumes nothing.
+use Prim.Native.Nat.{ℕ}
+use mathlib.Core.List.{List, _++_}
 use Rattle.text.specs.Out.{ascii, decimal}
-use Rattle.rows.specs.declared.Block.{Block}
-use Rattle.rows.specs.Table.{get}
-use Rattle.rows.specs.Rows.{block}
-use Rattle.rows.specs.Well.{wellBlock}
-use Rattle.names.specs.Names.{nameOf}
-use Rattle.entries.specs.declared.Duration.{Duration}
-use Rattle.entries.specs.declared.Duration.the-variants.{T, Endless}
-use Rattle.entries.specs.Mounted.{sizeOf}
-use Rattle.listing.specs.declared.Told.{Told}
-use Rattle.listing.specs.Listing.{shown, timeText, markText}
-
--- a code point from 128 to 159 begins at i
-abbrev pub isC1 : List ℕ → ℕ → Bool
-isC1 s i = ltb (i + 1) (length s) ⇒ (eqb (getD s i 0) 0xC2 && ltb (getD s (i + 1) 0) 0xA0) ∣ false
-
--- what prints for it, or for the byte b, and how many bytes it takes
-abbrev pub printed : Bool → ℕ → ℕ
-printed c1 b = c1 ⇒ 0x3F ∣ (ltb b 32 || eqb b 127) ⇒ 0x3F ∣ b
-
-abbrev pub width : Bool → ℕ
-width c1 = c1 ⇒ 2 ∣ 1
-
--- a row's line in two parts: number, mark and size; T-states and name
-abbrev pub headText : ℕ → Block → List ℕ
-headText i r = decimal i ++ ascii " " ++ markText (eqb (r .selectable) 1) ++ ascii " " ++ decimal (r .size) ++ ascii " "
-
-abbrev pub tailText : Duration → List ℕ → List ℕ
-tailText d name = timeText d ++ ascii " " ++ shown name ++ ascii "\n"
 
 -- the last line, of a number
 abbrev pub totalText : ℕ → List ℕ
 totalText n = ascii "time " ++ decimal n ++ ascii "\n"
-
--- what a row lasts by its sound's T-states
-abbrev pub lastsBy : ℕ → Block → Duration
-lastsBy sound r = eqb (r .endless) 1 ⇒ Endless ∣ T (sound + r .pause)
-
--- one row more, whose text ends at `at`: nothing behind a stop counts
-abbrev pub toldBy : Told → ℕ → ℕ → Block → Told
-toldBy s at sound r = record {
-  at = at;
-  sum = s .over ⇒ s .sum ∣ eqb (r .endless) 1 ⇒ s .sum + sound ∣ s .sum + sound + r .pause;
-  over = s .over || eqb (r .endless) 1;
-}
-
--- row i is lent and well formed, and its name is at most 510 bytes long
-pub record ReadyRow (bytes tones blocks : List ℕ) (i : ℕ) : Type 0 where
-  pub lent : i * block .width + block .width ≤ length blocks
-  pub well : wellBlock (sizeOf bytes) tones (get block blocks i) ≡ true
-  pub short : length (nameOf bytes (get block blocks i)) ≤ 510
-
--- so is each of the first n, which are at most 512
-pub record Ready (bytes tones blocks : List ℕ) (n : ℕ) : Type 0 where
-  pub few : n ≤ 512
-  pub rows : (i : ℕ) → i < n → ReadyRow bytes tones blocks i

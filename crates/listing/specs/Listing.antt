@@ -1,55 +1,19 @@
 -- The listing, document 01's 'Listing': its text over a mounted tape, and what the exported function answers. Definitions alone; assumes nothing.
-use Prim.Native.Nat.{ℕ, zero, suc, _+_}
-use mathlib.Core.Bool.{Bool, _&&_, _||_}
-use mathlib.Core.List.{List, [], _∷_, _++_}
+use Prim.Native.Nat.{ℕ}
+use mathlib.Core.List.{List, _++_}
 use lib.Dec.{ltb, leb, eqb}
 use lib.ListN.{length}
 use Rattle.laws.specs.Rules.{_⇒_, _∣_}
 use Rattle.pulses.specs.Play.{time}
 use Rattle.text.specs.Out.{ascii, decimal, fits, told}
-use Rattle.entries.specs.declared.Duration.{Duration}
-use Rattle.entries.specs.declared.Duration.the-variants.{T, Endless}
-use Rattle.entries.specs.Entries.{entriesOf, lastsOf}
-use Rattle.entries.specs.Places.{Tape, blockIn, listFrom}
+use Rattle.entries.specs.Places.{Tape, listFrom}
 use Rattle.entries.specs.Mounted.{tapeOf}
-use Rattle.names.specs.Names.{nameOf}
 use Rattle.blocks.specs.Adds.{Lent}
 use Rattle.reader.specs.Source.{Loaded as Load, tzx, tapped, no}
 use Rattle.tape.specs.declared.Format.{Format}
 use Rattle.tape.specs.declared.Format.the-variants.{Tap, Tzx}
 use Rattle.tape.specs.Load.{loadNamed, blocksOf, tonesOf}
-
--- code points below 32 and 127 to 159 print as `?`; in UTF-8 those from 128 to 159 are C2 and a byte below A0
-unfoldable pub shown : List ℕ → List ℕ
-shown [] = []
-shown (b ∷ []) = (ltb b 32 || eqb b 127) ⇒ ascii "?" ∣ (b ∷ [])
-shown (b ∷ c ∷ bs) =
-    (eqb b 0xC2 && ltb c 0xA0) ⇒ 0x3F ∷ shown bs
-    ∣ (ltb b 32 || eqb b 127) ⇒ 0x3F ∷ shown (c ∷ bs)
-    ∣ b ∷ shown (c ∷ bs)
-
--- T-states (`stop` if endless)
-unfoldable pub timeText : Duration → List ℕ
-timeText (T n) = decimal n
-timeText Endless = ascii "stop"
-
--- selectable mark (`*` or `-`)
-unfoldable pub markText : Bool → List ℕ
-markText selectable = selectable ⇒ ascii "*" ∣ ascii "-"
-
--- A ROW has number, selectable mark, data size, T-states, name
-unfoldable pub rowText : Tape → ℕ → List ℕ
-rowText w i =
-    decimal i ++ ascii " "
-    ++ markText (eqb (blockIn w i .selectable) 1) ++ ascii " "
-    ++ decimal (blockIn w i .size) ++ ascii " "
-    ++ timeText (lastsOf (entriesOf (w .bytes) (w .tones) i (blockIn w i))) ++ ascii " "
-    ++ shown (nameOf (w .bytes) (blockIn w i)) ++ ascii "\n"
-
--- the first n rows
-unfoldable pub rowsText : Tape → ℕ → List ℕ
-rowsText w zero = []
-rowsText w (suc n) = rowsText w n ++ rowText w n
+use Rattle.lines.specs.Lines.{rowsText}
 
 -- models print as 48K, 128K, Plus3
 unfoldable pub modelText : ℕ → List ℕ

@@ -2,7 +2,8 @@
 use native.Mathlib.Omega.{arith}
 use borrow.Author.Needs.{needs}
 use Rattle.entries.specs.Mounted.{tapeOf}
-use Rattle.listing.proofs.Texts.{model-long, count-long, rows-most, listing-written}
+use Rattle.lines.proofs.Texts.{rows-most}
+use Rattle.listing.proofs.Texts.{model-long, count-long, listing-written}
 use Rattle.listing.proofs.put_listing.Statement.{statement}
 use Rattle.listing.proofs.put_listing.Tie as tie
 

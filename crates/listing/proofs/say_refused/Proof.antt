@@ -3,7 +3,7 @@ use native.Mathlib.Omega.{arith}
 use borrow.Author.Needs.{needs}
 use Rattle.text.proofs.Writing.{then}
 use Rattle.listing.proofs.Saying.{refused-most, says-written}
-use Rattle.listing.proofs.Texts.{decimal-long}
+use Rattle.lines.proofs.Texts.{decimal-long}
 use Rattle.listing.specs.Printed.{refusedText}
 use Rattle.listing.proofs.say_refused.Statement.{statement}
 use Rattle.listing.proofs.say_refused.Tie as tie

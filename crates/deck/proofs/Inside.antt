@@ -15,7 +15,7 @@ use Rattle.walks.specs.declared.Position.{Position}
 use Rattle.walks.specs.declared.Reached.the-variants.{At}
 use Rattle.walks.specs.Heads.{placed, stand, walkFrom, Walkable}
 use Rattle.walks.proofs.Turns.{cutOf, rows-of, on-first, leaves-at}
-use Rattle.walks.proofs.Drops.{dropped-short}
+use Rattle.drops.proofs.Drops.{dropped-short}
 use Rattle.deck.specs.Deck.{sourceFrom}
 use Rattle.deck.specs.Inside.{inside, lessBy, inPlace}
 use Rattle.deck.proofs.Sourced.{source-walk}

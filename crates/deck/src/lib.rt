@@ -1,4 +1,5 @@
 // The players of a mounted tape: the measured one and the source's, by value and over a lent head.
+use drops::ran_ahead;
 use entries::Duration;
 use entries::Phase;
 use entries::has_entry;
@@ -13,7 +14,6 @@ use walks::Position;
 use walks::Reached;
 use walks::Stand;
 use walks::ends;
-use walks::ran_ahead;
 use walks::walk;
 ghost use mathlib.Core.Path.{_≡_};
 ghost use mathlib.Core.Bool.{true, _&&_};

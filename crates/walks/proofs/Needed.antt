@@ -20,7 +20,7 @@ use Rattle.entries.proofs.Runs.{tone-length, byte-length}
 use Rattle.entries.proofs.Bounds.{bits-most}
 use Rattle.entries.proofs.Parts.{left-part}
 use Rattle.entries.specs.Mounted.{sizeOf, wellRow, firstBad, cutTo}
-use Rattle.walks.proofs.Facts.{tone-small}
+use Rattle.steps.proofs.Facts.{tone-small}
 
 -- items of at most c entries each
 run-most : {A : Type 0} (item : ℕ → List (Entry A)) (c p m : ℕ) → ((i : ℕ) → p ≤ i → i < p + m → length (item i) ≤ c) → length (run item p m) ≤ m * c

@@ -23,14 +23,14 @@ use Rattle.entries.proofs.Valid.{Stands, remains-full, stands-valid, start-vali
 use Rattle.entries.proofs.Follows.{list-out}
 use Rattle.entries.proofs.Parts.{left-part}
 use Rattle.walks.specs.declared.Position.{Position}
-use Rattle.walks.specs.declared.Step.{Step}
+use Rattle.steps.specs.declared.Step.{Step}
 use Rattle.walks.specs.declared.Reached.the-variants.{At, Stopped, Ended}
 use Rattle.walks.specs.declared.Reached.{Reached}
 use Rattle.walks.specs.declared.Next.the-variants.{Into, Left}
-use Rattle.walks.specs.Steps.{takeOf}
+use Rattle.steps.specs.Steps.{takeOf}
 use Rattle.entries.specs.Mounted.{sizeOf, wellRow, firstBad, cutTo}
 use Rattle.walks.specs.Heads.{placed, startAt, stand, walked, nextOf, Walkable}
-use Rattle.walks.proofs.Leaps.{Took, took}
+use Rattle.steps.proofs.Leaps.{Took, took}
 use Rattle.walks.proofs.Needed.{Needs, needed, well-before, bad-there, few-entries}
 use Rattle.walks.proofs.Leaves.{tells-at, tells-stop, tells-next, tells-end, tells-bad}
 

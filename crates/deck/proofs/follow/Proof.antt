@@ -2,7 +2,7 @@
 use Rattle.deck.proofs.Sourced.{source-walk}
 use Rattle.deck.proofs.Checks as checks
 use Rattle.deck.proofs.Inside.{inside-source}
-use Rattle.walks.proofs.Drops.{dropped-most}
+use Rattle.drops.proofs.Drops.{dropped-most}
 use Rattle.walks.specs.Heads.{walkFrom}
 use borrow.Author.Tests.{eq-eqb, ne-eqb}
 use Rattle.entries.specs.Mounted.{tapeOf}

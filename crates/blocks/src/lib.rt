@@ -2,7 +2,7 @@
 use fields::Cursor;
 use fields::field;
 use general::Made;
-use general::general;
+use made::general;
 use parser::State;
 use parser::Step;
 use parser::add_block;

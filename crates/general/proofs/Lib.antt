@@ -1,7 +1,6 @@
-mod Symbols
-mod Parts
-mod Loops
-mod Given
-mod Answers
+pub mod Symbols
+pub mod Parts
+pub mod Loops
+pub mod Given
 pub mod Holding
 pub mod Examples

@@ -1,11 +1,11 @@
 -- `pause_block` meets its contract. Assumes nothing.
 use Rattle.blocks.proofs.Laws.{does-add}
 use Rattle.blocks.specs.Blocks.{pauseBlock, pauseOrStop}
 use borrow.Author.Tests.{eq-eqb, ne-eqb}
 use mathlib.Core.List.{[]}
 use borrow.Author.Needs.{needs}
-use Rattle.blocks.proofs.pause_block.Statement.{statement}
-use Rattle.blocks.proofs.pause_block.Tie as tie
+use Rattle.stops.proofs.pause_block.Statement.{statement}
+use Rattle.stops.proofs.pause_block.Tie as tie
 
 stop-row-requires : tie.Need-stop-row-requires
 stop-row-requires c κs = search needs

@@ -1,10 +1,10 @@
 -- `turbo_data_block` meets its contract. Assumes nothing.
 use native.Mathlib.Omega.{arith}
 use Rattle.blocks.proofs.Laws.{does-add}
 use Rattle.blocks.specs.Blocks.{turboTones, turboBlock}
 use borrow.Author.Needs.{needs}
-use Rattle.blocks.proofs.turbo_data_block.Statement.{statement}
-use Rattle.blocks.proofs.turbo_data_block.Tie as tie
+use Rattle.tones.proofs.turbo_data_block.Statement.{statement}
+use Rattle.tones.proofs.turbo_data_block.Tie as tie
 
 cast-born : tie.Need-cast-born
 cast-born c = search needs

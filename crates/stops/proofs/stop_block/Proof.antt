@@ -1,10 +1,10 @@
 -- `stop_block` meets its contract. Assumes nothing.
 use Rattle.blocks.proofs.Laws.{does-add}
 use Rattle.blocks.specs.Blocks.{stopBlock}
 use mathlib.Core.List.{[]}
 use borrow.Author.Needs.{needs}
-use Rattle.blocks.proofs.stop_block.Statement.{statement}
-use Rattle.blocks.proofs.stop_block.Tie as tie
+use Rattle.stops.proofs.stop_block.Statement.{statement}
+use Rattle.stops.proofs.stop_block.Tie as tie
 
 stop-row-requires : tie.Need-stop-row-requires
 stop-row-requires c κs = search needs

@@ -1,9 +1,9 @@
 -- `pure_data_block` meets its contract. Assumes nothing.
 use Rattle.blocks.proofs.Laws.{does-add}
 use Rattle.blocks.specs.Blocks.{pureTones, pureBlock}
 use borrow.Author.Needs.{needs}
-use Rattle.blocks.proofs.pure_data_block.Statement.{statement}
-use Rattle.blocks.proofs.pure_data_block.Tie as tie
+use Rattle.tones.proofs.pure_data_block.Statement.{statement}
+use Rattle.tones.proofs.pure_data_block.Tie as tie
 
 mul-born : tie.Need-mul-born
 mul-born c = search needs

@@ -1,9 +1,9 @@
 -- `generalized_data_block` meets its contract. Assumes nothing.
-use Rattle.blocks.proofs.Generals.{data-fits, tones-fit, general-no4, general-no5, general-stop, general-data, general-tones}
+use Rattle.signals.proofs.Generals.{data-fits, tones-fit, general-no4, general-no5, general-stop, general-data, general-tones}
 use native.Mathlib.Omega.{arith}
 use borrow.Author.Needs.{needs}
-use Rattle.blocks.proofs.generalized_data_block.Statement.{statement}
-use Rattle.blocks.proofs.generalized_data_block.Tie as tie
+use Rattle.signals.proofs.generalized_data_block.Statement.{statement}
+use Rattle.signals.proofs.generalized_data_block.Tie as tie
 
 general-requires : tie.Need-general-requires
 general-requires c κs = search needs

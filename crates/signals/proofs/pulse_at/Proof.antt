@@ -1,12 +1,12 @@
 -- `pulse_at` meets its contract. Assumes nothing.
 use Rattle.fields.proofs.Runs.{field-there}
 use Rattle.fields.specs.Field.{numberAt}
 use Rattle.blocks.specs.Blocks.{pulseAt}
 use Prim.Native.Nat.{_+_, _*_}
 use native.Mathlib.Omega.{arith}
 use borrow.Author.Needs.{needs}
-use Rattle.blocks.proofs.pulse_at.Statement.{statement}
-use Rattle.blocks.proofs.pulse_at.Tie as tie
+use Rattle.signals.proofs.pulse_at.Statement.{statement}
+use Rattle.signals.proofs.pulse_at.Tie as tie
 
 mul-t5 : tie.Need-mul-t5
 mul-t5 c = search needs

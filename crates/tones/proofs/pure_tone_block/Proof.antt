@@ -1,10 +1,10 @@
 -- `pure_tone_block` meets its contract. Assumes nothing.
 use Rattle.blocks.proofs.Laws.{does-add}
 use borrow.Author.Tests.{eq-eqb, ne-eqb}
 use Rattle.blocks.specs.Blocks.{pureToneTones, soundOnly}
 use borrow.Author.Needs.{needs}
-use Rattle.blocks.proofs.pure_tone_block.Statement.{statement}
-use Rattle.blocks.proofs.pure_tone_block.Tie as tie
+use Rattle.tones.proofs.pure_tone_block.Statement.{statement}
+use Rattle.tones.proofs.pure_tone_block.Tie as tie
 
 cast-t11 : tie.Need-cast-t11
 cast-t11 c = search needs

@@ -8,12 +8,12 @@ use borrow.Author.Needs.{needs}
 use Rattle.parser.specs.Parser.{Tape}
 use Rattle.parser.specs.Holds.{Holds}
 use Rattle.parser.proofs.Laws.{Going, going-starts, going-on, going-no, going-ends}
 use Rattle.blocks.specs.Blocks.{toneOf, soundOnly, pulseAt}
 use Rattle.blocks.specs.Adds.{add, addPairs}
 use Rattle.blocks.specs.Does.{lentOf}
 use Rattle.blocks.proofs.Laws.{Any, does-add, pairs-more}
-use Rattle.blocks.proofs.pulse_blocks.Statement.{statement}
-use Rattle.blocks.proofs.pulse_blocks.Tie as tie
+use Rattle.signals.proofs.pulse_blocks.Statement.{statement}
+use Rattle.signals.proofs.pulse_blocks.Tie as tie
 
 abbrev Inv-loop : tie.InvT-loop
 Inv-loop tape blocks₀ tones₀ from n s₀ i₀ left₀ blocks tones s i left =

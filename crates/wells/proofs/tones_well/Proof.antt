@@ -3,11 +3,11 @@ use Prim.Native.Nat.{_+_}
 use native.Mathlib.Omega.{arith}
 use mathlib.Core.Path.{_≡_, refl, ap, _∙_}
 use borrow.Author.Needs.{needs}
 use Rattle.rows.specs.Well.{wellTone, wellTones}
 use Rattle.rows.proofs.Clauses.{failed, passed}
 use Rattle.rows.proofs.WellLaws.{tones-turn}
-use Rattle.rows.proofs.tones_well.Statement.{statement}
-use Rattle.rows.proofs.tones_well.Tie as tie
+use Rattle.wells.proofs.tones_well.Statement.{statement}
+use Rattle.wells.proofs.tones_well.Tie as tie
 
 abbrev Inv-loop : tie.InvT-loop
 Inv-loop tones from n i₀ left₀ i left = (i + left ≡ from + n) × (wellTones tones i left ≡ wellTones tones from n)

@@ -1,8 +1,8 @@
 -- `rows::tone_well` meets its contract: each test decides its clause. Assumes nothing.
 use borrow.Author.Tests.{le-leb, lt-leb}
 use Rattle.rows.specs.Well.{wellTone}
-use Rattle.rows.proofs.tone_well.Statement.{statement}
-use Rattle.rows.proofs.tone_well.Tie as tie
+use Rattle.wells.proofs.tone_well.Statement.{statement}
+use Rattle.wells.proofs.tone_well.Tie as tie
 
 returns : tie.Need-returns
 unfolding wellTone

@@ -1,10 +1,10 @@
 -- `rows::numbers_well` meets its contract: each test or call decides its clause. Assumes nothing.
 use borrow.Author.Tests.{le-leb, lt-leb}
 use borrow.Author.Needs.{needs}
 use Rattle.rows.specs.Well.{wellNumbers}
 use Rattle.rows.proofs.Clauses.{failed, passed}
-use Rattle.rows.proofs.numbers_well.Statement.{statement}
-use Rattle.rows.proofs.numbers_well.Tie as tie
+use Rattle.wells.proofs.numbers_well.Statement.{statement}
+use Rattle.wells.proofs.numbers_well.Tie as tie
 
 returns : tie.Need-returns
 unfolding wellNumbers

@@ -1,10 +1,10 @@
 -- `rows::block_well` meets its contract: each call decides its clause; that the tone range is inside the table gives what `tones_well` asks. Assumes nothing.
 use borrow.Author.Needs.{needs}
 use Rattle.rows.specs.Well.{wellBlock}
 use Rattle.rows.proofs.WellLaws.{tones-lent}
 use Rattle.rows.proofs.Clauses.{failed, passed}
-use Rattle.rows.proofs.block_well.Statement.{statement}
-use Rattle.rows.proofs.block_well.Tie as tie
+use Rattle.wells.proofs.block_well.Statement.{statement}
+use Rattle.wells.proofs.block_well.Tie as tie
 
 ranges-well-requires : tie.Need-ranges-well-requires
 ranges-well-requires c κs = search needs

@@ -5,8 +5,8 @@ use mathlib.Core.Path.{_≡_, refl, sym}
 use mathlib.Core.Bool.{Bool, true, false}
 use lib.Dec.{leb}
 use borrow.Author.Tests.{leb-true, leb-false, le-leb, lt-leb}
-use Rattle.rows.proofs.ranges.Statement.{statement}
-use Rattle.rows.proofs.ranges.Tie as tie
+use Rattle.wells.proofs.ranges.Statement.{statement}
+use Rattle.wells.proofs.ranges.Tie as tie
 
 after-start : (from n most : ℕ) → from ≤ most → (b : Bool) → leb n (most - from) ≡ b → b ≡ leb (from + n) most
 after-start from n most h true e = sym (le-leb (from + n) most (omega (arith, leb-true n (most - from) e)))

@@ -1,9 +1,9 @@
 -- `rows::ranges_well` meets its contract: each call decides its clause. Assumes nothing.
 use borrow.Author.Needs.{needs}
 use Rattle.rows.specs.Well.{wellRanges}
 use Rattle.rows.proofs.Clauses.{failed, passed}
-use Rattle.rows.proofs.ranges_well.Statement.{statement}
-use Rattle.rows.proofs.ranges_well.Tie as tie
+use Rattle.wells.proofs.ranges_well.Statement.{statement}
+use Rattle.wells.proofs.ranges_well.Tie as tie
 
 tone-capacity-requires : tie.Need-tone-capacity-requires
 tone-capacity-requires c κs = search needs

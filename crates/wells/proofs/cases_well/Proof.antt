@@ -1,8 +1,8 @@
 -- `rows::cases_well` meets its contract: each test decides its clause. Assumes nothing.
 use borrow.Author.Tests.{le-leb, lt-leb}
 use Rattle.rows.specs.Well.{wellCases}
-use Rattle.rows.proofs.cases_well.Statement.{statement}
-use Rattle.rows.proofs.cases_well.Tie as tie
+use Rattle.wells.proofs.cases_well.Statement.{statement}
+use Rattle.wells.proofs.cases_well.Tie as tie
 
 returns : tie.Need-returns
 unfolding wellCases

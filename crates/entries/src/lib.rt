@@ -2,8 +2,8 @@
 use rows::Block;
 use rows::Tone;
 use rows::block_at;
-use rows::block_well;
 use rows::tone_at;
+use wells::block_well;
 ghost use mathlib.Core.Path.{_≡_};
 ghost use mathlib.Core.Bool.{true, _&&_};
 ghost use Prim.Native.Nat.{ℕ, _+_, _*_, _<_, _≤_, max, min};

@@ -88,7 +88,7 @@ pub fn alphabet(tape: &[u8], place: u64, n: u32, pulses: u32) -> [[u16; 2]; SYMB
     a
 }
 
-// How many numbers k bits can have; its callers know them to be fewer than 8.
+// How many numbers k bits can have, which its callers know to be fewer than 8 bits.
 pub fn power(k: u32) -> u32
     requires { ⌜ k < 8 ⌝ }
     ensures { λ r. ⌜ r ≡ 2 ^ k ⌝ }

@@ -1,14 +1,7 @@
 // The source reading: what the Rust makes of each piece, and the run over a TZX or a TAP.
-use blocks::generalized_data_block;
 use blocks::is_header;
-use blocks::pause_block;
-use blocks::pulse_blocks;
-use blocks::pure_data_block;
-use blocks::pure_tone_block;
 use blocks::standard_data_block;
 use blocks::standard_pause;
-use blocks::stop_on_48;
-use blocks::turbo_data_block;
 use parser::State;
 use parser::Step;
 use parser::group_end;
@@ -26,6 +19,13 @@ use pieces::cut_tap;
 use pieces::head;
 use rows::Block;
 use rows::block_at;
+use signals::generalized_data_block;
+use signals::pulse_blocks;
+use stops::pause_block;
+use stops::stop_on_48;
+use tones::pure_data_block;
+use tones::pure_tone_block;
+use tones::turbo_data_block;
 ghost use mathlib.Core.Path.{_≡_};
 ghost use mathlib.Core.Bool.{_&&_};
 ghost use mathlib.Core.List.{List};

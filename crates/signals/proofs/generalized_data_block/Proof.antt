@@ -1,0 +1,158 @@
+-- `generalized_data_block` meets its contract. Assumes nothing.
+use Rattle.signals.proofs.Generals.{data-fits, tones-fit, general-no4, general-no5, general-stop, general-data, general-tones}
+use native.Mathlib.Omega.{arith}
+use borrow.Author.Needs.{needs}
+use Rattle.signals.proofs.generalized_data_block.Statement.{statement}
+use Rattle.signals.proofs.generalized_data_block.Tie as tie
+
+general-requires : tie.Need-general-requires
+general-requires c κs = search needs
+
+enum-told : tie.Need-enum-told
+enum-told c = search needs
+
+enum-told-2 : tie.Need-enum-told-2
+enum-told-2 c = search needs
+
+enum-told-3 : tie.Need-enum-told-3
+enum-told-3 c = search needs
+
+stop-block-requires : tie.Need-stop-block-requires
+stop-block-requires c κs = search needs
+
+enum-known-rows : tie.Need-enum-known-rows
+enum-known-rows c = search needs
+
+cast-born : tie.Need-cast-born
+cast-born c = search needs
+
+cast-born-2 : tie.Need-cast-born-2
+cast-born-2 c = search needs
+
+cast-born-3 : tie.Need-cast-born-3
+cast-born-3 c = search needs
+
+cast-born-4 : tie.Need-cast-born-4
+cast-born-4 c = search needs
+
+mul-born : tie.Need-mul-born
+mul-born c = search needs
+
+born-requires : tie.Need-born-requires
+born-requires c κs = search needs
+
+add-with-used : tie.Need-add-with-used
+add-with-used c =
+    omega (arith, data-fits (c .before .before .before .before .before .before .before .before .general .ensures) (c .before .before .before .before .rows .given .1), c .before .before .before .before .before .before .before .before .before .before .before .before .before .good .1 .0)
+
+with-used-requires : tie.Need-with-used-requires
+with-used-requires c κs = search needs
+
+add-block-requires : tie.Need-add-block-requires
+add-block-requires c κs = search needs
+
+enum-known-rows-2 : tie.Need-enum-known-rows-2
+enum-known-rows-2 c = search needs
+
+cast-born-5 : tie.Need-cast-born-5
+cast-born-5 c = search needs
+
+mul-born-2 : tie.Need-mul-born-2
+mul-born-2 c = search needs
+
+born-requires-2 : tie.Need-born-requires-2
+born-requires-2 c κs = search needs
+
+add-with-used-2 : tie.Need-add-with-used-2
+add-with-used-2 c =
+    omega (arith, tones-fit (c .before .before .before .before .before .before .before .before .general .ensures) (c .before .before .before .before .rows2 .given .1), c .before .before .before .before .before .before .before .before .before .before .before .before .before .good .1 .0)
+
+with-used-requires-2 : tie.Need-with-used-requires-2
+with-used-requires-2 c κs = search needs
+
+add-block-requires-2 : tie.Need-add-block-requires-2
+add-block-requires-2 c κs = search needs
+
+same-length : tie.Need-same-length
+same-length c = search needs
+
+returns : tie.Need-returns
+returns c =
+    λ B N t h. general-no4 h _ (c .before .before .before .before .general .ensures) (c .enum-told .given .1)
+
+same-length-2 : tie.Need-same-length-2
+same-length-2 c = search needs
+
+returns-2 : tie.Need-returns-2
+returns-2 c =
+    λ B N t h. general-no5 h _ (c .before .before .before .before .general .ensures) (c .enum-told2 .given .1)
+
+same-length-3 : tie.Need-same-length-3
+same-length-3 c = search needs
+
+same-length-4 : tie.Need-same-length-4
+same-length-4 c = search needs
+
+returns-3 : tie.Need-returns-3
+returns-3 c =
+    λ B N t h. general-stop h _ (c .before .before .before .before .before .before .before .before .general .ensures) (c .before .before .before .before .enum-told3 .given .1) (c .before .before .stop-block .ensures _ B N t h)
+
+same-length-5 : tie.Need-same-length-5
+same-length-5 c = search needs
+
+same-length-6 : tie.Need-same-length-6
+same-length-6 c = search needs
+
+returns-4 : tie.Need-returns-4
+returns-4 c =
+    λ B N t h. general-data h _ (c .before .before .before .before .before .before .before .before .before .before .before .before .before .general .ensures) (c .before .before .before .before .before .before .before .before .before .rows .given .1) (c .before .before .before .before .before .before .before .before .before .before .before .before .before .general .kept .1 .1 .0) (c .before .before .before .before .with-used .ensures) (c .before .before .before .before .before .before .born .ensures) (c .before .before .add-block .ensures B N _)
+
+same-length-7 : tie.Need-same-length-7
+same-length-7 c = search needs
+
+same-length-8 : tie.Need-same-length-8
+same-length-8 c = search needs
+
+returns-5 : tie.Need-returns-5
+returns-5 c =
+    λ B N t h. general-tones h _ (c .before .before .before .before .before .before .before .before .before .before .before .before .before .general .ensures) (c .before .before .before .before .before .before .before .before .before .rows2 .given .1) (c .before .before .before .before .before .before .before .before .before .before .before .before .before .general .kept .1 .1 .0) (c .before .before .before .before .with-used2 .ensures) (c .before .before .before .before .before .before .born2 .ensures) (c .before .before .add-block2 .ensures B N _)
+
+pub generalized-data-block-spec : {M : Type 1} → statement M
+generalized-data-block-spec =
+    tie.close
+    (tie.spec
+    general-requires
+    enum-told
+    enum-told-2
+    enum-told-3
+    stop-block-requires
+    enum-known-rows
+    cast-born
+    cast-born-2
+    cast-born-3
+    cast-born-4
+    mul-born
+    born-requires
+    add-with-used
+    with-used-requires
+    add-block-requires
+    enum-known-rows-2
+    cast-born-5
+    mul-born-2
+    born-requires-2
+    add-with-used-2
+    with-used-requires-2
+    add-block-requires-2
+    same-length
+    returns
+    same-length-2
+    returns-2
+    same-length-3
+    same-length-4
+    returns-3
+    same-length-5
+    same-length-6
+    returns-4
+    same-length-7
+    same-length-8
+    returns-5)

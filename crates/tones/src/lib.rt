@@ -1,0 +1,106 @@
+// The blocks of pieces that have their tones in numbers: turbo data (11), a pure tone (12), pure data (14). The reading alone calls them.
+use blocks::born;
+use blocks::one_tone;
+use blocks::two_tones;
+use parser::State;
+use parser::Step;
+use pieces::TurboData;
+use rows::Tone;
+ghost use lib.ListN.{length};
+ghost use Rattle.blocks.specs.Blocks.{turboTones, turboBlock, pureTones, pureBlock, pureToneTones, soundOnly};
+ghost use Rattle.blocks.specs.Adds.{add};
+ghost use Rattle.blocks.specs.Does.{Does};
+
+// 11
+pub fn turbo_data_block(s: State, blocks: &mut [u64], tones: &mut [u64], d: TurboData) -> Step
+    ensures { λ x. ⌜ Does (λ lent. add lent (turboTones d) (turboBlock d)) s x (now (blocks .entry)) (now (tones .entry)) (now (blocks .exit)) (now (tones .exit)) ⌝ }
+{
+    let pilot = Tone {
+        num: (d.pilots as u64 + 1) / 2,
+        len1: d.pilot as u64,
+        len2: d.pilot as u64,
+    };
+    let sync = Tone {
+        num: 1,
+        len1: d.sync1 as u64,
+        len2: d.sync2 as u64,
+    };
+    let r = born(
+        1,
+        s.tones,
+        2,
+        d.from,
+        d.size as u64,
+        d.zero as u64,
+        d.one as u64,
+        d.last as u64,
+        d.pause as u64 * 3500,
+    );
+    two_tones(s, blocks, tones, pilot, sync, r)
+}
+
+// 14: `data` is the row's data and bits, its pause in ms.
+pub fn pure_data_block(
+    s: State,
+    blocks: &mut [u64],
+    tones: &mut [u64],
+    zero: u32,
+    one: u32,
+    last: u32,
+    pause: u32,
+    start: u64,
+    size: u32,
+) -> Step
+    ensures { λ x. ⌜ Does (λ lent. add lent pureTones (pureBlock zero one last pause start size)) s x (now (blocks .entry)) (now (tones .entry)) (now (blocks .exit)) (now (tones .exit)) ⌝ }
+{
+    let pilot = Tone {
+        num: 0,
+        len1: 0,
+        len2: 0,
+    };
+    let sync = Tone {
+        num: 1,
+        len1: 0,
+        len2: 0,
+    };
+    let r = born(
+        1,
+        s.tones,
+        2,
+        start,
+        size as u64,
+        zero as u64,
+        one as u64,
+        last as u64,
+        pause as u64 * 3500,
+    );
+    two_tones(s, blocks, tones, pilot, sync, r)
+}
+
+// 12
+pub fn pure_tone_block(
+    s: State,
+    blocks: &mut [u64],
+    tones: &mut [u64],
+    half: u32,
+    count: u32,
+) -> Step
+    ensures { λ x. ⌜ Does (λ lent. add lent (pureToneTones half count) (soundOnly (length (pureToneTones half count)))) s x (now (blocks .entry)) (now (tones .entry)) (now (blocks .exit)) (now (tones .exit)) ⌝ }
+{
+    let whole = Tone {
+        num: (count / 2) as u64,
+        len1: half as u64,
+        len2: half as u64,
+    };
+    if count % 2 == 0 {
+        let r = born(0, s.tones, 1, 0, 0, 0, 0, 0, 0);
+        return one_tone(s, blocks, tones, whole, r);
+    }
+    let odd = Tone {
+        num: 1,
+        len1: 0,
+        len2: half as u64,
+    };
+    let r = born(0, s.tones, 2, 0, 0, 0, 0, 0, 0);
+    two_tones(s, blocks, tones, odd, whole, r)
+}

@@ -1,0 +1,20 @@
+-- `rows::tone_well` meets its contract: each test decides its clause. Assumes nothing.
+use borrow.Author.Tests.{le-leb, lt-leb}
+use Rattle.rows.specs.Well.{wellTone}
+use Rattle.wells.proofs.tone_well.Statement.{statement}
+use Rattle.wells.proofs.tone_well.Tie as tie
+
+returns : tie.Need-returns
+unfolding wellTone
+returns c = rw (lt-leb _ _ (c .if1 .taken))
+
+returns-2 : tie.Need-returns-2
+unfolding wellTone
+returns-2 c = rw (le-leb _ _ (c .before .before .if1 .left), lt-leb _ _ (c .if2 .taken))
+
+returns-3 : tie.Need-returns-3
+unfolding wellTone
+returns-3 c = rw (le-leb _ _ (c .before .before .before .if1 .left), le-leb _ _ (c .before .if2 .left))
+
+pub tone-well-spec : {M : Type 1} → statement M
+tone-well-spec = tie.close (tie.spec returns returns-2 returns-3)

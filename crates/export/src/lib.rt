@@ -80,7 +80,7 @@ pub extern "C" fn glyvrask_block_name(
         return tell_number(queries::block_size(tape, tones, blocks, count, i), answer); // the name's refusals, and no byte written
     }
     tell_number(
-        queries::block_name(tape, tones, blocks, count, i, out),
+        naming::block_name(tape, tones, blocks, count, i, out),
         answer,
     )
 }
@@ -148,7 +148,7 @@ pub extern "C" fn glyvrask_loading_time(
     ensures { λ k. ⌜ k ≡ numberOf (ofNumber (loadingOf (tapeOf (now (tape .entry)) (now (tones .entry)) (now (blocks .entry)) count))) (now (answer .entry)) ⌝ }
     ensures { λ _. ⌜ now (answer .exit) ≡ valuesOf (ofNumber (loadingOf (tapeOf (now (tape .entry)) (now (tones .entry)) (now (blocks .entry)) count))) (now (answer .entry)) ⌝ }
 {
-    tell_number(queries::loading_time(tape, tones, blocks, count), answer)
+    tell_number(loading::loading_time(tape, tones, blocks, count), answer)
 }
 
 // A block's start, as a position's words.

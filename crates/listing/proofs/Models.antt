@@ -17,7 +17,8 @@ use Rattle.reader.specs.Source.{Loaded as Load, tzx, tapped, no}
 use Rattle.reader.specs.Reached.{reaches2A}
 use Rattle.reader.proofs.Models.{models-equal, models-agree}
 use Rattle.tape.specs.Load.{named, loadNamed}
-use Rattle.listing.specs.Listing.{modelText, listingText, loadedOf, Listing, text, refused, listed, listingOf}
+use Rattle.page.specs.Page.{modelText, listingText}
+use Rattle.listing.specs.Listing.{loadedOf, Listing, text, refused, listed, listingOf}
 
 abbrev lent : Lent
 lent = record { blocks = 512; tones = 2048 }

@@ -28,7 +28,8 @@ use Rattle.loads.proofs.Left.{mounted}
 use Rattle.loads.proofs.Names.{loaded-names}
 use Rattle.tape.specs.declared.Loaded.the-variants as loaded
 use Rattle.lines.specs.Inner.{Ready}
-use Rattle.listing.specs.Listing.{blockWords, toneWords, loadedOf, text, refused, mounted as mountedOf, listed, listingText, Listing, listingOf, answerTo, bytesAfter}
+use Rattle.page.specs.Page.{listingText}
+use Rattle.listing.specs.Listing.{blockWords, toneWords, loadedOf, text, refused, mounted as mountedOf, listed, Listing, listingOf, answerTo, bytesAfter}
 
 -- the load in the words that are lent
 pub lent-words : {a : Loaded} {bt tt : List ℕ} (s : List ℕ) (model : ℕ) → Leaves blockWords toneWords (loadNamed (lentOf blockWords toneWords) s model) a bt tt → Leaves blockWords toneWords (loadedOf s model) a bt tt

@@ -14,7 +14,7 @@ use Rattle.tape.specs.Load.{loadNamed}
 use Rattle.tape.specs.declared.Format.the-variants.{Tap, Tzx}
 use Rattle.loads.proofs.Refusals.{Numbered, as-tzx, as-tap, by, load-numbered, named-numbered}
 use Rattle.listing.specs.Listing.{loadedOf, Listing, text, refused, listed, listingOf, answerTo, bytesAfter}
-use Rattle.listing.proofs.Texts.{text-least}
+use Rattle.page.proofs.Texts.{text-least}
 
 -- a text of 37 bytes at least, or a refusal by a number from 1 to 7
 pub data Sized : Listing → Type 0 where

@@ -22,7 +22,8 @@ use Rattle.entries.specs.Entries.{entryOf, cyclesOf, toneOf, tonesOf as toneEnt
 use Rattle.entries.specs.Places.{listFrom}
 use Rattle.tape.specs.Load.{namedTape, named, loadNamed, blocksOf, tonesOf}
 use Rattle.lines.specs.Lines.{shown, timeText, markText, rowText, rowsText}
-use Rattle.listing.specs.Listing.{modelText, formatText, countText, loadingText, restText, listingText, loadedOf, Listing, text, refused, mounted, listed, listingOf}
+use Rattle.page.specs.Page.{modelText, formatText, countText, loadingText, restText, listingText}
+use Rattle.listing.specs.Listing.{loadedOf, Listing, text, refused, mounted, listed, listingOf}
 
 -- a TZX of these pieces
 abbrev pieces : List ℕ → List ℕ

@@ -18,7 +18,7 @@ use Rattle.listing.specs.Listing.{blockWords, toneWords, loadedOf, Listi
 use Rattle.listing.specs.Printed.{refusedText, printedOf, Says}
 use Rattle.lines.proofs.Shown.{name-part}
 use Rattle.lines.proofs.Texts.{decimal-long}
-use Rattle.listing.proofs.Texts.{text-most}
+use Rattle.page.proofs.Texts.{text-most}
 use Rattle.listing.proofs.Mounting.{load-ready}
 use Rattle.listing.proofs.Numbers.{Tells, refusal, no-room, listing, listing-sized, tells-number}
 

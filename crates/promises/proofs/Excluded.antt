@@ -32,7 +32,8 @@ use Rattle.walks.specs.Heads.{startAt, stand, placed, levelHere, toldAs, told, 
 use Rattle.deck.specs.Deck.{ruledOut, badRow, judged, unless, playMeasured}
 use Rattle.deck.proofs.Answers.{positionIn, passedIn}
 use Rattle.lines.specs.Lines.{shown, timeText, markText, rowText, rowsText}
-use Rattle.listing.specs.Listing.{modelText, formatText, countText, loadingText, restText, listingText, loadedOf, Listing, mounted, listed, listingOf, answerTo}
+use Rattle.page.specs.Page.{modelText, formatText, countText, loadingText, restText, listingText}
+use Rattle.listing.specs.Listing.{loadedOf, Listing, mounted, listed, listingOf, answerTo}
 
 -- an empty tape is listed in 37 bytes, and `00 00` in 67
 lists : (answerTo (listingOf [] 0) (replicate 99 0) ≡ 37) × (answerTo (listingOf (0 ∷ 0 ∷ []) 0) (replicate 99 0) ≡ 67)

@@ -14,10 +14,10 @@ use Rattle.queries.proofs.block_selectable.Kinds as block-selectable-kinds
 use Rattle.queries.proofs.block_selectable.Reads as block-selectable
 use Rattle.queries.proofs.block_time.Kinds as block-time-kinds
 use Rattle.queries.proofs.block_time.Reads as block-time
-use Rattle.queries.proofs.block_name.Kinds as block-name-kinds
-use Rattle.queries.proofs.block_name.Reads as block-name
-use Rattle.queries.proofs.loading_time.Kinds as loading-time-kinds
-use Rattle.queries.proofs.loading_time.Reads as loading-time
+use Rattle.naming.proofs.block_name.Kinds as block-name-kinds
+use Rattle.naming.proofs.block_name.Reads as block-name
+use Rattle.loading.proofs.loading_time.Kinds as loading-time-kinds
+use Rattle.loading.proofs.loading_time.Reads as loading-time
 use Rattle.deck.proofs.play_measured.Kinds as play-measured-kinds
 use Rattle.deck.proofs.play_measured.Reads as play-measured
 use Rattle.deck.proofs.play.Kinds as play-kinds

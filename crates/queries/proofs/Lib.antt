@@ -1,5 +1,3 @@
 pub mod Refusals
-pub mod Loads
-pub mod Named
 pub mod Answers
 pub mod Readings

@@ -1,4 +1,4 @@
-// The queries of a mounted tape: its count, and of a block its name, size, mark and time; the loading time.
+// The queries of a mounted tape: what each answers, its refusals, the count, and of a block its size, mark and time.
 use entries::Duration;
 use entries::row_well;
 use rows::block_at;
@@ -10,7 +10,7 @@ ghost use lib.Dec.{ltb};
 ghost use Rattle.rows.specs.Table.{capacityOf};
 ghost use Rattle.rows.specs.Rows.{block, blockMost};
 ghost use Rattle.entries.specs.Mounted.{tapeOf};
-ghost use Rattle.queries.specs.Queries.{refusalOf, lenOf, sizeOf, selectableOf, timeOf, nameAnswer, nameBytes, loadingOf};
+ghost use Rattle.queries.specs.Queries.{refusalOf, lenOf, sizeOf, selectableOf, timeOf};
 
 // A number, or the refusal's alone.
 pub enum Number {
@@ -31,14 +31,14 @@ pub enum Time {
 }
 
 // Whether the count exceeds the whole rows lent.
-fn overfull(blocks: &[u64], count: u64) -> bool
+pub fn overfull(blocks: &[u64], count: u64) -> bool
     ensures { λ b. ⌜ b ≡ ltb (capacityOf block blockMost (now (blocks .entry))) count ⌝ }
 {
     (block_capacity(blocks) as u64) < count
 }
 
 // The refusal of a query about block i, in document 01's order; 0 where there is none.
-fn refusal(tape: &[u8], tones: &[u64], blocks: &[u64], count: u64, i: u64) -> u32
+pub fn refusal(tape: &[u8], tones: &[u64], blocks: &[u64], count: u64, i: u64) -> u32
     ensures { λ k. ⌜ k ≡ refusalOf (tapeOf (now (tape .entry)) (now (tones .entry)) (now (blocks .entry)) count) i ⌝ }
 {
     if overfull(blocks, count) {
@@ -98,54 +98,4 @@ pub fn block_time(tape: &[u8], tones: &[u64], blocks: &[u64], count: u64, i: u64
     }
     let r = block_at(blocks, i as usize);
     Time::Lasts(entries::block_time(tape, tones, r))
-}
-
-// Its name as UTF-8 into `out`, and the name's length; a refusal writes no byte.
-pub fn block_name(
-    tape: &[u8],
-    tones: &[u64],
-    blocks: &[u64],
-    count: u64,
-    i: u64,
-    out: &mut [u8],
-) -> Number
-    ensures { λ r. ⌜ r ≡ nameAnswer (tapeOf (now (tape .entry)) (now (tones .entry)) (now (blocks .entry)) count) i (now (out .entry)) ⌝ }
-    ensures { λ _. ⌜ now (out .exit) ≡ nameBytes (tapeOf (now (tape .entry)) (now (tones .entry)) (now (blocks .entry)) count) i (now (out .entry)) ⌝ }
-{
-    let k = refusal(tape, tones, blocks, count, i);
-    if k != 0 {
-        return Number::Refused(k);
-    }
-    let r = block_at(blocks, i as usize);
-    let mut none = [0u8; 1];
-    let n = names::put_name(&mut none, 0, tape, r);
-    if out.len() < n {
-        return Number::Refused(10);
-    }
-    names::put_name(out, 0, tape, r);
-    Number::Is(n as u64)
-}
-
-// All entries up to the first stop or the end.
-pub fn loading_time(tape: &[u8], tones: &[u64], blocks: &[u64], count: u64) -> Number
-    ensures { λ r. ⌜ r ≡ loadingOf (tapeOf (now (tape .entry)) (now (tones .entry)) (now (blocks .entry)) count) ⌝ }
-{
-    if overfull(blocks, count) {
-        return Number::Refused(11);
-    }
-    let mut sum = 0;
-    let mut b = 0;
-    while b < count {
-        if !row_well(tape, tones, blocks, b) {
-            return Number::Refused(11);
-        }
-        let r = block_at(blocks, b as usize);
-        sum += entries::sound_time(tape, tones, r);
-        if r.endless == 1 {
-            return Number::Is(sum);
-        }
-        sum += r.pause;
-        b += 1;
-    }
-    Number::Is(sum)
 }

@@ -3,8 +3,9 @@ use native.Mathlib.Omega.{arith}
 use borrow.Author.Needs.{needs}
 use Rattle.entries.specs.Mounted.{tapeOf}
 use Rattle.text.proofs.Writing.{counted}
-use Rattle.listing.specs.Listing.{listingText}
-use Rattle.listing.proofs.Texts.{text-most, tells-short, tells}
+use Rattle.page.specs.Page.{listingText}
+use Rattle.page.proofs.Texts.{text-most}
+use Rattle.listing.proofs.Texts.{tells-short, tells}
 use Rattle.listing.proofs.tell.Statement.{statement}
 use Rattle.listing.proofs.tell.Tie as tie
 

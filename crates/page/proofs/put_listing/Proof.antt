@@ -1,11 +1,11 @@
--- `listing::put_listing` meets its contract: five writes, one after the other. Assumes nothing.
+-- `page::put_listing` meets its contract: five writes, one after the other. Assumes nothing.
 use native.Mathlib.Omega.{arith}
 use borrow.Author.Needs.{needs}
 use Rattle.entries.specs.Mounted.{tapeOf}
 use Rattle.lines.proofs.Texts.{rows-most}
-use Rattle.listing.proofs.Texts.{model-long, count-long, listing-written}
-use Rattle.listing.proofs.put_listing.Statement.{statement}
-use Rattle.listing.proofs.put_listing.Tie as tie
+use Rattle.page.proofs.Texts.{model-long, count-long, listing-written}
+use Rattle.page.proofs.put_listing.Statement.{statement}
+use Rattle.page.proofs.put_listing.Tie as tie
 
 slice-aggregate-put-all : tie.Need-slice-aggregate-put-all
 slice-aggregate-put-all c = search needs

@@ -1,10 +1,10 @@
--- `listing::put_model` meets its contract: each return is one model. Assumes nothing.
+-- `page::put_model` meets its contract: each return is one model. Assumes nothing.
 use native.Mathlib.Omega.{arith}
 use borrow.Author.Tests.{eq-eqb, ne-eqb}
 use borrow.Author.Needs.{needs}
-use Rattle.listing.specs.Listing.{modelText}
-use Rattle.listing.proofs.put_model.Statement.{statement}
-use Rattle.listing.proofs.put_model.Tie as tie
+use Rattle.page.specs.Page.{modelText}
+use Rattle.page.proofs.put_model.Statement.{statement}
+use Rattle.page.proofs.put_model.Tie as tie
 
 slice-aggregate-put-all : tie.Need-slice-aggregate-put-all
 slice-aggregate-put-all c = search needs

@@ -1,11 +1,11 @@
--- `queries::block_name` meets its contract: the dry run tells the length, and the run is made where the name fits. Assumes nothing.
+-- `naming::block_name` meets its contract: the dry run tells the length, and the run is made where the name fits. Assumes nothing.
 use native.Mathlib.Omega.{arith}
 use borrow.Author.Needs.{needs}
 use Rattle.entries.specs.Mounted.{tapeOf}
 use Rattle.queries.proofs.Refusals.{asked}
-use Rattle.queries.proofs.Named.{row-inside, name-refused, name-short, name-told}
-use Rattle.queries.proofs.block_name.Statement.{statement}
-use Rattle.queries.proofs.block_name.Tie as tie
+use Rattle.naming.proofs.Named.{row-inside, name-refused, name-short, name-told}
+use Rattle.naming.proofs.block_name.Statement.{statement}
+use Rattle.naming.proofs.block_name.Tie as tie
 
 refusal-requires : tie.Need-refusal-requires
 refusal-requires c κs = search needs

@@ -1,11 +1,11 @@
--- `listing::put_count` meets its contract: five writes, one after the other. Assumes nothing.
+-- `page::put_count` meets its contract: five writes, one after the other. Assumes nothing.
 use native.Mathlib.Omega.{arith}
 use borrow.Author.Needs.{needs}
 use Rattle.text.proofs.Writing.{decimal-length, then}
-use Rattle.listing.proofs.Texts.{format-long}
-use Rattle.listing.specs.Listing.{countText}
-use Rattle.listing.proofs.put_count.Statement.{statement}
-use Rattle.listing.proofs.put_count.Tie as tie
+use Rattle.page.proofs.Texts.{format-long}
+use Rattle.page.specs.Page.{countText}
+use Rattle.page.proofs.put_count.Statement.{statement}
+use Rattle.page.proofs.put_count.Tie as tie
 
 slice-aggregate-put-all : tie.Need-slice-aggregate-put-all
 slice-aggregate-put-all c = search needs

@@ -1,8 +1,8 @@
--- `listing::put_format` meets its contract: each arm is one format. Assumes nothing.
+-- `page::put_format` meets its contract: each arm is one format. Assumes nothing.
 use borrow.Author.Needs.{needs}
-use Rattle.listing.specs.Listing.{formatText}
-use Rattle.listing.proofs.put_format.Statement.{statement}
-use Rattle.listing.proofs.put_format.Tie as tie
+use Rattle.page.specs.Page.{formatText}
+use Rattle.page.proofs.put_format.Statement.{statement}
+use Rattle.page.proofs.put_format.Tie as tie
 
 enum-told : tie.Need-enum-told
 enum-told c = search needs

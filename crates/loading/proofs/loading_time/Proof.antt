@@ -1,4 +1,4 @@
--- `queries::loading_time` meets its contract: the sum is what the blocks passed last, none of them a stop. Assumes nothing.
+-- `loading::loading_time` meets its contract: the sum is what the blocks passed last, none of them a stop. Assumes nothing.
 use Prim.Native.Nat.{_-_, _≤_}
 use native.Mathlib.Omega.{arith}
 use mathlib.Core.Path.{_≡_, sym, subst, _∙_}
@@ -11,10 +11,10 @@ use Rattle.rows.specs.Rows.{block, blockMost}
 use Rattle.rows.specs.Well.{wellBlock}
 use Rattle.rows.proofs.Clauses.{failed, passed}
 use Rattle.entries.specs.Mounted.{tapeOf, sizeOf, wellRow}
 use Rattle.queries.specs.Queries.{loadingOf}
-use Rattle.queries.proofs.Loads.{Loads, loads-none, loads-over, loads-bad, loads-stop, loads-on, sound-few, pause-few}
-use Rattle.queries.proofs.loading_time.Statement.{statement}
-use Rattle.queries.proofs.loading_time.Tie as tie
+use Rattle.loading.proofs.Loads.{Loads, loads-none, loads-over, loads-bad, loads-stop, loads-on, sound-few, pause-few}
+use Rattle.loading.proofs.loading_time.Statement.{statement}
+use Rattle.loading.proofs.loading_time.Tie as tie
 
 abbrev Inv-loop : tie.InvT-loop
 Inv-loop tape tones blocks count sum₀ b₀ sum b =

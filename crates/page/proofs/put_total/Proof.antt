@@ -1,9 +1,9 @@
--- `listing::put_total` meets its contract: three writes, one after the other. Assumes nothing.
+-- `page::put_total` meets its contract: three writes, one after the other. Assumes nothing.
 use native.Mathlib.Omega.{arith}
 use borrow.Author.Needs.{needs}
 use Rattle.text.proofs.Writing.{then, decimal-length}
-use Rattle.listing.proofs.put_total.Statement.{statement}
-use Rattle.listing.proofs.put_total.Tie as tie
+use Rattle.page.proofs.put_total.Statement.{statement}
+use Rattle.page.proofs.put_total.Tie as tie
 
 slice-aggregate-put-all : tie.Need-slice-aggregate-put-all
 slice-aggregate-put-all c = search needs

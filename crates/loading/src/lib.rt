@@ -1,0 +1,32 @@
+// The query of the loading time.
+use entries::row_well;
+use queries::Number;
+use queries::overfull;
+use rows::block_at;
+ghost use mathlib.Core.Path.{_≡_};
+ghost use Rattle.entries.specs.Mounted.{tapeOf};
+ghost use Rattle.queries.specs.Queries.{loadingOf};
+
+// All entries up to the first stop or the end.
+pub fn loading_time(tape: &[u8], tones: &[u64], blocks: &[u64], count: u64) -> Number
+    ensures { λ r. ⌜ r ≡ loadingOf (tapeOf (now (tape .entry)) (now (tones .entry)) (now (blocks .entry)) count) ⌝ }
+{
+    if overfull(blocks, count) {
+        return Number::Refused(11);
+    }
+    let mut sum = 0;
+    let mut b = 0;
+    while b < count {
+        if !row_well(tape, tones, blocks, b) {
+            return Number::Refused(11);
+        }
+        let r = block_at(blocks, b as usize);
+        sum += entries::sound_time(tape, tones, r);
+        if r.endless == 1 {
+            return Number::Is(sum);
+        }
+        sum += r.pause;
+        b += 1;
+    }
+    Number::Is(sum)
+}

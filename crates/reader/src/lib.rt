@@ -9,6 +9,7 @@ use blocks::standard_data_block;
 use blocks::standard_pause;
 use blocks::stop_on_48;
 use blocks::turbo_data_block;
+use cutting::cut;
 use parser::State;
 use parser::Step;
 use parser::group_end;
@@ -21,7 +22,6 @@ use pieces::Heading;
 use pieces::Piece;
 use pieces::Taken;
 use pieces::TakenTap;
-use pieces::cut;
 use pieces::cut_tap;
 use pieces::head;
 use rows::Block;
@@ -58,7 +58,7 @@ pub enum Reading {
     Refused(u32),
 }
 
-// What a piece does; our own run alone calls it, with what `pieces::cut` gave for this tape.
+// What a piece does; our own run alone calls it, with what `cutting::cut` gave for this tape.
 fn act(
     tape: &[u8],
     model: u32,

@@ -4,5 +4,5 @@ pub mod Others
 pub mod Places
 pub mod PulsePlaces
 pub mod CuttingTap
-mod Turns
+pub mod Turns
 pub mod Examples

@@ -2,6 +2,7 @@
 use blocks::is_header;
 use blocks::standard_data_block;
 use blocks::standard_pause;
+use cutting::cut;
 use parser::State;
 use parser::Step;
 use parser::group_end;
@@ -14,7 +15,6 @@ use pieces::Heading;
 use pieces::Piece;
 use pieces::Taken;
 use pieces::TakenTap;
-use pieces::cut;
 use pieces::cut_tap;
 use pieces::head;
 use rows::Block;

@@ -8,8 +8,8 @@ use Rattle.entries.specs.Mounted.{tapeOf}
 use mathlib.Core.Path.{_≡_, refl, sym, ap, _∙_}
 use native.Mathlib.Omega.{arith}
 use Prim.Native.Nat.{ℕ, _≤_}
-use Rattle.deck.proofs.back.Statement.{statement}
-use Rattle.deck.proofs.back.Tie as tie
+use Rattle.menu.proofs.back.Statement.{statement}
+use Rattle.menu.proofs.back.Tie as tie
 
 abbrev Inv-loop : tie.InvT-loop
 Inv-loop tape tones blocks from b₀ b =

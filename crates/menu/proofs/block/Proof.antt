@@ -1,13 +1,13 @@
 -- `block` meets its contract. Assumes nothing.
 use Rattle.deck.proofs.Checks as checks
 use Rattle.deck.specs.Deck.{blockOf}
 use Rattle.entries.specs.Mounted.{tapeOf}
 use mathlib.Core.Path.{sym, _∙_}
 use borrow.Author.Tests.{le-leb, lt-leb}
 use native.Mathlib.Omega.{arith}
 use borrow.Author.Needs.{needs}
-use Rattle.deck.proofs.block.Statement.{statement}
-use Rattle.deck.proofs.block.Tie as tie
+use Rattle.menu.proofs.block.Statement.{statement}
+use Rattle.menu.proofs.block.Tie as tie
 
 judge-requires : tie.Need-judge-requires
 judge-requires c κs = search needs

@@ -1,8 +1,8 @@
 -- `head_after` meets its contract. Assumes nothing.
 use Rattle.deck.specs.Deck.{headAfter}
 use borrow.Author.Needs.{needs}
-use Rattle.deck.proofs.head_after.Statement.{statement}
-use Rattle.deck.proofs.head_after.Tie as tie
+use Rattle.mounted.proofs.head_after.Statement.{statement}
+use Rattle.mounted.proofs.head_after.Tie as tie
 
 enum-known-r : tie.Need-enum-known-r
 enum-known-r c = search needs

@@ -1,8 +1,8 @@
 -- `play_mounted` meets its contract. Assumes nothing.
 use Rattle.deck.specs.Deck.{playMounted}
 use borrow.Author.Needs.{needs}
-use Rattle.deck.proofs.play_mounted.Statement.{statement}
-use Rattle.deck.proofs.play_mounted.Tie as tie
+use Rattle.mounted.proofs.play_mounted.Statement.{statement}
+use Rattle.mounted.proofs.play_mounted.Tie as tie
 
 play-measured-requires : tie.Need-play-measured-requires
 play-measured-requires c κs = search needs

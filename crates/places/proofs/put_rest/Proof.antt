@@ -1,11 +1,11 @@
 -- `put_rest` meets its contract. Assumes nothing.
-use Rattle.tracing.specs.Lines.{restText}
-use Rattle.tracing.proofs.Lengths.{left-length}
+use Rattle.places.specs.Places.{restText}
+use Rattle.places.proofs.Lengths.{left-length}
 use native.Mathlib.Omega.{arith}
 use Rattle.text.proofs.Writing.{then}
 use borrow.Author.Needs.{needs}
-use Rattle.tracing.proofs.put_rest.Statement.{statement}
-use Rattle.tracing.proofs.put_rest.Tie as tie
+use Rattle.places.proofs.put_rest.Statement.{statement}
+use Rattle.places.proofs.put_rest.Tie as tie
 
 slice-aggregate-put-all : tie.Need-slice-aggregate-put-all
 slice-aggregate-put-all c = search needs

@@ -1,12 +1,12 @@
 -- `put_place` meets its contract. Assumes nothing.
-use Rattle.tracing.specs.Lines.{placeText}
-use Rattle.tracing.proofs.Lengths.{phase-length}
+use Rattle.places.specs.Places.{placeText}
+use Rattle.places.proofs.Lengths.{phase-length}
 use Rattle.text.proofs.Writing.{decimal-length}
 use native.Mathlib.Omega.{arith}
 use Rattle.text.proofs.Writing.{then}
 use borrow.Author.Needs.{needs}
-use Rattle.tracing.proofs.put_place.Statement.{statement}
-use Rattle.tracing.proofs.put_place.Tie as tie
+use Rattle.places.proofs.put_place.Statement.{statement}
+use Rattle.places.proofs.put_place.Tie as tie
 
 put-decimal-requires : tie.Need-put-decimal-requires
 put-decimal-requires c κs = search needs

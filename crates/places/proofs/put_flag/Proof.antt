@@ -1,8 +1,8 @@
 -- `put_flag` meets its contract. Assumes nothing.
-use Rattle.tracing.specs.Lines.{flag}
+use Rattle.places.specs.Places.{flag}
 use borrow.Author.Needs.{needs}
-use Rattle.tracing.proofs.put_flag.Statement.{statement}
-use Rattle.tracing.proofs.put_flag.Tie as tie
+use Rattle.places.proofs.put_flag.Statement.{statement}
+use Rattle.places.proofs.put_flag.Tie as tie
 
 put-requires : tie.Need-put-requires
 put-requires c κs = search needs

@@ -1,11 +1,11 @@
 -- `put_numbers` meets its contract. Assumes nothing.
-use Rattle.tracing.specs.Lines.{numbers}
-use Rattle.tracing.proofs.Lengths.{spaced-length}
+use Rattle.places.specs.Places.{numbers}
+use Rattle.places.proofs.Lengths.{spaced-length}
 use native.Mathlib.Omega.{arith}
 use Rattle.text.proofs.Writing.{then}
 use borrow.Author.Needs.{needs}
-use Rattle.tracing.proofs.put_numbers.Statement.{statement}
-use Rattle.tracing.proofs.put_numbers.Tie as tie
+use Rattle.places.proofs.put_numbers.Statement.{statement}
+use Rattle.places.proofs.put_numbers.Tie as tie
 
 put-spaced-requires : tie.Need-put-spaced-requires
 put-spaced-requires c κs = search needs

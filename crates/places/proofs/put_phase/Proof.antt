@@ -1,9 +1,9 @@
 -- `put_phase` meets its contract. Assumes nothing.
-use Rattle.tracing.specs.Lines.{phaseText}
+use Rattle.places.specs.Places.{phaseText}
 use Rattle.text.proofs.Writing.{then}
 use borrow.Author.Needs.{needs}
-use Rattle.tracing.proofs.put_phase.Statement.{statement}
-use Rattle.tracing.proofs.put_phase.Tie as tie
+use Rattle.places.proofs.put_phase.Statement.{statement}
+use Rattle.places.proofs.put_phase.Tie as tie
 
 enum-told : tie.Need-enum-told
 enum-told c = search needs

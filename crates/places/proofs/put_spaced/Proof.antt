@@ -1,9 +1,9 @@
 -- `put_spaced` meets its contract. Assumes nothing.
-use Rattle.tracing.specs.Lines.{spaced}
+use Rattle.places.specs.Places.{spaced}
 use Rattle.text.proofs.Writing.{then}
 use borrow.Author.Needs.{needs}
-use Rattle.tracing.proofs.put_spaced.Statement.{statement}
-use Rattle.tracing.proofs.put_spaced.Tie as tie
+use Rattle.places.proofs.put_spaced.Statement.{statement}
+use Rattle.places.proofs.put_spaced.Tie as tie
 
 put-requires : tie.Need-put-requires
 put-requires c κs = search needs

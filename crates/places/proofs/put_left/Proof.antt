@@ -1,8 +1,8 @@
 -- `put_left` meets its contract. Assumes nothing.
-use Rattle.tracing.specs.Lines.{leftText}
+use Rattle.places.specs.Places.{leftText}
 use borrow.Author.Needs.{needs}
-use Rattle.tracing.proofs.put_left.Statement.{statement}
-use Rattle.tracing.proofs.put_left.Tie as tie
+use Rattle.places.proofs.put_left.Statement.{statement}
+use Rattle.places.proofs.put_left.Tie as tie
 
 enum-known-left : tie.Need-enum-known-left
 enum-known-left c = search needs

@@ -1,4 +1,4 @@
-// The players of a mounted tape: the measured one and the source's, by value and over a lent head.
+// The players of a mounted tape: the measured one and the source's.
 use drops::ran_ahead;
 use entries::Duration;
 use entries::Phase;
@@ -17,9 +17,6 @@ use walks::ends;
 use walks::walk;
 ghost use mathlib.Core.Path.{_≡_};
 ghost use mathlib.Core.Bool.{true, _&&_};
-ghost use Prim.Native.Nat.{ℕ, _+_, _*_, _<_, _≤_};
-ghost use lib.ListN.{length};
-ghost use Rattle.rows.specs.Rows.{block};
 ghost use Rattle.rows.specs.Well.{wellBlock};
 ghost use Rattle.entries.specs.Places.{hasEntry, lengthAt, isNone, remains};
 ghost use Rattle.entries.specs.Mounted.{sizeOf, tapeOf};
@@ -28,7 +25,7 @@ ghost use Rattle.laws.specs.Rules.{_⇒_, _∣_};
 ghost use Rattle.walks.specs.Heads.{walkFrom};
 ghost use Rattle.deck.specs.declared.Check.the-variants.{Fine};
 ghost use Rattle.deck.specs.Inside.{inside, lessBy, inPlace};
-ghost use Rattle.deck.specs.Deck.{atStart, judged, stays, playMeasured, sourceFrom, playSource, backTo, blockAt, headAfter, playMounted};
+ghost use Rattle.deck.specs.Deck.{atStart, judged, stays, playMeasured, sourceFrom, playSource};
 
 // What the checks of a position come to.
 pub enum Check {
@@ -72,7 +69,7 @@ fn has_left(tape: &[u8], tones: &[u64], r: Block, f: Phase, left: Duration) -> b
 }
 
 // The checks of a position, in document 01's order.
-fn judge(tape: &[u8], tones: &[u64], blocks: &[u64], count: u64, pos: Position) -> Check
+pub fn judge(tape: &[u8], tones: &[u64], blocks: &[u64], count: u64, pos: Position) -> Check
     ensures { λ r. ⌜ r ≡ judged (tapeOf (now (tape .entry)) (now (tones .entry)) (now (blocks .entry)) count) pos ⌝ }
 {
     if (block_capacity(blocks) as u64) < count {
@@ -238,45 +235,6 @@ pub enum Selected {
     BadRow,
 }
 
-// From a block back to a selectable one or 0; its callers know the rows to be lent.
-fn back(tape: &[u8], tones: &[u64], blocks: &[u64], from: u64) -> Selected
-    requires { ⌜ from * block .width + block .width ≤ length (now blocks) ⌝ }
-    ensures { λ r. ⌜ ((count : ℕ) → r ≡ backTo (tapeOf (now (tape .entry)) (now (tones .entry)) (now (blocks .entry)) count) from) ⌝ }
-{
-    let mut b = from;
-    loop {
-        if !row_well(tape, tones, blocks, b) {
-            return Selected::BadRow;
-        }
-        if b == 0 {
-            return Selected::Block(0);
-        }
-        let r = block_at(blocks, b as usize);
-        if r.selectable == 1 {
-            return Selected::Block(b);
-        }
-        b -= 1;
-    }
-}
-
-// The block that a position is shown under: back to a selectable one, or past the end.
-pub fn block(tape: &[u8], tones: &[u64], blocks: &[u64], count: u64, pos: Position) -> Selected
-    ensures { λ r. ⌜ r ≡ blockAt (tapeOf (now (tape .entry)) (now (tones .entry)) (now (blocks .entry)) count) pos ⌝ }
-{
-    let c = judge(tape, tones, blocks, count, pos);
-    match c {
-        Check::Fine => {
-            let b = pos.block;
-            if count <= b {
-                return Selected::Block(Position::PAST_END);
-            }
-            back(tape, tones, blocks, b)
-        }
-        Check::NotValid => Selected::BadPosition,
-        Check::NotFormed => Selected::BadRow,
-    }
-}
-
 // The mounted head.
 pub struct Head {
     pub position: Position,
@@ -286,79 +244,4 @@ pub struct Head {
 pub struct Played {
     pub head: Head,
     pub answer: Reached,
-}
-
-// Where the head is after an answer: on a refusal as it was.
-fn head_after(head: Head, r: Reached) -> Head
-    ensures { λ h. ⌜ h ≡ headAfter head r ⌝ }
-{
-    match r {
-        Reached::At(s) => {
-            let p = s.position;
-            Head { position: p }
-        }
-        Reached::Stopped(s) => {
-            let p = s.position;
-            Head { position: p }
-        }
-        Reached::Ended(s) => {
-            let p = s.position;
-            Head { position: p }
-        }
-        Reached::NotValid => head,
-        Reached::NotFormed => head,
-    }
-}
-
-// The measured player over a head by value.
-pub fn play_mounted(
-    tape: &[u8],
-    tones: &[u64],
-    blocks: &[u64],
-    count: u64,
-    head: Head,
-    n: u32,
-) -> Played
-    ensures { λ r. ⌜ r ≡ playMounted (tapeOf (now (tape .entry)) (now (tones .entry)) (now (blocks .entry)) count) head n ⌝ }
-{
-    let pos = head.position;
-    let r = play_measured(tape, tones, blocks, count, pos, n);
-    Played {
-        head: head_after(head, r),
-        answer: r,
-    }
-}
-
-// The measured player over the mounted head, which is lent and altered; on a refusal it is as it was.
-pub fn play_head(
-    tape: &[u8],
-    tones: &[u64],
-    blocks: &[u64],
-    count: u64,
-    head: &mut Head,
-    n: u32,
-) -> Reached
-    ensures { λ r. ⌜ (r ≡ playMounted (tapeOf (now (tape .entry)) (now (tones .entry)) (now (blocks .entry)) count) (now (head .entry)) n .answer)
-        × (now (head .exit) ≡ playMounted (tapeOf (now (tape .entry)) (now (tones .entry)) (now (blocks .entry)) count) (now (head .entry)) n .head) ⌝ }
-{
-    let h = *head;
-    let p = play_mounted(tape, tones, blocks, count, h, n);
-    *head = p.head;
-    p.answer
-}
-
-// A bridge for covered callers: the head is lent from a local.
-pub fn play_once(
-    tape: &[u8],
-    tones: &[u64],
-    blocks: &[u64],
-    count: u64,
-    head: Head,
-    n: u32,
-) -> Played
-    ensures { λ r. ⌜ r ≡ playMounted (tapeOf (now (tape .entry)) (now (tones .entry)) (now (blocks .entry)) count) head n ⌝ }
-{
-    let mut h = head;
-    let a = play_head(tape, tones, blocks, count, &mut h, n);
-    Played { head: h, answer: a }
 }

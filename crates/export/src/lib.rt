@@ -174,7 +174,7 @@ pub extern "C" fn glyvrask_position_block(
     ensures { λ _. ⌜ now (answer .exit) ≡ valuesOf (selectedAt (tapeOf (now (tape .entry)) (now (tones .entry)) (now (blocks .entry)) count) (now (position .entry))) (now (answer .entry)) ⌝ }
 {
     match position_from(position) {
-        Placed::Is(pos) => tell_selected(deck::block(tape, tones, blocks, count, pos), answer),
+        Placed::Is(pos) => tell_selected(menu::block(tape, tones, blocks, count, pos), answer),
         Placed::Not => misplaced(blocks, count),
     }
 }

@@ -1,11 +1,11 @@
 // A run of calls of a player, from its description to standard output. The description: a model byte (`4`, `1`, `3`), `m` (measured) or `s` (the source's), a block
 // number (4 bytes), how many calls (2 bytes, at most 1,000), each call's count (4 bytes), then the tape. Numbers are little-endian.
 use deck::Selected;
-use deck::block;
 use deck::play;
 use deck::play_measured;
 use fields::Cursor;
 use fields::field;
+use menu::block;
 use printing::print_refused;
 use tape::Loaded;
 use tape::load;

@@ -22,8 +22,8 @@ use Rattle.deck.proofs.play_measured.Kinds as play-measured-kinds
 use Rattle.deck.proofs.play_measured.Reads as play-measured
 use Rattle.deck.proofs.play.Kinds as play-kinds
 use Rattle.deck.proofs.play.Reads as play
-use Rattle.deck.proofs.block.Kinds as block-kinds
-use Rattle.deck.proofs.block.Reads as block
+use Rattle.menu.proofs.block.Kinds as block-kinds
+use Rattle.menu.proofs.block.Reads as block
 use Rattle.walks.proofs.Position.new_at_block.Kinds as new-at-block-kinds
 use Rattle.walks.proofs.Position.new_at_block.Reads as new-at-block
 use Rattle.walks.proofs.Position.mic.Kinds as mic-kinds

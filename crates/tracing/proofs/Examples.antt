@@ -16,7 +16,8 @@ use Rattle.walks.specs.Heads.{startAt, levelHere, toldAs, told, walked, walkFro
 use Rattle.deck.specs.Deck.{ruledOut, badRow, judged, unless, playMeasured, sourceAnswer, sourceFrom, playSource, backTo, blockOf, blockAt}
 use Rattle.deck.proofs.Answers.{positionIn}
 use Rattle.tracing.specs.Lines as lines
-use Rattle.tracing.specs.Lines.{flag, spaced, numbers, phaseText, leftText, restText, placeText, selectedText, sourceLine, measuredLine, lineOf}
+use Rattle.tracing.specs.Lines.{selectedText, sourceLine, measuredLine, lineOf}
+use Rattle.places.specs.Places.{flag, spaced, numbers, phaseText, leftText, restText, placeText}
 
 -- the lines of calls, each from where the head then stands: of the source's play, of the measured player
 unfoldable sources : Tape → Position → List ℕ → List ℕ

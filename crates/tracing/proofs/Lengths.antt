@@ -1,54 +1,16 @@
 -- HOW LONG A LINE CAN BE: no longer than 256 bytes, and its parts accordingly. Assumes nothing.
-use Prim.Native.Nat.{ℕ, _≤_}
+use Prim.Native.Nat.{_≤_}
 use native.Mathlib.Omega.{arith}
 use mathlib.Core.Bool.{Bool, true, false}
 use lib.ListN.{length, length-append}
 use Rattle.text.proofs.Writing.{decimal-length}
-use Rattle.entries.specs.declared.Phase.{Phase}
-use Rattle.entries.specs.declared.Phase.the-variants.{Start, Tones, Data, Pause}
-use Rattle.entries.specs.declared.Duration.{Duration}
-use Rattle.entries.specs.declared.Duration.the-variants.{T, Endless}
 use Rattle.walks.specs.declared.Stand.{Stand}
 use Rattle.walks.specs.declared.Reached.{Reached}
 use Rattle.walks.specs.declared.Reached.the-variants.{At, Stopped, Ended, NotValid, NotFormed}
 use Rattle.deck.specs.declared.Selected.{Selected}
 use Rattle.deck.specs.declared.Selected.the-variants.{Block, BadPosition, BadRow}
-use Rattle.tracing.specs.Lines.{flag, spaced, numbers, phaseText, leftText, restText, placeText, selectedText, shown, told, sourceLine, measuredLine, lineOf}
-
-pub flag-length : (v : Bool) → length (flag v) ≤ 1
-unfolding flag
-flag-length true = omega arith
-flag-length false = omega arith
-
-pub spaced-length : (n : ℕ) → length (spaced n) ≤ 21
-unfolding spaced
-spaced-length n = omega (arith, decimal-length n)
-
-pub numbers-length : (n m : ℕ) (v : Bool) → length (numbers n m v) ≤ 44
-unfolding numbers
-numbers-length n m v =
-    simp length-append (omega (arith, spaced-length n, spaced-length m, flag-length v))
-
-pub phase-length : (f : Phase) → length (phaseText f) ≤ 48
-unfolding phaseText
-phase-length Start = omega arith
-phase-length (Tones i p v) = omega (arith, numbers-length i p v)
-phase-length (Data pos k v) = omega (arith, numbers-length pos k v)
-phase-length Pause = omega arith
-
-pub left-length : (d : Duration) → length (leftText d) ≤ 20
-unfolding leftText
-left-length (T n) = decimal-length n
-left-length Endless = omega arith
-
-pub rest-length : (d : Duration) (v : Bool) → length (restText d v) ≤ 34
-unfolding restText
-rest-length d v = simp length-append (omega (arith, left-length d, flag-length v))
-
-pub place-length : (s : Stand) → length (placeText s) ≤ 103
-unfolding placeText
-place-length s =
-    simp length-append (omega (arith, decimal-length (s .position .block), phase-length (s .position .phase), rest-length (s .position .left) (s .level)))
+use Rattle.places.proofs.Lengths.{place-length}
+use Rattle.tracing.specs.Lines.{selectedText, shown, told, sourceLine, measuredLine, lineOf}
 
 pub selected-length : (b : Selected) → length (selectedText b) ≤ 20
 unfolding selectedText

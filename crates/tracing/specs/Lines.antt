@@ -1,50 +1,14 @@
 -- The line of a call's answer, as a trace prints it; the words are the oracle's. Definitions alone; assumes nothing.
 use Prim.Native.Nat.{ℕ}
 use mathlib.Core.Bool.{Bool, true, false}
-use mathlib.Core.List.{List, [], _∷_, _++_}
+use mathlib.Core.List.{List, _++_}
 use Rattle.text.specs.Out.{ascii, decimal}
-use Rattle.entries.specs.declared.Phase.{Phase}
-use Rattle.entries.specs.declared.Phase.the-variants.{Start, Tones, Data, Pause}
-use Rattle.entries.specs.declared.Duration.{Duration}
-use Rattle.entries.specs.declared.Duration.the-variants.{T, Endless}
 use Rattle.walks.specs.declared.Stand.{Stand}
 use Rattle.walks.specs.declared.Reached.{Reached}
 use Rattle.walks.specs.declared.Reached.the-variants.{At, Stopped, Ended, NotValid, NotFormed}
 use Rattle.deck.specs.declared.Selected.{Selected}
 use Rattle.deck.specs.declared.Selected.the-variants.{Block, BadPosition, BadRow}
-
--- a half or a level: `0`, or `1` for the last half and for high
-unfoldable pub flag : Bool → List ℕ
-flag false = ascii "0"
-flag true = ascii "1"
-
--- ` n`
-unfoldable pub spaced : ℕ → List ℕ
-spaced n = 0x20 ∷ decimal n
-
--- ` n m last`
-unfoldable pub numbers : ℕ → ℕ → Bool → List ℕ
-numbers n m last = spaced n ++ spaced m ++ (0x20 ∷ flag last)
-
--- `start`; `tone` with row, cycle and half; `data` with byte, bit and half; `pause`
-unfoldable pub phaseText : Phase → List ℕ
-phaseText Start = ascii "start"
-phaseText (Tones i p last) = ascii "tone" ++ numbers i p last
-phaseText (Data pos k last) = ascii "data" ++ numbers pos k last
-phaseText Pause = ascii "pause"
-
--- the T-states left, or `endless`
-unfoldable pub leftText : Duration → List ℕ
-leftText (T n) = decimal n
-leftText Endless = ascii "endless"
-
--- ` left LEFT level LEVEL`
-unfoldable pub restText : Duration → Bool → List ℕ
-restText left level = ascii " left " ++ leftText left ++ ascii " level " ++ flag level
-
--- `BLOCK PHASE left LEFT level LEVEL`
-unfoldable pub placeText : Stand → List ℕ
-placeText s = decimal (s .position .block) ++ ascii " " ++ phaseText (s .position .phase) ++ restText (s .position .left) (s .level)
+use Rattle.places.specs.Places.{placeText}
 
 -- the block's number; `refused n` where it is refused
 unfoldable pub selectedText : Selected → List ℕ

@@ -1,7 +1,6 @@
 // The text of a call's answer, a line each, as a trace prints it.
 use deck::Selected;
-use entries::Duration;
-use entries::Phase;
+use places::put_place;
 use text::put;
 use text::put_all;
 use text::put_decimal;
@@ -9,101 +8,7 @@ use walks::Reached;
 use walks::Stand;
 ghost use Prim.Native.Nat.{_+_, _^_, _<_};
 ghost use Rattle.text.specs.Out.{Wrote};
-ghost use Rattle.tracing.specs.Lines.{flag, spaced, numbers, phaseText, leftText, restText, placeText, selectedText, shown, told, sourceLine, measuredLine, lineOf};
-
-// A half or a level: 0 or 1.
-fn put_flag(out: &mut [u8], at: usize, v: bool) -> usize
-    requires { ⌜ at + 4 < 2 ^ 63 ⌝ }
-    ensures { λ r. ⌜ Wrote (now (out .entry)) at (flag v) (now (out .exit)) r ⌝ }
-{
-    if v {
-        return put(out, at, b'1');
-    }
-    put(out, at, b'0')
-}
-
-// A space and a number.
-fn put_spaced(out: &mut [u8], at: usize, n: u64) -> usize
-    requires { ⌜ at + 24 < 2 ^ 63 ⌝ }
-    ensures { λ r. ⌜ Wrote (now (out .entry)) at (spaced n) (now (out .exit)) r ⌝ }
-{
-    let a = put(out, at, b' ');
-    put_decimal(out, a, n)
-}
-
-// The numbers of a cycle's half, or of a bit's.
-fn put_numbers(out: &mut [u8], at: usize, n: u64, m: u64, last: bool) -> usize
-    requires { ⌜ at + 64 < 2 ^ 63 ⌝ }
-    ensures { λ r. ⌜ Wrote (now (out .entry)) at (numbers n m last) (now (out .exit)) r ⌝ }
-{
-    let a = put_spaced(out, at, n);
-    let b = put_spaced(out, a, m);
-    let c = put(out, b, b' ');
-    put_flag(out, c, last)
-}
-
-// Where an entry stands in its block.
-fn put_phase(out: &mut [u8], at: usize, f: Phase) -> usize
-    requires { ⌜ at + 72 < 2 ^ 63 ⌝ }
-    ensures { λ r. ⌜ Wrote (now (out .entry)) at (phaseText f) (now (out .exit)) r ⌝ }
-{
-    match f {
-        Phase::Start => put_all(out, at, b"start"),
-        Phase::Tones {
-            index,
-            pulse,
-            last_half,
-        } => {
-            let a = put_all(out, at, b"tone");
-            put_numbers(out, a, index, pulse, last_half)
-        }
-        Phase::Data {
-            pos,
-            bit,
-            last_half,
-        } => {
-            let a = put_all(out, at, b"data");
-            put_numbers(out, a, pos, bit, last_half)
-        }
-        Phase::Pause => put_all(out, at, b"pause"),
-    }
-}
-
-// What is left of an entry.
-fn put_left(out: &mut [u8], at: usize, left: Duration) -> usize
-    requires { ⌜ at + 24 < 2 ^ 63 ⌝ }
-    ensures { λ r. ⌜ Wrote (now (out .entry)) at (leftText left) (now (out .exit)) r ⌝ }
-{
-    match left {
-        Duration::T(n) => put_decimal(out, at, n),
-        Duration::Endless => put_all(out, at, b"endless"),
-    }
-}
-
-// What is left, and the level.
-fn put_rest(out: &mut [u8], at: usize, left: Duration, level: bool) -> usize
-    requires { ⌜ at + 40 < 2 ^ 63 ⌝ }
-    ensures { λ r. ⌜ Wrote (now (out .entry)) at (restText left level) (now (out .exit)) r ⌝ }
-{
-    let a = put_all(out, at, b" left ");
-    let b = put_left(out, a, left);
-    let c = put_all(out, b, b" level ");
-    put_flag(out, c, level)
-}
-
-// Where a call leaves the head.
-fn put_place(out: &mut [u8], at: usize, s: Stand) -> usize
-    requires { ⌜ at + 128 < 2 ^ 63 ⌝ }
-    ensures { λ r. ⌜ Wrote (now (out .entry)) at (placeText s) (now (out .exit)) r ⌝ }
-{
-    let q = s.position;
-    let f = q.phase;
-    let left = q.left;
-    let a = put_decimal(out, at, q.block);
-    let b = put(out, a, b' ');
-    let c = put_phase(out, b, f);
-    put_rest(out, c, left, s.level)
-}
+ghost use Rattle.tracing.specs.Lines.{selectedText, shown, told, sourceLine, measuredLine, lineOf};
 
 // The block that it is shown under.
 fn put_selected(out: &mut [u8], at: usize, b: Selected) -> usize

@@ -1,6 +1,7 @@
 -- `put_shown` meets its contract. Assumes nothing.
 use Rattle.tracing.specs.Lines.{shown}
-use Rattle.tracing.proofs.Lengths.{place-length, selected-length}
+use Rattle.places.proofs.Lengths.{place-length}
+use Rattle.tracing.proofs.Lengths.{selected-length}
 use native.Mathlib.Omega.{arith}
 use Rattle.text.proofs.Writing.{then}
 use borrow.Author.Needs.{needs}

@@ -1,6 +1,6 @@
--- `names::name_blocks` meets its contract: each turn is one step of the pass. Assumes nothing.
+-- `selecting::name_blocks` meets its contract: each turn is one step of the pass. Assumes nothing.
 use Rattle.names.proofs.Selecting.{next, name-turn, name-all-pass}
 use Rattle.names.specs.Names.{passed}
 use Rattle.rows.proofs.Passes.{turned, carried, turned-all}
 use Rattle.rows.proofs.Whole.{block-whole}
 use Rattle.rows.proofs.Tables.{rows-length, over-rows}
@@ -12,8 +12,8 @@ use mathlib.Core.Path.{_≡_, refl, sym, _∙_}
 use Prim.Native.Nat.{_-_, _≤_, _<_}
 use native.Mathlib.Omega.{arith}
 use borrow.Author.Needs.{needs}
-use Rattle.names.proofs.name_blocks.Statement.{statement}
-use Rattle.names.proofs.name_blocks.Tie as tie
+use Rattle.selecting.proofs.name_blocks.Statement.{statement}
+use Rattle.selecting.proofs.name_blocks.Tie as tie
 
 abbrev Inv-loop : tie.InvT-loop
 Inv-loop tape blocks₀ n prefixed₀ i₀ blocks prefixed i =

@@ -1,13 +1,13 @@
--- `names::put_type` meets its contract: each arm is one rule. Assumes nothing.
-use Rattle.names.proofs.Naming.{as-other}
-use Rattle.names.specs.Names.{typeName}
+-- `headers::put_type` meets its contract: each arm is one rule. Assumes nothing.
+use Rattle.headers.proofs.Headers.{as-other}
+use Rattle.headers.specs.Headers.{typeName}
 use Rattle.text.proofs.Writing.{then}
 use mathlib.Core.Path.{_≡_}
 use mathlib.Core.Logic.{⊎-elim}
 use native.Mathlib.Omega.{arith}
 use borrow.Author.Needs.{needs}
-use Rattle.names.proofs.put_type.Statement.{statement}
-use Rattle.names.proofs.put_type.Tie as tie
+use Rattle.headers.proofs.put_type.Statement.{statement}
+use Rattle.headers.proofs.put_type.Tie as tie
 
 slice-aggregate-put-all : tie.Need-slice-aggregate-put-all
 slice-aggregate-put-all c = search needs

@@ -1,7 +1,7 @@
--- `names::name_row` meets its contract: each return is one rule. Assumes nothing.
+-- `selecting::name_row` meets its contract: each return is one rule. Assumes nothing.
 use Rattle.names.specs.Names.{unselected}
-use Rattle.names.proofs.name_row.Statement.{statement}
-use Rattle.names.proofs.name_row.Tie as tie
+use Rattle.selecting.proofs.name_row.Statement.{statement}
+use Rattle.selecting.proofs.name_row.Tie as tie
 
 returns : tie.Need-returns
 returns c =

@@ -1,12 +1,12 @@
--- `names::put_header` meets its contract: type, `: ` and name one after the other. Assumes nothing.
-use Rattle.names.proofs.Naming.{ten-bytes}
+-- `headers::put_header` meets its contract: type, `: ` and name one after the other. Assumes nothing.
+use Rattle.headers.proofs.Headers.{ten-bytes}
 use Prim.Native.Nat.{_+_}
 use lib.ListN.{getD}
-use Rattle.names.proofs.Naming.{as-header, type-length}
+use Rattle.headers.proofs.Headers.{as-header, type-length}
 use native.Mathlib.Omega.{arith}
 use borrow.Author.Needs.{needs}
-use Rattle.names.proofs.put_header.Statement.{statement}
-use Rattle.names.proofs.put_header.Tie as tie
+use Rattle.headers.proofs.put_header.Statement.{statement}
+use Rattle.headers.proofs.put_header.Tie as tie
 
 add-kind : tie.Need-add-kind
 add-kind c = search needs

@@ -22,7 +22,8 @@ use Rattle.names.specs.Names.{isHeader as isHeading, sizeShown, sizeName, guess
 use Rattle.entries.specs.Entries.{entryOf, cyclesOf, toneOf, tonesOf as toneEntries, bitsAt, halfOf, byteOf, dataOf, pauseOf, soundOf, entriesOf, lastsOf}
 use Rattle.entries.specs.Places.{listFrom}
 use Rattle.tape.specs.Load.{namedTape, named, loadNamed, blocksOf, tonesOf}
-use Rattle.lines.specs.Lines.{shown, timeText, markText, rowText, rowsText}
+use Rattle.shown.specs.Shown.{shown}
+use Rattle.lines.specs.Lines.{timeText, markText, rowText, rowsText}
 use Rattle.page.specs.Page.{modelText, formatText, countText, loadingText, restText, listingText}
 use Rattle.listing.specs.Listing.{loadedOf, Listing, text, refused, mounted, listed, listingOf}
 

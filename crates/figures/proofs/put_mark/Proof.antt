@@ -1,11 +1,11 @@
 -- `put_mark` meets its contract. Assumes nothing.
 use Rattle.views.proofs.Parts.{decimal-next}
 use Rattle.views.specs.Dump.{markText}
 use Rattle.text.proofs.Writing.{then}
 use native.Mathlib.Omega.{arith}
 use borrow.Author.Needs.{needs}
-use Rattle.views.proofs.put_mark.Statement.{statement}
-use Rattle.views.proofs.put_mark.Tie as tie
+use Rattle.figures.proofs.put_mark.Statement.{statement}
+use Rattle.figures.proofs.put_mark.Tie as tie
 
 put-decimal-requires : tie.Need-put-decimal-requires
 put-decimal-requires c κs = search needs

@@ -1,11 +1,11 @@
--- `lines::is_c1` meets its contract: each return is one case of the two bytes. Assumes nothing.
+-- `shown::is_c1` meets its contract: each return is one case of the two bytes. Assumes nothing.
 use Prim.Native.Nat.{_+_}
 use native.Mathlib.Omega.{arith}
 use lib.ListN.{length, getD}
 use borrow.Author.Tests.{eq-eqb, ne-eqb, lt-ltb, le-ltb}
 use borrow.Author.Needs.{needs}
-use Rattle.lines.proofs.is_c1.Statement.{statement}
-use Rattle.lines.proofs.is_c1.Tie as tie
+use Rattle.shown.proofs.is_c1.Statement.{statement}
+use Rattle.shown.proofs.is_c1.Tie as tie
 
 add-if1 : tie.Need-add-if1
 add-if1 c = search needs

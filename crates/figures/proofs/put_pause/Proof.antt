@@ -1,8 +1,8 @@
 -- `put_pause` meets its contract. Assumes nothing.
 use Rattle.views.specs.Dump.{pauseText}
 use borrow.Author.Needs.{needs}
-use Rattle.views.proofs.put_pause.Statement.{statement}
-use Rattle.views.proofs.put_pause.Tie as tie
+use Rattle.figures.proofs.put_pause.Statement.{statement}
+use Rattle.figures.proofs.put_pause.Tie as tie
 
 enum-known-pause : tie.Need-enum-known-pause
 enum-known-pause c = search needs

@@ -1,9 +1,9 @@
 -- `put_field` meets its contract. Assumes nothing.
 use Rattle.views.specs.Dump.{field}
 use Rattle.text.proofs.Writing.{then}
 use borrow.Author.Needs.{needs}
-use Rattle.views.proofs.put_field.Statement.{statement}
-use Rattle.views.proofs.put_field.Tie as tie
+use Rattle.figures.proofs.put_field.Statement.{statement}
+use Rattle.figures.proofs.put_field.Tie as tie
 
 put-all-requires : tie.Need-put-all-requires
 put-all-requires c κs = search needs

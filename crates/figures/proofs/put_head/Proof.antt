@@ -1,11 +1,11 @@
 -- `put_head` meets its contract. Assumes nothing.
 use Rattle.views.proofs.Parts.{mark-next, bits-next}
 use Rattle.views.specs.Dump.{headText}
 use Rattle.text.proofs.Writing.{then}
 use native.Mathlib.Omega.{arith}
 use borrow.Author.Needs.{needs}
-use Rattle.views.proofs.put_head.Statement.{statement}
-use Rattle.views.proofs.put_head.Tie as tie
+use Rattle.figures.proofs.put_head.Statement.{statement}
+use Rattle.figures.proofs.put_head.Tie as tie
 
 put-mark-requires : tie.Need-put-mark-requires
 put-mark-requires c κs = search needs

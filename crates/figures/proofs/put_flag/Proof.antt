@@ -1,8 +1,8 @@
 -- `put_flag` meets its contract. Assumes nothing.
 use Rattle.views.specs.Dump.{flag}
 use borrow.Author.Needs.{needs}
-use Rattle.views.proofs.put_flag.Statement.{statement}
-use Rattle.views.proofs.put_flag.Tie as tie
+use Rattle.figures.proofs.put_flag.Statement.{statement}
+use Rattle.figures.proofs.put_flag.Tie as tie
 
 put-requires : tie.Need-put-requires
 put-requires c κs = search needs

@@ -1,11 +1,11 @@
 -- `put_bits` meets its contract. Assumes nothing.
 use Rattle.views.proofs.Parts.{field-next}
 use Rattle.views.specs.Dump.{bitsText}
 use Rattle.text.proofs.Writing.{then}
 use native.Mathlib.Omega.{arith}
 use borrow.Author.Needs.{needs}
-use Rattle.views.proofs.put_bits.Statement.{statement}
-use Rattle.views.proofs.put_bits.Tie as tie
+use Rattle.figures.proofs.put_bits.Statement.{statement}
+use Rattle.figures.proofs.put_bits.Tie as tie
 
 slice-aggregate-put-field : tie.Need-slice-aggregate-put-field
 slice-aggregate-put-field c = search needs

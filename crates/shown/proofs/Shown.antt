@@ -14,8 +14,7 @@ use Rattle.laws.specs.Rules.{_⇒_, _∣_}
 use Rattle.laws.specs.Numbers.{lt-or-ge}
 use Rattle.text.specs.Out.{Wrote}
 use Rattle.text.proofs.Writing.{nothing, then, counted, whole}
-use Rattle.lines.specs.Inner.{isC1, printed, width}
-use Rattle.lines.specs.Lines.{shown}
+use Rattle.shown.specs.Shown.{shown, isC1, printed, width}
 
 -- the last byte, a code point of two bytes, and a byte that another follows
 shown-last : (b : ℕ) → shown (b ∷ []) ≡ printed false b ∷ []

@@ -1,11 +1,11 @@
 -- `put_end` meets its contract. Assumes nothing.
 use Rattle.views.proofs.Parts.{pause-next}
 use Rattle.views.specs.Dump.{endText}
 use Rattle.text.proofs.Writing.{then}
 use native.Mathlib.Omega.{arith}
 use borrow.Author.Needs.{needs}
-use Rattle.views.proofs.put_end.Statement.{statement}
-use Rattle.views.proofs.put_end.Tie as tie
+use Rattle.figures.proofs.put_end.Statement.{statement}
+use Rattle.figures.proofs.put_end.Tie as tie
 
 slice-aggregate-put-all : tie.Need-slice-aggregate-put-all
 slice-aggregate-put-all c = search needs

@@ -1,12 +1,12 @@
--- `lines::put_shown` meets its contract: each turn writes one code point, and what is left ends what was begun. Assumes nothing.
+-- `shown::put_shown` meets its contract: each turn writes one code point, and what is left ends what was begun. Assumes nothing.
 use Prim.Native.Nat.{_-_}
 use native.Mathlib.Omega.{arith}
 use lib.ListN.{length}
 use borrow.Author.Needs.{needs}
 use Rattle.text.proofs.Writing.{same-len}
-use Rattle.lines.proofs.Shown.{Goes, goes-none, goes-on, goes-over, width-some}
-use Rattle.lines.proofs.put_shown.Statement.{statement}
-use Rattle.lines.proofs.put_shown.Tie as tie
+use Rattle.shown.proofs.Shown.{Goes, goes-none, goes-on, goes-over, width-some}
+use Rattle.shown.proofs.put_shown.Statement.{statement}
+use Rattle.shown.proofs.put_shown.Tie as tie
 
 abbrev Inv-loop : tie.InvT-loop
 Inv-loop out₀ at name o₀ i₀ out o i = Goes out₀ at name i out o

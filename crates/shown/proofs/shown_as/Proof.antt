@@ -1,8 +1,8 @@
--- `lines::shown_as` meets its contract: each return is one rule. Assumes nothing.
+-- `shown::shown_as` meets its contract: each return is one rule. Assumes nothing.
 use native.Mathlib.Omega.{arith}
 use borrow.Author.Tests.{eq-eqb, ne-eqb, lt-ltb, le-ltb}
-use Rattle.lines.proofs.shown_as.Statement.{statement}
-use Rattle.lines.proofs.shown_as.Tie as tie
+use Rattle.shown.proofs.shown_as.Statement.{statement}
+use Rattle.shown.proofs.shown_as.Tie as tie
 
 returns : tie.Need-returns
 returns c =

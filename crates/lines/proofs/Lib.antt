@@ -1,4 +1,3 @@
-pub mod Shown
 pub mod Texts
 pub mod Lines
 pub mod Total

@@ -20,8 +20,9 @@ use Rattle.entries.specs.Entries.{entriesOf, lastsOf}
 use Rattle.entries.specs.Places.{Tape, blockIn}
 use Rattle.entries.specs.Mounted.{tapeOf}
 use Rattle.lines.specs.Inner.{headText, tailText, Ready}
-use Rattle.lines.specs.Lines.{shown, timeText, markText, rowText, rowsText}
-use Rattle.lines.proofs.Shown.{shown-length}
+use Rattle.shown.specs.Shown.{shown}
+use Rattle.lines.specs.Lines.{timeText, markText, rowText, rowsText}
+use Rattle.shown.proofs.Shown.{shown-length}
 
 -- at least so long, and at most
 pub record Long (from to : ℕ) (t : List ℕ) : Type 0 where

@@ -1,10 +1,10 @@
--- What the contracts of the lines' functions cite: a name's code points, and what every load's tape has. Definitions alone; assumes nothing.
+-- What the contracts of the lines' functions cite: a line's parts, and what every load's tape has. Definitions alone; assumes nothing.
 use Prim.Native.Nat.{ℕ, _+_, _*_, _≤_, _<_}
 use mathlib.Core.Path.{_≡_}
-use mathlib.Core.Bool.{Bool, true, false, _&&_, _||_}
+use mathlib.Core.Bool.{true, _||_}
 use mathlib.Core.List.{List, _++_}
-use lib.ListN.{length, getD}
-use lib.Dec.{ltb, eqb}
+use lib.ListN.{length}
+use lib.Dec.{eqb}
 use Rattle.laws.specs.Rules.{_⇒_, _∣_}
 use Rattle.text.specs.Out.{ascii, decimal}
 use Rattle.rows.specs.declared.Block.{Block}
@@ -16,18 +16,8 @@ use Rattle.entries.specs.declared.Duration.{Duration}
 use Rattle.entries.specs.declared.Duration.the-variants.{T, Endless}
 use Rattle.entries.specs.Mounted.{sizeOf}
 use Rattle.lines.specs.declared.Told.{Told}
-use Rattle.lines.specs.Lines.{shown, timeText, markText}
-
--- a code point from 128 to 159 begins at i
-abbrev pub isC1 : List ℕ → ℕ → Bool
-isC1 s i = ltb (i + 1) (length s) ⇒ (eqb (getD s i 0) 0xC2 && ltb (getD s (i + 1) 0) 0xA0) ∣ false
-
--- what prints for it, or for the byte b, and how many bytes it takes
-abbrev pub printed : Bool → ℕ → ℕ
-printed c1 b = c1 ⇒ 0x3F ∣ (ltb b 32 || eqb b 127) ⇒ 0x3F ∣ b
-
-abbrev pub width : Bool → ℕ
-width c1 = c1 ⇒ 2 ∣ 1
+use Rattle.shown.specs.Shown.{shown}
+use Rattle.lines.specs.Lines.{timeText, markText}
 
 -- a row's line in two parts: number, mark and size; T-states and name
 abbrev pub headText : ℕ → Block → List ℕ

@@ -3,6 +3,7 @@ use entries::Duration;
 use entries::sound_time;
 use rows::Block;
 use rows::block_at;
+use shown::put_shown;
 use text::put;
 use text::put_all;
 use text::put_decimal;
@@ -20,60 +21,15 @@ ghost use Rattle.entries.specs.Places.{listFrom};
 ghost use Rattle.entries.specs.Mounted.{tapeOf};
 ghost use Rattle.entries.specs.Entries.{soundOf};
 ghost use Rattle.names.specs.Names.{nameOf};
-ghost use Rattle.lines.specs.Inner.{isC1, printed, width, headText, tailText, lastsBy, toldBy, ReadyRow, Ready};
-ghost use Rattle.lines.specs.Lines.{shown, timeText, markText, rowText, rowsText};
+ghost use Rattle.shown.specs.Shown.{shown};
+ghost use Rattle.lines.specs.Inner.{headText, tailText, lastsBy, toldBy, ReadyRow, Ready};
+ghost use Rattle.lines.specs.Lines.{timeText, markText, rowText, rowsText};
 
 // How far the rows are told: where their text ends, the T-states up to the first stop, and whether it was met.
 pub struct Told {
     pub at: usize,
     pub sum: u64,
     pub over: bool,
-}
-
-// Whether a code point from 128 to 159 begins at i: C2 and a byte below A0.
-fn is_c1(name: &[u8], i: usize) -> bool
-    requires { ⌜ i < length (now name) ⌝ }
-    ensures { λ b. ⌜ b ≡ isC1 (now (name .entry)) i ⌝ }
-{
-    if i + 1 < name.len() {
-        return name[i] == 0xC2 && name[i + 1] < 0xA0;
-    }
-    false
-}
-
-// How a code point prints that begins with the byte b.
-fn shown_as(c1: bool, b: u8) -> u8
-    ensures { λ r. ⌜ r ≡ printed c1 b ⌝ }
-{
-    if c1 {
-        return b'?';
-    }
-    if b < 32 {
-        return b'?';
-    }
-    if b == 127 { b'?' } else { b }
-}
-
-// The bytes that it takes.
-fn width_of(c1: bool) -> usize
-    ensures { λ r. ⌜ r ≡ width c1 ⌝ }
-{
-    if c1 { 2 } else { 1 }
-}
-
-// A name with `?` for its control characters.
-fn put_shown(out: &mut [u8], at: usize, name: &[u8]) -> usize
-    requires { ⌜ at + length (now name) < 2 ^ 63 ⌝ }
-    ensures { λ r. ⌜ Wrote (now (out .entry)) at (shown (now (name .entry))) (now (out .exit)) r ⌝ }
-{
-    let mut o = at;
-    let mut i = 0;
-    while i < name.len() {
-        let c1 = is_c1(name, i);
-        o = put(out, o, shown_as(c1, name[i]));
-        i += width_of(c1);
-    }
-    o
 }
 
 // A block's name as it is shown; its callers know that 512 bytes hold it.

@@ -17,11 +17,13 @@ use Rattle.blocks.specs.Adds.{addRows, add, addPairs, addGeneral, stopOn48}
 use Rattle.reader.specs.Source.{act, after, seeing, foldFrom, stopLength, tooManyBits, judged, tzxOf, tzxSee, headed, readTzx, tapOf, tapSee, readTap, orTap, orElse, loadOf}
 use Rattle.text.specs.Out.{ascii, decimal, digits, latin1, each}
 use Rattle.encoding.specs.Encoding.{table, encoded}
-use Rattle.names.specs.Names.{isHeader as isHeading, typeName, headerName, sizeShown, sizeName, guessed, nameOf, unselected, passed, nameAll}
+use Rattle.headers.specs.Headers.{typeName, headerName}
+use Rattle.names.specs.Names.{isHeader as isHeading, sizeShown, sizeName, guessed, nameOf, unselected, passed, nameAll}
 use Rattle.entries.specs.Entries.{entryOf, cyclesOf, toneOf, tonesOf as toneEntries, bitsAt, halfOf, byteOf, dataOf, pauseOf, soundOf, entriesOf, lastsOf}
 use Rattle.entries.specs.Places.{listFrom}
 use Rattle.tape.specs.Load.{namedTape, named, loadNamed, blocksOf, tonesOf}
-use Rattle.lines.specs.Lines.{shown, timeText, markText, rowText, rowsText}
+use Rattle.shown.specs.Shown.{shown}
+use Rattle.lines.specs.Lines.{timeText, markText, rowText, rowsText}
 use Rattle.page.specs.Page.{modelText, formatText, countText, loadingText, restText, listingText}
 use Rattle.listing.specs.Listing.{loadedOf, Listing, text, refused, mounted, listed, listingOf}
 

@@ -16,7 +16,7 @@ use Rattle.tape.specs.Load.{answerOf, blocksOf, tonesOf, Leaves}
 use Rattle.loads.specs.Sizes.{Bytes}
 use Rattle.listing.specs.Listing.{blockWords, toneWords, loadedOf, Listing, text, refused, mounted, listed, listingOf, answerTo, bytesAfter}
 use Rattle.listing.specs.Printed.{refusedText, printedOf, Says}
-use Rattle.lines.proofs.Shown.{name-part}
+use Rattle.shown.proofs.Shown.{name-part}
 use Rattle.lines.proofs.Texts.{decimal-long}
 use Rattle.page.proofs.Texts.{text-most}
 use Rattle.listing.proofs.Mounting.{load-ready}

@@ -22,8 +22,9 @@ use Rattle.parser.proofs.Kept.{all-get}
 use Rattle.blocks.specs.Blocks.{born, stopBlock, standardBlock, turboBlock, pureBlock, pauseBlock}
 use Rattle.blocks.specs.Does.{lentOf}
 use Rattle.reader.specs.Source.{loadOf}
-use Rattle.names.specs.Names.{isHeader, headerName, sizeShown, sizeName, guessed, nameOf, unselected, nameAll}
-use Rattle.names.proofs.Naming.{type-length}
+use Rattle.headers.specs.Headers.{headerName}
+use Rattle.names.specs.Names.{isHeader, sizeShown, sizeName, guessed, nameOf, unselected, nameAll}
+use Rattle.headers.proofs.Headers.{type-length}
 use Rattle.names.proofs.Selecting.{name-all-length}
 use Rattle.loads.specs.Sizes.{Bytes}
 use Rattle.loads.specs.Made.{Given, OfPiece, OfTap, Everywhere, Reads}

@@ -8,7 +8,8 @@ use Rattle.rows.specs.declared.Block.{Block}
 use Rattle.rows.specs.Rows.{decodeBlock}
 use Rattle.text.specs.Out.{decimal, digits, latin1, each}
 use Rattle.encoding.specs.Encoding.{table, encoded}
-use Rattle.names.specs.Names.{isHeader, typeName, headerName, sizeShown, sizeName, guessed, nameOf, unselected, passed, nameAll}
+use Rattle.headers.specs.Headers.{typeName, headerName}
+use Rattle.names.specs.Names.{isHeader, sizeShown, sizeName, guessed, nameOf, unselected, passed, nameAll}
 
 -- a selectable row of `tones` tone rows, with its data's and its given name's places
 abbrev row : ℕ → ℕ → ℕ → ℕ → ℕ → ℕ → Block

@@ -1,5 +1,5 @@
 -- Document 01, 'Names and the model': a block's name as UTF-8 text, and the naming pass. Assumes nothing.
-use Prim.Native.Nat.{ℕ, _+_, _/_}
+use Prim.Native.Nat.{ℕ, _/_}
 use mathlib.Core.Bool.{Bool, true, false, _&&_}
 use mathlib.Core.List.{List, [], _∷_, _++_}
 use lib.ListN.{getD, take, drop}
@@ -7,23 +7,11 @@ use lib.Dec.{eqb}
 use Rattle.laws.specs.Rules.{_⇒_, _∣_}
 use Rattle.text.specs.Out.{ascii, decimal, latin}
 use Rattle.rows.specs.declared.Block.{Block}
-use Rattle.encoding.specs.Encoding.{spelled}
+use Rattle.headers.specs.Headers.{headerName}
 
 -- 19 data bytes with first byte 0 is a header
 unfoldable pub isHeader : List ℕ → Block → Bool
 isHeader s r = eqb (r .size) 19 && eqb (getD s (r .start) 0) 0
-
--- `Program`, `Array`, `Bytes` for second byte 0, 1, 3, else `Type x`
-unfoldable pub typeName : ℕ → List ℕ
-typeName b =
-    eqb b 0 ⇒ ascii "Program"
-    ∣ eqb b 1 ⇒ ascii "Array"
-    ∣ eqb b 3 ⇒ ascii "Bytes"
-    ∣ ascii "Type " ++ decimal b
-
--- then `: ` and bytes 2 to 11 through `SPECTRUM_ENCODING`; the header's data begin at `start`
-unfoldable pub headerName : List ℕ → ℕ → List ℕ
-headerName s start = typeName (getD s (start + 1) 0) ++ (ascii ": " ++ spelled (take 10 (drop (start + 2) s)))
 
 -- `n bytes`, n the data size or, without data, tones/8
 unfoldable pub sizeShown : Block → ℕ

@@ -83,7 +83,7 @@ fn print_block(tape: &[u8], tones: &[u64], i: u64, r: Block)
     requires { ⌜ length (now tape) ≤ 1048576 ⌝ }
 {
     let mut out = io::buffer();
-    let k = views::put_head(&mut out, 0, i, r);
+    let k = figures::put_head(&mut out, 0, i, r);
     io::write_all(1, &out[..k]);
     print_name(tape, r);
     io::write_all(1, b" data=");

@@ -31,7 +31,8 @@ use Rattle.walks.specs.declared.Reached.the-variants.{At, Ended}
 use Rattle.walks.specs.Heads.{startAt, stand, placed, levelHere, toldAs, told, walked, walkFrom}
 use Rattle.deck.specs.Deck.{ruledOut, badRow, judged, unless, playMeasured}
 use Rattle.deck.proofs.Answers.{positionIn, passedIn}
-use Rattle.lines.specs.Lines.{shown, timeText, markText, rowText, rowsText}
+use Rattle.shown.specs.Shown.{shown}
+use Rattle.lines.specs.Lines.{timeText, markText, rowText, rowsText}
 use Rattle.page.specs.Page.{modelText, formatText, countText, loadingText, restText, listingText}
 use Rattle.listing.specs.Listing.{loadedOf, Listing, mounted, listed, listingOf, answerTo}
 

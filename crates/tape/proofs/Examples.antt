@@ -23,7 +23,8 @@ use Rattle.blocks.specs.Adds.{Lent, addRows, add, addPairs, addGeneral, stopOn4
 use Rattle.reader.specs.Source.{act, after, seeing, foldFrom, stopLength, tooManyBits, judged, tzxOf, tzxSee, headed, readTzx, tapOf, tapSee, readTap, Loaded, tzx, tapped, no, orTap, orElse, loadOf}
 use Rattle.text.specs.Out.{decimal, digits as digitsOf, latin1, each}
 use Rattle.encoding.specs.Encoding.{table, encoded}
-use Rattle.names.specs.Names.{isHeader as isHeading, typeName, headerName as namedAs, sizeShown, sizeName, guessed, nameOf, unselected, passed, nameAll}
+use Rattle.headers.specs.Headers.{typeName, headerName as namedAs}
+use Rattle.names.specs.Names.{isHeader as isHeading, sizeShown, sizeName, guessed, nameOf, unselected, passed, nameAll}
 use Rattle.rows.specs.Table.{over as tableOver}
 use Rattle.tape.specs.declared.Format.the-variants.{Tap}
 use Rattle.tape.specs.declared.Loaded.{Loaded as Answer}

@@ -4,7 +4,7 @@ use borrow.Author.Needs.{needs}
 use Rattle.names.specs.Names.{nameOf}
 use Rattle.text.proofs.Writing.{then}
 use Rattle.lines.proofs.Texts.{time-long}
-use Rattle.lines.proofs.Shown.{shown-length}
+use Rattle.shown.proofs.Shown.{shown-length}
 use Rattle.lines.proofs.put_tail.Statement.{statement}
 use Rattle.lines.proofs.put_tail.Tie as tie
 

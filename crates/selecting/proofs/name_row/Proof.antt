@@ -1,0 +1,20 @@
+-- `selecting::name_row` meets its contract: each return is one rule. Assumes nothing.
+use Rattle.names.specs.Names.{unselected}
+use Rattle.selecting.proofs.name_row.Statement.{statement}
+use Rattle.selecting.proofs.name_row.Tie as tie
+
+returns : tie.Need-returns
+returns c =
+    rw (c .if1 .taken)
+
+returns-2 : tie.Need-returns-2
+unfolding unselected
+returns-2 c =
+    rw (c .before .if1 .left, c .if2 .taken)
+
+returns-3 : tie.Need-returns-3
+returns-3 c =
+    rw (c .before .if1 .left, c .if2 .left)
+
+pub name-row-spec : {M : Type 1} → statement M
+name-row-spec = tie.close (tie.spec returns returns-2 returns-3)

@@ -1,8 +1,8 @@
 // The public load: a tape read as TZX, and where that fails as TAP, into the lent tables; then the naming pass.
 use names::name_blocks;
 use reader::Reading;
-use reader::read_tap;
-use reader::read_tzx;
+use reading::read_tap;
+use reading::read_tzx;
 use rows::blank;
 ghost use lib.ListN.{length};
 ghost use Rattle.reader.specs.Source.{no, orTap, readTap, loadOf};

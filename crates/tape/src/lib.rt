@@ -1,7 +1,7 @@
 // The public load: a tape read as TZX, and where that fails as TAP, into the lent tables; then the naming pass.
 use reader::Reading;
-use reader::read_tap;
-use reader::read_tzx;
+use reading::read_tap;
+use reading::read_tzx;
 use rows::blank;
 use selecting::name_blocks;
 ghost use lib.ListN.{length};

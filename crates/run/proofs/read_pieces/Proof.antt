@@ -10,8 +10,8 @@ use lib.ListN.{length}
 use native.Mathlib.Omega.{arith}
 use Prim.Native.Nat.{_-_}
 use mathlib.Core.Path.{refl, sym, _∙_}
-use Rattle.reader.proofs.read_pieces.Statement.{statement}
-use Rattle.reader.proofs.read_pieces.Tie as tie
+use Rattle.run.proofs.read_pieces.Statement.{statement}
+use Rattle.run.proofs.read_pieces.Tie as tie
 
 abbrev Inv-loop : tie.InvT-loop
 Inv-loop tape model blocks₀ tones₀ s₀ at₀ blocks tones s at =

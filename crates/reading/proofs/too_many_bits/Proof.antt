@@ -10,8 +10,8 @@ use native.Mathlib.Omega.{arith}
 use mathlib.Core.List.{List}
 use Prim.Native.Nat.{ℕ, _-_, _≤_}
 use mathlib.Core.Path.{_≡_, refl, sym, _∙_}
-use Rattle.reader.proofs.too_many_bits.Statement.{statement}
-use Rattle.reader.proofs.too_many_bits.Tie as tie
+use Rattle.reading.proofs.too_many_bits.Statement.{statement}
+use Rattle.reading.proofs.too_many_bits.Tie as tie
 
 abbrev Inv-loop : tie.InvT-loop
 Inv-loop blocks n i₀ i =

@@ -9,8 +9,8 @@ use lib.ListN.{length}
 use native.Mathlib.Omega.{arith}
 use Prim.Native.Nat.{_-_}
 use mathlib.Core.Path.{sym, _∙_}
-use Rattle.reader.proofs.read_tap.Statement.{statement}
-use Rattle.reader.proofs.read_tap.Tie as tie
+use Rattle.reading.proofs.read_tap.Statement.{statement}
+use Rattle.reading.proofs.read_tap.Tie as tie
 
 abbrev Inv-loop : tie.InvT-loop
 Inv-loop tape blocks₀ tones₀ s₀ at₀ blocks tones s at =

@@ -1,8 +1,8 @@
 -- `too_many` meets its contract. Assumes nothing.
 use borrow.Author.Tests.{lt-ltb, le-ltb}
 use native.Mathlib.Omega.{arith}
-use Rattle.reader.proofs.too_many.Statement.{statement}
-use Rattle.reader.proofs.too_many.Tie as tie
+use Rattle.reading.proofs.too_many.Statement.{statement}
+use Rattle.reading.proofs.too_many.Tie as tie
 
 returns : tie.Need-returns
 returns c =

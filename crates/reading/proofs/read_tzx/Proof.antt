@@ -1,13 +1,13 @@
 -- `read_tzx` meets its contract. Assumes nothing.
 use Rattle.reader.proofs.Judged.{done-room, judged-seven, judged-done, judged-failed, judged-refused, tzx-headed}
 use Rattle.blocks.specs.Does.{lentOf}
 use Rattle.reader.specs.Does.{fails}
 use Rattle.reader.specs.Source.{headed}
 use lib.ListN.{length}
 use mathlib.Core.Path.{sym, _∙_}
 use borrow.Author.Needs.{needs}
-use Rattle.reader.proofs.read_tzx.Statement.{statement}
-use Rattle.reader.proofs.read_tzx.Tie as tie
+use Rattle.reading.proofs.read_tzx.Statement.{statement}
+use Rattle.reading.proofs.read_tzx.Tie as tie
 
 head-requires : tie.Need-head-requires
 head-requires c κs = search needs

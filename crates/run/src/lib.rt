@@ -1,0 +1,58 @@
+// The run of the source reading over the pieces of a TZX.
+use cutting::cut;
+use parser::Step;
+use parser::new_state;
+use pieces::Taken;
+use reader::Failure;
+use reader::Reading;
+use reader::act;
+use reader::stop_length;
+ghost use lib.ListN.{length};
+ghost use Rattle.parser.specs.Parser.{empty};
+ghost use Rattle.blocks.specs.Does.{lentOf};
+ghost use Rattle.reader.specs.Source.{tzxSee, foldFrom};
+ghost use Rattle.reader.specs.Does.{Blank, Finds};
+
+// An alphabet size of 0 means 255.
+const FULL: u32 = 255;
+
+// The pieces of a TZX, from behind its head to the end; our crates alone call it, over blank tables.
+pub fn read_pieces(tape: &[u8], model: u32, blocks: &mut [u64], tones: &mut [u64]) -> Reading
+    requires { ⌜ Blank (now blocks) × Blank (now tones) ⌝ }
+    ensures { λ r. ⌜ Finds (length (now (blocks .entry))) (length (now (tones .entry))) r (now (blocks .exit)) (now (tones .exit)) (foldFrom (tzxSee (lentOf (length (now (blocks .entry))) (length (now (tones .entry)))) (now (tape .entry)) model) (length (now (tape .entry))) 10 empty) ⌝ }
+{
+    let mut s = new_state();
+    let mut at = 10;
+    while at < tape.len() as u64 {
+        match cut(tape, at, FULL) {
+            Taken::End => return Reading::Done(s),
+            Taken::Whole {
+                kind: _,
+                at: _,
+                next,
+                piece,
+            } => {
+                let length = stop_length(piece);
+                if length != 0 {
+                    return Reading::Failed(Failure::Length { length });
+                }
+                match act(tape, model, s, blocks, tones, piece) {
+                    Step::On(after) => {
+                        s = after;
+                        at = next;
+                    }
+                    Step::No(k) => return Reading::Refused(k),
+                }
+            }
+            Taken::Unknown {
+                kind: _,
+                described: _,
+            } => at += 1,
+            Taken::Short { kind, place, width } => {
+                return Reading::Failed(Failure::ShortPiece { kind, place, width });
+            }
+            Taken::Overflow { kind: _, place: _ } => return Reading::Refused(4),
+        }
+    }
+    Reading::Done(s)
+}

@@ -1,6 +1,5 @@
 // The listing: a loaded tape as text, and the function that our catalogue host calls.
 use entries::Duration;
-use entries::sound_time;
 use rows::Block;
 use rows::block_at;
 use tape::Format;
@@ -8,6 +7,7 @@ use tape::Loaded;
 use text::put;
 use text::put_all;
 use text::put_decimal;
+use times::sound_time;
 ghost use mathlib.Core.Path.{_≡_};
 ghost use mathlib.Core.Bool.{true};
 ghost use Prim.Native.Nat.{ℕ, _+_, _^_, _<_, _≤_};

@@ -1,6 +1,6 @@
 // The queries of a mounted tape: its count, and of a block its name, size, mark and time; the loading time.
 use entries::Duration;
-use entries::row_well;
+use phases::row_well;
 use rows::block_at;
 use rows::block_capacity;
 ghost use mathlib.Core.Path.{_≡_};
@@ -97,7 +97,7 @@ pub fn block_time(tape: &[u8], tones: &[u64], blocks: &[u64], count: u64, i: u64
         return Time::Refused(k);
     }
     let r = block_at(blocks, i as usize);
-    Time::Lasts(entries::block_time(tape, tones, r))
+    Time::Lasts(times::block_time(tape, tones, r))
 }
 
 // Its name as UTF-8 into `out`, and the name's length; a refusal writes no byte.
@@ -140,7 +140,7 @@ pub fn loading_time(tape: &[u8], tones: &[u64], blocks: &[u64], count: u64) -> N
             return Number::Refused(11);
         }
         let r = block_at(blocks, b as usize);
-        sum += entries::sound_time(tape, tones, r);
+        sum += times::sound_time(tape, tones, r);
         if r.endless == 1 {
             return Number::Is(sum);
         }

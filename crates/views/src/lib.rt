@@ -1,6 +1,6 @@
 // The parts of a view's line, each written into lent bytes: a program prints them one after the other. Our programs alone call them.
 use entries::Duration;
-use entries::pause_of;
+use phases::pause_of;
 use rows::Block;
 use rows::Tone;
 use rows::tone_at;

@@ -2,11 +2,11 @@
 use drops::ran_ahead;
 use entries::Duration;
 use entries::Phase;
-use entries::has_entry;
-use entries::length_at;
-use entries::may_remain;
-use entries::mic;
-use entries::row_well;
+use phases::has_entry;
+use phases::length_at;
+use phases::may_remain;
+use phases::mic;
+use phases::row_well;
 use rows::Block;
 use rows::block_at;
 use rows::block_capacity;

@@ -1,12 +1,11 @@
 // What the source's play drops as it walks.
 use entries::Duration;
 use entries::Phase;
-use entries::bits_at;
-use entries::byte_time;
-use entries::cycles_of;
-use entries::length_at;
-use entries::row_tone;
-use entries::row_well;
+use phases::bits_at;
+use phases::cycles_of;
+use phases::length_at;
+use phases::row_tone;
+use phases::row_well;
 use rows::Block;
 use rows::block_at;
 use steps::Step;
@@ -14,6 +13,7 @@ use steps::cycle_from;
 use steps::data_from;
 use steps::one_step;
 use steps::step_to;
+use times::byte_time;
 use walks::Position;
 ghost use mathlib.Core.Path.{_≡_};
 ghost use mathlib.Core.Bool.{true, false};

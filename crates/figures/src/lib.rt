@@ -1,6 +1,6 @@
 // The numbers of a view's line, up to the name, written into lent bytes. Our programs alone call it.
 use entries::Duration;
-use entries::pause_of;
+use phases::pause_of;
 use rows::Block;
 use text::put;
 use text::put_all;

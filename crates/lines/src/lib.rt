@@ -1,12 +1,12 @@
 // A listing's lines: a block's row as text, and all rows with the loading time.
 use entries::Duration;
-use entries::sound_time;
 use rows::Block;
 use rows::block_at;
 use shown::put_shown;
 use text::put;
 use text::put_all;
 use text::put_decimal;
+use times::sound_time;
 ghost use mathlib.Core.Path.{_≡_};
 ghost use mathlib.Core.Bool.{true};
 ghost use Prim.Native.Nat.{ℕ, _+_, _^_, _<_, _≤_};

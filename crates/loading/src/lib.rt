@@ -1,5 +1,5 @@
 // The query of the loading time.
-use entries::row_well;
+use phases::row_well;
 use queries::Number;
 use queries::overfull;
 use rows::block_at;
@@ -21,7 +21,7 @@ pub fn loading_time(tape: &[u8], tones: &[u64], blocks: &[u64], count: u64) -> N
             return Number::Refused(11);
         }
         let r = block_at(blocks, b as usize);
-        sum += entries::sound_time(tape, tones, r);
+        sum += times::sound_time(tape, tones, r);
         if r.endless == 1 {
             return Number::Is(sum);
         }

@@ -2,7 +2,7 @@
 use deck::Check;
 use deck::Selected;
 use deck::judge;
-use entries::row_well;
+use phases::row_well;
 use rows::block_at;
 use walks::Position;
 ghost use mathlib.Core.Path.{_≡_};

@@ -1,5 +1,5 @@
 // A loaded tape on standard output, in the words of `views`, from a small buffer: 512 copies of a block of 48 KB are 50 MB of text.
-use entries::row_well;
+use phases::row_well;
 use rows::Block;
 use rows::block_at;
 use rows::block_capacity;

@@ -1,6 +1,6 @@
 // The queries of a mounted tape: what each answers, its refusals, the count, and of a block its size, mark and time.
 use entries::Duration;
-use entries::row_well;
+use phases::row_well;
 use rows::block_at;
 use rows::block_capacity;
 ghost use mathlib.Core.Path.{_≡_};
@@ -97,5 +97,5 @@ pub fn block_time(tape: &[u8], tones: &[u64], blocks: &[u64], count: u64, i: u64
         return Time::Refused(k);
     }
     let r = block_at(blocks, i as usize);
-    Time::Lasts(entries::block_time(tape, tones, r))
+    Time::Lasts(times::block_time(tape, tones, r))
 }

@@ -1,11 +1,11 @@
 // How far one step of a walk goes inside a block: behind an entry, a run of whole cycles, a data byte.
 use entries::Phase;
-use entries::bits_at;
-use entries::byte_time;
-use entries::cycles_of;
-use entries::row_tone;
+use phases::bits_at;
+use phases::cycles_of;
+use phases::row_tone;
 use rows::Block;
 use rows::Tone;
+use times::byte_time;
 ghost use mathlib.Core.Path.{_≡_};
 ghost use mathlib.Core.Bool.{true};
 ghost use mathlib.Core.List.{List};

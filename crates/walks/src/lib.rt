@@ -1,9 +1,9 @@
 // Positions, and the measured walk over a tape's entries, which both players stand on.
 use entries::Duration;
 use entries::Phase;
-use entries::length_at;
-use entries::mic;
-use entries::row_well;
+use phases::length_at;
+use phases::mic;
+use phases::row_well;
 use rows::block_at;
 use steps::take;
 ghost use mathlib.Core.Path.{_≡_};

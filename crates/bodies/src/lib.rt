@@ -1,4 +1,4 @@
-// What stands after the kind byte, one function for each kind but 19 and those that hold nothing of their own.
+// What stands after a kind byte: a function for each kind that has fields, but 19.
 use fields::Cursor;
 use fields::after;
 use fields::each;

@@ -1,13 +1,13 @@
 // The source reading: what the Rust makes of each piece. Its definitions are of the whole run, over a TZX or a TAP.
 use blocks::is_header;
 use blocks::standard_data_block;
+use groups::group_end;
+use groups::group_start;
+use groups::text_description;
+use loops::loop_end;
+use loops::loop_start;
 use parser::State;
 use parser::Step;
-use parser::group_end;
-use parser::group_start;
-use parser::loop_end;
-use parser::loop_start;
-use parser::text_description;
 use pieces::Piece;
 use signals::generalized_data_block;
 use signals::pulse_blocks;

@@ -1,12 +1,12 @@
 -- `pause_last` meets its contract. Assumes nothing.
 use Rattle.parser.proofs.Adds.{last-none, table-paused}
 use lib.ListN.{length}
 use mathlib.Core.Path.{_≡_}
 use native.Mathlib.Omega.{arith}
 use Prim.Native.Nat.{suc, _-_}
 use borrow.Author.Needs.{needs}
-use Rattle.parser.proofs.pause_last.Statement.{statement}
-use Rattle.parser.proofs.pause_last.Tie as tie
+use Rattle.groups.proofs.pause_last.Statement.{statement}
+use Rattle.groups.proofs.pause_last.Tie as tie
 
 returns : tie.Need-returns
 returns c =

@@ -12,8 +12,8 @@ use mathlib.Core.Path.{_≡_, refl}
 use native.Mathlib.Omega.{arith}
 use Prim.Native.Nat.{ℕ, _+_, _-_, _≤_}
 use borrow.Author.Needs.{needs}
-use Rattle.parser.proofs.copy_body.Statement.{statement}
-use Rattle.parser.proofs.copy_body.Tie as tie
+use Rattle.loops.proofs.copy_body.Statement.{statement}
+use Rattle.loops.proofs.copy_body.Tie as tie
 
 abbrev Inv-loop : tie.InvT-loop
 Inv-loop blocks₀ start end s₀ i₀ blocks s i =

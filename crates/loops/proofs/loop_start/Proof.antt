@@ -1,10 +1,10 @@
 -- `loop_start` meets its contract. Assumes nothing.
 use Rattle.parser.proofs.Laws.{holds-loop}
 use Rattle.parser.specs.Parser.{openLoop}
 use Rattle.parser.specs.Holds.{goes}
 use borrow.Author.Needs.{needs}
-use Rattle.parser.proofs.loop_start.Statement.{statement}
-use Rattle.parser.proofs.loop_start.Tie as tie
+use Rattle.loops.proofs.loop_start.Statement.{statement}
+use Rattle.loops.proofs.loop_start.Tie as tie
 
 loop-opened-requires : tie.Need-loop-opened-requires
 loop-opened-requires c κs = search needs

@@ -1,13 +1,13 @@
 -- `repeat` meets its contract. Assumes nothing.
 use Rattle.parser.proofs.Copies.{copies-none}
 use Rattle.parser.specs.Holds.{blockRoom, goes}
 use lib.Seq.{take-all}
 use lib.ListN.{length, drop-of-length-le}
 use native.Mathlib.Omega.{arith}
 use Prim.Native.Nat.{_≤_}
 use borrow.Author.Needs.{needs}
-use Rattle.parser.proofs.repeat.Statement.{statement}
-use Rattle.parser.proofs.repeat.Tie as tie
+use Rattle.loops.proofs.repeat.Statement.{statement}
+use Rattle.loops.proofs.repeat.Tie as tie
 
 returns : tie.Need-returns
 returns c =

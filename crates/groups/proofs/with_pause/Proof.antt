@@ -1,8 +1,8 @@
 -- `with_pause` meets its contract. Assumes nothing.
 use Rattle.parser.specs.Parser.{paused}
 use borrow.Author.Tests.{eq-eqb, ne-eqb}
-use Rattle.parser.proofs.with_pause.Statement.{statement}
-use Rattle.parser.proofs.with_pause.Tie as tie
+use Rattle.groups.proofs.with_pause.Statement.{statement}
+use Rattle.groups.proofs.with_pause.Tie as tie
 
 returns : tie.Need-returns
 unfolding paused

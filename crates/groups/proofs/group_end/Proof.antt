@@ -1,14 +1,14 @@
 -- `group_end` meets its contract. Assumes nothing.
 use Rattle.parser.proofs.Adds.{holds-paused}
 use Rattle.parser.proofs.Laws.{holds-name}
 use Rattle.parser.specs.Holds.{goes}
 use Rattle.parser.specs.Parser.{inGroup, endGroup}
 use mathlib.Core.Bool.{true, false}
 use mathlib.Core.Path.{_≡_, refl, sym, _∙_}
 use native.Mathlib.Omega.{arith}
 use borrow.Author.Needs.{needs}
-use Rattle.parser.proofs.group_end.Statement.{statement}
-use Rattle.parser.proofs.group_end.Tie as tie
+use Rattle.groups.proofs.group_end.Statement.{statement}
+use Rattle.groups.proofs.group_end.Tie as tie
 
 pause-last-requires : tie.Need-pause-last-requires
 pause-last-requires c κs = search needs

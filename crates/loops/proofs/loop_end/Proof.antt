@@ -1,12 +1,12 @@
 -- `loop_end` meets its contract. Assumes nothing.
 use Rattle.parser.specs.declared.Loop.{Loop}
 use Rattle.parser.proofs.Laws.{holds-loop}
 use Rattle.parser.specs.Holds.{blockRoom, goes}
 use Rattle.parser.specs.Parser.{on, closed, closeLoop}
 use mathlib.Core.Path.{_≡_, refl, sym, ap, _∙_}
 use borrow.Author.Needs.{needs}
-use Rattle.parser.proofs.loop_end.Statement.{statement}
-use Rattle.parser.proofs.loop_end.Tie as tie
+use Rattle.loops.proofs.loop_end.Statement.{statement}
+use Rattle.loops.proofs.loop_end.Tie as tie
 
 enum-told : tie.Need-enum-told
 enum-told c = search needs

@@ -1,7 +1,7 @@
 -- `loop_opened` meets its contract. Assumes nothing.
 use borrow.Author.Needs.{needs}
-use Rattle.parser.proofs.loop_opened.Statement.{statement}
-use Rattle.parser.proofs.loop_opened.Tie as tie
+use Rattle.loops.proofs.loop_opened.Statement.{statement}
+use Rattle.loops.proofs.loop_opened.Tie as tie
 
 enum-told : tie.Need-enum-told
 enum-told c = search needs

@@ -246,7 +246,7 @@ fn with_pilot(tape: &[u8], g: GeneralizedData, tones: &mut [u64], used: usize, n
 }
 
 // What a 19 comes to, its rows put after the first `used` of the tone table: the answer decides, and nothing is written
-// but the rows of `Data` and `Tones`. Our crates call it with what `pieces::cut` gave for this tape, where 0 means 255.
+// but the rows of `Data` and `Tones`. Our crates call it with what `cutting::cut` gave for this tape, where 0 means 255.
 pub fn general(tape: &[u8], g: GeneralizedData, tones: &mut [u64], used: usize) -> Made
     requires { ⌜ Held (now tape) g ⌝ }
     ensures { λ r. ⌜ Done (generalOf (now (tape .entry)) g) used (now (tones .entry)) (now (tones .exit)) r ⌝ }

@@ -1,4 +1,4 @@
--- `rows::block_well` meets its contract: each call decides its clause; that the tone range is inside the table gives what `tones_well` asks. Assumes nothing.
+-- `wells::block_well` meets its contract: each call decides its clause; that the tone range is inside the table gives what `tones_well` asks. Assumes nothing.
 use borrow.Author.Needs.{needs}
 use Rattle.rows.specs.Well.{wellBlock}
 use Rattle.rows.proofs.WellLaws.{tones-lent}

@@ -1,4 +1,4 @@
--- `rows::cases_well` meets its contract: each test decides its clause. Assumes nothing.
+-- `wells::cases_well` meets its contract: each test decides its clause. Assumes nothing.
 use borrow.Author.Tests.{le-leb, lt-leb}
 use Rattle.rows.specs.Well.{wellCases}
 use Rattle.wells.proofs.cases_well.Statement.{statement}

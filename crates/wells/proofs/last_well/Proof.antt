@@ -1,4 +1,4 @@
--- `rows::last_well` meets its contract. Assumes nothing.
+-- `wells::last_well` meets its contract. Assumes nothing.
 use borrow.Author.Tests.{eq-eqb, ne-eqb}
 use Rattle.wells.proofs.last_well.Statement.{statement}
 use Rattle.wells.proofs.last_well.Tie as tie

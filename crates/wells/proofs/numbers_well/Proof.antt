@@ -1,4 +1,4 @@
--- `rows::numbers_well` meets its contract: each test or call decides its clause. Assumes nothing.
+-- `wells::numbers_well` meets its contract: each test or call decides its clause. Assumes nothing.
 use borrow.Author.Tests.{le-leb, lt-leb}
 use borrow.Author.Needs.{needs}
 use Rattle.rows.specs.Well.{wellNumbers}

@@ -1,4 +1,4 @@
--- `rows::pause_well` meets its contract. Assumes nothing.
+-- `wells::pause_well` meets its contract. Assumes nothing.
 use borrow.Author.Tests.{eq-eqb, ne-eqb}
 use Rattle.wells.proofs.pause_well.Statement.{statement}
 use Rattle.wells.proofs.pause_well.Tie as tie

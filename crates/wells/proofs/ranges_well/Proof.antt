@@ -1,4 +1,4 @@
--- `rows::ranges_well` meets its contract: each call decides its clause. Assumes nothing.
+-- `wells::ranges_well` meets its contract: each call decides its clause. Assumes nothing.
 use borrow.Author.Needs.{needs}
 use Rattle.rows.specs.Well.{wellRanges}
 use Rattle.rows.proofs.Clauses.{failed, passed}

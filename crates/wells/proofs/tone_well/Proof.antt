@@ -1,4 +1,4 @@
--- `rows::tone_well` meets its contract: each test decides its clause. Assumes nothing.
+-- `wells::tone_well` meets its contract: each test decides its clause. Assumes nothing.
 use borrow.Author.Tests.{le-leb, lt-leb}
 use Rattle.rows.specs.Well.{wellTone}
 use Rattle.wells.proofs.tone_well.Statement.{statement}

@@ -1,4 +1,4 @@
--- `rows::tones_well` meets its contract: what is left from row i on decides, as all rows did at the start. Assumes nothing.
+-- `wells::tones_well` meets its contract: what is left from row i on decides, as all rows did at the start. Assumes nothing.
 use Prim.Native.Nat.{_+_}
 use native.Mathlib.Omega.{arith}
 use mathlib.Core.Path.{_≡_, refl, ap, _∙_}

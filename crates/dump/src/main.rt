@@ -1,5 +1,5 @@
 // Reads a model byte (`4`, `1`, `3`) and up to 65,535 tape bytes from standard input, and prints every block whole, or `refused n`.
-use playback::model_of;
+use models::model_of;
 use printing::print_loaded;
 use printing::print_refused;
 use tape::load;

@@ -5,34 +5,14 @@ use rows::Block;
 use text::put;
 use text::put_all;
 use text::put_decimal;
+use values::put_duration;
+use values::put_flag;
 ghost use Prim.Native.Nat.{_+_, _^_, _<_};
 ghost use lib.ListN.{length};
 ghost use lib.Dec.{eqb};
 ghost use Rattle.text.specs.Out.{Wrote};
 ghost use Rattle.entries.specs.Entries.{pauseOf};
-ghost use Rattle.views.specs.Dump.{pauseText, flag, field, markText, bitsText, endText, headText};
-
-// A pause.
-fn put_pause(out: &mut [u8], at: usize, pause: Duration) -> usize
-    requires { ⌜ at + 20 < 2 ^ 63 ⌝ }
-    ensures { λ r. ⌜ Wrote (now (out .entry)) at (pauseText pause) (now (out .exit)) r ⌝ }
-{
-    match pause {
-        Duration::T(n) => put_decimal(out, at, n),
-        Duration::Endless => put_all(out, at, b"endless"),
-    }
-}
-
-// A mark.
-fn put_flag(out: &mut [u8], at: usize, b: bool) -> usize
-    requires { ⌜ at < 2 ^ 63 ⌝ }
-    ensures { λ r. ⌜ Wrote (now (out .entry)) at (flag b) (now (out .exit)) r ⌝ }
-{
-    if b {
-        return put(out, at, b'1');
-    }
-    put(out, at, b'0')
-}
+ghost use Rattle.views.specs.Dump.{field, markText, bitsText, endText, headText};
 
 // A word and a number.
 fn put_field(out: &mut [u8], at: usize, word: &[u8], n: u64) -> usize
@@ -69,7 +49,7 @@ fn put_end(out: &mut [u8], at: usize, pause: Duration) -> usize
     ensures { λ n. ⌜ Wrote (now (out .entry)) at (endText pause) (now (out .exit)) n ⌝ }
 {
     let a = put_all(out, at, b" pause=");
-    let b = put_pause(out, a, pause);
+    let b = put_duration(out, a, pause);
     put_all(out, b, b" name=")
 }
 

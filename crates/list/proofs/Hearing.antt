@@ -10,7 +10,8 @@ use borrow.Author.Tests.{le-leb, lt-leb}
 use Rattle.io.specs.Counts.{Counts}
 use Rattle.listing.specs.Listing.{refused, listingOf}
 use Rattle.listing.specs.Printed.{refusedText, printedOf, Says}
-use Rattle.list.specs.Heard.{modelOf, heard}
+use Rattle.models.specs.Models.{modelOf}
+use Rattle.list.specs.Heard.{heard}
 
 heard-none : (input : List ℕ) (more : Bool) → length input ≤ 0 → heard input more ≡ refused 1
 unfolding heard

@@ -1,24 +1,13 @@
 // Lists the tape on standard input: `4`, `1` or `3`, then up to 65,535 bytes; prints the listing, or `refused n`.
 use listing::say;
 use listing::say_refused;
+use models::model_of;
 ghost use mathlib.Core.Path.{_≡_};
 ghost use Prim.Native.Nat.{_≤_};
 ghost use lib.ListN.{length, take};
 ghost use Rattle.io.specs.Counts.{Counts};
 ghost use Rattle.listing.specs.Printed.{printedOf};
-ghost use Rattle.list.specs.Heard.{modelOf, heard};
-
-// The model that the first byte names.
-fn model_of(b: u8) -> u32
-    ensures { λ r. ⌜ r ≡ modelOf b ⌝ }
-{
-    match b {
-        b'4' => 0,
-        b'1' => 1,
-        b'3' => 2,
-        _ => 3,
-    }
-}
+ghost use Rattle.list.specs.Heard.{heard};
 
 // What is printed of the input, and of whether more followed, into the front of `out`; the count of its bytes.
 fn answer(input: &[u8], more: bool, out: &mut [u8]) -> usize

@@ -1,20 +1,15 @@
 -- HOW LONG the text of a place can be: no longer than 103 bytes, and its parts accordingly. Assumes nothing.
 use Prim.Native.Nat.{ℕ, _≤_}
 use native.Mathlib.Omega.{arith}
-use mathlib.Core.Bool.{Bool, true, false}
+use mathlib.Core.Bool.{Bool}
 use lib.ListN.{length, length-append}
 use Rattle.text.proofs.Writing.{decimal-length}
 use Rattle.entries.specs.declared.Phase.{Phase}
 use Rattle.entries.specs.declared.Phase.the-variants.{Start, Tones, Data, Pause}
 use Rattle.entries.specs.declared.Duration.{Duration}
-use Rattle.entries.specs.declared.Duration.the-variants.{T, Endless}
+use Rattle.values.proofs.Lengths.{flag-length, duration-length}
 use Rattle.walks.specs.declared.Stand.{Stand}
-use Rattle.places.specs.Places.{flag, spaced, numbers, phaseText, leftText, restText, placeText}
-
-pub flag-length : (v : Bool) → length (flag v) ≤ 1
-unfolding flag
-flag-length true = omega arith
-flag-length false = omega arith
+use Rattle.places.specs.Places.{spaced, numbers, phaseText, restText, placeText}
 
 pub spaced-length : (n : ℕ) → length (spaced n) ≤ 21
 unfolding spaced
@@ -32,14 +27,9 @@ phase-length (Tones i p v) = omega (arith, numbers-length i p v)
 phase-length (Data pos k v) = omega (arith, numbers-length pos k v)
 phase-length Pause = omega arith
 
-pub left-length : (d : Duration) → length (leftText d) ≤ 20
-unfolding leftText
-left-length (T n) = decimal-length n
-left-length Endless = omega arith
-
 pub rest-length : (d : Duration) (v : Bool) → length (restText d v) ≤ 34
 unfolding restText
-rest-length d v = simp length-append (omega (arith, left-length d, flag-length v))
+rest-length d v = simp length-append (omega (arith, duration-length d, flag-length v))
 
 pub place-length : (s : Stand) → length (placeText s) ≤ 103
 unfolding placeText

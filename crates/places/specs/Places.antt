@@ -1,18 +1,13 @@
 -- The text of a place, as a trace prints it; the words are the oracle's. Definitions alone; assumes nothing.
 use Prim.Native.Nat.{ℕ}
-use mathlib.Core.Bool.{Bool, true, false}
+use mathlib.Core.Bool.{Bool}
 use mathlib.Core.List.{List, _∷_, _++_}
 use Rattle.text.specs.Out.{ascii, decimal}
 use Rattle.entries.specs.declared.Phase.{Phase}
 use Rattle.entries.specs.declared.Phase.the-variants.{Start, Tones, Data, Pause}
 use Rattle.entries.specs.declared.Duration.{Duration}
-use Rattle.entries.specs.declared.Duration.the-variants.{T, Endless}
+use Rattle.values.specs.Values.{flag, durationText}
 use Rattle.walks.specs.declared.Stand.{Stand}
-
--- a half or a level: `0`, or `1` for the last half and for high
-unfoldable pub flag : Bool → List ℕ
-flag false = ascii "0"
-flag true = ascii "1"
 
 -- ` n`
 unfoldable pub spaced : ℕ → List ℕ
@@ -29,14 +24,9 @@ phaseText (Tones i p last) = ascii "tone" ++ numbers i p last
 phaseText (Data pos k last) = ascii "data" ++ numbers pos k last
 phaseText Pause = ascii "pause"
 
--- the T-states left, or `endless`
-unfoldable pub leftText : Duration → List ℕ
-leftText (T n) = decimal n
-leftText Endless = ascii "endless"
-
 -- ` left LEFT level LEVEL`
 unfoldable pub restText : Duration → Bool → List ℕ
-restText left level = ascii " left " ++ leftText left ++ ascii " level " ++ flag level
+restText left level = ascii " left " ++ durationText left ++ ascii " level " ++ flag level
 
 -- `BLOCK PHASE left LEFT level LEVEL`
 unfoldable pub placeText : Stand → List ℕ

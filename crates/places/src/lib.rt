@@ -4,21 +4,12 @@ use entries::Phase;
 use text::put;
 use text::put_all;
 use text::put_decimal;
+use values::put_duration;
+use values::put_flag;
 use walks::Stand;
 ghost use Prim.Native.Nat.{_+_, _^_, _<_};
 ghost use Rattle.text.specs.Out.{Wrote};
-ghost use Rattle.places.specs.Places.{flag, spaced, numbers, phaseText, leftText, restText, placeText};
-
-// A half or a level: 0 or 1.
-fn put_flag(out: &mut [u8], at: usize, v: bool) -> usize
-    requires { ⌜ at + 4 < 2 ^ 63 ⌝ }
-    ensures { λ r. ⌜ Wrote (now (out .entry)) at (flag v) (now (out .exit)) r ⌝ }
-{
-    if v {
-        return put(out, at, b'1');
-    }
-    put(out, at, b'0')
-}
+ghost use Rattle.places.specs.Places.{spaced, numbers, phaseText, restText, placeText};
 
 // A space and a number.
 fn put_spaced(out: &mut [u8], at: usize, n: u64) -> usize
@@ -67,24 +58,13 @@ fn put_phase(out: &mut [u8], at: usize, f: Phase) -> usize
     }
 }
 
-// What is left of an entry.
-fn put_left(out: &mut [u8], at: usize, left: Duration) -> usize
-    requires { ⌜ at + 24 < 2 ^ 63 ⌝ }
-    ensures { λ r. ⌜ Wrote (now (out .entry)) at (leftText left) (now (out .exit)) r ⌝ }
-{
-    match left {
-        Duration::T(n) => put_decimal(out, at, n),
-        Duration::Endless => put_all(out, at, b"endless"),
-    }
-}
-
 // What is left, and the level.
 fn put_rest(out: &mut [u8], at: usize, left: Duration, level: bool) -> usize
     requires { ⌜ at + 40 < 2 ^ 63 ⌝ }
     ensures { λ r. ⌜ Wrote (now (out .entry)) at (restText left level) (now (out .exit)) r ⌝ }
 {
     let a = put_all(out, at, b" left ");
-    let b = put_left(out, a, left);
+    let b = put_duration(out, a, left);
     let c = put_all(out, b, b" level ");
     put_flag(out, c, level)
 }

@@ -7,10 +7,6 @@ use Rattle.walks.specs.declared.Position.{Position}
 use Rattle.walks.specs.declared.Reached.{Reached}
 use Rattle.walks.specs.declared.Reached.the-variants.{At, Stopped, Ended, NotValid, NotFormed}
 
--- `4`, `1`, `3`; 3 is no model
-unfoldable pub modelOf : ℕ → ℕ
-modelOf b = eqb b 0x34 ⇒ 0 ∣ eqb b 0x31 ⇒ 1 ∣ eqb b 0x33 ⇒ 2 ∣ 3
-
 -- `m`, `s`
 unfoldable pub isPlayer : ℕ → Bool
 isPlayer b = eqb b 0x6D || eqb b 0x73

@@ -6,6 +6,7 @@ use deck::play_measured;
 use fields::Cursor;
 use fields::field;
 use menu::block;
+use models::model_of;
 use printing::print_refused;
 use tape::Loaded;
 use tape::load;
@@ -17,24 +18,12 @@ ghost use Prim.Native.Nat.{_≤_};
 ghost use Rattle.laws.specs.Rules.{_⇒_, _∣_};
 ghost use Rattle.entries.specs.Mounted.{tapeOf};
 ghost use Rattle.deck.specs.Deck.{playMeasured, playSource};
-ghost use Rattle.playback.specs.Playback.{modelOf, isPlayer, afterCall, isEnd};
+ghost use Rattle.playback.specs.Playback.{isPlayer, afterCall, isEnd};
 
 // The number of w bytes at a place; 0 where they are not all there.
 fn number(s: &[u8], at: u64, w: u64) -> u32 {
     let read = field(s, Cursor::At(at), w);
     read.value
-}
-
-// The model that a byte names; 3, which is none, for any other.
-pub fn model_of(b: u8) -> u32
-    ensures { λ m. ⌜ m ≡ modelOf b ⌝ }
-{
-    match b {
-        b'4' => 0,
-        b'1' => 1,
-        b'3' => 2,
-        _ => 3,
-    }
 }
 
 // Whether a byte names a player.

@@ -13,9 +13,10 @@ use Rattle.rows.specs.declared.Tone.{Tone}
 use Rattle.text.specs.Out.{Wrote, decimal}
 use Rattle.text.proofs.Writing.{decimal-length}
 use Rattle.entries.specs.declared.Duration.{Duration}
-use Rattle.entries.specs.declared.Duration.the-variants.{T, Endless}
+use Rattle.values.specs.Values.{flag, durationText}
+use Rattle.values.proofs.Lengths.{flag-length, duration-length}
 use Rattle.views.specs.View.{tonesFrom}
-use Rattle.views.specs.Dump.{hex, toneText, tonesText, pauseText, flag, field, markText, bitsText, endText, headText}
+use Rattle.views.specs.Dump.{hex, toneText, tonesText, field, markText, bitsText, endText, headText}
 
 pub hex-length : (b : ℕ) → length (hex b) ≤ 2
 unfolding hex
@@ -25,11 +26,6 @@ pub tone-length : (t : Tone) → length (toneText t) ≤ 63
 unfolding toneText
 tone-length t =
     simp length-append (omega (arith, decimal-length (t .num), decimal-length (t .len1), decimal-length (t .len2)))
-
-pause-length : (d : Duration) → length (pauseText d) ≤ 20
-unfolding pauseText
-pause-length (T n) = decimal-length n
-pause-length Endless = omega arith
 
 -- how far a part may reach
 module _ {d d1 : List ℕ} {at r : ℕ} where
@@ -41,12 +37,10 @@ module _ {d d1 : List ℕ} {at r : ℕ} where
   field-next word n w = omega (arith, w .count, length-append word (decimal n), decimal-length n)
 
   pub flag-next : (b : Bool) → Wrote d at (flag b) d1 r → r ≤ at + 1
-  unfolding flag
-  flag-next true w = omega (arith, w .count)
-  flag-next false w = omega (arith, w .count)
+  flag-next b w = omega (arith, w .count, flag-length b)
 
-  pub pause-next : (p : Duration) → Wrote d at (pauseText p) d1 r → r ≤ at + 20
-  pause-next p w = omega (arith, w .count, pause-length p)
+  pub pause-next : (p : Duration) → Wrote d at (durationText p) d1 r → r ≤ at + 20
+  pause-next p w = omega (arith, w .count, duration-length p)
 
 mark-length : (i : ℕ) (b : Bool) → length (markText i b) ≤ 26
 unfolding markText flag
@@ -59,7 +53,7 @@ bits-length nil one last = simp length-append (omega (arith, decimal-length nil,
 
 end-length : (p : Duration) → length (endText p) ≤ 33
 unfolding endText
-end-length p = simp length-append (omega (arith, pause-length p))
+end-length p = simp length-append (omega (arith, duration-length p))
 
 pub head-length : (i : ℕ) (b : Bool) (nil one last : ℕ) (p : Duration) → length (headText i b nil one last p) ≤ 136
 unfolding headText

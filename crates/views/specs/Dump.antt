@@ -7,7 +7,7 @@ use Rattle.laws.specs.Rules.{_⇒_, _∣_}
 use Rattle.text.specs.Out.{ascii, decimal, each}
 use Rattle.rows.specs.declared.Tone.{Tone}
 use Rattle.entries.specs.declared.Duration.{Duration}
-use Rattle.entries.specs.declared.Duration.the-variants.{T, Endless}
+use Rattle.values.specs.Values.{flag, durationText}
 use Rattle.views.specs.View.{View}
 
 -- a byte as two lower-case hexadecimal digits
@@ -28,14 +28,6 @@ unfoldable pub tonesText : List Tone → List ℕ
 tonesText [] = []
 tonesText (t ∷ ts) = toneText t ++ tonesText ts
 
--- `endless`, or its T-states
-unfoldable pub pauseText : Duration → List ℕ
-pauseText (T n) = decimal n
-pauseText Endless = ascii "endless"
-
-unfoldable pub flag : Bool → List ℕ
-flag b = b ⇒ ascii "1" ∣ ascii "0"
-
 -- a word and a number
 unfoldable pub field : List ℕ → ℕ → List ℕ
 field word n = word ++ decimal n
@@ -54,7 +46,7 @@ bitsText nil one last =
 -- ` pause=p name=`
 unfoldable pub endText : Duration → List ℕ
 endText pause =
-    ascii " pause=" ++ pauseText pause
+    ascii " pause=" ++ durationText pause
     ++ ascii " name="
 
 unfoldable pub headText : ℕ → Bool → ℕ → ℕ → ℕ → Duration → List ℕ

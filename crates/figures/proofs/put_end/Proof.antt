@@ -13,15 +13,15 @@ slice-aggregate-put-all c = search needs
 put-all-requires : tie.Need-put-all-requires
 put-all-requires c κs = search needs
 
-put-pause-requires : tie.Need-put-pause-requires
-put-pause-requires c κs = search needs
+put-duration-requires : tie.Need-put-duration-requires
+put-duration-requires c κs = search needs
 
 slice-aggregate-put-all-2 : tie.Need-slice-aggregate-put-all-2
 slice-aggregate-put-all-2 c = search needs
 
 put-all-requires-2 : tie.Need-put-all-requires-2
 put-all-requires-2 c κs =
-    omega (arith, c .before .before .before .before .before .before .before .before .put-all .ensures .count, pause-next _ (c .before .before .before .before .put-pause .ensures))
+    omega (arith, c .before .before .before .before .before .before .before .before .put-all .ensures .count, pause-next _ (c .before .before .before .before .put-duration .ensures))
 
 same-length : tie.Need-same-length
 same-length c = search needs
@@ -29,7 +29,7 @@ same-length c = search needs
 returns : tie.Need-returns
 unfolding endText
 returns c =
-    then (then (c .before .before .before .before .before .before .before .before .before .before .before .put-all .ensures) (c .before .before .before .before .before .before .before .put-pause .ensures)) (c .before .before .put-all2 .ensures)
+    then (then (c .before .before .before .before .before .before .before .before .before .before .before .put-all .ensures) (c .before .before .before .before .before .before .before .put-duration .ensures)) (c .before .before .put-all2 .ensures)
 
 pub put-end-spec : {M : Type 1} → statement M
 put-end-spec =
@@ -37,7 +37,7 @@ put-end-spec =
     (tie.spec
     slice-aggregate-put-all
     put-all-requires
-    put-pause-requires
+    put-duration-requires
     slice-aggregate-put-all-2
     put-all-requires-2
     same-length

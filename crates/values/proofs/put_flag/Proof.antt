@@ -1,8 +1,8 @@
 -- `put_flag` meets its contract. Assumes nothing.
-use Rattle.views.specs.Dump.{flag}
+use Rattle.values.specs.Values.{flag}
 use borrow.Author.Needs.{needs}
-use Rattle.figures.proofs.put_flag.Statement.{statement}
-use Rattle.figures.proofs.put_flag.Tie as tie
+use Rattle.values.proofs.put_flag.Statement.{statement}
+use Rattle.values.proofs.put_flag.Tie as tie
 
 put-requires : tie.Need-put-requires
 put-requires c κs = search needs

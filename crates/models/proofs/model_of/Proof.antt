@@ -1,8 +1,8 @@
--- `model_of` meets its contract. Assumes nothing.
-use Rattle.playback.specs.Playback.{modelOf}
+-- `models::model_of` meets its contract: each arm is one model. Assumes nothing.
+use Rattle.models.specs.Models.{modelOf}
 use borrow.Author.Tests.{ne-eqb}
-use Rattle.playback.proofs.model_of.Statement.{statement}
-use Rattle.playback.proofs.model_of.Tie as tie
+use Rattle.models.proofs.model_of.Statement.{statement}
+use Rattle.models.proofs.model_of.Tie as tie
 
 returns : tie.Need-returns
 unfolding modelOf

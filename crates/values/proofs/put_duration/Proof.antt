@@ -1,11 +1,11 @@
--- `put_pause` meets its contract. Assumes nothing.
-use Rattle.views.specs.Dump.{pauseText}
+-- `put_duration` meets its contract. Assumes nothing.
+use Rattle.values.specs.Values.{durationText}
 use borrow.Author.Needs.{needs}
-use Rattle.figures.proofs.put_pause.Statement.{statement}
-use Rattle.figures.proofs.put_pause.Tie as tie
+use Rattle.values.proofs.put_duration.Statement.{statement}
+use Rattle.values.proofs.put_duration.Tie as tie
 
-enum-known-pause : tie.Need-enum-known-pause
-enum-known-pause c = search needs
+enum-known-d : tie.Need-enum-known-d
+enum-known-d c = search needs
 
 put-decimal-requires : tie.Need-put-decimal-requires
 put-decimal-requires c κs = search needs
@@ -23,23 +23,23 @@ same-length : tie.Need-same-length
 same-length c = search needs
 
 returns : tie.Need-returns
-unfolding pauseText
+unfolding durationText
 returns c =
-    rw (c .before .before .before .before .before .pause .given .1) (c .before .before .put-decimal .ensures)
+    rw (c .before .before .before .before .before .d .given .1) (c .before .before .put-decimal .ensures)
 
 same-length-2 : tie.Need-same-length-2
 same-length-2 c = search needs
 
 returns-2 : tie.Need-returns-2
-unfolding pauseText
+unfolding durationText
 returns-2 c =
     rw (c .before .before .before .before .before .enum-told .given .1) (c .before .before .put-all .ensures)
 
-pub put-pause-spec : {M : Type 1} → statement M
-put-pause-spec =
+pub put-duration-spec : {M : Type 1} → statement M
+put-duration-spec =
     tie.close
     (tie.spec
-    enum-known-pause
+    enum-known-d
     put-decimal-requires
     enum-told
     slice-aggregate-put-all

@@ -16,12 +16,16 @@ use walks::Reached;
 ghost use mathlib.Core.Path.{_≡_};
 ghost use Prim.Native.Nat.{_≤_};
 ghost use Rattle.laws.specs.Rules.{_⇒_, _∣_};
+ghost use Rattle.fields.specs.declared.Cursor.the-variants.{At};
+ghost use Rattle.fields.specs.Field.{fieldAt};
 ghost use Rattle.entries.specs.Mounted.{tapeOf};
 ghost use Rattle.deck.specs.Deck.{playMeasured, playSource};
 ghost use Rattle.playback.specs.Playback.{isPlayer, afterCall, isEnd};
 
 // The number of w bytes at a place; 0 where they are not all there.
-fn number(s: &[u8], at: u64, w: u64) -> u32 {
+fn number(s: &[u8], at: u64, w: u64) -> u32
+    ensures { λ n. ⌜ n ≡ fieldAt (now (s .entry)) (At at) w .value ⌝ }
+{
     let read = field(s, Cursor::At(at), w);
     read.value
 }

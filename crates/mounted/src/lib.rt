@@ -8,7 +8,7 @@ ghost use Rattle.entries.specs.Mounted.{tapeOf};
 ghost use Rattle.deck.specs.Deck.{headAfter, playMounted};
 
 // Where the head is after an answer: on a refusal as it was.
-fn head_after(head: Head, r: Reached) -> Head
+pub fn head_after(head: Head, r: Reached) -> Head
     ensures { λ h. ⌜ h ≡ headAfter head r ⌝ }
 {
     match r {

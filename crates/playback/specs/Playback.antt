@@ -2,22 +2,12 @@
 use Prim.Native.Nat.{ℕ}
 use mathlib.Core.Bool.{Bool, true, false, _||_}
 use lib.Dec.{eqb}
-use Rattle.laws.specs.Rules.{_⇒_, _∣_}
-use Rattle.walks.specs.declared.Position.{Position}
 use Rattle.walks.specs.declared.Reached.{Reached}
 use Rattle.walks.specs.declared.Reached.the-variants.{At, Stopped, Ended, NotValid, NotFormed}
 
 -- `m`, `s`
 unfoldable pub isPlayer : ℕ → Bool
 isPlayer b = eqb b 0x6D || eqb b 0x73
-
--- where the head is after an answer: on a refusal as it was
-unfoldable pub afterCall : Position → Reached → Position
-afterCall q (At s) = s .position
-afterCall q (Stopped s) = s .position
-afterCall q (Ended s) = s .position
-afterCall q NotValid = q
-afterCall q NotFormed = q
 
 unfoldable pub isEnd : Reached → Bool
 isEnd (At s) = false

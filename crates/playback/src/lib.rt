@@ -1,5 +1,6 @@
 // A run of calls of a player, from its description to standard output. The description: a model byte (`4`, `1`, `3`), `m` (measured) or `s` (the source's), a block
 // number (4 bytes), how many calls (2 bytes, at most 1,000), each call's count (4 bytes), then the tape. Numbers are little-endian.
+use deck::Head;
 use deck::Selected;
 use deck::play;
 use deck::play_measured;
@@ -7,6 +8,7 @@ use fields::Cursor;
 use fields::field;
 use menu::block;
 use models::model_of;
+use mounted::head_after;
 use printing::print_refused;
 use tape::Loaded;
 use tape::load;
@@ -20,7 +22,7 @@ ghost use Rattle.fields.specs.declared.Cursor.the-variants.{At};
 ghost use Rattle.fields.specs.Field.{fieldAt};
 ghost use Rattle.entries.specs.Mounted.{tapeOf};
 ghost use Rattle.deck.specs.Deck.{playMeasured, playSource};
-ghost use Rattle.playback.specs.Playback.{isPlayer, afterCall, isEnd};
+ghost use Rattle.playback.specs.Playback.{isPlayer, isEnd};
 
 // The number of w bytes at a place; 0 where they are not all there.
 fn number(s: &[u8], at: u64, w: u64) -> u32
@@ -35,19 +37,6 @@ fn is_player(b: u8) -> bool
     ensures { λ v. ⌜ v ≡ isPlayer b ⌝ }
 {
     b == b'm' || b == b's'
-}
-
-// Where the head is after an answer; on a refusal as it was.
-fn after(pos: Position, r: Reached) -> Position
-    ensures { λ p. ⌜ p ≡ afterCall pos r ⌝ }
-{
-    match r {
-        Reached::At(s) => s.position,
-        Reached::Stopped(s) => s.position,
-        Reached::Ended(s) => s.position,
-        Reached::NotValid => pos,
-        Reached::NotFormed => pos,
-    }
 }
 
 // Whether an answer is the end.
@@ -102,10 +91,13 @@ fn print_calls(
 )
     requires { ⌜ calls ≤ 1000 ⌝ }
 {
-    let mut pos = Position::new_at_block(from);
+    let mut head = Head {
+        position: Position::new_at_block(from),
+    };
     let mut at = 0;
     let mut left = calls;
     while 0 < left {
+        let pos = head.position;
         let r = call(
             tape,
             tones,
@@ -115,8 +107,9 @@ fn print_calls(
             pos,
             number(counts, at, 4),
         );
-        pos = after(pos, r);
-        print_line(measured, r, block(tape, tones, blocks, count, pos));
+        head = head_after(head, r);
+        let reached = head.position;
+        print_line(measured, r, block(tape, tones, blocks, count, reached));
         if !measured && is_end(r) {
             return;
         }

@@ -7,10 +7,10 @@ use Rattle.playback.proofs.print_calls.Statement.{statement}
 use Rattle.playback.proofs.print_calls.Tie as tie
 
 abbrev Inv-loop : tie.InvT-loop
-Inv-loop tape tones blocks count measured from counts calls pos₀ at₀ left₀ pos at left = at + 4 * left ≡ 4 * calls
+Inv-loop tape tones blocks count measured from counts calls head₀ at₀ left₀ head at left = at + 4 * left ≡ 4 * calls
 
 abbrev μ-loop : tie.MeasureT-loop
-μ-loop tape tones blocks count measured from counts calls pos₀ at₀ left₀ pos at left = left
+μ-loop tape tones blocks count measured from counts calls head₀ at₀ left₀ head at left = left
 
 new-at-block-requires : tie.Need-new-at-block-requires Inv-loop μ-loop
 new-at-block-requires c κs =
@@ -28,8 +28,8 @@ call-requires : tie.Need-call-requires Inv-loop μ-loop
 call-requires c κs =
     search needs
 
-after-requires : tie.Need-after-requires Inv-loop μ-loop
-after-requires c κs =
+head-after-requires : tie.Need-head-after-requires Inv-loop μ-loop
+head-after-requires c κs =
     search needs
 
 block-requires : tie.Need-block-requires Inv-loop μ-loop
@@ -50,7 +50,7 @@ returns c =
 
 add-at : tie.Need-add-at Inv-loop μ-loop
 add-at c =
-    omega (arith, c .before .before .before .before .before .before .before .loop .inv, c .before .before .before .before .before .before .before .before .before .before .before .before .before .pre)
+    omega (arith, c .before .before .before .before .before .before .before .before .before .loop .inv, c .before .before .before .before .before .before .before .before .before .before .before .before .before .before .before .pre)
 
 sub-left : tie.Need-sub-left Inv-loop μ-loop
 sub-left c =
@@ -62,7 +62,7 @@ loop-less c =
 
 loop-again : tie.Need-loop-again Inv-loop μ-loop
 loop-again c =
-    omega (arith, c .before .before .before .before .before .before .before .loop .inv)
+    omega (arith, c .before .before .before .before .before .before .before .before .before .loop .inv)
 
 returns-2 : tie.Need-returns-2 Inv-loop μ-loop
 returns-2 c =
@@ -78,7 +78,7 @@ print-calls-spec =
     loop-holds
     number-requires
     call-requires
-    after-requires
+    head-after-requires
     block-requires
     print-line-requires
     is-end-requires

@@ -2,6 +2,5 @@ pub mod Texts
 pub mod Mounting
 pub mod Numbers
 pub mod Models
-pub mod Once
 pub mod Saying
 pub mod Readings

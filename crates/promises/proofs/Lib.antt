@@ -2,7 +2,6 @@ pub mod Views
 pub mod Queries
 pub mod Outcomes
 pub mod Readings
-pub mod Exported
 pub mod Excluded
 pub mod Runs
 pub mod Loads

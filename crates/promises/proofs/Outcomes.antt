@@ -24,6 +24,10 @@ use Rattle.deck.proofs.play.Kinds as play-kinds
 use Rattle.deck.proofs.play.Reads as play
 use Rattle.menu.proofs.block.Kinds as block-kinds
 use Rattle.menu.proofs.block.Reads as block
+use Rattle.mounted.proofs.play_mounted.Kinds as play-mounted-kinds
+use Rattle.mounted.proofs.play_mounted.Reads as play-mounted
+use Rattle.mounted.proofs.play_once.Kinds as play-local-kinds
+use Rattle.mounted.proofs.play_once.Reads as play-local
 use Rattle.walks.proofs.Position.new_at_block.Kinds as new-at-block-kinds
 use Rattle.walks.proofs.Position.new_at_block.Reads as new-at-block
 use Rattle.walks.proofs.Position.mic.Kinds as mic-kinds
@@ -32,6 +36,30 @@ use Rattle.walks.proofs.Position.real_block.Kinds as real-block-kinds
 use Rattle.walks.proofs.Position.real_block.Reads as real-block
 use Rattle.walks.proofs.Position.position.Kinds as position-kinds
 use Rattle.walks.proofs.Position.position.Reads as position
+use Rattle.listing.proofs.glyvrask_listing.Kinds as c-listing-kinds
+use Rattle.listing.proofs.glyvrask_listing.Reads as c-listing
+use Rattle.export.proofs.glyvrask_load.Kinds as c-load-kinds
+use Rattle.export.proofs.glyvrask_load.Reads as c-load
+use Rattle.export.proofs.glyvrask_len.Kinds as c-len-kinds
+use Rattle.export.proofs.glyvrask_len.Reads as c-len
+use Rattle.export.proofs.glyvrask_block_name.Kinds as c-block-name-kinds
+use Rattle.export.proofs.glyvrask_block_name.Reads as c-block-name
+use Rattle.export.proofs.glyvrask_block_size.Kinds as c-block-size-kinds
+use Rattle.export.proofs.glyvrask_block_size.Reads as c-block-size
+use Rattle.export.proofs.glyvrask_block_selectable.Kinds as c-block-selectable-kinds
+use Rattle.export.proofs.glyvrask_block_selectable.Reads as c-block-selectable
+use Rattle.export.proofs.glyvrask_block_time.Kinds as c-block-time-kinds
+use Rattle.export.proofs.glyvrask_block_time.Reads as c-block-time
+use Rattle.export.proofs.glyvrask_loading_time.Kinds as c-loading-time-kinds
+use Rattle.export.proofs.glyvrask_loading_time.Reads as c-loading-time
+use Rattle.export.proofs.glyvrask_new_at_block.Kinds as c-new-at-block-kinds
+use Rattle.export.proofs.glyvrask_new_at_block.Reads as c-new-at-block
+use Rattle.export.proofs.glyvrask_position_block.Kinds as c-position-block-kinds
+use Rattle.export.proofs.glyvrask_position_block.Reads as c-position-block
+use Rattle.export.proofs.glyvrask_play.Kinds as c-play-kinds
+use Rattle.export.proofs.glyvrask_play.Reads as c-play
+use Rattle.export.proofs.glyvrask_play_measured.Kinds as c-play-measured-kinds
+use Rattle.export.proofs.glyvrask_play_measured.Reads as c-play-measured
 use Rattle.entries.specs.Places.{Tape}
 use Rattle.walks.specs.declared.Reached.{Reached}
 use Rattle.deck.specs.declared.Head.{Head}
@@ -82,10 +110,64 @@ real-block-determined κs a z z′ e e′ p q = p ∙ sym q
 pub position-determined : Answered 0 position-kinds.ps position-kinds.r position.Post
 position-determined κs a z z′ e e′ p q = p ∙ sym q
 
--- the mounted head, whose contract is these two equations: the answer, and the lent head at exit
+-- the mounted head, by value, and lent from a local
+pub play-mounted-determined : Answered 3 play-mounted-kinds.ps play-mounted-kinds.r play-mounted.Post
+play-mounted-determined κs a z z′ e e′ p q = p ∙ sym q
+
+pub play-local-determined : Answered 3 play-local-kinds.ps play-local-kinds.r play-local.Post
+play-local-determined κs a z z′ e e′ p q = p ∙ sym q
+
+-- and lent: its `ensures` are these two equations, the answer, and the head at exit; there is no `Post` of a function that a struct is lent to
 module _ (w : Tape) (h : Head) (n : ℕ) where
   abbrev pub Mounted : Reached → Head → Type 0
   Mounted r h′ = (r ≡ playMounted w h n .answer) × (h′ ≡ playMounted w h n .head)
 
   pub play-head-determined : {r r′ : Reached} {x x′ : Head} → Mounted r x → Mounted r′ x′ → (r ≡ r′) × (x ≡ x′)
   play-head-determined p q = (p .0 ∙ sym (q .0), p .1 ∙ sym (q .1))
+
+-- for C hosts: the result, and every row that may be written
+pub load-once-blocks : Determined 4 c-load-kinds.ps c-load-kinds.r c-load.Post (λ κs e. now (e .1 .1 .0))
+load-once-blocks κs a z z′ e e′ p q = (p .0 ∙ sym (q .0), p .1 .0 ∙ sym (q .1 .0))
+
+pub load-once-tones : Determined 4 c-load-kinds.ps c-load-kinds.r c-load.Post (λ κs e. now (e .1 .1 .1 .0))
+load-once-tones κs a z z′ e e′ p q = (p .0 ∙ sym (q .0), p .1 .1 .0 ∙ sym (q .1 .1 .0))
+
+pub load-once-answer : Determined 4 c-load-kinds.ps c-load-kinds.r c-load.Post (λ κs e. now (e .1 .1 .1 .1 .0))
+load-once-answer κs a z z′ e e′ p q = (p .0 ∙ sym (q .0), p .1 .1 .1 ∙ sym (q .1 .1 .1))
+
+pub len-once : Determined 2 c-len-kinds.ps c-len-kinds.r c-len.Post (λ κs e. now (e .1 .1 .0))
+len-once κs a z z′ e e′ p q = (p .0 [] [] ∙ sym (q .0 [] []), p .1 [] [] ∙ sym (q .1 [] []))
+
+pub block-name-once-out : Determined 5 c-block-name-kinds.ps c-block-name-kinds.r c-block-name.Post (λ κs e. now (e .1 .1 .1 .1 .1 .0))
+block-name-once-out κs a z z′ e e′ p q = (p .0 ∙ sym (q .0), p .1 .0 ∙ sym (q .1 .0))
+
+pub block-name-once-answer : Determined 5 c-block-name-kinds.ps c-block-name-kinds.r c-block-name.Post (λ κs e. now (e .1 .1 .1 .1 .1 .1 .0))
+block-name-once-answer κs a z z′ e e′ p q = (p .0 ∙ sym (q .0), p .1 .1 ∙ sym (q .1 .1))
+
+pub block-size-once : Determined 4 c-block-size-kinds.ps c-block-size-kinds.r c-block-size.Post (λ κs e. now (e .1 .1 .1 .1 .1 .0))
+block-size-once κs a z z′ e e′ p q = (p .0 ∙ sym (q .0), p .1 ∙ sym (q .1))
+
+pub block-selectable-once : Determined 4 c-block-selectable-kinds.ps c-block-selectable-kinds.r c-block-selectable.Post (λ κs e. now (e .1 .1 .1 .1 .1 .0))
+block-selectable-once κs a z z′ e e′ p q = (p .0 ∙ sym (q .0), p .1 ∙ sym (q .1))
+
+pub block-time-once : Determined 4 c-block-time-kinds.ps c-block-time-kinds.r c-block-time.Post (λ κs e. now (e .1 .1 .1 .1 .1 .0))
+block-time-once κs a z z′ e e′ p q = (p .0 ∙ sym (q .0), p .1 ∙ sym (q .1))
+
+pub loading-time-once : Determined 4 c-loading-time-kinds.ps c-loading-time-kinds.r c-loading-time.Post (λ κs e. now (e .1 .1 .1 .1 .0))
+loading-time-once κs a z z′ e e′ p q = (p .0 ∙ sym (q .0), p .1 ∙ sym (q .1))
+
+pub new-at-block-once : Determined 1 c-new-at-block-kinds.ps c-new-at-block-kinds.r c-new-at-block.Post (λ κs e. now (e .1 .0))
+new-at-block-once κs a z z′ e e′ p q = (p .0 ∙ sym (q .0), p .1 ∙ sym (q .1))
+
+pub position-block-once : Determined 5 c-position-block-kinds.ps c-position-block-kinds.r c-position-block.Post (λ κs e. now (e .1 .1 .1 .1 .1 .0))
+position-block-once κs a z z′ e e′ p q = (p .0 ∙ sym (q .0), p .1 ∙ sym (q .1))
+
+pub play-once : Determined 5 c-play-kinds.ps c-play-kinds.r c-play.Post (λ κs e. now (e .1 .1 .1 .1 .1 .1 .0))
+play-once κs a z z′ e e′ p q = (p .0 ∙ sym (q .0), p .1 ∙ sym (q .1))
+
+pub play-measured-once : Determined 5 c-play-measured-kinds.ps c-play-measured-kinds.r c-play-measured.Post (λ κs e. now (e .1 .1 .1 .1 .1 .1 .0))
+play-measured-once κs a z z′ e e′ p q = (p .0 ∙ sym (q .0), p .1 ∙ sym (q .1))
+
+-- the listing: its number, and every output byte
+pub listing-once : Determined 2 c-listing-kinds.ps c-listing-kinds.r c-listing.Post (λ κs e. now (e .1 .1 .0))
+listing-once κs a z z′ e e′ p q = (p .0 ∙ sym (q .0), p .1 ∙ sym (q .1))

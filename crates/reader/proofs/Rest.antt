@@ -14,8 +14,8 @@ use Rattle.parser.proofs.Laws.{went-on, refused}
 use Rattle.rows.specs.Table.{zeros}
 use Rattle.pieces.specs.declared.Piece.{Piece}
 use Rattle.pieces.specs.declared.Piece.the-variants.{Standard, Turbo, Tone, Pulses, Pure, Generalized, Pause, GroupStart, GroupEnd, LoopStart, LoopEnd, Stop48, Text, Message, Archive, Hardware, Custom, Glue}
-use Rattle.pieces.proofs.Places.{cut-places}
 use Rattle.pieces.proofs.PulsePlaces.{cut-pulses}
+use Rattle.general.proofs.Holding.{cut-held}
 use Rattle.pieces.specs.declared.Taken.{Taken}
 use Rattle.pieces.specs.declared.Taken.the-variants.{Whole}
 use Rattle.pieces.specs.declared.TakenTap.{TakenTap}
@@ -109,10 +109,7 @@ cut-fit s at (Turbo d) b e = tt
 cut-fit s at (Tone half count) b e = tt
 cut-fit s at (Pulses count from) b e = cut-pulses s at full e
 cut-fit s at (Pure nil one last pause from size) b e = tt
-cut-fit s at (Generalized g) b e =
-    let f = cut-places s at full e in
-    let z = f .sizes b 255 (omega arith) (omega arith) in
-    record { places = f .places; asp = z .0; asd = z .1 }
+cut-fit s at (Generalized g) b e = cut-held s at b e
 cut-fit s at (Pause n) b e = tt
 cut-fit s at (GroupStart from size) b e = tt
 cut-fit s at GroupEnd b e = tt

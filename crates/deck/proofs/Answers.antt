@@ -94,7 +94,3 @@ unfolding toldAs endedIn
 told-ended standing s = refl
 told-ended stopped s = refl
 told-ended ended s = refl
-
--- ONE OUTCOME: what each contract permits is one answer
-pub one-answer : {A : Type 0} {x y z : A} → x ≡ z → y ≡ z → x ≡ y
-one-answer e f = e ∙ sym f

@@ -18,9 +18,6 @@ use Rattle.views.specs.Dump.{hex, hexAll, tonesText, headText}
 use Rattle.views.proofs.Parts.{hex-length, tones-length, head-length}
 
 module _ {d d1 : List ℕ} {r : ℕ} where
-  pub text-room : (t : List ℕ) (n : ℕ) → Wrote d 0 t d1 r → length t ≤ n → n ≤ length d → r ≤ length d1
-  text-room t n w h k = omega (arith, w .count, same-len w)
-
   pub hex-room : (s : List ℕ) → Wrote d 0 (hexAll s) d1 r → length s ≤ 2048 → 4096 ≡ length d → r ≤ length d1
   hex-room s w h k = omega (arith, w .count, same-len w, each-length hex 2 hex-length s)
 

@@ -26,9 +26,6 @@ module _ {A : Type 0} where
   lead-as {fs = fs} m′ i′ p q a =
       record { rests = a .rests ∙ ap (rest fs) p; overs = a .overs ∙ ap (over fs) p; counts = omega (arith, a .counts) }
 
-  pub lead-from : {es fs : List (Entry A)} {n j m i : ℕ} (j′ : ℕ) → j ≡ j′ → Leads es n j fs m i → Leads es n j′ fs m i
-  lead-from j′ p a = record { rests = a .rests; overs = a .overs; counts = omega (arith, a .counts) }
-
   pub lead-by : {es fs gs : List (Entry A)} {n j m i : ℕ} → fs ≡ gs → Leads es n j fs m i → Leads es n j gs m i
   lead-by {m = m} {i = i} p a =
       record { rests = a .rests ∙ ap (λ (r : List (Entry A)). rest r m) p; overs = a .overs ∙ ap (λ (r : List (Entry A)). over r m) p; counts = a .counts ∙ ap (λ (r : List (Entry A)). i + length r) p }
@@ -41,26 +38,3 @@ module _ {A : Type 0} where
   pub lead-run : (xs ys : List (Entry A)) (n j : ℕ) → Finite xs → time xs < n → Leads (xs ++ ys) n j ys (n - time xs) (j + length xs)
   lead-run xs ys n j f h =
       record { rests = rest-after xs ys n f h; overs = over-after xs ys n f; counts = omega (arith, length-append xs ys) }
-
-  -- from inside a run back to its start
-  pub lead-back : (xs : List (Entry A)) (a : A) (v : Level) (t l : ℕ) (ys : List (Entry A)) (n : ℕ) → Finite xs → l ≤ t → 0 < n
-      → Leads (pulse a v l ∷ ys) n (length xs) (xs ++ pulse a v t ∷ ys) (time xs + (t - l) + n) 0
-  lead-back xs a v t l ys n f h p =
-      record {
-        rests =
-            sym (rest-after xs (pulse a v t ∷ ys) _ f (omega arith) ∙ ap (rest (pulse a v t ∷ ys)) (omega arith) ∙ same);
-        overs =
-            sym (over-after xs (pulse a v t ∷ ys) _ f ∙ over-pulse a v t ys _ ∙ ap (over ys) (omega arith) ∙ sym (over-pulse a v l ys n));
-        counts = omega (arith, length-append xs (pulse a v t ∷ ys));
-      }
-    where
-      same : rest (pulse a v t ∷ ys) (t - l + n) ≡ rest (pulse a v l ∷ ys) n
-      same =
-          rest-ways (λ r. rest (pulse a v t ∷ ys) (t - l + n) ≡ r) a v l ys n
-          (λ z. absurd (omega arith))
-          (λ k. rest-here a v t ys _ (omega arith) ∙ ap (λ (x : ℕ). pulse a v x ∷ ys) (omega arith))
-          (λ q g. rest-past a v t ys _ (omega arith) (omega arith) ∙ ap (rest ys) (omega arith))
-
-  -- the count never falls below what it began with
-  pub lead-fits : {es fs : List (Entry A)} {n j m i : ℕ} → Leads es n j fs m i → j + length (rest fs m) ≤ i + length fs
-  lead-fits {es} {fs} {n} {j} {m} {i} a = omega (arith, a .counts, length-rest es n, ap length (a .rests))

@@ -72,13 +72,3 @@ module _ {A : Type 0} (item : ℕ → List (Entry A)) where
     run-time-most c p zero h = omega arith
     run-time-most c p (suc m) h =
         omega (arith, time-append (item p) (run (p + 1) m) (finite p), h p (omega arith) (omega arith), run-time-most c (p + 1) m (λ i l g. h i (omega arith) (omega arith)), suc-mul m c)
-
-    -- THE JUMP: k items of k + m, whatever follows the run
-    pub lead-items : (p k m : ℕ) (ys : List (Entry A)) (n j : ℕ) → time (run p k) < n
-        → Leads (run p (k + m) ++ ys) n j (run (p + k) m ++ ys) (n - time (run p k)) (j + length (run p k))
-    lead-items p k m ys n j h =
-        lead-on
-        (lead-by
-        (ap (λ (r : List (Entry A)). r ++ ys) (run-split p k m) ∙ append-assoc (run p k) (run (p + k) m) ys)
-        (lead-here (run p (k + m) ++ ys) n j))
-        (lead-run (run p k) (run (p + k) m ++ ys) n j (run-finite p k) h)

@@ -36,9 +36,6 @@ module _ {d d1 : List ℕ} {at r : ℕ} where
   unfolding field
   field-next word n w = omega (arith, w .count, length-append word (decimal n), decimal-length n)
 
-  pub flag-next : (b : Bool) → Wrote d at (flag b) d1 r → r ≤ at + 1
-  flag-next b w = omega (arith, w .count, flag-length b)
-
   pub pause-next : (p : Duration) → Wrote d at (durationText p) d1 r → r ≤ at + 20
   pause-next p w = omega (arith, w .count, duration-length p)
 

@@ -1,6 +1,6 @@
 -- Tone rows and a block, call by call. Assumes nothing.
 use Prim.Native.Nat.{ℕ, zero, suc, _+_, _-_, _≤_, _<_}
-use mathlib.Core.Path.{_≡_, refl, sym, ap, _∙_}
+use mathlib.Core.Path.{_≡_, ap, _∙_}
 use mathlib.Core.List.{List, [], _∷_, append-nil}
 use native.Mathlib.Omega.{arith}
 use lib.ListN.{length}
@@ -9,8 +9,8 @@ use Rattle.rows.specs.declared.Block.{Block}
 use Rattle.rows.specs.declared.Tone.{Tone}
 use Rattle.parser.specs.declared.State.{State}
 use Rattle.parser.specs.declared.Step.{Step}
-use Rattle.parser.specs.Parser.{Tape, Out, on, _⟫_, addTones, addBlock}
-use Rattle.parser.specs.Holds.{Holds, Gives, toneRoom, blockRoom}
+use Rattle.parser.specs.Parser.{Tape, Out, _⟫_, addTones, addBlock}
+use Rattle.parser.specs.Holds.{Holds, toneRoom, blockRoom}
 use Rattle.parser.proofs.Laws.{chain-assoc, tones-append}
 use Rattle.blocks.specs.Adds.{Lent, addRows, add, addPairs}
 use Rattle.blocks.specs.Blocks.{toneOf, soundOnly, pulseAt}

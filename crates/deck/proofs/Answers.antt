@@ -1,8 +1,8 @@
 -- WHAT AN ANSWER HOLDS: where it leaves the head, the entries it counts, its level, whether it is the end; one answer is permitted. Assumes nothing.
 use Prim.Native.Nat.{ℕ, _+_, _-_}
-use mathlib.Core.Path.{_≡_, refl, sym, _∙_}
+use mathlib.Core.Path.{_≡_, refl}
 use mathlib.Core.Bool.{Bool, true, false}
-use Rattle.pulses.specs.Play.{Level, low, Status, standing, stopped, ended, Answer, answer, counted}
+use Rattle.pulses.specs.Play.{Level, low, Status, standing, stopped, ended, Answer, counted}
 use Rattle.pulses.specs.Source.{isEnded}
 use Rattle.entries.specs.Entries.{Spot}
 use Rattle.entries.specs.Places.{Tape}

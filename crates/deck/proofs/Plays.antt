@@ -13,7 +13,7 @@ use Rattle.pulses.specs.Steps.{over-zero, over-rest}
 use Rattle.pulses.specs.Demand.{status-over, conserved, any-cut, demanded}
 use Rattle.rows.specs.Rows.{block}
 use Rattle.entries.specs.Entries.{Spot}
-use Rattle.entries.specs.Places.{Tape, levelOf, valid, headOf, leftOf}
+use Rattle.entries.specs.Places.{Tape, levelOf, headOf, leftOf}
 use Rattle.entries.proofs.Tails.{tail-left, tail-rest}
 use Rattle.entries.proofs.Levels.{Levels, levels-left, levels-rest}
 use Rattle.walks.specs.declared.Position.{Position}

@@ -5,12 +5,12 @@ use borrow.Author.Tests.{ne-eqb}
 use mathlib.Core.Path.{_≡_, sym, ap, _∙_}
 use mathlib.Core.Bool.{true}
 use mathlib.Core.List.{List, [], _∷_}
-use Rattle.pulses.specs.Play.{Entry, ended, over, answer, calls, sum, Positive}
+use Rattle.pulses.specs.Play.{Entry, answer, calls, Positive}
 use Rattle.pulses.specs.Source.{Outcome, source, dropped, sources, heard, Short, Agrees}
 use Rattle.pulses.specs.Agreement.{source-heard, agrees, agrees-short}
 use Rattle.rows.specs.Rows.{block}
 use Rattle.entries.specs.Entries.{Spot}
-use Rattle.entries.specs.Places.{Tape, valid}
+use Rattle.entries.specs.Places.{Tape}
 use Rattle.walks.specs.declared.Position.{Position}
 use Rattle.walks.specs.declared.Reached.{Reached}
 use Rattle.walks.specs.Heads.{ahead, told}

@@ -2,7 +2,6 @@
 use entries::Duration;
 use phases::pause_of;
 use rows::Block;
-use text::put;
 use text::put_all;
 use text::put_decimal;
 use values::put_duration;

@@ -9,7 +9,6 @@ use lib.ListN.{length, getD}
 use lib.Dec.{leb}
 use Rattle.laws.specs.Rules.{_⇒_, _∣_}
 use Rattle.laws.specs.Numbers.{lt-or-ge}
-use Rattle.laws.specs.Tests.{other}
 use Rattle.fields.specs.declared.Cursor.{Cursor}
 use Rattle.fields.specs.declared.Cursor.the-variants.{At}
 use Rattle.fields.specs.declared.Cursor.the-variants as cursor

@@ -7,7 +7,6 @@ use Rattle.laws.specs.Rules.{_⇒_, _∣_}
 use Rattle.text.specs.Out.{fits, told}
 use Rattle.entries.specs.Places.{Tape}
 use Rattle.entries.specs.Mounted.{tapeOf}
-use Rattle.blocks.specs.Adds.{Lent}
 use Rattle.reader.specs.Source.{Loaded as Load, tzx, tapped, no}
 use Rattle.tape.specs.declared.Format.the-variants.{Tap, Tzx}
 use Rattle.tape.specs.Load.{loadNamed, blocksOf, tonesOf}

@@ -1,7 +1,7 @@
 -- What a program prints of a listing: document 01's text, or `refused n` and a line feed. Definitions alone; assumes nothing.
 use Prim.Native.Nat.{ℕ, _≤_}
 use mathlib.Core.Path.{_≡_}
-use mathlib.Core.List.{List, [], _∷_, _++_}
+use mathlib.Core.List.{List, _++_}
 use lib.ListN.{length, take}
 use Rattle.text.specs.Out.{ascii, decimal}
 use Rattle.listing.specs.Listing.{Listing, text, refused}

@@ -1,6 +1,6 @@
 -- Document 01, 'Names and the model': a block's name as UTF-8 text, and the naming pass. Assumes nothing.
 use Prim.Native.Nat.{ℕ, _/_}
-use mathlib.Core.Bool.{Bool, true, false, _&&_}
+use mathlib.Core.Bool.{Bool, _&&_}
 use mathlib.Core.List.{List, [], _∷_, _++_}
 use lib.ListN.{getD, take, drop}
 use lib.Dec.{eqb}

@@ -11,7 +11,7 @@ use Rattle.parser.specs.declared.Pending.{Pending}
 use Rattle.parser.specs.declared.Pending.the-variants.{Nothing, First, Later, Text}
 use Rattle.parser.specs.declared.Loop.{Loop}
 use Rattle.parser.specs.declared.Loop.the-variants.{Closed, Open}
-use Rattle.parser.specs.Parser.{Tape, withBlock, withBody, Out, on, no, _⟫_, renamed, named, nameless, addBlock, copyRows, copies, closed, closeLoop}
+use Rattle.parser.specs.Parser.{Tape, withBlock, withBody, Out, on, no, renamed, named, nameless, addBlock, copyRows, copies, closed, closeLoop}
 use Rattle.parser.proofs.Kept.{Sure, sure, none, sure-of, sure-then}
 
 -- so many repetitions of a list

@@ -1,24 +1,22 @@
 -- A whole piece moves the place forward, stays inside the tape, and is decided by its own bytes; so is a block of a TAP. Assumes nothing.
 use Prim.Native.Nat.{ℕ, _+_, _≤_, _<_}
-use mathlib.Core.Path.{_≡_, refl, sym, ap, _∙_}
+use mathlib.Core.Path.{_≡_, refl, sym, _∙_}
 use mathlib.Core.List.{List}
 use mathlib.Core.Logic.{⊎-elim}
 use native.Mathlib.Omega.{arith}
 use native.Mathlib.Nat.{le-refl}
 use lib.ListN.{length, getD, take, length-take}
 use lib.Seq.{getD-take}
-use borrow.Author.Tests.{le-leb, lt-leb, ne-eqb}
+use borrow.Author.Tests.{le-leb, lt-leb}
 use Rattle.laws.specs.Numbers.{lt-or-ge}
 use Rattle.fields.specs.declared.Cursor.the-variants.{At}
 use Rattle.pieces.specs.declared.Piece.{Piece}
 use Rattle.pieces.specs.declared.Body.{Body}
-use Rattle.pieces.specs.declared.Body.the-variants as body
-use Rattle.pieces.specs.declared.Taken.{Taken}
 use Rattle.pieces.specs.declared.Taken.the-variants as taken
 use Rattle.pieces.specs.Grammar.{readAt}
 use Rattle.pieces.specs.Kinds.{kindOf}
 use Rattle.pieces.specs.Cut.{named, cutAt}
-use Rattle.pieces.proofs.Layouts.{In, stands, Ends, ends, none, short, wide, Own, forward, own}
+use Rattle.pieces.proofs.Layouts.{stands, Ends, ends, none, short, wide, Own, forward, own}
 
 -- what ends a piece under its name
 named-ends : {a b : ℕ} (kind at : ℕ) {k p next : ℕ} {x : Body} {piece : Piece} → Ends a b x → named kind at x ≡ taken.Whole k p next piece → (a ≤ next) × (next ≤ b)

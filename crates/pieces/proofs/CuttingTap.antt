@@ -14,7 +14,6 @@ use Rattle.fields.specs.declared.Cursor.the-variants as cursor
 use Rattle.fields.specs.declared.Read.{Read}
 use Rattle.fields.specs.Field.{fieldAt, placeOf}
 use Rattle.pieces.specs.declared.Span.{Span}
-use Rattle.pieces.specs.declared.TakenTap.{TakenTap}
 use Rattle.pieces.specs.declared.TakenTap.the-variants as tap
 use Rattle.pieces.specs.Grammar.{countedAt}
 use Rattle.pieces.specs.Cut.{blockOf, tapAt}

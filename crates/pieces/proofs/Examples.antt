@@ -3,16 +3,14 @@
 use Prim.Native.Nat.{ℕ, _+_, _-_}
 use mathlib.Core.Path.{_≡_, refl}
 use mathlib.Core.Bool.{true, false}
-use mathlib.Core.List.{List, [], _∷_, _++_, map}
+use mathlib.Core.List.{List, [], _∷_, map}
 use lib.ListN.{take}
 use Rattle.fields.specs.Field.{leAt, numberAt, fieldAt, placeOf}
 use Rattle.fields.specs.Run.{times, eachAt, groupsAt}
 use Rattle.pieces.specs.declared.Piece.the-variants.{Standard, Turbo, Tone, Pulses, Pure, Generalized, Pause, GroupStart, GroupEnd, LoopStart, LoopEnd, Stop48, Text, Message, Archive, Hardware, Custom, Glue}
 use Rattle.pieces.specs.declared.Taken.{Taken}
 use Rattle.pieces.specs.declared.Taken.the-variants as taken
-use Rattle.pieces.specs.declared.TakenTap.{TakenTap}
 use Rattle.pieces.specs.declared.TakenTap.the-variants as tap
-use Rattle.pieces.specs.declared.Heading.{Heading}
 use Rattle.pieces.specs.declared.Heading.the-variants as head
 use Rattle.pieces.specs.Grammar.{passAt, countedAt, textsAt, wholeAt, sealed, enclosed, fittingAt, readAt, digits, orFull, heldIf}
 use Rattle.pieces.specs.Kinds.{kind10, kind11, kind12, kind13, kind14, stream19, kind19, kind20, kind21, kind22, kind24, kind25, kind2A, kind30, kind31, info32, kind32, kind33, kind35, kind5A, kinds, kindOf}

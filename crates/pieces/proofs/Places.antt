@@ -23,7 +23,7 @@ use Rattle.pieces.specs.declared.Piece.the-variants as piece
 use Rattle.pieces.specs.declared.Body.{Body}
 use Rattle.pieces.specs.declared.Body.the-variants.{Whole, Short, Overflow}
 use Rattle.pieces.specs.declared.Taken.the-variants as taken
-use Rattle.pieces.specs.Grammar.{Layout, whole, unknown, passAt, wholeAt, fittingAt, readAt, bitsOf, orFull, heldIf}
+use Rattle.pieces.specs.Grammar.{Layout, unknown, passAt, wholeAt, fittingAt, readAt, bitsOf, orFull, heldIf}
 use Rattle.pieces.specs.Kinds.{kind10, kind11, kind12, kind13, kind14, stream19, kind19, kind20, kind21, kind22, kind24, kind25, kind2A, kind30, kind31, info32, kind32, kind33, kind35, kind5A, unread, kinds, kindOf}
 use Rattle.pieces.specs.Cut.{cutAt}
 use Rattle.pieces.specs.Steps.{head19}

@@ -14,7 +14,6 @@ ghost use Prim.Native.Nat.{_+_, _*_, _≤_, min};
 ghost use lib.ListN.{length};
 ghost use Rattle.rows.specs.Rows.{block, tone};
 ghost use Rattle.rows.specs.Well.{wellBlock};
-ghost use Rattle.io.specs.Counts.{Counts};
 ghost use Rattle.entries.specs.Mounted.{sizeOf};
 
 // The smaller of two numbers.

@@ -1,11 +1,11 @@
 -- How a player goes on: what is left to play of one list is what is left of another, with the entries counted. Assumes nothing.
-use mathlib.Core.Path.{_≡_, refl, sym, ap, _∙_}
+use mathlib.Core.Path.{_≡_, refl, ap, _∙_}
 use mathlib.Core.List.{List, _∷_, _++_}
 use Prim.Native.Nat.{ℕ, _+_, _-_, _≤_, _<_}
 use native.Mathlib.Omega.{arith}
 use lib.ListN.{length, length-append}
 use Rattle.pulses.specs.Play.{Level, Entry, pulse, rest, over, time, Finite}
-use Rattle.pulses.specs.Steps.{rest-here, rest-past, rest-ways, over-pulse, length-rest}
+use Rattle.pulses.specs.Steps.{rest-past, over-pulse}
 use Rattle.pulses.specs.Joined.{rest-after, over-after}
 
 -- n T-states from es, j entries counted before, are m from fs, i counted before

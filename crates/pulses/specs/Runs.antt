@@ -7,7 +7,6 @@ use native.Mathlib.Omega.{arith}
 use lib.ListN.{length, length-append}
 use Rattle.pulses.specs.Play.{Entry, time, Finite}
 use Rattle.pulses.specs.Joined.{time-append, finite-append}
-use Rattle.pulses.specs.Lead.{Leads, lead-here, lead-on, lead-by, lead-run}
 
 module _ {A : Type 0} (item : ℕ → List (Entry A)) where
   -- m items, from item p on

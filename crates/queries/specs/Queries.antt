@@ -1,6 +1,6 @@
 -- The queries of a mounted tape, document 01's 'Numbers for no', 'Names and the model' and 'Listing'. Definitions alone; assumes nothing.
 use Prim.Native.Nat.{ℕ, zero, suc}
-use mathlib.Core.Bool.{Bool, _&&_}
+use mathlib.Core.Bool.{_&&_}
 use mathlib.Core.List.{List}
 use lib.Dec.{ltb, leb, eqb}
 use lib.ListN.{length}
@@ -11,7 +11,6 @@ use Rattle.text.specs.Out.{fits, told}
 use Rattle.entries.specs.Entries.{entriesOf, lastsOf}
 use Rattle.entries.specs.Places.{Tape, blockIn, listFrom}
 use Rattle.entries.specs.Mounted.{overfull, wellRow, formed}
-use Rattle.entries.specs.declared.Duration.{Duration}
 use Rattle.names.specs.Names.{nameOf}
 use Rattle.queries.specs.declared.Number.{Number}
 use Rattle.queries.specs.declared.Number.the-variants as number

@@ -12,16 +12,15 @@ use Rattle.rows.specs.Table.{get, tableOf, capacityOf, zeros}
 use Rattle.rows.specs.Rows.{block, blockMost}
 use Rattle.rows.proofs.Tables.{get-row}
 use Rattle.parser.specs.declared.State.{State}
-use Rattle.parser.specs.Parser.{Tape, empty}
+use Rattle.parser.specs.Parser.{Tape}
 use Rattle.parser.specs.Holds.{Holds}
 use Rattle.pieces.specs.declared.Heading.{Heading}
-use Rattle.pieces.specs.declared.Heading.the-variants.{Version}
 use Rattle.pieces.specs.Cut.{headAt}
 use Rattle.reader.specs.declared.Failure.{Failure}
 use Rattle.reader.specs.declared.Reading.{Reading}
 use Rattle.reader.specs.declared.Reading.the-variants.{Done, Failed, Refused}
 use Rattle.blocks.specs.Adds.{Lent}
-use Rattle.reader.specs.Source.{Read, done, failed, refused, foldFrom, tzxSee, tooManyBits, judged, headed, readTzx}
+use Rattle.reader.specs.Source.{Read, done, failed, refused, tooManyBits, judged, headed, readTzx}
 use Rattle.reader.specs.Does.{Finds, ends, fails, refuses}
 
 bits-more : (rs : List Block) (i : ℕ) (d : Block) → i < length rs → tooManyBits (drop i rs) ≡ ((ltb 0 (getD rs i d .size) && ltb 8 (getD rs i d .last)) ⇒ true ∣ tooManyBits (drop (i + 1) rs))

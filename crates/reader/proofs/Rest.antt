@@ -1,5 +1,5 @@
 -- What is left of a reading gives its answer: the invariant of both loops. Assumes nothing.
-use Prim.Native.Nat.{ℕ, zero, suc, _+_, _*_, _-_, _≤_, _<_}
+use Prim.Native.Nat.{ℕ, zero, suc, _+_, _-_, _≤_, _<_}
 use mathlib.Core.Path.{_≡_, refl, sym, subst, _∙_}
 use mathlib.Core.List.{List}
 use native.Mathlib.Omega.{arith}
@@ -8,7 +8,7 @@ use borrow.Author.Tests.{le-leb, eq-eqb, ne-eqb}
 use Rattle.parser.specs.declared.State.{State}
 use Rattle.parser.specs.declared.Step.{Step}
 use Rattle.parser.specs.declared.Step.the-variants.{On, No}
-use Rattle.parser.specs.Parser.{Tape, Out, on, empty}
+use Rattle.parser.specs.Parser.{Tape, Out, empty}
 use Rattle.parser.specs.Holds.{Holds, Gives}
 use Rattle.parser.proofs.Laws.{went-on, refused}
 use Rattle.rows.specs.Table.{zeros}

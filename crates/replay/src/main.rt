@@ -3,8 +3,7 @@
 use fields::number_up_to;
 use printing::print_loaded;
 use tape::load;
-ghost use mathlib.Core.Path.{_≡_};
-ghost use Prim.Native.Nat.{_≤_, min};
+ghost use Prim.Native.Nat.{_≤_};
 ghost use lib.ListN.{length};
 
 // More words than 4,096 and 65,536 rows have, so that a table may be longer than its limit.

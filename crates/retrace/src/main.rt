@@ -1,7 +1,6 @@
 // Prints the runs on standard input one after the other: 4 bytes give how many there are; each has its length (4 bytes) and its description.
 use fields::number_up_to;
 use playback::print_trace;
-ghost use Prim.Native.Nat.{_≤_};
 
 // A run that fills `input`.
 fn run(input: &mut [u8], blocks: &mut [u64], tones: &mut [u64]) {

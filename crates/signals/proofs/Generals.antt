@@ -2,7 +2,7 @@
 use Prim.Native.Nat.{ℕ, _+_, _-_, _≤_, _<_}
 use mathlib.Core.Path.{_≡_, refl, sym, ap, subst, _∙_}
 use mathlib.Core.Bool.{Bool, true, false}
-use mathlib.Core.List.{List, [], _++_}
+use mathlib.Core.List.{List, []}
 use native.Mathlib.Omega.{arith}
 use lib.ListN.{length, length-append}
 use lib.Dec.{leb}
@@ -21,8 +21,8 @@ use Rattle.general.specs.Made.{madeOf, leaves, Done}
 use Rattle.parser.specs.declared.State.{State}
 use Rattle.parser.specs.declared.Step.{Step}
 use Rattle.parser.specs.declared.Step.the-variants.{No}
-use Rattle.parser.specs.Parser.{Tape, Out, on, no, _⟫_, withTones, addTones, addBlock}
-use Rattle.parser.specs.Holds.{Holds, Gives, goes, refuses, toneRoom, blockRoom}
+use Rattle.parser.specs.Parser.{Tape, no, _⟫_, withTones, addTones, addBlock}
+use Rattle.parser.specs.Holds.{Holds, Gives, refuses, toneRoom, blockRoom}
 use Rattle.blocks.specs.Blocks.{ms, born, stopBlock}
 use Rattle.blocks.specs.Adds.{Lent, addRows, add, addGeneral}
 use Rattle.blocks.specs.Does.{lentOf, withUsed}

@@ -3,14 +3,10 @@ use Prim.Native.Nat.{ℕ, _+_, _<_}
 use borrow.Author.Tests.{lt-leb, lt-ltb}
 use native.Mathlib.Nat.{suc-ne-zero}
 use mathlib.Core.Path.{_≡_, refl, sym, ap, _∙_}
-use mathlib.Core.Bool.{Bool, true, false, _&&_, _||_}
 use mathlib.Core.List.{List, [], _∷_, _++_, map}
 use lib.ListN.{length, replicate, getD}
-use Rattle.laws.specs.Rules.{_⇒_, _∣_}
 use Rattle.fields.specs.Field.{leAt, numberAt, fieldAt, placeOf}
 use Rattle.fields.specs.Run.{times, eachAt, groupsAt}
-use Rattle.rows.specs.declared.Block.{Block}
-use Rattle.rows.specs.declared.Tone.{Tone}
 use Rattle.rows.specs.Rows.{encodeBlock, encodeTone}
 use Rattle.pieces.specs.Grammar.{countedAt, passAt, textsAt, wholeAt, sealed, enclosed, fittingAt, readAt, digits, orFull, heldIf}
 use Rattle.pieces.specs.Kinds.{kind10, kind11, kind12, kind13, kind14, stream19, kind19, kind20, kind21, kind22, kind24, kind25, kind2A, kind30, kind31, info32, kind32, kind33, kind35, kind5A, kinds, kindOf}

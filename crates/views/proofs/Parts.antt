@@ -14,7 +14,7 @@ use Rattle.text.specs.Out.{Wrote, decimal}
 use Rattle.text.proofs.Writing.{decimal-length}
 use Rattle.entries.specs.declared.Duration.{Duration}
 use Rattle.values.specs.Values.{flag, durationText}
-use Rattle.values.proofs.Lengths.{flag-length, duration-length}
+use Rattle.values.proofs.Lengths.{duration-length}
 use Rattle.views.specs.View.{tonesFrom}
 use Rattle.views.specs.Dump.{hex, toneText, tonesText, field, markText, bitsText, endText, headText}
 

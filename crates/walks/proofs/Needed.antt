@@ -19,7 +19,7 @@ use Rattle.entries.specs.Places.{Tape, blockIn, listFrom, leftAt, levelOf, vali
 use Rattle.entries.proofs.Runs.{tone-length, byte-length}
 use Rattle.entries.proofs.Bounds.{bits-most}
 use Rattle.entries.proofs.Parts.{left-part}
-use Rattle.entries.specs.Mounted.{sizeOf, wellRow, firstBad, cutTo}
+use Rattle.entries.specs.Mounted.{sizeOf, wellRow, cutTo}
 use Rattle.steps.proofs.Facts.{tone-small}
 
 -- items of at most c entries each

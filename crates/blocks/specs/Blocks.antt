@@ -23,11 +23,6 @@ unfoldable pub born : ℕ → ℕ → ℕ → ℕ → ℕ → ℕ → ℕ → �
 born selectable tone tones start size nil one last pause =
     record { tone = tone; tones = tones; start = start; size = size; zero = nil; one = one; last = last; pause = pause; endless = 0; selectable = selectable; named = 0; text = 0; chars = 0 }
 
--- a stop block, named `stop`
-unfoldable pub stopBlock : ℕ → Block
-stopBlock tone =
-    record { tone = tone; tones = 0; start = 0; size = 0; zero = 0; one = 0; last = 0; pause = 0; endless = 1; selectable = 1; named = 1; text = 0; chars = 0 }
-
 -- a standard block is a header if the first byte is below 128 or data is empty
 unfoldable pub isHeader : List ℕ → ℕ → ℕ → Bool
 isHeader s start size = eqb size 0 || ltb (getD s start 0) 128
@@ -39,10 +34,6 @@ standardCycles header = header ⇒ 4032 ∣ 1612
 unfoldable pub standardTones : Bool → List Tone
 standardTones header = toneOf (standardCycles header) 2168 2168 ∷ toneOf 1 667 735 ∷ []
 
--- zero 855, one 1710, last bits 8
-unfoldable pub standardBlock : ℕ → ℕ → ℕ → ℕ → Block
-standardBlock start size pause tone = born 1 tone 2 start size 855 1710 8 pause
-
 -- pause 3,500,000 or, not a header, 7,000,000
 unfoldable pub standardPause : Bool → ℕ
 standardPause header = header ⇒ 3500000 ∣ 7000000
@@ -51,32 +42,15 @@ standardPause header = header ⇒ 3500000 ∣ 7000000
 unfoldable pub turboTones : TurboData → List Tone
 turboTones d = toneOf ((d .pilots + 1) / 2) (d .pilot) (d .pilot) ∷ toneOf 1 (d .sync1) (d .sync2) ∷ []
 
-unfoldable pub turboBlock : TurboData → ℕ → Block
-turboBlock d tone = born 1 tone 2 (d .from) (d .size) (d .zero) (d .one) (d .last) (ms (d .pause))
-
 -- 14: two tones of length 0, with counts 0 and 1
 unfoldable pub pureTones : List Tone
 pureTones = toneOf 0 0 0 ∷ toneOf 1 0 0 ∷ []
-
-unfoldable pub pureBlock : ℕ → ℕ → ℕ → ℕ → ℕ → ℕ → ℕ → Block
-pureBlock nil one last pause start size tone = born 1 tone 2 start size nil one last (ms pause)
 
 -- 12: an odd count first gives one tone 0/length; then count/2 cycles
 unfoldable pub pureToneTones : ℕ → ℕ → List Tone
 pureToneTones half count =
     eqb (count % 2) 0 ⇒ toneOf (count / 2) half half ∷ [] ∣ toneOf 1 0 half ∷ toneOf (count / 2) half half ∷ []
 
--- a block of tones alone, without a pause
-abbrev pub soundOnly : ℕ → ℕ → Block
-soundOnly tones tone = born 0 tone tones 0 0 0 0 0 0
-
 -- 13: pulse i of the pulses at `from`
 unfoldable pub pulseAt : List ℕ → ℕ → ℕ → ℕ
 pulseAt s from i = leAt s (from + i * 2) 2
-
--- 20: a pause; 0 gives a stop block
-unfoldable pub pauseBlock : ℕ → ℕ → Block
-pauseBlock pause tone = born 0 tone 0 0 0 0 0 0 pause
-
-unfoldable pub pauseOrStop : ℕ → ℕ → Block
-pauseOrStop n tone = eqb n 0 ⇒ stopBlock tone ∣ pauseBlock (ms n) tone

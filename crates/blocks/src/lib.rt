@@ -8,8 +8,9 @@ use rows::Tone;
 ghost use mathlib.Core.Path.{_≡_};
 ghost use mathlib.Core.List.{List, [], _∷_};
 ghost use Prim.Native.Nat.{ℕ};
-ghost use Rattle.blocks.specs.Blocks.{born, stopBlock, isHeader, standardCycles, standardTones, standardBlock, standardPause};
-ghost use Rattle.blocks.specs.Adds.{addRows, add};
+ghost use Rattle.blocks.specs.Blocks.{born, isHeader, standardCycles, standardPause};
+ghost use Rattle.blocks.specs.Adds.{addRows};
+ghost use Rattle.blocks.specs.Sounds.{rowOf, stopSound, standardSound, addSound};
 ghost use Rattle.blocks.specs.Does.{Does};
 
 // A block as it is born: nameless, with a finite pause.
@@ -45,7 +46,7 @@ pub fn born(
 
 // A stop block, named `stop`.
 pub fn stop_row(tone: u64) -> Block
-    ensures { λ r. ⌜ r ≡ stopBlock tone ⌝ }
+    ensures { λ r. ⌜ r ≡ rowOf stopSound tone ⌝ }
 {
     Block {
         tone,
@@ -122,7 +123,7 @@ pub fn standard_data_block(
     size: u32,
     pause: u64,
 ) -> Step
-    ensures { λ x. ⌜ Does (λ lent. add lent (standardTones header) (standardBlock start size pause)) s x (now (blocks .entry)) (now (tones .entry)) (now (blocks .exit)) (now (tones .exit)) ⌝ }
+    ensures { λ x. ⌜ Does (λ lent. addSound lent (standardSound header start size pause)) s x (now (blocks .entry)) (now (tones .entry)) (now (blocks .exit)) (now (tones .exit)) ⌝ }
 {
     let pilot = Tone {
         num: standard_cycles(header),

@@ -21,16 +21,19 @@ use Rattle.pieces.specs.declared.Piece.{Piece}
 use Rattle.pieces.specs.declared.Piece.the-variants.{Standard, Turbo, Tone as PureTone, Pulses, Pure, Generalized, Pause, GroupStart, GroupEnd, LoopStart, LoopEnd, Stop48, Text, Message, Archive, Hardware, Custom, Glue}
 use Rattle.parser.specs.Parser.{Tape, Out, on, no}
 use Rattle.parser.proofs.Kept.{Sure, sure, none, sure-also}
-use Rattle.blocks.specs.Blocks.{ms, toneOf, born, isHeader, standardCycles, standardTones, standardBlock, turboTones, turboBlock, pureToneTones, soundOnly}
-use Rattle.blocks.specs.Adds.{Lent, add, addPairs}
-use Rattle.reader.specs.Source.{act}
+use Rattle.blocks.specs.Blocks.{ms, toneOf, isHeader, standardCycles, standardTones, turboTones, pureToneTones}
+use Rattle.blocks.specs.Adds.{Lent}
+use Rattle.blocks.specs.Sounds.{Sound as Birth, rowOf, standardSound, turboSound, toneSound, pairSounds, addSounds}
+use Rattle.blocks.specs.Deeds.{does}
+use Rattle.blocks.proofs.Laws.{one-sound}
+use Rattle.reader.specs.Source.{act, deedOf}
 use Rattle.format.specs.Format.{Length, lasts, Sound, Said, sounds, unsaid, paused, each, again, dataPulses, bitsSaid, pilotCount, format10, format11, format12, format13, format14, format2A, formatOf, lengthsOf, lasting}
 use Rattle.format.specs.Kept.{evenCount, kept11, kept12, kept13, kept, told, lengths, listOf, Plays, Keeps, as-said}
 use Rattle.format.proofs.Lengths.{long, long-append, lasting-append, wavesOf, dataIn, pauseIn, blockLengths}
-use Rattle.format.proofs.Adds.{Over, add-plays}
+use Rattle.format.proofs.Adds.{sound-plays}
 use Rattle.format.proofs.Waves.{differ, each-split, once, again-more, cycles-pulses, data-same}
 use Rattle.format.proofs.Bits.{single}
-use Rattle.format.proofs.KeepSounds.{turbo-over, turbo-pause}
+use Rattle.format.proofs.KeepSounds.{turbo-pause}
 use Rattle.format.proofs.KeepPulses.{pulseIn, no-pause, pairs-play}
 
 -- blocks that were added play one list of lengths
@@ -89,17 +92,17 @@ counts-apart xs ys p h e =
     h (omega arith)
 
 -- a block that plays another number of lengths
-add-differs : (lent : Lent) (s : List ℕ) (t : Tape) (ts : List Tone) (row : ℕ → Block) (bits : List ℕ) (p : Length) (ys : List ℕ) {said : Said} → said ≡ sounds (record { pulses = ys; pause = p }) → Over ts row
-    → ((n : ℕ) → dataIn s (row n) ≡ bits) → ((n : ℕ) → pauseIn (row n) ≡ p) → (count (wavesOf ts ++ bits) ≡ count ys → ⊥) → Sure (λ u. Keeps s t u said → ⊥) (add lent ts row t)
+add-differs : (lent : Lent) (s : List ℕ) (t : Tape) (d : Birth) (bits : List ℕ) (p : Length) (ys : List ℕ) {said : Said} → said ≡ sounds (record { pulses = ys; pause = p })
+    → ((n : ℕ) → dataIn s (rowOf d n) ≡ bits) → ((n : ℕ) → pauseIn (rowOf d n) ≡ p) → (count (wavesOf (d .tones) ++ bits) ≡ count ys → ⊥) → Sure (λ u. Keeps s t u said → ⊥) (addSounds lent (d ∷ []) t)
 unfolding lengthsOf blockLengths
-add-differs lent s t ts row bits p ys said o d q h =
-    let xs = wavesOf ts ++ bits in
-    sure-also (λ u k m. counts-apart xs ys p h (keeps-once (record { pulses = ys; pause = p }) said k m))
-    (add-plays s ts row o (map lasts xs ++ p ∷ [])
+add-differs lent s t d bits p ys said b q h =
+    let xs = wavesOf (d .tones) ++ bits in
+    rw (one-sound lent d t) (sure-also (λ u k m. counts-apart xs ys p h (keeps-once (record { pulses = ys; pause = p }) said k m))
+    (sound-plays s d (map lasts xs ++ p ∷ [])
     (λ n.
-    ap₂ (λ (a b : List Length). a ++ b) (sym (long-append (wavesOf ts) (dataIn s (row n))) ∙ ap (λ (l : List ℕ). long (wavesOf ts ++ l)) (d n)) (ap (λ (l : Length). lasting (l ∷ [])) (q n))
+    ap₂ (λ (a c : List Length). a ++ c) (sym (long-append (wavesOf (d .tones)) (dataIn s (rowOf d n))) ∙ ap (λ (l : List ℕ). long (wavesOf (d .tones) ++ l)) (b n)) (ap (λ (l : Length). lasting (l ∷ [])) (q n))
     ∙ sym (lasting-append (map lasts xs) (p ∷ [])))
-    lent t)
+    lent t))
 
 -- 12: pulses with length, none or one of them
 tone-count : (x count′ : ℕ) → count′ ≤ 1 → count (wavesOf (pureToneTones (suc x) count′) ++ []) ≡ count (again count′ (suc x ∷ [])) → ⊥
@@ -117,13 +120,13 @@ few : (x n : ℕ) → (eqb (suc x) 0 || ltb 1 n) ≡ false → n ≤ 1
 few x n e = let l = ltb-false 1 n (neither (eqb (suc x) 0) (ltb 1 n) e .1) in omega arith
 
 differs12 : (lent : Lent) (s : List ℕ) (t : Tape) (half count′ : ℕ) → kept12 half count′ ≡ false
-    → Sure (λ u. Keeps s t u (format12 half count′) → ⊥) (add lent (pureToneTones half count′) (soundOnly (length (pureToneTones half count′))) t)
-unfolding kept12 format12 born dataPulses each pauseIn
+    → Sure (λ u. Keeps s t u (format12 half count′) → ⊥) (addSounds lent (toneSound (pureToneTones half count′) ∷ []) t)
+unfolding kept12 format12 rowOf dataPulses each pauseIn
 differs12 lent s t zero count′ e = absurd (differ e)
 differs12 lent s t (suc x) count′ e =
     let l : count′ ≤ 1 = few x count′ e in
-    add-differs lent s t (pureToneTones (suc x) count′) (soundOnly (length (pureToneTones (suc x) count′))) [] (lasts 0) (again count′ (suc x ∷ [])) refl
-    (record { first = λ n. refl; count = λ n. refl }) (λ n. refl) (λ n. refl) (tone-count x count′ l)
+    add-differs lent s t (toneSound (pureToneTones (suc x) count′)) [] (lasts 0) (again count′ (suc x ∷ [])) refl
+    (λ n. refl) (λ n. refl) (tone-count x count′ l)
 
 -- a pilot in front of two syncs and data: only the pilot's number tells
 pilot-apart : (w v rest : List ℕ) → (count w ≡ count v → ⊥) → count (w ++ rest) ≡ count (v ++ rest) → ⊥
@@ -156,28 +159,28 @@ odd-of true b c e q z = cc
 odd-of false true c e q z = sym q ∙ e
 odd-of false false c e q z = refl
 
-turbo-bits : (s : List ℕ) (d : TurboData) (n : ℕ) → bitsSaid (d .last) (d .size) ≡ true → dataIn s (turboBlock d n) ≡ dataPulses s (d .zero) (d .one) (d .last) (d .from) (d .size)
-unfolding turboBlock born
+turbo-bits : (s : List ℕ) (d : TurboData) (n : ℕ) → bitsSaid (d .last) (d .size) ≡ true → dataIn s (rowOf (turboSound d) n) ≡ dataPulses s (d .zero) (d .one) (d .last) (d .from) (d .size)
+unfolding turboSound rowOf
 turbo-bits s d n b = data-same s (d .zero) (d .one) (d .last) (d .from) (d .size) b
 
-differs11 : (lent : Lent) (s : List ℕ) (t : Tape) (d : TurboData) → kept11 d ≡ false → Sure (λ u. Keeps s t u (format11 s d) → ⊥) (add lent (turboTones d) (turboBlock d) t)
-unfolding kept11 format11
+differs11 : (lent : Lent) (s : List ℕ) (t : Tape) (d : TurboData) → kept11 d ≡ false → Sure (λ u. Keeps s t u (format11 s d) → ⊥) (addSounds lent (turboSound d ∷ []) t)
+unfolding kept11 format11 turboSound
 differs11 lent s t d e = by-bits (bitsSaid (d .last) (d .size)) refl
   where
     bits : List ℕ
     bits = dataPulses s (d .zero) (d .one) (d .last) (d .from) (d .size)
 
     by-pilot : (x : ℕ) → d .pilot ≡ x → bitsSaid (d .last) (d .size) ≡ true
-        → Sure (λ u. Keeps s t u (sounds (record { pulses = again (d .pilots) (d .pilot ∷ []) ++ d .sync1 ∷ d .sync2 ∷ bits; pause = paused (d .pause) })) → ⊥) (add lent (turboTones d) (turboBlock d) t)
+        → Sure (λ u. Keeps s t u (sounds (record { pulses = again (d .pilots) (d .pilot ∷ []) ++ d .sync1 ∷ d .sync2 ∷ bits; pause = paused (d .pause) })) → ⊥) (addSounds lent (turboSound d ∷ []) t)
     by-pilot zero p b = absurd (differ (sym (rw (b, eq-eqb (d .pilot) 0 p)) ∙ e))
     by-pilot (suc x) p b =
         let z : eqb (d .pilot) 0 ≡ false = ne-eqb (d .pilot) 0 (omega arith) in
         let c : evenCount (d .pilots) ≡ false = odd-of (eqb (d .pilot) 0) (evenCount (d .pilots)) (bitsSaid (d .last) (d .size)) e b z in
-        add-differs lent s t (turboTones d) (turboBlock d) bits (paused (d .pause)) (again (d .pilots) (d .pilot ∷ []) ++ d .sync1 ∷ d .sync2 ∷ bits) refl
-        (turbo-over d) (λ n. turbo-bits s d n b) (turbo-pause d) (turbo-count x d bits p c)
+        add-differs lent s t (turboSound d) bits (paused (d .pause)) (again (d .pilots) (d .pilot ∷ []) ++ d .sync1 ∷ d .sync2 ∷ bits) refl
+        (λ n. turbo-bits s d n b) (turbo-pause d) (turbo-count x d bits p c)
 
     by-bits : (b : Bool) → bitsSaid (d .last) (d .size) ≡ b
-        → Sure (λ u. Keeps s t u (b ⇒ sounds (record { pulses = again (d .pilots) (d .pilot ∷ []) ++ d .sync1 ∷ d .sync2 ∷ bits; pause = paused (d .pause) }) ∣ unsaid) → ⊥) (add lent (turboTones d) (turboBlock d) t)
+        → Sure (λ u. Keeps s t u (b ⇒ sounds (record { pulses = again (d .pilots) (d .pilot ∷ []) ++ d .sync1 ∷ d .sync2 ∷ bits; pause = paused (d .pause) }) ∣ unsaid) → ⊥) (addSounds lent (turboSound d ∷ []) t)
     by-bits true b = by-pilot (d .pilot) refl b
     by-bits false b = unsaid-differs refl _
 
@@ -201,20 +204,16 @@ standard-count false bits q =
     pilot-apart (again 1612 (2168 ∷ 2168 ∷ [])) (again 3223 (2168 ∷ [])) (667 ∷ 735 ∷ bits)
     (λ e. let a = count-cycles 2167 1612 in let b = count-again 2167 3223 in omega arith) (ap count (sym (two-rows 1612 2168 667 735 bits)) ∙ q)
 
-standard-over : (b : Bool) (from size pause : ℕ) → Over (standardTones b) (standardBlock from size pause)
-unfolding standardTones standardBlock born
-standard-over b from size pause = record { first = λ n. refl; count = λ n. refl }
+standard-bits : (s : List ℕ) (b : Bool) (from size pause n : ℕ) → dataIn s (rowOf (standardSound b from size pause) n) ≡ dataPulses s 855 1710 8 from size
+unfolding standardSound rowOf
+standard-bits s b from size pause n = refl
 
-standard-bits : (s : List ℕ) (from size pause n : ℕ) → dataIn s (standardBlock from size pause n) ≡ dataPulses s 855 1710 8 from size
-unfolding standardBlock born
-standard-bits s from size pause n = refl
+standard-pause : (b : Bool) (from size pause n : ℕ) → pauseIn (rowOf (standardSound b from size pause) n) ≡ lasts pause
+unfolding standardSound rowOf pauseIn
+standard-pause b from size pause n = refl
 
-standard-pause : (from size pause n : ℕ) → pauseIn (standardBlock from size pause n) ≡ lasts pause
-unfolding standardBlock born pauseIn
-standard-pause from size pause n = refl
-
-differs10 : (lent : Lent) (s : List ℕ) (t : Tape) (pause from size : ℕ) → Sure (λ u. Keeps s t u (format10 s pause from size) → ⊥) (add lent (standardTones (isHeader s from size)) (standardBlock from size (ms pause)) t)
-unfolding format10 isHeader pilotCount
+differs10 : (lent : Lent) (s : List ℕ) (t : Tape) (pause from size : ℕ) → Sure (λ u. Keeps s t u (format10 s pause from size) → ⊥) (addSounds lent (standardSound (isHeader s from size) from size (ms pause) ∷ []) t)
+unfolding standardSound format10 isHeader pilotCount
 differs10 lent s t pause from size = by-size (eqb size 0)
   where
     bits : List ℕ
@@ -224,11 +223,11 @@ differs10 lent s t pause from size = by-size (eqb size 0)
     flag = ltb (getD s from 0) 128
 
     by-size : (b : Bool)
-        → Sure (λ u. Keeps s t u (b ⇒ unsaid ∣ sounds (record { pulses = again (flag ⇒ 8063 ∣ 3223) (2168 ∷ []) ++ 667 ∷ 735 ∷ bits; pause = paused pause })) → ⊥) (add lent (standardTones (b || flag)) (standardBlock from size (ms pause)) t)
+        → Sure (λ u. Keeps s t u (b ⇒ unsaid ∣ sounds (record { pulses = again (flag ⇒ 8063 ∣ 3223) (2168 ∷ []) ++ 667 ∷ 735 ∷ bits; pause = paused pause })) → ⊥) (addSounds lent (standardSound (b || flag) from size (ms pause) ∷ []) t)
     by-size true = unsaid-differs refl _
     by-size false =
-        add-differs lent s t (standardTones flag) (standardBlock from size (ms pause)) bits (paused pause) (again (flag ⇒ 8063 ∣ 3223) (2168 ∷ []) ++ 667 ∷ 735 ∷ bits) refl
-        (standard-over flag from size (ms pause)) (standard-bits s from size (ms pause)) (standard-pause from size (ms pause)) (standard-count flag bits)
+        add-differs lent s t (standardSound flag from size (ms pause)) bits (paused pause) (again (flag ⇒ 8063 ∣ 3223) (2168 ∷ []) ++ 667 ∷ 735 ∷ bits) refl
+        (standard-bits s flag from size (ms pause)) (standard-pause flag from size (ms pause)) (standard-count flag bits)
 
 one-heard : (v : ℕ) → (v ≡ 0 → ⊥) → count (v ∷ []) ≡ 1
 unfolding lasting
@@ -254,7 +253,7 @@ odd-last s count′ from e q =
     let n : count (each f 0 m) ≡ count (each f 0 count′) = ap length q in
     omega arith
 
-differs13 : (lent : Lent) (s : List ℕ) (t : Tape) (count′ from : ℕ) → kept13 s count′ from ≡ false → Sure (λ u. Keeps s t u (format13 s count′ from) → ⊥) (addPairs lent s from 0 (count′ / 2) t)
+differs13 : (lent : Lent) (s : List ℕ) (t : Tape) (count′ from : ℕ) → kept13 s count′ from ≡ false → Sure (λ u. Keeps s t u (format13 s count′ from) → ⊥) (addSounds lent (pairSounds s from 0 (count′ / 2)) t)
 unfolding format13
 differs13 lent s t count′ from e =
     sure-also (λ u p k. odd-last s count′ from e (keeps-once (record { pulses = each (pulseIn s from) 0 count′; pause = lasts 0 }) refl p k ∙ no-pause (each (pulseIn s from) 0 count′)))
@@ -263,7 +262,7 @@ differs13 lent s t count′ from e =
 -- THE CONVERSE: where `kept` is false, no block list that the piece adds plays what the format says
 pub unkept-differs : (lent : Lent) (s : List ℕ) (model : ℕ) (piece : Piece) (t : Tape) → told piece ≡ true → kept s piece ≡ false
     → Sure (λ u. Keeps s t u (formatOf (eqb model 0) s piece) → ⊥) (act lent s model piece t)
-unfolding told kept formatOf act
+unfolding told kept formatOf act deedOf does
 unkept-differs lent s model (Standard pause from size) t k e = differs10 lent s t pause from size
 unkept-differs lent s model (Turbo d) t k e = differs11 lent s t d e
 unkept-differs lent s model (PureTone half count′) t k e = differs12 lent s t half count′ e

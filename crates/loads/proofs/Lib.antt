@@ -3,6 +3,7 @@ pub mod Steps
 pub mod Loading
 pub mod Rows
 pub mod Tones
+pub mod Fine
 pub mod Formed
 pub mod Room
 pub mod Well

@@ -22,9 +22,9 @@ use Rattle.reader.specs.declared.Failure.the-variants as failure
 use Rattle.reader.specs.Source as source
 use Rattle.reader.specs.Source.{See, thing, Read, after, seeing, foldFrom, stopLength, full, act, tooManyBits, judged, tzxOf, tzxSee, headed, readTzx, tapOf, tapSee, readTap, Loaded, orTap, orElse, loadOf}
 use Rattle.loads.specs.Sizes.{Bytes}
-use Rattle.loads.specs.Made.{OfPiece, OfTap, Reads, as-tzx, as-tap}
+use Rattle.loads.specs.Made.{Pends, OfPiece, OfTap, Reads, as-tzx, as-tap}
 use Rattle.loads.proofs.Sizes.{cut-named, cut-sized, tap-sized}
-use Rattle.loads.proofs.Steps.{Keeps, act-keeps, tap-keeps}
+use Rattle.loads.proofs.Steps.{Keeps, sound-keeps, act-keeps}
 
 -- what stands at a place keeps K
 data Safe (K : Tape → Type 0) : See → Type 0 where
@@ -79,7 +79,7 @@ judged-keeps failed = failed
 judged-keeps refused = refused
 
 module _ {lent : Lent} {s : List ℕ} (b : Bytes s) where
-  module _ {K : Tape → Type 0} (k : Keeps lent s (OfPiece s) K) where
+  module _ {K : Tape → Type 0} (k : Keeps lent (OfPiece s) (Pends s) K) where
     tzx-safe : (model at : ℕ) → Safe K (tzxSee lent s model at)
     unfolding tzxSee tzxOf
     tzx-safe model at = by-cut (cutAt s at full) refl
@@ -104,7 +104,7 @@ module _ {lent : Lent} {s : List ℕ} (b : Bytes s) where
         by-head heading.BadSignature = failed
         by-head (heading.Short p w) = failed
 
-  module _ {L : Tape → Type 0} (l : Keeps lent s (OfTap s) L) where
+  module _ {L : Tape → Type 0} (l : Keeps lent (OfTap s) (Pends s) L) where
     tap-safe : (at : ℕ) → Safe L (tapSee lent s at)
     unfolding tapSee tapOf
     tap-safe at = by-cut (tapAt s at) refl
@@ -112,7 +112,7 @@ module _ {lent : Lent} {s : List ℕ} (b : Bytes s) where
         by-cut : (x : TakenTap) → tapAt s at ≡ x → Safe L (tapOf lent s x)
         by-cut tap.End e = over
         by-cut tap.Lone e = over
-        by-cut (tap.Block from size next) e = does (tap-keeps l (record { at = at; next = next; cut = e; range = tap-sized s at e b }))
+        by-cut (tap.Block from size next) e = does (λ t h. sound-keeps l _ t (OfTap.of (record { at = at; next = next; cut = e; range = tap-sized s at e b })) h)
         by-cut (tap.Short p w) e = bad
 
     tap-read : Final L (readTap lent s)
@@ -146,6 +146,6 @@ answered f g (tapped h) as-tap = g _ h
 
 -- THE INDUCTION: where a TZX's pieces keep K, a TAP's blocks keep L, and each gives M, every tape that a load reads has M
 module _ {K L M : Tape → Type 0} (lent : Lent) (s : List ℕ) (model : ℕ) {t : Tape} where
-  pub load-keeps : Bytes s → Keeps lent s (OfPiece s) K → Keeps lent s (OfTap s) L → ((u : Tape) → Judged K u → M u) → ((u : Tape) → L u → M u)
+  pub load-keeps : Bytes s → Keeps lent (OfPiece s) (Pends s) K → Keeps lent (OfTap s) (Pends s) L → ((u : Tape) → Judged K u → M u) → ((u : Tape) → L u → M u)
       → Reads (loadOf lent s model) t → M t
   load-keeps b k l f g r = answered f g (load-answers lent s model (tzx-keeps b k model) (tap-read b l)) r

@@ -19,7 +19,7 @@ use Rattle.rows.specs.Rows.{block}
 use Rattle.rows.proofs.Tables.{get-row}
 use Rattle.parser.specs.Parser.{Tape}
 use Rattle.parser.proofs.Kept.{all-get}
-use Rattle.blocks.specs.Blocks.{born, stopBlock, standardBlock, turboBlock, pureBlock, pauseBlock}
+use Rattle.blocks.specs.Sounds.{rowOf}
 use Rattle.blocks.specs.Does.{lentOf}
 use Rattle.reader.specs.Source.{loadOf}
 use Rattle.headers.specs.Headers.{headerName}
@@ -27,44 +27,22 @@ use Rattle.names.specs.Names.{isHeader, sizeShown, sizeName, guessed, nameOf, u
 use Rattle.headers.proofs.Headers.{type-length}
 use Rattle.names.proofs.Selecting.{name-all-length}
 use Rattle.loads.specs.Sizes.{Bytes}
-use Rattle.loads.specs.Made.{Given, OfPiece, OfTap, Everywhere, Reads}
+use Rattle.loads.specs.Made.{Everywhere, Reads}
 use Rattle.loads.proofs.Rows.{paused-same, every-row}
+use Rattle.loads.proofs.Formed.{given-small}
 
 -- a given name's characters, whatever the row's tones
 abbrev pub Few : List Tone → Block → Type 0
 Few ts r = r .chars ≤ 255
 
-given-few : {s : List ℕ} {mark case text chars : ℕ} → Given s mark case text chars → chars ≤ 255
-given-few Given.none = omega arith
-given-few (Given.first f) = omega (arith, f .sized .numbers .small)
-given-few (Given.later f) = omega (arith, f .sized .numbers .small)
-given-few (Given.text f) = omega (arith, f .sized .numbers .small)
-
--- no row is made with a given name
-piece-few : {s : List ℕ} {ts : List Tone} {r : Block} → OfPiece s ts r → Few ts r
-unfolding standardBlock turboBlock pureBlock pauseBlock stopBlock born
-piece-few (OfPiece.standard f tone) = omega arith
-piece-few (OfPiece.turbo f tone) = omega arith
-piece-few (OfPiece.sound f tone) = omega arith
-piece-few (OfPiece.pair f i h tone) = omega arith
-piece-few (OfPiece.pure f tone) = omega arith
-piece-few (OfPiece.plain f e tone) = omega arith
-piece-few (OfPiece.toned f e tone) = omega arith
-piece-few (OfPiece.silence f h tone) = omega arith
-piece-few (OfPiece.stop f i tone) = omega arith
-
-tap-few : {s : List ℕ} {ts : List Tone} {r : Block} → OfTap s ts r → Few ts r
-unfolding standardBlock born
-tap-few (OfTap.standard f tone) = omega arith
-
-pub few : (s : List ℕ) → Everywhere s Few
-unfolding unselected
-few s =
+pub few : (s : List ℕ) → Bytes s → Everywhere s Few
+unfolding unselected rowOf
+few s b =
     record {
-      pieces = λ m. piece-few m;
-      taps = λ m. tap-few m;
+      pieces = λ d tone m. omega arith;
+      taps = λ d tone m. omega arith;
       lasts = record {
-        naming = λ mark case text chars ts r g h. given-few g;
+        naming = λ mark case text chars ts r g h. let n = given-small b g .name .small in omega arith;
         pausing = λ ts r h. let e = paused-same (λ q. q .chars) r refl in omega arith;
         passing = λ ts r h. h;
       };
@@ -101,5 +79,5 @@ loaded-names B N s model {t} b r i h =
     let d = get block (tableOf block rows B) i in
     let l : i < length rows = rw (name-all-length s false (t .blocks)) h in
     let g : d ≡ getD rows i d = get-row block rows (zeros B) i d l in
-    let k : getD rows i d .chars ≤ 255 = all-get (every-row (lentOf B N) s model (few s) b r) i d l .has in
+    let k : getD rows i d .chars ≤ 255 = all-get (every-row (lentOf B N) s model (few s b) b r) i d l .has in
     name-most s d (subst (λ (q : Block). q .chars ≤ 255) (sym g) k)

@@ -19,8 +19,8 @@ Any ts r = Unit {0}
 
 any : (s : List ℕ) → Everywhere s Any
 any s = record {
-  pieces = λ p. tt;
-  taps = λ p. tt;
+  pieces = λ d tone m. tt;
+  taps = λ d tone m. tt;
   lasts = record { naming = λ mark case text chars ts r g h. tt; pausing = λ ts r h. tt; passing = λ ts r h. tt };
 }
 

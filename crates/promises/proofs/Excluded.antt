@@ -14,8 +14,9 @@ use Rattle.rows.specs.Well.{wellRanges, wellTone, wellNumbers, wellCases, wellT
 use Rattle.pieces.specs.Grammar.{countedAt}
 use Rattle.pieces.specs.Cut.{startsAt, headAt, blockOf, tapAt}
 use Rattle.parser.specs.Parser.{empty, _⟫_, addTones, addBlock}
-use Rattle.blocks.specs.Blocks.{born, isHeader, standardCycles, standardTones, standardBlock, standardPause}
-use Rattle.blocks.specs.Adds.{addRows, add}
+use Rattle.blocks.specs.Blocks.{isHeader, standardCycles, standardTones, standardPause}
+use Rattle.blocks.specs.Adds.{addRows}
+use Rattle.blocks.specs.Sounds.{rowOf, standardSound, addSound}
 use Rattle.reader.specs.Source.{after, seeing, foldFrom, headed, readTzx, tapOf, tapSee, readTap, orTap, orElse, loadOf}
 use Rattle.text.specs.Out.{decimal, digits}
 use Rattle.names.specs.Names.{isHeader as isHeading, sizeShown, sizeName, guessed, nameOf, unselected, passed, nameAll}
@@ -38,7 +39,7 @@ use Rattle.listing.specs.Listing.{loadedOf, Listing, mounted, listed, listingOf
 
 -- an empty tape is listed in 37 bytes, and `00 00` in 67
 lists : (answerTo (listingOf [] 0) (replicate 99 0) ≡ 37) × (answerTo (listingOf (0 ∷ 0 ∷ []) 0) (replicate 99 0) ≡ 67)
-unfolding countedAt comesTo leAt numberAt fieldAt placeOf startsAt headAt blockOf tapAt empty _⟫_ addTones addBlock born isHeader standardCycles standardTones standardBlock standardPause addRows add after seeing foldFrom headed readTzx tapOf tapSee readTap orTap orElse loadOf decimal digits isHeading sizeShown sizeName guessed nameOf unselected passed nameAll namedTape named loadNamed blocksOf tonesOf tableOver time run entryOf cyclesOf toneOf toneEntries dataOf pauseOf soundOf entriesOf lastsOf listFrom shown timeText markText rowText rowsText modelText formatText countText loadingText restText listingText loadedOf mounted listed listingOf answerTo
+unfolding countedAt comesTo leAt numberAt fieldAt placeOf startsAt headAt blockOf tapAt empty _⟫_ addTones addBlock rowOf isHeader standardCycles standardTones standardSound standardPause addRows addSound after seeing foldFrom headed readTzx tapOf tapSee readTap orTap orElse loadOf decimal digits isHeading sizeShown sizeName guessed nameOf unselected passed nameAll namedTape named loadNamed blocksOf tonesOf tableOver time run entryOf cyclesOf toneOf toneEntries dataOf pauseOf soundOf entriesOf lastsOf listFrom shown timeText markText rowText rowsText modelText formatText countText loadingText restText listingText loadedOf mounted listed listingOf answerTo
 lists = (refl, refl)
 
 -- refusing all tapes

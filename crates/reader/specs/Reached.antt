@@ -5,8 +5,6 @@ use mathlib.Core.List.{List}
 use lib.ListN.{length}
 use lib.Dec.{ltb, eqb}
 use Rattle.laws.specs.Rules.{_⇒_, _∣_}
-use Rattle.pieces.specs.declared.Piece.{Piece}
-use Rattle.pieces.specs.declared.Piece.the-variants.{Standard, Turbo, Tone, Pulses, Pure, Generalized, Pause, GroupStart, GroupEnd, LoopStart, LoopEnd, Stop48, Text, Message, Archive, Hardware, Custom, Glue}
 use Rattle.pieces.specs.declared.Taken.{Taken}
 use Rattle.pieces.specs.declared.Taken.the-variants as taken
 use Rattle.pieces.specs.declared.Heading.{Heading}
@@ -14,35 +12,16 @@ use Rattle.pieces.specs.declared.Heading.the-variants as heading
 use Rattle.pieces.specs.Cut.{cutAt, headAt}
 use Rattle.parser.specs.Parser.{Tape, Out, on, no as refuse, empty}
 use Rattle.blocks.specs.Adds.{Lent}
-use Rattle.reader.specs.Source.{See, over, bad, refuses, thing, stopLength, full, tzxSee}
-
-unfoldable pub isStop48 : Piece → Bool
-isStop48 (Standard pause from size) = false
-isStop48 (Turbo d) = false
-isStop48 (Tone half count) = false
-isStop48 (Pulses count from) = false
-isStop48 (Pure nil one last pause from size) = false
-isStop48 (Generalized g) = false
-isStop48 (Pause n) = false
-isStop48 (GroupStart from size) = false
-isStop48 GroupEnd = false
-isStop48 (LoopStart times) = false
-isStop48 LoopEnd = false
-isStop48 (Stop48 length) = true
-isStop48 (Text from size) = false
-isStop48 (Message seconds from size) = false
-isStop48 (Archive count from) = false
-isStop48 (Hardware count from) = false
-isStop48 (Custom id from size) = false
-isStop48 Glue = false
+use Rattle.blocks.specs.Deeds.{asks48}
+use Rattle.reader.specs.Source.{See, over, bad, refuses, thing, deedOf, stopLength, full, tzxSee}
 
 -- a 2A that is whole, with length 0
-unfoldable pub stopsAt : Taken → Bool
-stopsAt taken.End = false
-stopsAt (taken.Whole kind from next piece) = isStop48 piece && eqb (stopLength piece) 0
-stopsAt (taken.Unknown kind described) = false
-stopsAt (taken.Short kind p w) = false
-stopsAt (taken.Overflow kind p) = false
+unfoldable pub stopsAt : List ℕ → Taken → Bool
+stopsAt s taken.End = false
+stopsAt s (taken.Whole kind from next piece) = asks48 (deedOf s piece) && eqb (stopLength piece) 0
+stopsAt s (taken.Unknown kind described) = false
+stopsAt s (taken.Short kind p w) = false
+stopsAt s (taken.Overflow kind p) = false
 
 -- a reading that goes on goes on with what stands next: as `after` and `seeing` of Source do
 unfoldable pub goingOn : Out → (Tape → Bool) → Bool
@@ -59,7 +38,7 @@ module _ (lent : Lent) (s : List ℕ) where
   -- n things at the most, from a place on, as `foldFrom` takes them
   unfoldable pub reachedFrom : ℕ → ℕ → ℕ → Tape → Bool
   reachedFrom model zero at t = false
-  reachedFrom model (suc n) at t = stopsAt (cutAt s at full) || passing (tzxSee lent s model at) t (reachedFrom model n)
+  reachedFrom model (suc n) at t = stopsAt s (cutAt s at full) || passing (tzxSee lent s model at) t (reachedFrom model n)
 
   unfoldable pub reachedBehind : ℕ → Heading → Bool
   reachedBehind model (heading.Version major minor) = reachedFrom model (length s) 10 empty

@@ -12,12 +12,13 @@ use pieces::GeneralizedData;
 use rows::Tone;
 use stops::stop_block;
 ghost use mathlib.Core.Path.{_≡_};
-ghost use Prim.Native.Nat.{_+_, _*_, _≤_};
+ghost use Prim.Native.Nat.{ℕ, _+_, _*_, _≤_};
 ghost use lib.ListN.{length};
 ghost use Rattle.general.specs.General.{generalOf};
 ghost use Rattle.general.specs.Held.{Held};
 ghost use Rattle.blocks.specs.Blocks.{pulseAt};
-ghost use Rattle.blocks.specs.Adds.{addPairs, addGeneral};
+ghost use Rattle.blocks.specs.Sounds.{pairSounds, addSounds};
+ghost use Rattle.blocks.specs.Deeds.{generalDeed, does};
 ghost use Rattle.blocks.specs.Does.{Does, withUsed};
 
 // Pulse i of those at `from`; its callers know it to lie in the tape.
@@ -39,7 +40,7 @@ pub fn pulse_blocks(
     n: u64,
 ) -> Step
     requires { ⌜ from + n * 4 ≤ length (now tape) ⌝ }
-    ensures { λ x. ⌜ Does (λ lent. addPairs lent (now (tape .entry)) from 0 n) s0 x (now (blocks .entry)) (now (tones .entry)) (now (blocks .exit)) (now (tones .exit)) ⌝ }
+    ensures { λ x. ⌜ Does (λ lent. addSounds lent (pairSounds (now (tape .entry)) from 0 n)) s0 x (now (blocks .entry)) (now (tones .entry)) (now (blocks .exit)) (now (tones .exit)) ⌝ }
 {
     let mut s = s0;
     let mut i = 0;
@@ -84,7 +85,7 @@ pub fn generalized_data_block(
     g: GeneralizedData,
 ) -> Step
     requires { ⌜ Held (now tape) g ⌝ }
-    ensures { λ x. ⌜ Does (λ lent. addGeneral lent g (generalOf (now (tape .entry)) g)) s x (now (blocks .entry)) (now (tones .entry)) (now (blocks .exit)) (now (tones .exit)) ⌝ }
+    ensures { λ x. ⌜ ((model : ℕ) → Does (λ lent. does lent model (generalDeed g (generalOf (now (tape .entry)) g))) s x (now (blocks .entry)) (now (tones .entry)) (now (blocks .exit)) (now (tones .exit))) ⌝ }
 {
     match general(tape, g, tones, s.tones as usize) {
         Made::Refused => Step::No(4),

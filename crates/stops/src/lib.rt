@@ -4,15 +4,15 @@ use blocks::no_tone;
 use blocks::stop_row;
 use parser::State;
 use parser::Step;
-ghost use mathlib.Core.List.{List, []};
+ghost use mathlib.Core.List.{List, [], _∷_};
 ghost use Prim.Native.Nat.{ℕ};
-ghost use Rattle.blocks.specs.Blocks.{stopBlock, pauseOrStop};
-ghost use Rattle.blocks.specs.Adds.{add, stopOn48};
+ghost use Rattle.blocks.specs.Sounds.{stopSound, pauseSound, addSound};
+ghost use Rattle.blocks.specs.Deeds.{adds48, does};
 ghost use Rattle.blocks.specs.Does.{Does};
 
 // 20
 pub fn pause_block(s: State, blocks: &mut [u64], pause: u32) -> Step
-    ensures { λ x. ⌜ ((tt : List ℕ) → Does (λ lent. add lent [] (pauseOrStop pause)) s x (now (blocks .entry)) tt (now (blocks .exit)) tt) ⌝ }
+    ensures { λ x. ⌜ ((tt : List ℕ) → Does (λ lent. addSound lent (pauseSound pause)) s x (now (blocks .entry)) tt (now (blocks .exit)) tt) ⌝ }
 {
     if pause == 0 {
         return no_tone(s, blocks, stop_row(s.tones));
@@ -26,14 +26,14 @@ pub fn pause_block(s: State, blocks: &mut [u64], pause: u32) -> Step
 
 // A stop block.
 pub fn stop_block(s: State, blocks: &mut [u64]) -> Step
-    ensures { λ x. ⌜ ((tt : List ℕ) → Does (λ lent. add lent [] stopBlock) s x (now (blocks .entry)) tt (now (blocks .exit)) tt) ⌝ }
+    ensures { λ x. ⌜ ((tt : List ℕ) → Does (λ lent. addSound lent stopSound) s x (now (blocks .entry)) tt (now (blocks .exit)) tt) ⌝ }
 {
     no_tone(s, blocks, stop_row(s.tones))
 }
 
 // A stop block on the 48K, nothing on the others.
 pub fn stop_on_48(model: u32, s: State, blocks: &mut [u64]) -> Step
-    ensures { λ x. ⌜ ((tt : List ℕ) → Does (λ lent. stopOn48 lent model) s x (now (blocks .entry)) tt (now (blocks .exit)) tt) ⌝ }
+    ensures { λ x. ⌜ ((tt : List ℕ) → Does (λ lent. does lent model (adds48 (stopSound ∷ []))) s x (now (blocks .entry)) tt (now (blocks .exit)) tt) ⌝ }
 {
     if model == 0 {
         return stop_block(s, blocks);

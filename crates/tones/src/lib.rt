@@ -6,14 +6,13 @@ use parser::State;
 use parser::Step;
 use pieces::TurboData;
 use rows::Tone;
-ghost use lib.ListN.{length};
-ghost use Rattle.blocks.specs.Blocks.{turboTones, turboBlock, pureTones, pureBlock, pureToneTones, soundOnly};
-ghost use Rattle.blocks.specs.Adds.{add};
+ghost use Rattle.blocks.specs.Blocks.{ms, pureToneTones};
+ghost use Rattle.blocks.specs.Sounds.{bitsAt, turboSound, pureSound, toneSound, addSound};
 ghost use Rattle.blocks.specs.Does.{Does};
 
 // 11
 pub fn turbo_data_block(s: State, blocks: &mut [u64], tones: &mut [u64], d: TurboData) -> Step
-    ensures { λ x. ⌜ Does (λ lent. add lent (turboTones d) (turboBlock d)) s x (now (blocks .entry)) (now (tones .entry)) (now (blocks .exit)) (now (tones .exit)) ⌝ }
+    ensures { λ x. ⌜ Does (λ lent. addSound lent (turboSound d)) s x (now (blocks .entry)) (now (tones .entry)) (now (blocks .exit)) (now (tones .exit)) ⌝ }
 {
     let pilot = Tone {
         num: (d.pilots as u64 + 1) / 2,
@@ -51,7 +50,7 @@ pub fn pure_data_block(
     start: u64,
     size: u32,
 ) -> Step
-    ensures { λ x. ⌜ Does (λ lent. add lent pureTones (pureBlock zero one last pause start size)) s x (now (blocks .entry)) (now (tones .entry)) (now (blocks .exit)) (now (tones .exit)) ⌝ }
+    ensures { λ x. ⌜ Does (λ lent. addSound lent (pureSound (bitsAt start size zero one last) (ms pause))) s x (now (blocks .entry)) (now (tones .entry)) (now (blocks .exit)) (now (tones .exit)) ⌝ }
 {
     let pilot = Tone {
         num: 0,
@@ -85,7 +84,7 @@ pub fn pure_tone_block(
     half: u32,
     count: u32,
 ) -> Step
-    ensures { λ x. ⌜ Does (λ lent. add lent (pureToneTones half count) (soundOnly (length (pureToneTones half count)))) s x (now (blocks .entry)) (now (tones .entry)) (now (blocks .exit)) (now (tones .exit)) ⌝ }
+    ensures { λ x. ⌜ Does (λ lent. addSound lent (toneSound (pureToneTones half count))) s x (now (blocks .entry)) (now (tones .entry)) (now (blocks .exit)) (now (tones .exit)) ⌝ }
 {
     let whole = Tone {
         num: (count / 2) as u64,

@@ -1,6 +1,7 @@
 -- `standard_data_block` meets its contract. Assumes nothing.
-use Rattle.blocks.proofs.Laws.{does-add}
-use Rattle.blocks.specs.Blocks.{standardTones, standardBlock}
+use Rattle.blocks.proofs.Laws.{does-sound}
+use Rattle.blocks.specs.Blocks.{born, standardTones}
+use Rattle.blocks.specs.Sounds.{rowOf, standardSound}
 use borrow.Author.Needs.{needs}
 use Rattle.blocks.proofs.standard_data_block.Statement.{statement}
 use Rattle.blocks.proofs.standard_data_block.Tie as tie
@@ -21,9 +22,9 @@ same-length-2 : tie.Need-same-length-2
 same-length-2 c = search needs
 
 returns : tie.Need-returns
-unfolding standardTones standardBlock
+unfolding born rowOf standardTones standardSound
 returns c =
-    does-add (standardTones (c .before .before .before .before .before .before .before .before .before .before .before .args .header)) (standardBlock (c .before .before .before .before .before .before .before .before .before .before .before .args .start) (c .before .before .before .before .before .before .before .before .before .before .before .args .size) (c .before .before .before .before .before .before .before .before .before .before .before .args .pause)) (c .before .before .before .before .before .before .before .born .ensures) (rw (← c .before .before .before .before .before .before .before .before .standard-cycles .ensures) (c .before .before .before .before .two-tones .ensures))
+    does-sound (standardSound (c .before .before .before .before .before .before .before .before .before .before .before .args .header) (c .before .before .before .before .before .before .before .before .before .before .before .args .start) (c .before .before .before .before .before .before .before .before .before .before .before .args .size) (c .before .before .before .before .before .before .before .before .before .before .before .args .pause)) (c .before .before .before .before .before .before .before .born .ensures) (rw (← c .before .before .before .before .before .before .before .before .standard-cycles .ensures) (c .before .before .before .before .two-tones .ensures))
 
 pub standard-data-block-spec : {M : Type 1} → statement M
 standard-data-block-spec =

@@ -1,11 +1,11 @@
 -- `stop_row` meets its contract. Assumes nothing.
-use Rattle.blocks.specs.Blocks.{stopBlock}
+use Rattle.blocks.specs.Sounds.{rowOf}
 use mathlib.Core.Path.{refl}
 use Rattle.blocks.proofs.stop_row.Statement.{statement}
 use Rattle.blocks.proofs.stop_row.Tie as tie
 
 returns : tie.Need-returns
-unfolding stopBlock
+unfolding rowOf
 returns c =
     refl
 

@@ -1,5 +1,8 @@
 -- `act` meets its contract. Assumes nothing.
-use Rattle.reader.specs.Source.{act}
+use Rattle.reader.specs.Source.{act, deedOf}
+use Rattle.blocks.specs.Deeds.{does}
+use Rattle.blocks.specs.Sounds.{addSounds}
+use Rattle.blocks.proofs.Laws.{does-one}
 use Rattle.parser.specs.Holds.{goes}
 use native.Mathlib.Omega.{arith}
 use borrow.Author.Needs.{needs}
@@ -126,9 +129,9 @@ same-length-2 : tie.Need-same-length-2
 same-length-2 c = search needs
 
 returns : tie.Need-returns
-unfolding act
+unfolding act deedOf
 returns c =
-    λ B N t h. rw (c .before .before .before .before .before .before .before .before .before .piece .given .1, ← c .before .before .before .before .before .before .before .is-header .ensures) (c .before .before .before .before .standard-data-block .ensures B N t h)
+    λ B N t h. rw (c .before .before .before .before .before .before .before .before .before .piece .given .1, ← c .before .before .before .before .before .before .before .is-header .ensures) (does-one _ _ (c .before .before .before .before .standard-data-block .ensures) B N t h)
 
 same-length-3 : tie.Need-same-length-3
 same-length-3 c = search needs
@@ -137,9 +140,9 @@ same-length-4 : tie.Need-same-length-4
 same-length-4 c = search needs
 
 returns-2 : tie.Need-returns-2
-unfolding act
+unfolding act deedOf
 returns-2 c =
-    λ B N t h. rw (c .before .before .before .before .before .before .before .before .piece2 .given .1) (c .before .before .before .before .turbo-data-block .ensures B N t h)
+    λ B N t h. rw (c .before .before .before .before .before .before .before .before .piece2 .given .1) (does-one _ _ (c .before .before .before .before .turbo-data-block .ensures) B N t h)
 
 same-length-5 : tie.Need-same-length-5
 same-length-5 c = search needs
@@ -148,9 +151,9 @@ same-length-6 : tie.Need-same-length-6
 same-length-6 c = search needs
 
 returns-3 : tie.Need-returns-3
-unfolding act
+unfolding act deedOf
 returns-3 c =
-    λ B N t h. rw (c .before .before .before .before .before .before .before .before .piece3 .given .1) (c .before .before .before .before .pure-tone-block .ensures B N t h)
+    λ B N t h. rw (c .before .before .before .before .before .before .before .before .piece3 .given .1) (does-one _ _ (c .before .before .before .before .pure-tone-block .ensures) B N t h)
 
 same-length-7 : tie.Need-same-length-7
 same-length-7 c = search needs
@@ -159,7 +162,7 @@ same-length-8 : tie.Need-same-length-8
 same-length-8 c = search needs
 
 returns-4 : tie.Need-returns-4
-unfolding act
+unfolding act deedOf does
 returns-4 c =
     λ B N t h. rw (c .before .before .before .before .before .before .before .before .piece4 .given .1) (c .before .before .before .before .pulse-blocks .ensures B N t h)
 
@@ -170,9 +173,9 @@ same-length-10 : tie.Need-same-length-10
 same-length-10 c = search needs
 
 returns-5 : tie.Need-returns-5
-unfolding act
+unfolding act deedOf
 returns-5 c =
-    λ B N t h. rw (c .before .before .before .before .before .before .before .before .piece5 .given .1) (c .before .before .before .before .pure-data-block .ensures B N t h)
+    λ B N t h. rw (c .before .before .before .before .before .before .before .before .piece5 .given .1) (does-one _ _ (c .before .before .before .before .pure-data-block .ensures) B N t h)
 
 same-length-11 : tie.Need-same-length-11
 same-length-11 c = search needs
@@ -181,20 +184,20 @@ same-length-12 : tie.Need-same-length-12
 same-length-12 c = search needs
 
 returns-6 : tie.Need-returns-6
-unfolding act
+unfolding act deedOf
 returns-6 c =
-    λ B N t h. rw (c .before .before .before .before .before .before .before .before .piece6 .given .1) (c .before .before .before .before .generalized-data-block .ensures B N t h)
+    λ B N t h. rw (c .before .before .before .before .before .before .before .before .piece6 .given .1) (c .before .before .before .before .generalized-data-block .ensures _ B N t h)
 
 same-length-13 : tie.Need-same-length-13
 same-length-13 c = search needs
 
 returns-7 : tie.Need-returns-7
-unfolding act
+unfolding act deedOf
 returns-7 c =
-    λ B N t h. rw (c .before .before .before .before .before .piece7 .given .1) (c .before .before .pause-block .ensures _ B N t h)
+    λ B N t h. rw (c .before .before .before .before .before .piece7 .given .1) (does-one _ _ (c .before .before .pause-block .ensures _) B N t h)
 
 returns-8 : tie.Need-returns-8
-unfolding act
+unfolding act deedOf does
 returns-8 c =
     λ B N t h. rw (c .before .before .piece8 .given .1) (c .group-start .ensures B N _ _ t h)
 
@@ -202,12 +205,12 @@ same-length-14 : tie.Need-same-length-14
 same-length-14 c = search needs
 
 returns-9 : tie.Need-returns-9
-unfolding act
+unfolding act deedOf does
 returns-9 c =
     λ B N t h. rw (c .before .before .before .before .enum-told .given .1) (c .before .before .group-end .ensures B N _ t h)
 
 returns-10 : tie.Need-returns-10
-unfolding act
+unfolding act deedOf does
 returns-10 c =
     λ B N t h. rw (c .before .before .piece9 .given .1) (c .loop-start .ensures B N _ _ t h)
 
@@ -215,7 +218,7 @@ same-length-15 : tie.Need-same-length-15
 same-length-15 c = search needs
 
 returns-11 : tie.Need-returns-11
-unfolding act
+unfolding act deedOf does
 returns-11 c =
     λ B N t h. rw (c .before .before .before .before .enum-told2 .given .1) (c .before .before .loop-end .ensures B N _ t h)
 
@@ -223,37 +226,37 @@ same-length-16 : tie.Need-same-length-16
 same-length-16 c = search needs
 
 returns-12 : tie.Need-returns-12
-unfolding act
+unfolding act deedOf
 returns-12 c =
     λ B N t h. rw (c .before .before .before .before .enum-told3 .given .1) (c .before .before .stop-on-48 .ensures _ B N t h)
 
 returns-13 : tie.Need-returns-13
-unfolding act
+unfolding act deedOf does
 returns-13 c =
     λ B N t h. rw (c .before .before .piece10 .given .1) (c .text-description .ensures B N _ _ t h)
 
 returns-14 : tie.Need-returns-14
-unfolding act
+unfolding act deedOf does addSounds
 returns-14 c =
     λ B N t h. rw (c .enum-told4 .given .1) (goes h)
 
 returns-15 : tie.Need-returns-15
-unfolding act
+unfolding act deedOf does addSounds
 returns-15 c =
     λ B N t h. rw (c .enum-told5 .given .1) (goes h)
 
 returns-16 : tie.Need-returns-16
-unfolding act
+unfolding act deedOf does addSounds
 returns-16 c =
     λ B N t h. rw (c .enum-told6 .given .1) (goes h)
 
 returns-17 : tie.Need-returns-17
-unfolding act
+unfolding act deedOf does addSounds
 returns-17 c =
     λ B N t h. rw (c .enum-told7 .given .1) (goes h)
 
 returns-18 : tie.Need-returns-18
-unfolding act
+unfolding act deedOf does addSounds
 returns-18 c =
     λ B N t h. rw (c .enum-told8 .given .1) (goes h)
 

@@ -78,14 +78,14 @@ same-length c = search needs
 
 returns : tie.Need-returns
 returns c =
-    λ B N t h. general-no4 h _ (c .before .before .before .before .general .ensures) (c .enum-told .given .1)
+    λ model B N t h. general-no4 h _ model (c .before .before .before .before .general .ensures) (c .enum-told .given .1)
 
 same-length-2 : tie.Need-same-length-2
 same-length-2 c = search needs
 
 returns-2 : tie.Need-returns-2
 returns-2 c =
-    λ B N t h. general-no5 h _ (c .before .before .before .before .general .ensures) (c .enum-told2 .given .1)
+    λ model B N t h. general-no5 h _ model (c .before .before .before .before .general .ensures) (c .enum-told2 .given .1)
 
 same-length-3 : tie.Need-same-length-3
 same-length-3 c = search needs
@@ -95,7 +95,7 @@ same-length-4 c = search needs
 
 returns-3 : tie.Need-returns-3
 returns-3 c =
-    λ B N t h. general-stop h _ (c .before .before .before .before .before .before .before .before .general .ensures) (c .before .before .before .before .enum-told3 .given .1) (c .before .before .stop-block .ensures _ B N t h)
+    λ model B N t h. general-stop h _ model (c .before .before .before .before .before .before .before .before .general .ensures) (c .before .before .before .before .enum-told3 .given .1) (c .before .before .stop-block .ensures _ B N t h)
 
 same-length-5 : tie.Need-same-length-5
 same-length-5 c = search needs
@@ -105,7 +105,7 @@ same-length-6 c = search needs
 
 returns-4 : tie.Need-returns-4
 returns-4 c =
-    λ B N t h. general-data h _ (c .before .before .before .before .before .before .before .before .before .before .before .before .before .general .ensures) (c .before .before .before .before .before .before .before .before .before .rows .given .1) (c .before .before .before .before .before .before .before .before .before .before .before .before .before .general .kept .1 .1 .0) (c .before .before .before .before .with-used .ensures) (c .before .before .before .before .before .before .born .ensures) (c .before .before .add-block .ensures B N _)
+    λ model B N t h. general-data h _ model (c .before .before .before .before .before .before .before .before .before .before .before .before .before .general .ensures) (c .before .before .before .before .before .before .before .before .before .rows .given .1) (c .before .before .before .before .before .before .before .before .before .before .before .before .before .general .kept .1 .1 .0) (c .before .before .before .before .with-used .ensures) (c .before .before .before .before .before .before .born .ensures) (c .before .before .add-block .ensures B N _)
 
 same-length-7 : tie.Need-same-length-7
 same-length-7 c = search needs
@@ -115,7 +115,7 @@ same-length-8 c = search needs
 
 returns-5 : tie.Need-returns-5
 returns-5 c =
-    λ B N t h. general-tones h _ (c .before .before .before .before .before .before .before .before .before .before .before .before .before .general .ensures) (c .before .before .before .before .before .before .before .before .before .rows2 .given .1) (c .before .before .before .before .before .before .before .before .before .before .before .before .before .general .kept .1 .1 .0) (c .before .before .before .before .with-used2 .ensures) (c .before .before .before .before .before .before .born2 .ensures) (c .before .before .add-block2 .ensures B N _)
+    λ model B N t h. general-tones h _ model (c .before .before .before .before .before .before .before .before .before .before .before .before .before .general .ensures) (c .before .before .before .before .before .before .before .before .before .rows2 .given .1) (c .before .before .before .before .before .before .before .before .before .before .before .before .before .general .kept .1 .1 .0) (c .before .before .before .before .with-used2 .ensures) (c .before .before .before .before .before .before .born2 .ensures) (c .before .before .add-block2 .ensures B N _)
 
 pub generalized-data-block-spec : {M : Type 1} → statement M
 generalized-data-block-spec =

@@ -1,24 +1,23 @@
 -- `pulse_blocks` meets its contract. Assumes nothing.
 use Prim.Native.Nat.{ℕ, _+_, _*_, _-_}
 use mathlib.Core.Path.{_≡_, refl}
-use mathlib.Core.List.{[], _∷_}
 use native.Mathlib.Omega.{arith}
 use lib.ListN.{length}
 use borrow.Author.Needs.{needs}
 use Rattle.parser.specs.Parser.{Tape}
 use Rattle.parser.specs.Holds.{Holds}
 use Rattle.parser.proofs.Laws.{Going, going-starts, going-on, going-no, going-ends}
-use Rattle.blocks.specs.Blocks.{toneOf, soundOnly, pulseAt}
-use Rattle.blocks.specs.Adds.{add, addPairs}
+use Rattle.blocks.specs.Blocks.{born}
+use Rattle.blocks.specs.Sounds.{rowOf, pairSound, pairSounds, addSound, addSounds}
 use Rattle.blocks.specs.Does.{lentOf}
-use Rattle.blocks.proofs.Laws.{Any, does-add, pairs-more}
+use Rattle.blocks.proofs.Laws.{Any, does-sound, pairs-more}
 use Rattle.signals.proofs.pulse_blocks.Statement.{statement}
 use Rattle.signals.proofs.pulse_blocks.Tie as tie
 
 abbrev Inv-loop : tie.InvT-loop
 Inv-loop tape blocks₀ tones₀ from n s₀ i₀ left₀ blocks tones s i left =
     (length blocks ≡ length blocks₀) × (length tones ≡ length tones₀) × (i + left * 2 ≡ n * 2)
-    × ((B N : ℕ) (t : Tape) → Holds B N s₀ blocks₀ tones₀ t → Going Any B N s blocks tones (addPairs (lentOf B N) tape from i left) (addPairs (lentOf B N) tape from 0 n t))
+    × ((B N : ℕ) (t : Tape) → Holds B N s₀ blocks₀ tones₀ t → Going Any B N s blocks tones (addSounds (lentOf B N) (pairSounds tape from i left)) (addSounds (lentOf B N) (pairSounds tape from 0 n) t))
 
 abbrev μ-loop : tie.MeasureT-loop
 μ-loop tape blocks₀ tones₀ from n s₀ i₀ left₀ blocks tones s i left = left
@@ -55,14 +54,15 @@ same-length-2 : tie.Need-same-length-2 Inv-loop μ-loop
 same-length-2 c = search needs
 
 returns : tie.Need-returns Inv-loop μ-loop
+unfolding born rowOf
 returns c =
     λ B N t h.
     let l = c .before .before .before .before .before .before .before .before .before .before .before .before .before .before .loop in
     let a = c .before .before .before .before .before .before .before .before .before .before .before .before .before .before .before .before .before .before .args in
     let g = l .inv .3 B N t h in
-    let f = add (lentOf B N) (toneOf 1 (pulseAt (a .tape .now) (a .from) (l .i)) (pulseAt (a .tape .now) (a .from) (l .i + 1)) ∷ []) (soundOnly 1) in
-    let gave = does-add (toneOf 1 (pulseAt (a .tape .now) (a .from) (l .i)) (pulseAt (a .tape .now) (a .from) (l .i + 1)) ∷ []) (soundOnly 1) (c .before .before .before .before .before .before .before .before .before .before .born .ensures) (rw (c .before .before .before .before .before .before .before .before .before .before .before .before .pulse-at .ensures, c .before .before .before .before .before .before .before .before .before .before .before .pulse-at2 .ensures) at (c .before .before .before .before .before .before .before .one-tone .ensures)) B N (g .at) (g .holds) in
-    going-no g f (addPairs (lentOf B N) (a .tape .now) (a .from) (l .i + 2) (l .left - 1)) (pairs-more (lentOf B N) (a .tape .now) (a .from) (l .i) (l .left) (g .at) (c .before .before .before .before .before .before .before .before .before .before .before .before .before .loop-test .taken)) gave (c .before .k .given .1)
+    let f = addSound (lentOf B N) (pairSound (a .tape .now) (a .from) (l .i)) in
+    let gave = does-sound (pairSound (a .tape .now) (a .from) (l .i)) (c .before .before .before .before .before .before .before .before .before .before .born .ensures) (rw (c .before .before .before .before .before .before .before .before .before .before .before .before .pulse-at .ensures, c .before .before .before .before .before .before .before .before .before .before .before .pulse-at2 .ensures) at (c .before .before .before .before .before .before .before .one-tone .ensures)) B N (g .at) (g .holds) in
+    going-no g f (addSounds (lentOf B N) (pairSounds (a .tape .now) (a .from) (l .i + 2) (l .left - 1))) (pairs-more (lentOf B N) (a .tape .now) (a .from) (l .i) (l .left) (g .at) (c .before .before .before .before .before .before .before .before .before .before .before .before .before .loop-test .taken)) gave (c .before .k .given .1)
 
 add-i : tie.Need-add-i Inv-loop μ-loop
 add-i c =
@@ -75,6 +75,7 @@ loop-less : tie.Need-loop-less Inv-loop μ-loop
 loop-less c = search needs
 
 loop-again : tie.Need-loop-again Inv-loop μ-loop
+unfolding born rowOf
 loop-again c =
     let l = c .before .before .before .before .before .before .before .before .before .before .before .before .before .before .loop in
     let a = c .before .before .before .before .before .before .before .before .before .before .before .before .before .before .before .before .before .before .args in (
@@ -83,9 +84,9 @@ loop-again c =
       omega arith,
       λ B N t h.
           let g = l .inv .3 B N t h in
-          let f = add (lentOf B N) (toneOf 1 (pulseAt (a .tape .now) (a .from) (l .i)) (pulseAt (a .tape .now) (a .from) (l .i + 1)) ∷ []) (soundOnly 1) in
-          let gave = does-add (toneOf 1 (pulseAt (a .tape .now) (a .from) (l .i)) (pulseAt (a .tape .now) (a .from) (l .i + 1)) ∷ []) (soundOnly 1) (c .before .before .before .before .before .before .before .before .before .before .born .ensures) (rw (c .before .before .before .before .before .before .before .before .before .before .before .before .pulse-at .ensures, c .before .before .before .before .before .before .before .before .before .before .before .pulse-at2 .ensures) at (c .before .before .before .before .before .before .before .one-tone .ensures)) B N (g .at) (g .holds) in
-          going-on g f (addPairs (lentOf B N) (a .tape .now) (a .from) (l .i + 2) (l .left - 1)) (pairs-more (lentOf B N) (a .tape .now) (a .from) (l .i) (l .left) (g .at) (c .before .before .before .before .before .before .before .before .before .before .before .before .before .loop-test .taken)) gave (c .before .next .given .1) (λ u q. tt),
+          let f = addSound (lentOf B N) (pairSound (a .tape .now) (a .from) (l .i)) in
+          let gave = does-sound (pairSound (a .tape .now) (a .from) (l .i)) (c .before .before .before .before .before .before .before .before .before .before .born .ensures) (rw (c .before .before .before .before .before .before .before .before .before .before .before .before .pulse-at .ensures, c .before .before .before .before .before .before .before .before .before .before .before .pulse-at2 .ensures) at (c .before .before .before .before .before .before .before .one-tone .ensures)) B N (g .at) (g .holds) in
+          going-on g f (addSounds (lentOf B N) (pairSounds (a .tape .now) (a .from) (l .i + 2) (l .left - 1))) (pairs-more (lentOf B N) (a .tape .now) (a .from) (l .i) (l .left) (g .at) (c .before .before .before .before .before .before .before .before .before .before .before .before .before .loop-test .taken)) gave (c .before .next .given .1) (λ u q. tt),
     )
 
 same-length-3 : tie.Need-same-length-3 Inv-loop μ-loop
@@ -95,7 +96,7 @@ same-length-4 : tie.Need-same-length-4 Inv-loop μ-loop
 same-length-4 c = search needs
 
 returns-2 : tie.Need-returns-2 Inv-loop μ-loop
-unfolding addPairs
+unfolding addSounds pairSounds
 returns-2 c =
     λ B N t h.
     let z : c .before .loop .left ≡ 0 = omega arith in

@@ -1,7 +1,6 @@
 -- `stop_block` meets its contract. Assumes nothing.
-use Rattle.blocks.proofs.Laws.{does-add}
-use Rattle.blocks.specs.Blocks.{stopBlock}
-use mathlib.Core.List.{[]}
+use Rattle.blocks.proofs.Laws.{does-sound}
+use Rattle.blocks.specs.Sounds.{stopSound}
 use borrow.Author.Needs.{needs}
 use Rattle.stops.proofs.stop_block.Statement.{statement}
 use Rattle.stops.proofs.stop_block.Tie as tie
@@ -17,7 +16,7 @@ same-length c = search needs
 
 returns : tie.Need-returns
 returns c =
-    λ tt. does-add [] stopBlock (c .before .before .before .stop-row .ensures) (c .before .before .no-tone .ensures tt)
+    λ tt. does-sound stopSound (c .before .before .before .stop-row .ensures) (c .before .before .no-tone .ensures tt)
 
 pub stop-block-spec : {M : Type 1} → statement M
 stop-block-spec = tie.close (tie.spec stop-row-requires no-tone-requires same-length returns)

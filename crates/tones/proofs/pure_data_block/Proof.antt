@@ -1,6 +1,7 @@
 -- `pure_data_block` meets its contract. Assumes nothing.
-use Rattle.blocks.proofs.Laws.{does-add}
-use Rattle.blocks.specs.Blocks.{pureTones, pureBlock}
+use Rattle.blocks.proofs.Laws.{does-sound}
+use Rattle.blocks.specs.Blocks.{ms, born, pureTones}
+use Rattle.blocks.specs.Sounds.{bitsAt, rowOf, pureSound}
 use borrow.Author.Needs.{needs}
 use Rattle.tones.proofs.pure_data_block.Statement.{statement}
 use Rattle.tones.proofs.pure_data_block.Tie as tie
@@ -21,9 +22,10 @@ same-length-2 : tie.Need-same-length-2
 same-length-2 c = search needs
 
 returns : tie.Need-returns
-unfolding pureTones pureBlock
+unfolding born rowOf pureTones pureSound
 returns c =
-    does-add pureTones (pureBlock (c .before .before .before .before .before .before .before .before .before .before .args .zero) (c .before .before .before .before .before .before .before .before .before .before .args .one) (c .before .before .before .before .before .before .before .before .before .before .args .last) (c .before .before .before .before .before .before .before .before .before .before .args .pause) (c .before .before .before .before .before .before .before .before .before .before .args .start) (c .before .before .before .before .before .before .before .before .before .before .args .size)) (c .before .before .before .before .before .before .before .born .ensures) (c .before .before .before .before .two-tones .ensures)
+    let a = c .before .before .before .before .before .before .before .before .before .before .args in
+    does-sound (pureSound (bitsAt (a .start) (a .size) (a .zero) (a .one) (a .last)) (ms (a .pause))) (c .before .before .before .before .before .before .before .born .ensures) (c .before .before .before .before .two-tones .ensures)
 
 pub pure-data-block-spec : {M : Type 1} → statement M
 pure-data-block-spec =

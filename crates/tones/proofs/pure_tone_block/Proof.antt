@@ -1,7 +1,8 @@
 -- `pure_tone_block` meets its contract. Assumes nothing.
-use Rattle.blocks.proofs.Laws.{does-add}
+use Rattle.blocks.proofs.Laws.{does-sound}
 use borrow.Author.Tests.{eq-eqb, ne-eqb}
-use Rattle.blocks.specs.Blocks.{pureToneTones, soundOnly}
+use Rattle.blocks.specs.Blocks.{born, pureToneTones}
+use Rattle.blocks.specs.Sounds.{rowOf, toneSound}
 use borrow.Author.Needs.{needs}
 use Rattle.tones.proofs.pure_tone_block.Statement.{statement}
 use Rattle.tones.proofs.pure_tone_block.Tie as tie
@@ -22,9 +23,9 @@ same-length-2 : tie.Need-same-length-2
 same-length-2 c = search needs
 
 returns : tie.Need-returns
-unfolding pureToneTones
+unfolding born rowOf pureToneTones
 returns c =
-    rw (eq-eqb _ _ (c .before .before .before .before .before .before .before .before .if1 .taken)) (does-add _ (soundOnly 1) (c .before .before .before .before .before .before .before .born .ensures) (c .before .before .before .before .one-tone .ensures))
+    rw (eq-eqb _ _ (c .before .before .before .before .before .before .before .before .if1 .taken)) (does-sound (toneSound _) (c .before .before .before .before .before .before .before .born .ensures) (c .before .before .before .before .one-tone .ensures))
 
 born-requires-2 : tie.Need-born-requires-2
 born-requires-2 c κs = search needs
@@ -39,9 +40,9 @@ same-length-4 : tie.Need-same-length-4
 same-length-4 c = search needs
 
 returns-2 : tie.Need-returns-2
-unfolding pureToneTones
+unfolding born rowOf pureToneTones
 returns-2 c =
-    rw (ne-eqb _ _ (c .before .before .before .before .before .before .before .before .if1 .left)) (does-add _ (soundOnly 2) (c .before .before .before .before .before .before .before .born2 .ensures) (c .before .before .before .before .two-tones .ensures))
+    rw (ne-eqb _ _ (c .before .before .before .before .before .before .before .before .if1 .left)) (does-sound (toneSound _) (c .before .before .before .before .before .before .before .born2 .ensures) (c .before .before .before .before .two-tones .ensures))
 
 pub pure-tone-block-spec : {M : Type 1} → statement M
 pure-tone-block-spec =

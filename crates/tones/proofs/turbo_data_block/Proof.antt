@@ -1,7 +1,8 @@
 -- `turbo_data_block` meets its contract. Assumes nothing.
 use native.Mathlib.Omega.{arith}
-use Rattle.blocks.proofs.Laws.{does-add}
-use Rattle.blocks.specs.Blocks.{turboTones, turboBlock}
+use Rattle.blocks.proofs.Laws.{does-sound}
+use Rattle.blocks.specs.Blocks.{born, turboTones}
+use Rattle.blocks.specs.Sounds.{rowOf, turboSound}
 use borrow.Author.Needs.{needs}
 use Rattle.tones.proofs.turbo_data_block.Statement.{statement}
 use Rattle.tones.proofs.turbo_data_block.Tie as tie
@@ -55,9 +56,9 @@ same-length-2 : tie.Need-same-length-2
 same-length-2 c = search needs
 
 returns : tie.Need-returns
-unfolding turboTones turboBlock
+unfolding born rowOf turboTones turboSound
 returns c =
-    does-add (turboTones (c .before .before .before .before .before .before .before .before .before .before .before .before .before .before .before .before .before .before .before .before .args .d)) (turboBlock (c .before .before .before .before .before .before .before .before .before .before .before .before .before .before .before .before .before .before .before .before .args .d)) (c .before .before .before .before .before .before .before .born .ensures) (c .before .before .before .before .two-tones .ensures)
+    does-sound (turboSound (c .before .before .before .before .before .before .before .before .before .before .before .before .before .before .before .before .before .before .before .before .args .d)) (c .before .before .before .before .before .before .before .born .ensures) (c .before .before .before .before .two-tones .ensures)
 
 pub turbo-data-block-spec : {M : Type 1} → statement M
 turbo-data-block-spec =

@@ -1,4 +1,4 @@
-// The blocks that the Rust makes of pieces: what adding one does, and the standard block. The reading and the crates of the other blocks alone call it.
+// A block's row at its birth, and what adding one does: of any reading. The source reading's standard block. The reading and the crates of the other blocks alone call it.
 use parser::State;
 use parser::Step;
 use parser::add_block;
@@ -8,61 +8,101 @@ use rows::Tone;
 ghost use mathlib.Core.Path.{_≡_};
 ghost use mathlib.Core.List.{List, [], _∷_};
 ghost use Prim.Native.Nat.{ℕ};
-ghost use Rattle.blocks.specs.Blocks.{born, isHeader, standardCycles, standardPause};
 ghost use Rattle.blocks.specs.Adds.{addRows};
-ghost use Rattle.blocks.specs.Sounds.{rowOf, stopSound, standardSound, addSound};
+ghost use Rattle.blocks.specs.Sounds.{noBits, lasts, stops, rowFor, addSound};
+ghost use Rattle.blocks.specs.Blocks.{isHeader, standardCycles, standardPause, standardSound};
 ghost use Rattle.blocks.specs.Does.{Does};
 
-// A block as it is born: nameless, with a finite pause.
-pub fn born(
-    selectable: u64,
-    tone: u64,
-    tones: u64,
-    start: u64,
-    size: u64,
-    zero: u64,
-    one: u64,
-    last: u64,
-    pause: u64,
-) -> Block
-    ensures { λ r. ⌜ r ≡ born selectable tone tones start size zero one last pause ⌝ }
+// Where a block comes from: its piece's kind, and where that piece stands in the tape. What a row takes from outside its sound is a field here; no word has any of it yet.
+pub struct Origin {
+    pub kind: u8,
+    pub place: u64,
+}
+
+// Bits of data: where they stand in the tape, and how they sound.
+pub struct Bits {
+    pub start: u64,
+    pub size: u64,
+    pub zero: u64,
+    pub one: u64,
+    pub last: u64,
+}
+
+// What follows the sound: a pause, or the tape stops; and the case of name that this gives.
+pub struct Ending {
+    pub pause: u64,
+    pub endless: u64,
+    pub named: u64,
+}
+
+// A block's row at birth, over so many tone rows from `tone` on: the one place where a row's words are written.
+fn row(origin: Origin, tone: u64, tones: u64, bits: Bits, ending: Ending, selectable: u64) -> Block
+    ensures { λ r. ⌜ r ≡ rowFor origin tone tones bits ending selectable ⌝ }
 {
     Block {
         tone,
         tones,
-        start,
-        size,
-        zero,
-        one,
-        last,
-        pause,
-        endless: 0,
+        start: bits.start,
+        size: bits.size,
+        zero: bits.zero,
+        one: bits.one,
+        last: bits.last,
+        pause: ending.pause,
+        endless: ending.endless,
         selectable,
-        named: 0,
+        named: ending.named,
         text: 0,
         chars: 0,
     }
 }
 
-// A stop block, named `stop`.
-pub fn stop_row(tone: u64) -> Block
-    ensures { λ r. ⌜ r ≡ rowOf stopSound tone ⌝ }
+// No data.
+pub fn no_bits() -> Bits
+    ensures { λ b. ⌜ b ≡ noBits ⌝ }
 {
-    Block {
-        tone,
-        tones: 0,
+    Bits {
         start: 0,
         size: 0,
         zero: 0,
         one: 0,
         last: 0,
+    }
+}
+
+// A block with data, or of a 19: selectable.
+pub fn data_row(origin: Origin, tone: u64, tones: u64, bits: Bits, pause: u64) -> Block
+    ensures { λ r. ⌜ r ≡ rowFor origin tone tones bits (lasts pause) 1 ⌝ }
+{
+    let ending = Ending {
+        pause,
+        endless: 0,
+        named: 0,
+    };
+    row(origin, tone, tones, bits, ending, 1)
+}
+
+// A block of tones or of a pause alone: not selectable.
+pub fn bare_row(origin: Origin, tone: u64, tones: u64, pause: u64) -> Block
+    ensures { λ r. ⌜ r ≡ rowFor origin tone tones noBits (lasts pause) 0 ⌝ }
+{
+    let ending = Ending {
+        pause,
+        endless: 0,
+        named: 0,
+    };
+    row(origin, tone, tones, no_bits(), ending, 0)
+}
+
+// A stop block, named `stop`.
+pub fn stop_row(origin: Origin, tone: u64) -> Block
+    ensures { λ r. ⌜ r ≡ rowFor origin tone 0 noBits stops 1 ⌝ }
+{
+    let ending = Ending {
         pause: 0,
         endless: 1,
-        selectable: 1,
         named: 1,
-        text: 0,
-        chars: 0,
-    }
+    };
+    row(origin, tone, 0, no_bits(), ending, 1)
 }
 
 // One tone row and a block.
@@ -118,12 +158,13 @@ pub fn standard_data_block(
     s: State,
     blocks: &mut [u64],
     tones: &mut [u64],
+    origin: Origin,
     header: bool,
     start: u64,
     size: u32,
     pause: u64,
 ) -> Step
-    ensures { λ x. ⌜ Does (λ lent. addSound lent (standardSound header start size pause)) s x (now (blocks .entry)) (now (tones .entry)) (now (blocks .exit)) (now (tones .exit)) ⌝ }
+    ensures { λ x. ⌜ Does (λ lent. addSound lent origin (standardSound header start size pause)) s x (now (blocks .entry)) (now (tones .entry)) (now (blocks .exit)) (now (tones .exit)) ⌝ }
 {
     let pilot = Tone {
         num: standard_cycles(header),
@@ -135,7 +176,14 @@ pub fn standard_data_block(
         len1: 667,
         len2: 735,
     };
-    let r = born(1, s.tones, 2, start, size as u64, 855, 1710, 8, pause);
+    let bits = Bits {
+        start,
+        size: size as u64,
+        zero: 855,
+        one: 1710,
+        last: 8,
+    };
+    let r = data_row(origin, s.tones, 2, bits, pause);
     two_tones(s, blocks, tones, pilot, sync, r)
 }
 

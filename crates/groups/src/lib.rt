@@ -12,7 +12,7 @@ ghost use lib.ListN.{length};
 ghost use Rattle.rows.specs.Table.{tableOf};
 ghost use Rattle.rows.specs.Rows.{block};
 ghost use Rattle.parser.specs.declared.Step.the-variants.{On};
-ghost use Rattle.parser.specs.Parser.{Tape, inGroup, paused, lastPaused, startGroup, noteText, endGroup};
+ghost use Rattle.parser.specs.Parser.{Tape, inGroup, paused, lastPaused, pend, endGroup};
 ghost use Rattle.parser.specs.Holds.{Holds, Gives, blockRoom, withName};
 
 fn with_pending(s: State, pending: Pending) -> State
@@ -38,24 +38,15 @@ fn in_group(p: Pending) -> bool
     }
 }
 
-pub fn group_start(s: State, text: u64, chars: u64) -> State
-    ensures { λ a. ⌜ ((B N : ℕ) (bt tt : List ℕ) (t : Tape) → Holds B N s bt tt t → Gives B N (On a) bt tt (startGroup text chars t)) ⌝ }
+// A group's start, or a text: its name is pending, but inside a group.
+pub fn pend(s: State, new: Pending) -> State
+    ensures { λ a. ⌜ ((B N : ℕ) (bt tt : List ℕ) (t : Tape) → Holds B N s bt tt t → Gives B N (On a) bt tt (pend new t)) ⌝ }
 {
     let p = s.pending;
     if in_group(p) {
         return s;
     }
-    with_pending(s, Pending::First { text, chars })
-}
-
-pub fn text_description(s: State, text: u64, chars: u64) -> State
-    ensures { λ a. ⌜ ((B N : ℕ) (bt tt : List ℕ) (t : Tape) → Holds B N s bt tt t → Gives B N (On a) bt tt (noteText text chars t)) ⌝ }
-{
-    let p = s.pending;
-    if in_group(p) {
-        return s;
-    }
-    with_pending(s, Pending::Text { text, chars })
+    with_pending(s, new)
 }
 
 // A block whose finite pause 0 is 3,500 instead.

@@ -1,4 +1,5 @@
 // A loop's start, and its end, which appends copies of its body.
+use parser::Halt;
 use parser::Loop;
 use parser::State;
 use parser::Step;
@@ -89,7 +90,7 @@ fn repeat(s: State, blocks: &mut [u64], start: u64, times: u32) -> Step
         return Step::On(s);
     }
     if (block_capacity(blocks) as u64) < end {
-        return Step::No(6);
+        return Step::No(Halt::Refusal(6));
     }
     copy_bodies(s, blocks, start, end, times)
 }

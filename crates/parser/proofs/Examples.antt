@@ -6,7 +6,9 @@ use mathlib.Core.List.{List, [], _∷_, map}
 use Rattle.rows.specs.declared.Block.{Block}
 use Rattle.rows.specs.declared.Tone.{Tone}
 use Rattle.rows.specs.Rows.{decodeBlock}
-use Rattle.parser.specs.Parser.{Tape, empty, Out, on, no, _⟫_, paused, lastPaused, addTones, addBlock, startGroup, noteText, endGroup, openLoop, copyRows, copies, closed, closeLoop}
+use Rattle.parser.specs.declared.Pending.the-variants.{First, Text}
+use Rattle.parser.specs.declared.Halt.the-variants.{Refusal, Length}
+use Rattle.parser.specs.Parser.{Tape, empty, Out, on, no, _⟫_, paused, lastPaused, addTones, addBlock, pend, endGroup, openLoop, copyRows, copies, closed, closeLoop}
 
 -- a block as it is born, with tone rows from row n on, and these words: pause, endless, selectable, case of name
 abbrev born : ℕ → ℕ → ℕ → ℕ → ℕ → Tape → Out
@@ -26,10 +28,10 @@ abbrev three : Tape → Out
 three t = a t ⟫ a ⟫ a
 
 abbrev group : Tape → Out
-group = startGroup 50 4
+group = pend (First 50 4)
 
 abbrev text : Tape → Out
-text = noteText 40 3
+text = pend (Text 40 3)
 
 abbrev close : Tape → Out
 close = closeLoop 6
@@ -51,7 +53,8 @@ words r = r .tone ∷ r .tones ∷ r .pause ∷ r .endless ∷ r .selectable ∷
 -- a refusal's number or 0, and the blocks
 abbrev shown : Out → ℕ × List (List ℕ)
 shown (on t) = (0, map words (t .blocks))
-shown (no k) = (k, [])
+shown (no (Refusal k)) = (k, [])
+shown (no (Length n)) = (0, [])
 
 -- the words of a, of b (and of its copy, which is no different), of a stop, and of a copy of a and of a stop
 abbrev A : List ℕ
@@ -92,13 +95,13 @@ table =
     -- a text names one block
     (text ∷ b ∷ b ∷ [], 0, (8 ∷ 2 ∷ 0 ∷ 0 ∷ 1 ∷ 2 ∷ 40 ∷ 3 ∷ []) ∷ B ∷ []) ∷
     -- and replaces the name of a stop; a name may be empty
-    (noteText 60 0 ∷ stop ∷ [], 0, (9 ∷ 2 ∷ 0 ∷ 1 ∷ 1 ∷ 2 ∷ 60 ∷ 0 ∷ []) ∷ []) ∷
+    (pend (Text 60 0) ∷ stop ∷ [], 0, (9 ∷ 2 ∷ 0 ∷ 1 ∷ 1 ∷ 2 ∷ 60 ∷ 0 ∷ []) ∷ []) ∷
     -- a group start drops a pending text, and so does a new text
     (text ∷ group ∷ a ∷ endGroup ∷ a ∷ [], 0, (7 ∷ 2 ∷ 9 ∷ 0 ∷ 1 ∷ 3 ∷ 50 ∷ 4 ∷ []) ∷ A ∷ []) ∷
-    (noteText 60 5 ∷ text ∷ a ∷ a ∷ [], 0, (7 ∷ 2 ∷ 9 ∷ 0 ∷ 1 ∷ 2 ∷ 40 ∷ 3 ∷ []) ∷ A ∷ []) ∷
+    (pend (Text 60 5) ∷ text ∷ a ∷ a ∷ [], 0, (7 ∷ 2 ∷ 9 ∷ 0 ∷ 1 ∷ 2 ∷ 40 ∷ 3 ∷ []) ∷ A ∷ []) ∷
     -- text or start inside a group is ignored, before its first block and after
-    (group ∷ text ∷ startGroup 60 5 ∷ a ∷ [], 0, (7 ∷ 2 ∷ 9 ∷ 0 ∷ 1 ∷ 3 ∷ 50 ∷ 4 ∷ []) ∷ []) ∷
-    (group ∷ a ∷ text ∷ startGroup 60 5 ∷ a ∷ [], 0, (7 ∷ 2 ∷ 9 ∷ 0 ∷ 1 ∷ 3 ∷ 50 ∷ 4 ∷ []) ∷ (7 ∷ 2 ∷ 9 ∷ 0 ∷ 0 ∷ 4 ∷ 50 ∷ 4 ∷ []) ∷ []) ∷
+    (group ∷ text ∷ pend (First 60 5) ∷ a ∷ [], 0, (7 ∷ 2 ∷ 9 ∷ 0 ∷ 1 ∷ 3 ∷ 50 ∷ 4 ∷ []) ∷ []) ∷
+    (group ∷ a ∷ text ∷ pend (First 60 5) ∷ a ∷ [], 0, (7 ∷ 2 ∷ 9 ∷ 0 ∷ 1 ∷ 3 ∷ 50 ∷ 4 ∷ []) ∷ (7 ∷ 2 ∷ 9 ∷ 0 ∷ 0 ∷ 4 ∷ 50 ∷ 4 ∷ []) ∷ []) ∷
     -- a group end keeps a pending text
     (text ∷ endGroup ∷ a ∷ [], 0, (7 ∷ 2 ∷ 9 ∷ 0 ∷ 1 ∷ 2 ∷ 40 ∷ 3 ∷ []) ∷ []) ∷
     -- and the last block's finite pause 0 becomes 3,500, group open or not; no other, and no endless one
@@ -121,5 +124,5 @@ table =
     []
 
 examples : map (λ e. shown (after (e .0) (on empty))) table ≡ map (λ e. (e .1, e .2)) table
-unfolding empty _⟫_ addTones addBlock startGroup noteText endGroup lastPaused paused openLoop copyRows copies closed closeLoop
+unfolding empty _⟫_ addTones addBlock pend endGroup lastPaused paused openLoop copyRows copies closed closeLoop
 examples = refl

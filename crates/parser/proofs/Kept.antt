@@ -14,13 +14,15 @@ use Rattle.rows.specs.declared.Tone.{Tone}
 use Rattle.parser.specs.declared.Pending.{Pending}
 use Rattle.parser.specs.declared.Pending.the-variants.{Nothing, First, Text}
 use Rattle.parser.specs.declared.Loop.{Loop}
+use Rattle.parser.specs.declared.Halt.{Halt}
+use Rattle.parser.specs.declared.Halt.the-variants.{Refusal}
 use Rattle.parser.specs.declared.Loop.the-variants.{Closed, Open}
-use Rattle.parser.specs.Parser.{Tape, tapeOf, empty, withTones, withBlock, withPending, withBody, opened, Out, on, no, _⟫_, named, used, inGroup, paused, lastPaused, nameless, addTones, addBlock, startGroup, noteText, endGroup, openLoop, copyRows, copies, closed, closeLoop}
+use Rattle.parser.specs.Parser.{Tape, tapeOf, empty, withTones, withBlock, withPending, withBody, opened, Out, on, no, _⟫_, named, used, inGroup, paused, lastPaused, nameless, addTones, addBlock, pend, endGroup, openLoop, copyRows, copies, closed, closeLoop}
 
 -- where an answer is a tape, it has the property K
 pub data Sure (K : Tape → Type 0) : Out → Type 0 where
   sure : {t : Tape} → K t → Sure K (on t)
-  none : {k : ℕ} → Sure K (no k)
+  none : {k : Halt} → Sure K (no k)
 
 pub sure-of : {K : Tape → Type 0} {o : Out} {t : Tape} → Sure K o → o ≡ on t → K t
 sure-of {t = t} (sure {t = u} k) e = let q : u ≡ t = cc in rw q at k
@@ -78,7 +80,7 @@ module _ (P : Block → Type 0) (K : Tape → Type 0) (m : ℕ) (keep : (r : Blo
   unfolding addBlock
   block-keeps r t p k = by-cases (ltb (length (t .blocks)) m) refl
     where
-      by-cases : (b : Bool) → ltb (length (t .blocks)) m ≡ b → Sure K (b ⇒ on (withBlock r t) ∣ no 6)
+      by-cases : (b : Bool) → ltb (length (t .blocks)) m ≡ b → Sure K (b ⇒ on (withBlock r t) ∣ no (Refusal 6))
       by-cases true e = sure (keep r t (ltb-true _ _ e) p k)
       by-cases false e = none
 
@@ -118,13 +120,9 @@ module _ {m : ℕ} {Q : Pending → Type 0} {K : Tape → Type 0} (k : Steps m Q
   renames true p t q h = h
   renames false p t q h = k .naming p t q h
 
-  pub keeps-start : (text chars : ℕ) {t : Tape} → Q (First text chars) → K t → Sure K (startGroup text chars t)
-  unfolding startGroup
-  keeps-start text chars {t} q h = sure (renames (inGroup (t .pending)) (First text chars) t q h)
-
-  pub keeps-text : (text chars : ℕ) {t : Tape} → Q (Text text chars) → K t → Sure K (noteText text chars t)
-  unfolding noteText
-  keeps-text text chars {t} q h = sure (renames (inGroup (t .pending)) (Text text chars) t q h)
+  pub keeps-pend : (p : Pending) {t : Tape} → Q p → K t → Sure K (pend p t)
+  unfolding pend
+  keeps-pend p {t} q h = sure (renames (inGroup (t .pending)) p t q h)
 
   closes : (b : Bool) (t : Tape) → Q Nothing → K t → K (withPending (b ⇒ Nothing ∣ t .pending) t)
   closes true t q h = k .naming Nothing t q h
@@ -187,29 +185,3 @@ module _ {P : Block → Type 0} {Q : Pending → Type 0} (k : Lasting P Q) where
         pausing = λ t s. record { rows = last-keeps (s .rows); name = s .name };
         looping = λ l t s. record { rows = s .rows; name = s .name };
       }
-
-  pub kept-tones : (m : ℕ) (ts : List Tone) {t : Tape} → Kept P Q t → Sure (Kept P Q) (addTones m ts t)
-  unfolding addTones
-  kept-tones m ts {t} s = by-cases (leb (length (t .tones) + length ts) m)
-    where
-      by-cases : (b : Bool) → Sure (Kept P Q) (b ⇒ on (withTones ts t) ∣ no 5)
-      by-cases true = sure (record { rows = s .rows; name = s .name })
-      by-cases false = none
-
-  pub kept-block : (m : ℕ) {r : Block} {t : Tape} → P r → Kept P Q t → Sure (Kept P Q) (addBlock m r t)
-  kept-block m {r} {t} h s = block-keeps P (Kept P Q) m (λ q u _ p o. with-block q u p o) r t h s
-
-  pub kept-start : (text chars : ℕ) {t : Tape} → Q (First text chars) → Kept P Q t → Sure (Kept P Q) (startGroup text chars t)
-  kept-start text chars q s = keeps-start (kept-steps 0) text chars q s
-
-  pub kept-text : (text chars : ℕ) {t : Tape} → Q (Text text chars) → Kept P Q t → Sure (Kept P Q) (noteText text chars t)
-  kept-text text chars q s = keeps-text (kept-steps 0) text chars q s
-
-  pub kept-end : {t : Tape} → Kept P Q t → Sure (Kept P Q) (endGroup t)
-  kept-end s = keeps-end (kept-steps 0) (k .nothing) s
-
-  pub kept-open : (times : ℕ) {t : Tape} → Kept P Q t → Sure (Kept P Q) (openLoop times t)
-  kept-open times s = keeps-open (kept-steps 0) times s
-
-  pub kept-close : (m : ℕ) {t : Tape} → Kept P Q t → Sure (Kept P Q) (closeLoop m t)
-  kept-close m s = keeps-close (kept-steps m) s

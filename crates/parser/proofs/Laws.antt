@@ -18,6 +18,8 @@ use Rattle.parser.specs.declared.Step.the-variants.{On, No}
 use Rattle.parser.specs.declared.Pending.{Pending}
 use Rattle.parser.specs.declared.Pending.the-variants.{Nothing}
 use Rattle.parser.specs.declared.Loop.{Loop}
+use Rattle.parser.specs.declared.Halt.{Halt}
+use Rattle.parser.specs.declared.Halt.the-variants.{Refusal}
 use Rattle.parser.specs.declared.Loop.the-variants.{Closed}
 use Rattle.parser.specs.Parser.{Tape, withTones, withPending, withBody, empty, Out, on, no, _⟫_, addTones}
 use Rattle.parser.specs.Holds.{Holds, withName, withLoop, Gives, goes, refuses}
@@ -32,7 +34,7 @@ pub tones-append : (m : ℕ) (xs ys : List Tone) (t : Tape) → addTones m (xs +
 unfolding addTones _⟫_
 tones-append m xs ys t = by-cases (leb (length (t .tones) + length xs) m) refl
   where
-    by-cases : (b : Bool) → leb (length (t .tones) + length xs) m ≡ b → addTones m (xs ++ ys) t ≡ (b ⇒ on (withTones xs t) ∣ no 5) ⟫ addTones m ys
+    by-cases : (b : Bool) → leb (length (t .tones) + length xs) m ≡ b → addTones m (xs ++ ys) t ≡ (b ⇒ on (withTones xs t) ∣ no (Refusal 5)) ⟫ addTones m ys
     by-cases true e =
         let n : length (t .tones ++ xs) + length ys ≡ length (t .tones) + length (xs ++ ys) = rw (length-append, length-append) (omega arith) in
         rw (n, append-assoc)
@@ -56,7 +58,7 @@ module _ {B N : ℕ} {bt tt : List ℕ} where
   went-on {s = s} (goes {s = s₁} {t = t} h) e = let q : s₁ ≡ s = cc in (t, refl, rw q at h)
   went-on (refuses) e = let z : _≡_ {A = ℕ} 0 1 = cc in absurd (omega arith)
 
-  pub refused : {x : Step} {k : ℕ} {o : Out} → Gives B N x bt tt o → x ≡ No k → o ≡ no k
+  pub refused : {x : Step} {k : Halt} {o : Out} → Gives B N x bt tt o → x ≡ No k → o ≡ no k
   refused (goes h) e = let z : _≡_ {A = ℕ} 0 1 = cc in absurd (omega arith)
   refused (refuses) e = cc
 
@@ -65,7 +67,7 @@ module _ {B N : ℕ} {bt tt : List ℕ} where
   unfolding _⟫_
   then-on e q k = let w = went-on e q in rw (w .1) (k (w .0) (w .2))
 
-  pub then-no : {x : Step} {k : ℕ} {bt′ tt′ : List ℕ} {o : Out} (f : Tape → Out) → Gives B N x bt tt o → x ≡ No k → Gives B N (No k) bt′ tt′ (o ⟫ f)
+  pub then-no : {x : Step} {k : Halt} {bt′ tt′ : List ℕ} {o : Out} (f : Tape → Out) → Gives B N x bt tt o → x ≡ No k → Gives B N (No k) bt′ tt′ (o ⟫ f)
   unfolding _⟫_
   then-no f e q = rw (refused e q) refuses
 
@@ -87,7 +89,7 @@ module _ {P : Tape → Type 0} {B N : ℕ} {s : State} {bt tt : List ℕ} {rest 
 
     -- one turn of the step f
     module _ {x : Step} {bt′ tt′ : List ℕ} (f next : Tape → Out) (split : rest (g .at) ≡ f (g .at) ⟫ next) (e : Gives B N x bt′ tt′ (f (g .at))) where
-      pub going-no : {k : ℕ} → x ≡ No k → Gives B N (No k) bt′ tt′ whole
+      pub going-no : {k : Halt} → x ≡ No k → Gives B N (No k) bt′ tt′ whole
       going-no q = rw (← g .same, split) (then-no next e q)
 
       pub going-on : {s′ : State} → x ≡ On s′ → ((t : Tape) → f (g .at) ≡ on t → P t) → Going P B N s′ bt′ tt′ next whole

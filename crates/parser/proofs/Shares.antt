@@ -11,6 +11,7 @@ use Rattle.parser.specs.declared.Pending.{Pending}
 use Rattle.parser.specs.declared.Pending.the-variants.{Nothing, First, Later, Text}
 use Rattle.parser.specs.declared.Loop.{Loop}
 use Rattle.parser.specs.declared.Loop.the-variants.{Closed, Open}
+use Rattle.parser.specs.declared.Halt.the-variants.{Refusal}
 use Rattle.parser.specs.Parser.{Tape, withBlock, withBody, Out, on, no, renamed, named, nameless, addBlock, copyRows, copies, closed, closeLoop}
 use Rattle.parser.proofs.Kept.{Sure, sure, none, sure-of, sure-then}
 
@@ -45,7 +46,7 @@ module _ {A : Type 0} (f : Block → A) (blind : (mark case text chars : ℕ) (r
       one : f (named (t .pending) (nameless r)) ≡ f r
       one = name-blind (t .pending) (nameless r) ∙ blind 0 0 0 0 r
 
-      by-cases : (b : Bool) → Sure (More t (f r ∷ [])) (b ⇒ on (withBlock (nameless r) t) ∣ no 6)
+      by-cases : (b : Bool) → Sure (More t (f r ∷ [])) (b ⇒ on (withBlock (nameless r) t) ∣ no (Refusal 6))
       by-cases true = sure (map-append f (t .blocks) (named (t .pending) (nameless r) ∷ []) ∙ ap (λ (x : A). map f (t .blocks) ++ x ∷ []) one, refl)
       by-cases false = none
 

@@ -10,6 +10,7 @@ use Rattle.parser.specs.declared.State.{State}
 use Rattle.parser.specs.declared.Step.{Step}
 use Rattle.parser.specs.declared.Step.the-variants.{On, No}
 use Rattle.parser.specs.declared.Loop.{Loop}
+use Rattle.parser.specs.declared.Halt.{Halt}
 use Rattle.parser.specs.declared.Pending.{Pending}
 use Rattle.parser.specs.Parser.{Tape, Out, on, no}
 
@@ -43,4 +44,4 @@ pub record Holds (B N : ℕ) (s : State) (bt tt : List ℕ) (t : Tape) : Type 0 
 -- the code's answer is the definition's; a refusal says nothing of the tables, which the load then blanks
 pub data Gives (B N : ℕ) : Step → List ℕ → List ℕ → Out → Type 0 where
   goes : {s : State} {bt tt : List ℕ} {t : Tape} → Holds B N s bt tt t → Gives B N (On s) bt tt (on t)
-  refuses : {k : ℕ} {bt tt : List ℕ} → Gives B N (No k) bt tt (no k)
+  refuses : {k : Halt} {bt tt : List ℕ} → Gives B N (No k) bt tt (no k)

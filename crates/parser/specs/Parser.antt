@@ -10,6 +10,8 @@ use Rattle.rows.specs.declared.Tone.{Tone}
 use Rattle.parser.specs.declared.Pending.{Pending}
 use Rattle.parser.specs.declared.Pending.the-variants.{Nothing, First, Later, Text}
 use Rattle.parser.specs.declared.Loop.{Loop}
+use Rattle.parser.specs.declared.Halt.{Halt}
+use Rattle.parser.specs.declared.Halt.the-variants.{Refusal}
 use Rattle.parser.specs.declared.Loop.the-variants.{Closed, Open}
 
 -- what was read so far: the blocks, the tone rows, the pending name, the open loop
@@ -25,10 +27,10 @@ tapeOf bs ts p l = record { blocks = bs; tones = ts; pending = p; body = l }
 unfoldable pub empty : Tape
 empty = tapeOf [] [] Nothing Closed
 
--- a step's answer: the tape read so far, or a refusal's number
+-- a step's answer: the tape read so far, or why there is none
 pub data Out : Type 0 where
   on : Tape → Out
-  no : ℕ → Out
+  no : Halt → Out
 
 infixl 30 _⟫_
 unfoldable pub _⟫_ : Out → (Tape → Out) → Out
@@ -62,11 +64,11 @@ withBlock r t = tapeOf (t .blocks ++ named (t .pending) r ∷ []) (t .tones) (us
 
 -- tone rows, where no more than `most` are then used: otherwise 5
 unfoldable pub addTones : ℕ → List Tone → Tape → Out
-addTones most ts t = leb (length (t .tones) + length ts) most ⇒ on (withTones ts t) ∣ no 5
+addTones most ts t = leb (length (t .tones) + length ts) most ⇒ on (withTones ts t) ∣ no (Refusal 5)
 
 -- a block, where one row at least remains of `most`: otherwise 6
 unfoldable pub addBlock : ℕ → Block → Tape → Out
-addBlock most r t = ltb (length (t .blocks)) most ⇒ on (withBlock r t) ∣ no 6
+addBlock most r t = ltb (length (t .blocks)) most ⇒ on (withBlock r t) ∣ no (Refusal 6)
 
 abbrev pub inGroup : Pending → Bool
 inGroup Nothing = false
@@ -75,11 +77,8 @@ inGroup (Later text chars) = true
 inGroup (Text text chars) = false
 
 -- group start or a new text drops a pending text; text or start inside a group is ignored
-abbrev pub started : ℕ → ℕ → Pending → Pending
-started text chars p = inGroup p ⇒ p ∣ First text chars
-
-abbrev pub noted : ℕ → ℕ → Pending → Pending
-noted text chars p = inGroup p ⇒ p ∣ Text text chars
+abbrev pub pended : Pending → Pending → Pending
+pended new p = inGroup p ⇒ p ∣ new
 
 -- group end: an open group closes, a pending text stays
 abbrev pub ended : Pending → Pending
@@ -88,11 +87,8 @@ ended p = inGroup p ⇒ Nothing ∣ p
 abbrev pub withPending : Pending → Tape → Tape
 withPending p t = tapeOf (t .blocks) (t .tones) p (t .body)
 
-unfoldable pub startGroup : ℕ → ℕ → Tape → Out
-startGroup text chars t = on (withPending (started text chars (t .pending)) t)
-
-unfoldable pub noteText : ℕ → ℕ → Tape → Out
-noteText text chars t = on (withPending (noted text chars (t .pending)) t)
+unfoldable pub pend : Pending → Tape → Out
+pend new t = on (withPending (pended new (t .pending)) t)
 
 -- then, if the last block, if any, has finite pause 0, it becomes 3,500, group open or not
 unfoldable pub paused : Block → Block

@@ -33,10 +33,16 @@ pub struct State {
     pub body: Loop,
 }
 
-// A step's answer: the next state, or the refusal's number.
+// Why a reading halts: a refusal's number; or a 2A of this length, which is not 0: a failure.
+pub enum Halt {
+    Refusal(u32),
+    Length(u32),
+}
+
+// A step's answer: the next state, or why there is none.
 pub enum Step {
     On(State),
-    No(u32),
+    No(Halt),
 }
 
 // Nothing read yet; the tables are blank.
@@ -102,7 +108,7 @@ pub fn add_tone(s: State, tones: &mut [u64], r: Tone) -> Step
             body,
         })
     } else {
-        Step::No(5)
+        Step::No(Halt::Refusal(5))
     }
 }
 
@@ -122,6 +128,6 @@ pub fn add_block(s: State, blocks: &mut [u64], r: Block) -> Step
             body,
         })
     } else {
-        Step::No(6)
+        Step::No(Halt::Refusal(6))
     }
 }

@@ -4,8 +4,9 @@ use mathlib.Core.Path.{_≡_, refl, sym, subst, _∙_}
 use mathlib.Core.List.{List}
 use native.Mathlib.Omega.{arith}
 use lib.ListN.{length, getD}
-use borrow.Author.Tests.{le-leb, eq-eqb, ne-eqb}
+use borrow.Author.Tests.{le-leb}
 use Rattle.parser.specs.declared.State.{State}
+use Rattle.parser.specs.declared.Halt.{Halt}
 use Rattle.parser.specs.declared.Step.{Step}
 use Rattle.parser.specs.declared.Step.the-variants.{On, No}
 use Rattle.parser.specs.Parser.{Tape, Out, empty}
@@ -21,10 +22,11 @@ use Rattle.pieces.specs.declared.Taken.the-variants.{Whole}
 use Rattle.pieces.specs.declared.TakenTap.{TakenTap}
 use Rattle.pieces.specs.Cut.{cutAt, tapAt}
 use Rattle.reader.specs.declared.Failure.{Failure}
-use Rattle.reader.specs.declared.Failure.the-variants.{Length}
+use Rattle.reader.specs.declared.Reading.{Reading}
 use Rattle.reader.specs.declared.Reading.the-variants.{Done, Failed, Refused}
 use Rattle.blocks.specs.Adds.{Lent}
-use Rattle.reader.specs.Source.{See, over, bad, refuses as sees4, thing, Read, seeing, after, foldFrom, stopLength, full, act, tzxOf, tzxSee, tapOf, tapSee}
+use Rattle.blocks.specs.Sounds.{originAt}
+use Rattle.reader.specs.Source.{See, over, bad, refuses as sees4, thing, Read, seeing, after, foldFrom, halted, full, act, tzxOf, tzxSee, tapOf, tapSee}
 use Rattle.reader.specs.Does.{Fit, Blank, Finds, ends, fails, refuses}
 
 -- a tape that the state holds, and fuel enough for the bytes left, with which the rest gives the goal
@@ -61,9 +63,9 @@ module _ {size : ℕ} {see : ℕ → See} {B N at : ℕ} {s : State} {bt tt : Li
   rest-refuses {k} q = subst (λ (r : Read). Finds B N (Refused k) bt tt r) (step (sees4 k) q) refuses
 
   module _ {next : ℕ} {does : Tape → Out} (q : see at ≡ thing next does) {x : Step} {bt′ tt′ : List ℕ} (e : Gives B N x bt′ tt′ (does (rest .here))) where
-    pub rest-no : {k : ℕ} → x ≡ No k → Finds B N (Refused k) bt′ tt′ goal
+    pub rest-no : {k : Halt} {r : Reading} → x ≡ No k → Finds B N r bt′ tt′ (halted k) → Finds B N r bt′ tt′ goal
     unfolding seeing after
-    rest-no {k} i = subst (λ (r : Read). Finds B N (Refused k) bt′ tt′ r) (rw (refused e i) at (step (thing next does) q)) refuses
+    rest-no {k} {r} i f = subst (λ (g : Read). Finds B N r bt′ tt′ g) (rw (refused e i) at (step (thing next does) q)) f
 
     pub rest-on : {s′ : State} → x ≡ On s′ → at < next → Rest size see B N next s′ bt′ tt′ goal
     unfolding seeing after
@@ -80,19 +82,15 @@ module _ (lent : Lent) (s : List ℕ) where
   unfolding tzxSee
   tzx-sees model at q = rw q
 
-  pub sees-piece : (model at : ℕ) {k a next : ℕ} {piece : Piece} → Whole k a next piece ≡ cutAt s at full → stopLength piece ≡ 0 → tzxSee lent s model at ≡ thing next (act lent s model piece)
+  pub sees-piece : (model at : ℕ) {k a next : ℕ} {piece : Piece} → Whole k a next piece ≡ cutAt s at full → tzxSee lent s model at ≡ thing next (act lent s model (originAt k a) piece)
   unfolding tzxOf
-  sees-piece model at {piece = piece} q z = tzx-sees model at q ∙ rw (eq-eqb (stopLength piece) 0 z)
-
-  pub sees-length : (model at : ℕ) {k a next n : ℕ} {piece : Piece} → Whole k a next piece ≡ cutAt s at full → n ≡ stopLength piece → (n ≡ 0 → ⊥) → tzxSee lent s model at ≡ bad (Length n)
-  unfolding tzxOf
-  sees-length model at {piece = piece} q i z = tzx-sees model at q ∙ rw (i) (rw (ne-eqb (stopLength piece) 0 (λ e. z (i ∙ e))))
+  sees-piece model at q = tzx-sees model at q
 
   pub tap-stops : (p : ℕ) → length s ≤ p → tapSee lent s p ≡ over
   unfolding tapSee tapAt tapOf
   tap-stops p h = rw (le-leb (length s) p h)
 
-  pub tap-sees : (at : ℕ) {x : TakenTap} → x ≡ tapAt s at → tapSee lent s at ≡ tapOf lent s x
+  pub tap-sees : (at : ℕ) {x : TakenTap} → x ≡ tapAt s at → tapSee lent s at ≡ tapOf lent s at x
   unfolding tapSee
   tap-sees at q = rw q
 

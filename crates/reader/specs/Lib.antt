@@ -1,3 +1,4 @@
+pub mod Meaning
 pub mod Source
 pub mod Does
 pub mod Reached

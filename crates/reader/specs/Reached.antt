@@ -1,24 +1,25 @@
 -- Whether the reading of a TZX reaches a 2A: reads one whole with length 0, also in a reading that errs later. Assumes nothing.
 use Prim.Native.Nat.{ℕ, zero, suc}
-use mathlib.Core.Bool.{Bool, true, false, _&&_, _||_}
+use mathlib.Core.Bool.{Bool, true, false, _||_}
 use mathlib.Core.List.{List}
 use lib.ListN.{length}
-use lib.Dec.{ltb, eqb}
+use lib.Dec.{ltb}
 use Rattle.laws.specs.Rules.{_⇒_, _∣_}
 use Rattle.pieces.specs.declared.Taken.{Taken}
 use Rattle.pieces.specs.declared.Taken.the-variants as taken
 use Rattle.pieces.specs.declared.Heading.{Heading}
 use Rattle.pieces.specs.declared.Heading.the-variants as heading
 use Rattle.pieces.specs.Cut.{cutAt, headAt}
-use Rattle.parser.specs.Parser.{Tape, Out, on, no as refuse, empty}
+use Rattle.parser.specs.Parser.{Tape, Out, on, no as halt, empty}
 use Rattle.blocks.specs.Adds.{Lent}
 use Rattle.blocks.specs.Deeds.{asks48}
-use Rattle.reader.specs.Source.{See, over, bad, refuses, thing, deedOf, stopLength, full, tzxSee}
+use Rattle.reader.specs.Meaning.{deedOf}
+use Rattle.reader.specs.Source.{See, over, bad, refuses, thing, full, tzxSee}
 
 -- a 2A that is whole, with length 0
 unfoldable pub stopsAt : List ℕ → Taken → Bool
 stopsAt s taken.End = false
-stopsAt s (taken.Whole kind from next piece) = asks48 (deedOf s piece) && eqb (stopLength piece) 0
+stopsAt s (taken.Whole kind from next piece) = asks48 (deedOf s piece)
 stopsAt s (taken.Unknown kind described) = false
 stopsAt s (taken.Short kind p w) = false
 stopsAt s (taken.Overflow kind p) = false
@@ -26,7 +27,7 @@ stopsAt s (taken.Overflow kind p) = false
 -- a reading that goes on goes on with what stands next: as `after` and `seeing` of Source do
 unfoldable pub goingOn : Out → (Tape → Bool) → Bool
 goingOn (on t) k = k t
-goingOn (refuse j) k = false
+goingOn (halt j) k = false
 
 unfoldable pub passing : See → Tape → (ℕ → Tape → Bool) → Bool
 passing over t k = false

@@ -1,11 +1,14 @@
 // The source reading: what the Rust makes of each piece. Its definitions are of the whole run, over a TZX or a TAP.
+use blocks::Bits;
+use blocks::Origin;
 use blocks::is_header;
 use blocks::standard_data_block;
 use groups::group_end;
-use groups::group_start;
-use groups::text_description;
+use groups::pend;
 use loops::loop_end;
 use loops::loop_start;
+use parser::Halt;
+use parser::Pending;
 use parser::State;
 use parser::Step;
 use pieces::Piece;
@@ -16,10 +19,11 @@ use stops::stop_on_48;
 use tones::pure_data_block;
 use tones::pure_tone_block;
 use tones::turbo_data_block;
-ghost use mathlib.Core.Path.{_≡_};
-ghost use Rattle.reader.specs.Source.{act, stopLength};
+ghost use mathlib.Core.List.{List};
+ghost use Prim.Native.Nat.{ℕ};
+ghost use Rattle.reader.specs.Source.{act, halted};
 ghost use Rattle.blocks.specs.Does.{Does};
-ghost use Rattle.reader.specs.Does.{Fit};
+ghost use Rattle.reader.specs.Does.{Fit, Finds};
 
 // Why a reading failed: a bad signature; the first field that came up short, in the piece of this kind or in none (a head, a TAP);
 // or a 2A of a length that is not 0.
@@ -37,27 +41,39 @@ pub enum Reading {
     Refused(u32),
 }
 
-// What a piece does; our crates alone call it, with what `cutting::cut` gave for this tape.
+// A reading that halts: a refusal, or a failure.
+pub fn halted(k: Halt) -> Reading
+    ensures { λ r. ⌜ ((B N : ℕ) (bt tt : List ℕ) → Finds B N r bt tt (halted k)) ⌝ }
+{
+    match k {
+        Halt::Refusal(number) => Reading::Refused(number),
+        Halt::Length(length) => Reading::Failed(Failure::Length { length }),
+    }
+}
+
+// What a piece of this origin does; our crates alone call it, with what `cutting::cut` gave for this tape.
 pub fn act(
     tape: &[u8],
     model: u32,
     s: State,
     blocks: &mut [u64],
     tones: &mut [u64],
+    origin: Origin,
     piece: Piece,
 ) -> Step
     requires { ⌜ Fit (now tape) piece ⌝ }
-    ensures { λ x. ⌜ Does (λ lent. act lent (now (tape .entry)) model piece) s x (now (blocks .entry)) (now (tones .entry)) (now (blocks .exit)) (now (tones .exit)) ⌝ }
+    ensures { λ x. ⌜ Does (λ lent. act lent (now (tape .entry)) model origin piece) s x (now (blocks .entry)) (now (tones .entry)) (now (blocks .exit)) (now (tones .exit)) ⌝ }
 {
     match piece {
         Piece::Standard { pause, from, size } => {
             let header = is_header(tape, from, size);
-            standard_data_block(s, blocks, tones, header, from, size, pause as u64 * 3500)
+            let pause = pause as u64 * 3500;
+            standard_data_block(s, blocks, tones, origin, header, from, size, pause)
         }
-        Piece::Turbo(d) => turbo_data_block(s, blocks, tones, d),
-        Piece::Tone { half, count } => pure_tone_block(s, blocks, tones, half, count),
+        Piece::Turbo(d) => turbo_data_block(s, blocks, tones, origin, d),
+        Piece::Tone { half, count } => pure_tone_block(s, blocks, tones, origin, half, count),
         Piece::Pulses { count, from } => {
-            pulse_blocks(tape, s, blocks, tones, from, (count / 2) as u64)
+            pulse_blocks(tape, s, blocks, tones, origin, from, (count / 2) as u64)
         }
         Piece::Pure {
             zero,
@@ -66,15 +82,30 @@ pub fn act(
             pause,
             from,
             size,
-        } => pure_data_block(s, blocks, tones, zero, one, last, pause, from, size),
-        Piece::Generalized(g) => generalized_data_block(tape, s, blocks, tones, g),
-        Piece::Pause { ms } => pause_block(s, blocks, ms),
-        Piece::GroupStart { from, size } => Step::On(group_start(s, from, size as u64)),
+        } => {
+            let bits = Bits {
+                start: from,
+                size: size as u64,
+                zero: zero as u64,
+                one: one as u64,
+                last: last as u64,
+            };
+            pure_data_block(s, blocks, tones, origin, bits, pause)
+        }
+        Piece::Generalized(g) => generalized_data_block(tape, s, blocks, tones, origin, g),
+        Piece::Pause { ms } => pause_block(s, blocks, origin, ms),
+        Piece::GroupStart { from, size } => {
+            let chars = size as u64;
+            Step::On(pend(s, Pending::First { text: from, chars }))
+        }
         Piece::GroupEnd => Step::On(group_end(s, blocks)),
         Piece::LoopStart { times } => Step::On(loop_start(s, times)),
         Piece::LoopEnd => loop_end(s, blocks),
-        Piece::Stop48 { length: _ } => stop_on_48(model, s, blocks),
-        Piece::Text { from, size } => Step::On(text_description(s, from, size as u64)),
+        Piece::Stop48 { length } => stop_on_48(model, s, blocks, origin, length),
+        Piece::Text { from, size } => {
+            let chars = size as u64;
+            Step::On(pend(s, Pending::Text { text: from, chars }))
+        }
         Piece::Message {
             seconds: _,
             from: _,
@@ -89,14 +120,4 @@ pub fn act(
         } => Step::On(s),
         Piece::Glue => Step::On(s),
     }
-}
-
-// The length that a 2A names, which is to be 0; 0 for any other piece.
-pub fn stop_length(piece: Piece) -> u32
-    ensures { λ n. ⌜ n ≡ stopLength piece ⌝ }
-{
-    let Piece::Stop48 { length } = piece else {
-        return 0;
-    };
-    length
 }

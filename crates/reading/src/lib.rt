@@ -1,4 +1,5 @@
 // The source reading of a whole tape: a TZX, by its head, its pieces and refusal 7's test; a TAP, block by block.
+use blocks::Origin;
 use blocks::is_header;
 use blocks::standard_data_block;
 use blocks::standard_pause;
@@ -10,6 +11,7 @@ use pieces::cut_tap;
 use pieces::head;
 use reader::Failure;
 use reader::Reading;
+use reader::halted;
 use rows::Block;
 use rows::block_at;
 use run::read_pieces;
@@ -24,6 +26,9 @@ ghost use Rattle.rows.specs.Rows.{block, blockMost};
 ghost use Rattle.reader.specs.Source.{tooManyBits, readTzx, readTap};
 ghost use Rattle.blocks.specs.Does.{lentOf};
 ghost use Rattle.reader.specs.Does.{Blank, Finds};
+
+// A block of a TAP is a standard one.
+const TAP_KIND: u8 = 0x10;
 
 // Whether a block with data has last bits above 8.
 fn too_many(r: Block) -> bool
@@ -88,12 +93,16 @@ pub fn read_tap(tape: &[u8], blocks: &mut [u64], tones: &mut [u64]) -> Reading
             TakenTap::Block { from, size, next } => {
                 let header = is_header(tape, from, size);
                 let pause = standard_pause(header);
-                match standard_data_block(s, blocks, tones, header, from, size, pause) {
+                let origin = Origin {
+                    kind: TAP_KIND,
+                    place: at,
+                };
+                match standard_data_block(s, blocks, tones, origin, header, from, size, pause) {
                     Step::On(after) => {
                         s = after;
                         at = next;
                     }
-                    Step::No(k) => return Reading::Refused(k),
+                    Step::No(k) => return halted(k),
                 }
             }
             TakenTap::Short { place, width } => {

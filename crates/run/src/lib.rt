@@ -1,4 +1,5 @@
 // The run of the source reading over the pieces of a TZX.
+use blocks::Origin;
 use cutting::cut;
 use parser::Step;
 use parser::new_state;
@@ -6,7 +7,7 @@ use pieces::Taken;
 use reader::Failure;
 use reader::Reading;
 use reader::act;
-use reader::stop_length;
+use reader::halted;
 ghost use lib.ListN.{length};
 ghost use Rattle.parser.specs.Parser.{empty};
 ghost use Rattle.blocks.specs.Does.{lentOf};
@@ -27,21 +28,18 @@ pub fn read_pieces(tape: &[u8], model: u32, blocks: &mut [u64], tones: &mut [u64
         match cut(tape, at, FULL) {
             Taken::End => return Reading::Done(s),
             Taken::Whole {
-                kind: _,
-                at: _,
+                kind,
+                at: place,
                 next,
                 piece,
             } => {
-                let length = stop_length(piece);
-                if length != 0 {
-                    return Reading::Failed(Failure::Length { length });
-                }
-                match act(tape, model, s, blocks, tones, piece) {
+                let origin = Origin { kind, place };
+                match act(tape, model, s, blocks, tones, origin, piece) {
                     Step::On(after) => {
                         s = after;
                         at = next;
                     }
-                    Step::No(k) => return Reading::Refused(k),
+                    Step::No(k) => return halted(k),
                 }
             }
             Taken::Unknown {

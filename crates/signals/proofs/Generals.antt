@@ -19,13 +19,15 @@ use Rattle.general.specs.declared.Made.the-variants.{Refused, Full, Stop, Data,
 use Rattle.general.specs.General.{Given, refused4, stop, plain, toned}
 use Rattle.general.specs.Made.{madeOf, leaves, Done}
 use Rattle.parser.specs.declared.State.{State}
+use Rattle.parser.specs.declared.Halt.the-variants.{Refusal}
 use Rattle.parser.specs.declared.Step.{Step}
 use Rattle.parser.specs.declared.Step.the-variants.{No}
 use Rattle.parser.specs.Parser.{Tape, no, _⟫_, withTones, addTones, addBlock}
 use Rattle.parser.specs.Holds.{Holds, Gives, refuses, toneRoom, blockRoom}
-use Rattle.blocks.specs.Blocks.{ms, born}
+use Rattle.blocks.specs.declared.Origin.{Origin}
 use Rattle.blocks.specs.Adds.{Lent, addRows}
-use Rattle.blocks.specs.Sounds.{Sound, bitsAt, noBits, generalSound, stopSound, rowOf, addSound}
+use Rattle.blocks.specs.Sounds.{Sound, ms, bitsAt, noBits, lasts, rowFor, rowOf, addSound}
+use Rattle.blocks.specs.Blocks.{dataSound, stopSound}
 use Rattle.blocks.specs.Deeds.{generalDeed, does}
 use Rattle.blocks.proofs.Laws.{one-sound}
 use Rattle.blocks.specs.Does.{lentOf, withUsed}
@@ -93,20 +95,20 @@ module _ (room : ℕ) where
       (ts, refl, cc, l .0)
 
 -- rows that do not fit
-no-room : (lent : Lent) (d : Sound) (t : Tape) → lent .tones < length (t .tones) + length (d .tones) → addSound lent d t ≡ no 5
+no-room : (lent : Lent) (origin : Origin) (d : Sound) (t : Tape) → lent .tones < length (t .tones) + length (d .tones) → addSound lent origin d t ≡ no (Refusal 5)
 unfolding addSound addRows addTones _⟫_
-no-room lent d t h = rw (lt-leb (length (t .tones) + length (d .tones)) (lent .tones) h)
+no-room lent origin d t h = rw (lt-leb (length (t .tones) + length (d .tones)) (lent .tones) h)
 
-made-full : (lent : Lent) (model : ℕ) (g : GeneralizedData) (t : Tape) (given : Given) → Full ≡ madeOf (lent .tones - length (t .tones)) given → does lent model (generalDeed g given) t ≡ no 5
+made-full : (lent : Lent) (model : ℕ) (origin : Origin) (g : GeneralizedData) (t : Tape) (given : Given) → Full ≡ madeOf (lent .tones - length (t .tones)) given → does lent model origin (generalDeed g given) t ≡ no (Refusal 5)
 unfolding madeOf does generalDeed
-made-full lent model g t refused4 e = absurd (let z : _≡_ {A = ℕ} 0 1 = cc in omega arith)
-made-full lent model g t stop e = absurd (let z : _≡_ {A = ℕ} 0 1 = cc in omega arith)
-made-full lent model g t (plain ts nil one last) e =
+made-full lent model origin g t refused4 e = absurd (let z : _≡_ {A = ℕ} 0 1 = cc in omega arith)
+made-full lent model origin g t stop e = absurd (let z : _≡_ {A = ℕ} 0 1 = cc in omega arith)
+made-full lent model origin g t (plain ts nil one last) e =
     let b = right-of (leb (length ts) (lent .tones - length (t .tones))) e (λ p. let z : _≡_ {A = ℕ} 0 1 = cc in omega arith) .0 in
-    one-sound lent _ t ∙ no-room lent _ t (omega (arith, leb-false (length ts) (lent .tones - length (t .tones)) b))
-made-full lent model g t (toned ts) e =
+    one-sound lent origin _ t ∙ no-room lent origin _ t (omega (arith, leb-false (length ts) (lent .tones - length (t .tones)) b))
+made-full lent model origin g t (toned ts) e =
     let b = right-of (leb (length ts) (lent .tones - length (t .tones))) e (λ p. let z : _≡_ {A = ℕ} 0 1 = cc in omega arith) .0 in
-    one-sound lent _ t ∙ no-room lent _ t (omega (arith, leb-false (length ts) (lent .tones - length (t .tones)) b))
+    one-sound lent origin _ t ∙ no-room lent origin _ t (omega (arith, leb-false (length ts) (lent .tones - length (t .tones)) b))
 
 -- the rows of an answer fit after those in use
 pub data-fits : {given : Given} {used n nil one last : ℕ} {tt tt′ : List ℕ} {r : Made} → Done given used tt tt′ r → r ≡ Data n nil one last → n ≤ capacityOf tone toneMost tt - used
@@ -120,50 +122,50 @@ module _ {B N : ℕ} {s : State} {bt tt : List ℕ} {t : Tape} (h : Holds B N s 
   room-left = rw (h .lenT, h .nt)
 
   -- rows put after the tape's own, and the block over them
-  rows-then : {x : Step} {bt′ tt′ : List ℕ} {a : State} {b : Block} {n : ℕ} (d : Sound) → n ≡ length (d .tones) → length (d .tones) ≤ capacityOf tone toneMost tt - s .tones
-      → tt′ ≡ putAll tone tt (s .tones) (d .tones) → length tt′ ≡ length tt → a ≡ withUsed (s .tones + n) s → b ≡ rowOf d (s .tones)
-      → ((u : Tape) → Holds B N a bt tt′ u → Gives B N x bt′ tt′ (addBlock (blockRoom B) b u)) → Gives B N x bt′ tt′ (addSound (lentOf B N) d t)
+  rows-then : {x : Step} {bt′ tt′ : List ℕ} {a : State} {b : Block} {n : ℕ} (origin : Origin) (d : Sound) → n ≡ length (d .tones) → length (d .tones) ≤ capacityOf tone toneMost tt - s .tones
+      → tt′ ≡ putAll tone tt (s .tones) (d .tones) → length tt′ ≡ length tt → a ≡ withUsed (s .tones + n) s → b ≡ rowOf origin d (s .tones)
+      → ((u : Tape) → Holds B N a bt tt′ u → Gives B N x bt′ tt′ (addBlock (blockRoom B) b u)) → Gives B N x bt′ tt′ (addSound (lentOf B N) origin d t)
   unfolding addSound addRows addTones _⟫_
-  rows-then {tt′ = tt′} {n = n} d i f p l a b k =
+  rows-then {tt′ = tt′} {n = n} origin d i f p l a b k =
       let ts = d .tones in
       let m : length (t .tones) + length ts ≤ toneRoom N = omega (arith, room-left, f, h .roomT) in
       let now : Holds B N (withUsed (s .tones + n) s) bt tt′ (withTones ts t) =
       record { nb = h .nb; nt = rw length-append (omega (arith, h .nt, i)); pends = h .pends; loops = h .loops; roomB = h .roomB; roomT = rw length-append m; lenB = h .lenB; lenT = l ∙ h .lenT; isB = h .isB; isT = p ∙ put-all-next tone toneMost (t .tones) ts N (s .tones) (h .isT) (h .nt) f } in
       rw (le-leb (length (t .tones) + length ts) (toneRoom N) m, ← h .nt, ← b) (k (withTones ts t) (subst (λ (z : State). Holds B N z bt tt′ (withTones ts t)) (sym a) now))
 
-  module _ (g : GeneralizedData) (model : ℕ) {given : Given} {r : Made} {tt′ : List ℕ} (d : Done given (s .tones) tt tt′ r) where
-    pub general-no4 : {bt′ tt″ : List ℕ} → r ≡ Refused → Gives B N (No 4) bt′ tt″ (does (lentOf B N) model (generalDeed g given) t)
+  module _ (g : GeneralizedData) (model : ℕ) (origin : Origin) {given : Given} {r : Made} {tt′ : List ℕ} (d : Done given (s .tones) tt tt′ r) where
+    pub general-no4 : {bt′ tt″ : List ℕ} → r ≡ Refused → Gives B N (No (Refusal 4)) bt′ tt″ (does (lentOf B N) model origin (generalDeed g given) t)
     unfolding does generalDeed
     general-no4 e = rw (made-refused (capacityOf tone toneMost tt - s .tones) given (sym e ∙ d .answer)) refuses
 
-    pub general-no5 : {bt′ tt″ : List ℕ} → r ≡ Full → Gives B N (No 5) bt′ tt″ (does (lentOf B N) model (generalDeed g given) t)
-    general-no5 e = rw (made-full (lentOf B N) model g t given (sym e ∙ d .answer ∙ ap (λ (n : ℕ). madeOf n given) room-left)) refuses
+    pub general-no5 : {bt′ tt″ : List ℕ} → r ≡ Full → Gives B N (No (Refusal 5)) bt′ tt″ (does (lentOf B N) model origin (generalDeed g given) t)
+    general-no5 e = rw (made-full (lentOf B N) model origin g t given (sym e ∙ d .answer ∙ ap (λ (n : ℕ). madeOf n given) room-left)) refuses
 
-    pub general-stop : {x : Step} {bt′ : List ℕ} → r ≡ Stop → Gives B N x bt′ tt (addSound (lentOf B N) stopSound t) → Gives B N x bt′ tt′ (does (lentOf B N) model (generalDeed g given) t)
-    unfolding does generalDeed leaves born rowOf
+    pub general-stop : {x : Step} {bt′ : List ℕ} → r ≡ Stop → Gives B N x bt′ tt (addSound (lentOf B N) origin stopSound t) → Gives B N x bt′ tt′ (does (lentOf B N) model origin (generalDeed g given) t)
+    unfolding does generalDeed leaves rowOf
     general-stop e k =
         let q = made-stop (capacityOf tone toneMost tt - s .tones) given (sym e ∙ d .answer) in
         let w : tt′ ≡ tt = rw q at (d .table) in
-        rw (q, w, one-sound (lentOf B N) stopSound t) k
+        rw (q, w, one-sound (lentOf B N) origin stopSound t) k
 
     pub general-data : {x : Step} {bt′ : List ℕ} {n nil one last : ℕ} {a : State} {b : Block} → r ≡ Data n nil one last → length tt′ ≡ length tt → a ≡ withUsed (s .tones + n) s
-        → b ≡ born 1 (s .tones) n (g .from) (g .size) nil one last (ms (g .pause))
-        → ((u : Tape) → Holds B N a bt tt′ u → Gives B N x bt′ tt′ (addBlock (blockRoom B) b u)) → Gives B N x bt′ tt′ (does (lentOf B N) model (generalDeed g given) t)
-    unfolding does generalDeed leaves born rowOf
+        → b ≡ rowFor origin (s .tones) n (bitsAt (g .from) (g .size) nil one last) (lasts (ms (g .pause))) 1
+        → ((u : Tape) → Holds B N a bt tt′ u → Gives B N x bt′ tt′ (addBlock (blockRoom B) b u)) → Gives B N x bt′ tt′ (does (lentOf B N) model origin (generalDeed g given) t)
+    unfolding does generalDeed leaves rowOf
     general-data {nil = nil} {one} {last} e l a b k =
         let m = made-data (capacityOf tone toneMost tt - s .tones) given (sym e ∙ d .answer) in
         let ts = m .0 in
         let w : tt′ ≡ putAll tone tt (s .tones) ts = rw (m .1, m .3) at (d .table) in
-        let d = generalSound ts (bitsAt (g .from) (g .size) nil one last) (ms (g .pause)) in
-        rw (m .1, one-sound (lentOf B N) d t) (rows-then d (m .2) (leb-true (length ts) (capacityOf tone toneMost tt - s .tones) (m .3)) w l a (b ∙ ap (λ (i : ℕ). born 1 (s .tones) i (g .from) (g .size) nil one last (ms (g .pause))) (m .2)) k)
+        let d = dataSound ts (bitsAt (g .from) (g .size) nil one last) (ms (g .pause)) in
+        rw (m .1, one-sound (lentOf B N) origin d t) (rows-then origin d (m .2) (leb-true (length ts) (capacityOf tone toneMost tt - s .tones) (m .3)) w l a (b ∙ ap (λ (i : ℕ). rowFor origin (s .tones) i (bitsAt (g .from) (g .size) nil one last) (lasts (ms (g .pause))) 1) (m .2)) k)
 
     pub general-tones : {x : Step} {bt′ : List ℕ} {n : ℕ} {a : State} {b : Block} → r ≡ Tones n → length tt′ ≡ length tt → a ≡ withUsed (s .tones + n) s
-        → b ≡ born 1 (s .tones) n 0 0 0 0 0 (ms (g .pause))
-        → ((u : Tape) → Holds B N a bt tt′ u → Gives B N x bt′ tt′ (addBlock (blockRoom B) b u)) → Gives B N x bt′ tt′ (does (lentOf B N) model (generalDeed g given) t)
-    unfolding does generalDeed leaves born rowOf
+        → b ≡ rowFor origin (s .tones) n noBits (lasts (ms (g .pause))) 1
+        → ((u : Tape) → Holds B N a bt tt′ u → Gives B N x bt′ tt′ (addBlock (blockRoom B) b u)) → Gives B N x bt′ tt′ (does (lentOf B N) model origin (generalDeed g given) t)
+    unfolding does generalDeed leaves rowOf
     general-tones e l a b k =
         let m = made-tones (capacityOf tone toneMost tt - s .tones) given (sym e ∙ d .answer) in
         let ts = m .0 in
         let w : tt′ ≡ putAll tone tt (s .tones) ts = rw (m .1, m .3) at (d .table) in
-        let d = generalSound ts noBits (ms (g .pause)) in
-        rw (m .1, one-sound (lentOf B N) d t) (rows-then d (m .2) (leb-true (length ts) (capacityOf tone toneMost tt - s .tones) (m .3)) w l a (b ∙ ap (λ (i : ℕ). born 1 (s .tones) i 0 0 0 0 0 (ms (g .pause))) (m .2)) k)
+        let d = dataSound ts noBits (ms (g .pause)) in
+        rw (m .1, one-sound (lentOf B N) origin d t) (rows-then origin d (m .2) (leb-true (length ts) (capacityOf tone toneMost tt - s .tones) (m .3)) w l a (b ∙ ap (λ (i : ℕ). rowFor origin (s .tones) i noBits (lasts (ms (g .pause))) 1) (m .2)) k)

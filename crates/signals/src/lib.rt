@@ -1,10 +1,15 @@
 // The blocks of pieces that have their tones in the tape's bytes: pulses (13), generalised data (19). The reading alone calls them.
-use blocks::born;
+use blocks::Bits;
+use blocks::Origin;
+use blocks::bare_row;
+use blocks::data_row;
+use blocks::no_bits;
 use blocks::one_tone;
 use fields::Cursor;
 use fields::field;
 use general::Made;
 use made::general;
+use parser::Halt;
 use parser::State;
 use parser::Step;
 use parser::add_block;
@@ -16,8 +21,8 @@ ghost use Prim.Native.Nat.{ℕ, _+_, _*_, _≤_};
 ghost use lib.ListN.{length};
 ghost use Rattle.general.specs.General.{generalOf};
 ghost use Rattle.general.specs.Held.{Held};
-ghost use Rattle.blocks.specs.Blocks.{pulseAt};
-ghost use Rattle.blocks.specs.Sounds.{pairSounds, addSounds};
+ghost use Rattle.blocks.specs.Sounds.{addSounds};
+ghost use Rattle.blocks.specs.Blocks.{pulseAt, pairSounds};
 ghost use Rattle.blocks.specs.Deeds.{generalDeed, does};
 ghost use Rattle.blocks.specs.Does.{Does, withUsed};
 
@@ -36,11 +41,12 @@ pub fn pulse_blocks(
     s0: State,
     blocks: &mut [u64],
     tones: &mut [u64],
+    origin: Origin,
     from: u64,
     n: u64,
 ) -> Step
     requires { ⌜ from + n * 4 ≤ length (now tape) ⌝ }
-    ensures { λ x. ⌜ Does (λ lent. addSounds lent (pairSounds (now (tape .entry)) from 0 n)) s0 x (now (blocks .entry)) (now (tones .entry)) (now (blocks .exit)) (now (tones .exit)) ⌝ }
+    ensures { λ x. ⌜ Does (λ lent. addSounds lent origin (pairSounds (now (tape .entry)) from 0 n)) s0 x (now (blocks .entry)) (now (tones .entry)) (now (blocks .exit)) (now (tones .exit)) ⌝ }
 {
     let mut s = s0;
     let mut i = 0;
@@ -51,7 +57,7 @@ pub fn pulse_blocks(
             len1: pulse_at(tape, from, i),
             len2: pulse_at(tape, from, i + 1),
         };
-        let r = born(0, s.tones, 1, 0, 0, 0, 0, 0, 0);
+        let r = bare_row(origin, s.tones, 1, 0);
         match one_tone(s, blocks, tones, pair, r) {
             Step::On(next) => s = next,
             Step::No(k) => return Step::No(k),
@@ -82,36 +88,34 @@ pub fn generalized_data_block(
     s: State,
     blocks: &mut [u64],
     tones: &mut [u64],
+    origin: Origin,
     g: GeneralizedData,
 ) -> Step
     requires { ⌜ Held (now tape) g ⌝ }
-    ensures { λ x. ⌜ ((model : ℕ) → Does (λ lent. does lent model (generalDeed g (generalOf (now (tape .entry)) g))) s x (now (blocks .entry)) (now (tones .entry)) (now (blocks .exit)) (now (tones .exit))) ⌝ }
+    ensures { λ x. ⌜ ((model : ℕ) → Does (λ lent. does lent model origin (generalDeed g (generalOf (now (tape .entry)) g))) s x (now (blocks .entry)) (now (tones .entry)) (now (blocks .exit)) (now (tones .exit))) ⌝ }
 {
     match general(tape, g, tones, s.tones as usize) {
-        Made::Refused => Step::No(4),
-        Made::Full => Step::No(5),
-        Made::Stop => stop_block(s, blocks),
+        Made::Refused => Step::No(Halt::Refusal(4)),
+        Made::Full => Step::No(Halt::Refusal(5)),
+        Made::Stop => stop_block(s, blocks, origin),
         Made::Data {
             rows,
             zero,
             one,
             last,
         } => {
-            let r = born(
-                1,
-                s.tones,
-                rows,
-                g.from,
-                g.size,
-                zero as u64,
-                one as u64,
-                last as u64,
-                g.pause as u64 * 3500,
-            );
+            let bits = Bits {
+                start: g.from,
+                size: g.size,
+                zero: zero as u64,
+                one: one as u64,
+                last: last as u64,
+            };
+            let r = data_row(origin, s.tones, rows, bits, g.pause as u64 * 3500);
             add_block(with_used(s, s.tones + rows), blocks, r)
         }
         Made::Tones { rows } => {
-            let r = born(1, s.tones, rows, 0, 0, 0, 0, 0, g.pause as u64 * 3500);
+            let r = data_row(origin, s.tones, rows, no_bits(), g.pause as u64 * 3500);
             add_block(with_used(s, s.tones + rows), blocks, r)
         }
     }

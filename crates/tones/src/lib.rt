@@ -1,18 +1,27 @@
 // The blocks of pieces that have their tones in numbers: turbo data (11), a pure tone (12), pure data (14). The reading alone calls them.
-use blocks::born;
+use blocks::Bits;
+use blocks::Origin;
+use blocks::bare_row;
+use blocks::data_row;
 use blocks::one_tone;
 use blocks::two_tones;
 use parser::State;
 use parser::Step;
 use pieces::TurboData;
 use rows::Tone;
-ghost use Rattle.blocks.specs.Blocks.{ms, pureToneTones};
-ghost use Rattle.blocks.specs.Sounds.{bitsAt, turboSound, pureSound, toneSound, addSound};
+ghost use Rattle.blocks.specs.Sounds.{ms, bitsAt, addSound};
+ghost use Rattle.blocks.specs.Blocks.{turboSound, pureSound, pureToneTones, toneSound};
 ghost use Rattle.blocks.specs.Does.{Does};
 
 // 11
-pub fn turbo_data_block(s: State, blocks: &mut [u64], tones: &mut [u64], d: TurboData) -> Step
-    ensures { λ x. ⌜ Does (λ lent. addSound lent (turboSound d)) s x (now (blocks .entry)) (now (tones .entry)) (now (blocks .exit)) (now (tones .exit)) ⌝ }
+pub fn turbo_data_block(
+    s: State,
+    blocks: &mut [u64],
+    tones: &mut [u64],
+    origin: Origin,
+    d: TurboData,
+) -> Step
+    ensures { λ x. ⌜ Does (λ lent. addSound lent origin (turboSound d)) s x (now (blocks .entry)) (now (tones .entry)) (now (blocks .exit)) (now (tones .exit)) ⌝ }
 {
     let pilot = Tone {
         num: (d.pilots as u64 + 1) / 2,
@@ -24,33 +33,27 @@ pub fn turbo_data_block(s: State, blocks: &mut [u64], tones: &mut [u64], d: Turb
         len1: d.sync1 as u64,
         len2: d.sync2 as u64,
     };
-    let r = born(
-        1,
-        s.tones,
-        2,
-        d.from,
-        d.size as u64,
-        d.zero as u64,
-        d.one as u64,
-        d.last as u64,
-        d.pause as u64 * 3500,
-    );
+    let bits = Bits {
+        start: d.from,
+        size: d.size as u64,
+        zero: d.zero as u64,
+        one: d.one as u64,
+        last: d.last as u64,
+    };
+    let r = data_row(origin, s.tones, 2, bits, d.pause as u64 * 3500);
     two_tones(s, blocks, tones, pilot, sync, r)
 }
 
-// 14: `data` is the row's data and bits, its pause in ms.
+// 14: `bits` are the row's, the pause is in ms.
 pub fn pure_data_block(
     s: State,
     blocks: &mut [u64],
     tones: &mut [u64],
-    zero: u32,
-    one: u32,
-    last: u32,
+    origin: Origin,
+    bits: Bits,
     pause: u32,
-    start: u64,
-    size: u32,
 ) -> Step
-    ensures { λ x. ⌜ Does (λ lent. addSound lent (pureSound (bitsAt start size zero one last) (ms pause))) s x (now (blocks .entry)) (now (tones .entry)) (now (blocks .exit)) (now (tones .exit)) ⌝ }
+    ensures { λ x. ⌜ Does (λ lent. addSound lent origin (pureSound bits (ms pause))) s x (now (blocks .entry)) (now (tones .entry)) (now (blocks .exit)) (now (tones .exit)) ⌝ }
 {
     let pilot = Tone {
         num: 0,
@@ -62,17 +65,7 @@ pub fn pure_data_block(
         len1: 0,
         len2: 0,
     };
-    let r = born(
-        1,
-        s.tones,
-        2,
-        start,
-        size as u64,
-        zero as u64,
-        one as u64,
-        last as u64,
-        pause as u64 * 3500,
-    );
+    let r = data_row(origin, s.tones, 2, bits, pause as u64 * 3500);
     two_tones(s, blocks, tones, pilot, sync, r)
 }
 
@@ -81,10 +74,11 @@ pub fn pure_tone_block(
     s: State,
     blocks: &mut [u64],
     tones: &mut [u64],
+    origin: Origin,
     half: u32,
     count: u32,
 ) -> Step
-    ensures { λ x. ⌜ Does (λ lent. addSound lent (toneSound (pureToneTones half count))) s x (now (blocks .entry)) (now (tones .entry)) (now (blocks .exit)) (now (tones .exit)) ⌝ }
+    ensures { λ x. ⌜ Does (λ lent. addSound lent origin (toneSound (pureToneTones half count))) s x (now (blocks .entry)) (now (tones .entry)) (now (blocks .exit)) (now (tones .exit)) ⌝ }
 {
     let whole = Tone {
         num: (count / 2) as u64,
@@ -92,7 +86,7 @@ pub fn pure_tone_block(
         len2: half as u64,
     };
     if count % 2 == 0 {
-        let r = born(0, s.tones, 1, 0, 0, 0, 0, 0, 0);
+        let r = bare_row(origin, s.tones, 1, 0);
         return one_tone(s, blocks, tones, whole, r);
     }
     let odd = Tone {
@@ -100,6 +94,6 @@ pub fn pure_tone_block(
         len1: 0,
         len2: half as u64,
     };
-    let r = born(0, s.tones, 2, 0, 0, 0, 0, 0, 0);
+    let r = bare_row(origin, s.tones, 2, 0);
     two_tones(s, blocks, tones, odd, whole, r)
 }

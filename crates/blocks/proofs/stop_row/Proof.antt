@@ -1,13 +1,17 @@
 -- `stop_row` meets its contract. Assumes nothing.
-use Rattle.blocks.specs.Sounds.{rowOf}
-use mathlib.Core.Path.{refl}
+use borrow.Author.Needs.{needs}
 use Rattle.blocks.proofs.stop_row.Statement.{statement}
 use Rattle.blocks.proofs.stop_row.Tie as tie
 
+no-bits-requires : tie.Need-no-bits-requires
+no-bits-requires c κs = search needs
+
+row-requires : tie.Need-row-requires
+row-requires c κs = search needs
+
 returns : tie.Need-returns
-unfolding rowOf
 returns c =
-    refl
+    rw (c .before .no-bits .ensures) at (c .row .ensures)
 
 pub stop-row-spec : {M : Type 1} → statement M
-stop-row-spec = tie.close (tie.spec returns)
+stop-row-spec = tie.close (tie.spec no-bits-requires row-requires returns)

@@ -23,23 +23,23 @@ stop-block-requires c κs = search needs
 enum-known-rows : tie.Need-enum-known-rows
 enum-known-rows c = search needs
 
-cast-born : tie.Need-cast-born
-cast-born c = search needs
+cast-data-row : tie.Need-cast-data-row
+cast-data-row c = search needs
 
-cast-born-2 : tie.Need-cast-born-2
-cast-born-2 c = search needs
+cast-with-used : tie.Need-cast-with-used
+cast-with-used c = search needs
 
-cast-born-3 : tie.Need-cast-born-3
-cast-born-3 c = search needs
+cast-data-row-2 : tie.Need-cast-data-row-2
+cast-data-row-2 c = search needs
 
-cast-born-4 : tie.Need-cast-born-4
-cast-born-4 c = search needs
+cast-data-row-3 : tie.Need-cast-data-row-3
+cast-data-row-3 c = search needs
 
-mul-born : tie.Need-mul-born
-mul-born c = search needs
+mul-data-row : tie.Need-mul-data-row
+mul-data-row c = search needs
 
-born-requires : tie.Need-born-requires
-born-requires c κs = search needs
+data-row-requires : tie.Need-data-row-requires
+data-row-requires c κs = search needs
 
 add-with-used : tie.Need-add-with-used
 add-with-used c =
@@ -54,18 +54,21 @@ add-block-requires c κs = search needs
 enum-known-rows-2 : tie.Need-enum-known-rows-2
 enum-known-rows-2 c = search needs
 
-cast-born-5 : tie.Need-cast-born-5
-cast-born-5 c = search needs
+no-bits-requires : tie.Need-no-bits-requires
+no-bits-requires c κs = search needs
 
-mul-born-2 : tie.Need-mul-born-2
-mul-born-2 c = search needs
+cast-data-row-4 : tie.Need-cast-data-row-4
+cast-data-row-4 c = search needs
 
-born-requires-2 : tie.Need-born-requires-2
-born-requires-2 c κs = search needs
+mul-data-row-2 : tie.Need-mul-data-row-2
+mul-data-row-2 c = search needs
+
+data-row-requires-2 : tie.Need-data-row-requires-2
+data-row-requires-2 c κs = search needs
 
 add-with-used-2 : tie.Need-add-with-used-2
 add-with-used-2 c =
-    omega (arith, tones-fit (c .before .before .before .before .before .before .before .before .general .ensures) (c .before .before .before .before .rows2 .given .1), c .before .before .before .before .before .before .before .before .before .before .before .before .before .good .1 .0)
+    omega (arith, tones-fit (c .before .before .before .before .before .before .before .before .before .general .ensures) (c .before .before .before .before .before .rows2 .given .1), c .before .before .before .before .before .before .before .before .before .before .before .before .before .before .good .1 .0)
 
 with-used-requires-2 : tie.Need-with-used-requires-2
 with-used-requires-2 c κs = search needs
@@ -78,14 +81,14 @@ same-length c = search needs
 
 returns : tie.Need-returns
 returns c =
-    λ model B N t h. general-no4 h _ model (c .before .before .before .before .general .ensures) (c .enum-told .given .1)
+    λ model B N t h. general-no4 h _ model _ (c .before .before .before .before .general .ensures) (c .enum-told .given .1)
 
 same-length-2 : tie.Need-same-length-2
 same-length-2 c = search needs
 
 returns-2 : tie.Need-returns-2
 returns-2 c =
-    λ model B N t h. general-no5 h _ model (c .before .before .before .before .general .ensures) (c .enum-told2 .given .1)
+    λ model B N t h. general-no5 h _ model _ (c .before .before .before .before .general .ensures) (c .enum-told2 .given .1)
 
 same-length-3 : tie.Need-same-length-3
 same-length-3 c = search needs
@@ -95,7 +98,7 @@ same-length-4 c = search needs
 
 returns-3 : tie.Need-returns-3
 returns-3 c =
-    λ model B N t h. general-stop h _ model (c .before .before .before .before .before .before .before .before .general .ensures) (c .before .before .before .before .enum-told3 .given .1) (c .before .before .stop-block .ensures _ B N t h)
+    λ model B N t h. general-stop h _ model _ (c .before .before .before .before .before .before .before .before .general .ensures) (c .before .before .before .before .enum-told3 .given .1) (c .before .before .stop-block .ensures _ B N t h)
 
 same-length-5 : tie.Need-same-length-5
 same-length-5 c = search needs
@@ -105,7 +108,7 @@ same-length-6 c = search needs
 
 returns-4 : tie.Need-returns-4
 returns-4 c =
-    λ model B N t h. general-data h _ model (c .before .before .before .before .before .before .before .before .before .before .before .before .before .general .ensures) (c .before .before .before .before .before .before .before .before .before .rows .given .1) (c .before .before .before .before .before .before .before .before .before .before .before .before .before .general .kept .1 .1 .0) (c .before .before .before .before .with-used .ensures) (c .before .before .before .before .before .before .born .ensures) (c .before .before .add-block .ensures B N _)
+    λ model B N t h. general-data h _ model _ (c .before .before .before .before .before .before .before .before .before .before .before .before .before .general .ensures) (c .before .before .before .before .before .before .before .before .before .rows .given .1) (c .before .before .before .before .before .before .before .before .before .before .before .before .before .general .kept .1 .1 .0) (c .before .before .before .before .with-used .ensures) (c .before .before .before .before .before .before .data-row .ensures) (c .before .before .add-block .ensures B N _)
 
 same-length-7 : tie.Need-same-length-7
 same-length-7 c = search needs
@@ -115,7 +118,7 @@ same-length-8 c = search needs
 
 returns-5 : tie.Need-returns-5
 returns-5 c =
-    λ model B N t h. general-tones h _ model (c .before .before .before .before .before .before .before .before .before .before .before .before .before .general .ensures) (c .before .before .before .before .before .before .before .before .before .rows2 .given .1) (c .before .before .before .before .before .before .before .before .before .before .before .before .before .general .kept .1 .1 .0) (c .before .before .before .before .with-used2 .ensures) (c .before .before .before .before .before .before .born2 .ensures) (c .before .before .add-block2 .ensures B N _)
+    λ model B N t h. general-tones h _ model _ (c .before .before .before .before .before .before .before .before .before .before .before .before .before .before .general .ensures) (c .before .before .before .before .before .before .before .before .before .before .rows2 .given .1) (c .before .before .before .before .before .before .before .before .before .before .before .before .before .before .general .kept .1 .1 .0) (c .before .before .before .before .with-used2 .ensures) (rw (c .before .before .before .before .before .before .before .before .no-bits .ensures) at (c .before .before .before .before .before .before .data-row2 .ensures)) (c .before .before .add-block2 .ensures B N _)
 
 pub generalized-data-block-spec : {M : Type 1} → statement M
 generalized-data-block-spec =
@@ -127,19 +130,20 @@ generalized-data-block-spec =
     enum-told-3
     stop-block-requires
     enum-known-rows
-    cast-born
-    cast-born-2
-    cast-born-3
-    cast-born-4
-    mul-born
-    born-requires
+    cast-data-row
+    cast-with-used
+    cast-data-row-2
+    cast-data-row-3
+    mul-data-row
+    data-row-requires
     add-with-used
     with-used-requires
     add-block-requires
     enum-known-rows-2
-    cast-born-5
-    mul-born-2
-    born-requires-2
+    no-bits-requires
+    cast-data-row-4
+    mul-data-row-2
+    data-row-requires-2
     add-with-used-2
     with-used-requires-2
     add-block-requires-2

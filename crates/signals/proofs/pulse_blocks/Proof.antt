@@ -7,20 +7,20 @@ use borrow.Author.Needs.{needs}
 use Rattle.parser.specs.Parser.{Tape}
 use Rattle.parser.specs.Holds.{Holds}
 use Rattle.parser.proofs.Laws.{Going, going-starts, going-on, going-no, going-ends}
-use Rattle.blocks.specs.Blocks.{born}
-use Rattle.blocks.specs.Sounds.{rowOf, pairSound, pairSounds, addSound, addSounds}
+use Rattle.blocks.specs.Sounds.{rowOf, addSound, addSounds}
+use Rattle.blocks.specs.Blocks.{pairSound, pairSounds}
 use Rattle.blocks.specs.Does.{lentOf}
 use Rattle.blocks.proofs.Laws.{Any, does-sound, pairs-more}
 use Rattle.signals.proofs.pulse_blocks.Statement.{statement}
 use Rattle.signals.proofs.pulse_blocks.Tie as tie
 
 abbrev Inv-loop : tie.InvT-loop
-Inv-loop tape blocks₀ tones₀ from n s₀ i₀ left₀ blocks tones s i left =
+Inv-loop tape blocks₀ tones₀ origin from n s₀ i₀ left₀ blocks tones s i left =
     (length blocks ≡ length blocks₀) × (length tones ≡ length tones₀) × (i + left * 2 ≡ n * 2)
-    × ((B N : ℕ) (t : Tape) → Holds B N s₀ blocks₀ tones₀ t → Going Any B N s blocks tones (addSounds (lentOf B N) (pairSounds tape from i left)) (addSounds (lentOf B N) (pairSounds tape from 0 n) t))
+    × ((B N : ℕ) (t : Tape) → Holds B N s₀ blocks₀ tones₀ t → Going Any B N s blocks tones (addSounds (lentOf B N) origin (pairSounds tape from i left)) (addSounds (lentOf B N) origin (pairSounds tape from 0 n) t))
 
 abbrev μ-loop : tie.MeasureT-loop
-μ-loop tape blocks₀ tones₀ from n s₀ i₀ left₀ blocks tones s i left = left
+μ-loop tape blocks₀ tones₀ origin from n s₀ i₀ left₀ blocks tones s i left = left
 
 loop-holds : tie.Need-loop-holds Inv-loop μ-loop
 loop-holds c =
@@ -35,8 +35,8 @@ add-pulse-at c = search needs
 pulse-at-requires-2 : tie.Need-pulse-at-requires-2 Inv-loop μ-loop
 pulse-at-requires-2 c κs = search needs
 
-born-requires : tie.Need-born-requires Inv-loop μ-loop
-born-requires c κs = search needs
+bare-row-requires : tie.Need-bare-row-requires Inv-loop μ-loop
+bare-row-requires c κs = search needs
 
 one-tone-requires : tie.Need-one-tone-requires Inv-loop μ-loop
 one-tone-requires c κs = search needs
@@ -54,15 +54,15 @@ same-length-2 : tie.Need-same-length-2 Inv-loop μ-loop
 same-length-2 c = search needs
 
 returns : tie.Need-returns Inv-loop μ-loop
-unfolding born rowOf
+unfolding rowOf
 returns c =
     λ B N t h.
     let l = c .before .before .before .before .before .before .before .before .before .before .before .before .before .before .loop in
     let a = c .before .before .before .before .before .before .before .before .before .before .before .before .before .before .before .before .before .before .args in
     let g = l .inv .3 B N t h in
-    let f = addSound (lentOf B N) (pairSound (a .tape .now) (a .from) (l .i)) in
-    let gave = does-sound (pairSound (a .tape .now) (a .from) (l .i)) (c .before .before .before .before .before .before .before .before .before .before .born .ensures) (rw (c .before .before .before .before .before .before .before .before .before .before .before .before .pulse-at .ensures, c .before .before .before .before .before .before .before .before .before .before .before .pulse-at2 .ensures) at (c .before .before .before .before .before .before .before .one-tone .ensures)) B N (g .at) (g .holds) in
-    going-no g f (addSounds (lentOf B N) (pairSounds (a .tape .now) (a .from) (l .i + 2) (l .left - 1))) (pairs-more (lentOf B N) (a .tape .now) (a .from) (l .i) (l .left) (g .at) (c .before .before .before .before .before .before .before .before .before .before .before .before .before .loop-test .taken)) gave (c .before .k .given .1)
+    let f = addSound (lentOf B N) (a .origin) (pairSound (a .tape .now) (a .from) (l .i)) in
+    let gave = does-sound (a .origin) (pairSound (a .tape .now) (a .from) (l .i)) (c .before .before .before .before .before .before .before .before .before .before .bare-row .ensures) (rw (c .before .before .before .before .before .before .before .before .before .before .before .before .pulse-at .ensures, c .before .before .before .before .before .before .before .before .before .before .before .pulse-at2 .ensures) at (c .before .before .before .before .before .before .before .one-tone .ensures)) B N (g .at) (g .holds) in
+    going-no g f (addSounds (lentOf B N) (a .origin) (pairSounds (a .tape .now) (a .from) (l .i + 2) (l .left - 1))) (pairs-more (lentOf B N) (a .origin) (a .tape .now) (a .from) (l .i) (l .left) (g .at) (c .before .before .before .before .before .before .before .before .before .before .before .before .before .loop-test .taken)) gave (c .before .k .given .1)
 
 add-i : tie.Need-add-i Inv-loop μ-loop
 add-i c =
@@ -75,7 +75,7 @@ loop-less : tie.Need-loop-less Inv-loop μ-loop
 loop-less c = search needs
 
 loop-again : tie.Need-loop-again Inv-loop μ-loop
-unfolding born rowOf
+unfolding rowOf
 loop-again c =
     let l = c .before .before .before .before .before .before .before .before .before .before .before .before .before .before .loop in
     let a = c .before .before .before .before .before .before .before .before .before .before .before .before .before .before .before .before .before .before .args in (
@@ -84,9 +84,9 @@ loop-again c =
       omega arith,
       λ B N t h.
           let g = l .inv .3 B N t h in
-          let f = addSound (lentOf B N) (pairSound (a .tape .now) (a .from) (l .i)) in
-          let gave = does-sound (pairSound (a .tape .now) (a .from) (l .i)) (c .before .before .before .before .before .before .before .before .before .before .born .ensures) (rw (c .before .before .before .before .before .before .before .before .before .before .before .before .pulse-at .ensures, c .before .before .before .before .before .before .before .before .before .before .before .pulse-at2 .ensures) at (c .before .before .before .before .before .before .before .one-tone .ensures)) B N (g .at) (g .holds) in
-          going-on g f (addSounds (lentOf B N) (pairSounds (a .tape .now) (a .from) (l .i + 2) (l .left - 1))) (pairs-more (lentOf B N) (a .tape .now) (a .from) (l .i) (l .left) (g .at) (c .before .before .before .before .before .before .before .before .before .before .before .before .before .loop-test .taken)) gave (c .before .next .given .1) (λ u q. tt),
+          let f = addSound (lentOf B N) (a .origin) (pairSound (a .tape .now) (a .from) (l .i)) in
+          let gave = does-sound (a .origin) (pairSound (a .tape .now) (a .from) (l .i)) (c .before .before .before .before .before .before .before .before .before .before .bare-row .ensures) (rw (c .before .before .before .before .before .before .before .before .before .before .before .before .pulse-at .ensures, c .before .before .before .before .before .before .before .before .before .before .before .pulse-at2 .ensures) at (c .before .before .before .before .before .before .before .one-tone .ensures)) B N (g .at) (g .holds) in
+          going-on g f (addSounds (lentOf B N) (a .origin) (pairSounds (a .tape .now) (a .from) (l .i + 2) (l .left - 1))) (pairs-more (lentOf B N) (a .origin) (a .tape .now) (a .from) (l .i) (l .left) (g .at) (c .before .before .before .before .before .before .before .before .before .before .before .before .before .loop-test .taken)) gave (c .before .next .given .1) (λ u q. tt),
     )
 
 same-length-3 : tie.Need-same-length-3 Inv-loop μ-loop
@@ -112,7 +112,7 @@ pulse-blocks-spec =
     pulse-at-requires
     add-pulse-at
     pulse-at-requires-2
-    born-requires
+    bare-row-requires
     one-tone-requires
     enum-known-next
     enum-known-k

@@ -1,6 +1,7 @@
 -- `stop_block` meets its contract. Assumes nothing.
 use Rattle.blocks.proofs.Laws.{does-sound}
-use Rattle.blocks.specs.Sounds.{stopSound}
+use Rattle.blocks.specs.Sounds.{rowOf}
+use Rattle.blocks.specs.Blocks.{stopSound}
 use borrow.Author.Needs.{needs}
 use Rattle.stops.proofs.stop_block.Statement.{statement}
 use Rattle.stops.proofs.stop_block.Tie as tie
@@ -15,8 +16,10 @@ same-length : tie.Need-same-length
 same-length c = search needs
 
 returns : tie.Need-returns
+unfolding rowOf
 returns c =
-    λ tt. does-sound stopSound (c .before .before .before .stop-row .ensures) (c .before .before .no-tone .ensures tt)
+    let n = c .before .before in
+    λ tt. does-sound _ stopSound (n .before .stop-row .ensures) (n .no-tone .ensures tt)
 
 pub stop-block-spec : {M : Type 1} → statement M
 stop-block-spec = tie.close (tie.spec stop-row-requires no-tone-requires same-length returns)

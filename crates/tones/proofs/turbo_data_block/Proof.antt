@@ -1,50 +1,50 @@
 -- `turbo_data_block` meets its contract. Assumes nothing.
 use native.Mathlib.Omega.{arith}
 use Rattle.blocks.proofs.Laws.{does-sound}
-use Rattle.blocks.specs.Blocks.{born, turboTones}
-use Rattle.blocks.specs.Sounds.{rowOf, turboSound}
+use Rattle.blocks.specs.Sounds.{rowOf}
+use Rattle.blocks.specs.Blocks.{turboTones, turboSound}
 use borrow.Author.Needs.{needs}
 use Rattle.tones.proofs.turbo_data_block.Statement.{statement}
 use Rattle.tones.proofs.turbo_data_block.Tie as tie
 
-cast-born : tie.Need-cast-born
-cast-born c = search needs
+cast-data-row : tie.Need-cast-data-row
+cast-data-row c = search needs
 
-add-born : tie.Need-add-born
-add-born c = search needs
+add-data-row : tie.Need-add-data-row
+add-data-row c = search needs
 
-cast-born-2 : tie.Need-cast-born-2
-cast-born-2 c = search needs
+cast-t13 : tie.Need-cast-t13
+cast-t13 c = search needs
 
-cast-born-3 : tie.Need-cast-born-3
-cast-born-3 c = search needs
+cast-t14 : tie.Need-cast-t14
+cast-t14 c = search needs
 
-cast-born-4 : tie.Need-cast-born-4
-cast-born-4 c = search needs
+cast-t10 : tie.Need-cast-t10
+cast-t10 c = search needs
 
-cast-born-5 : tie.Need-cast-born-5
-cast-born-5 c = search needs
+cast-t14-2 : tie.Need-cast-t14-2
+cast-t14-2 c = search needs
 
-cast-born-6 : tie.Need-cast-born-6
-cast-born-6 c = omega (arith, c .struct-known6 .given .1 .1 .1 .1 .1 .1 .1 .1 .1 .0)
+cast-t13-2 : tie.Need-cast-t13-2
+cast-t13-2 c = omega (arith, c .struct-known6 .given .1 .1 .1 .1 .1 .1 .1 .1 .1 .0)
 
-cast-born-7 : tie.Need-cast-born-7
-cast-born-7 c = search needs
+cast-t14-3 : tie.Need-cast-t14-3
+cast-t14-3 c = search needs
 
-cast-born-8 : tie.Need-cast-born-8
-cast-born-8 c = search needs
+cast-t10-2 : tie.Need-cast-t10-2
+cast-t10-2 c = search needs
 
-cast-born-9 : tie.Need-cast-born-9
-cast-born-9 c = search needs
+cast-data-row-2 : tie.Need-cast-data-row-2
+cast-data-row-2 c = search needs
 
-cast-born-10 : tie.Need-cast-born-10
-cast-born-10 c = search needs
+cast-data-row-3 : tie.Need-cast-data-row-3
+cast-data-row-3 c = search needs
 
-mul-born : tie.Need-mul-born
-mul-born c = search needs
+mul-data-row : tie.Need-mul-data-row
+mul-data-row c = search needs
 
-born-requires : tie.Need-born-requires
-born-requires c κs = search needs
+data-row-requires : tie.Need-data-row-requires
+data-row-requires c κs = search needs
 
 two-tones-requires : tie.Need-two-tones-requires
 two-tones-requires c κs = search needs
@@ -56,27 +56,29 @@ same-length-2 : tie.Need-same-length-2
 same-length-2 c = search needs
 
 returns : tie.Need-returns
-unfolding born rowOf turboTones turboSound
+unfolding rowOf turboTones turboSound
 returns c =
-    does-sound (turboSound (c .before .before .before .before .before .before .before .before .before .before .before .before .before .before .before .before .before .before .before .before .args .d)) (c .before .before .before .before .before .before .before .born .ensures) (c .before .before .before .before .two-tones .ensures)
+    let n = c .before .before .before .before in
+    let a = c .before .before .before .before .before .before .before .before .before .before .before .before .before .before .before .before .before .before .before .before .args in
+    does-sound (a .origin) (turboSound (a .d)) (n .before .before .before .data-row .ensures) (n .two-tones .ensures)
 
 pub turbo-data-block-spec : {M : Type 1} → statement M
 turbo-data-block-spec =
     tie.close
     (tie.spec
-    cast-born
-    add-born
-    cast-born-2
-    cast-born-3
-    cast-born-4
-    cast-born-5
-    cast-born-6
-    cast-born-7
-    cast-born-8
-    cast-born-9
-    cast-born-10
-    mul-born
-    born-requires
+    cast-data-row
+    add-data-row
+    cast-t13
+    cast-t14
+    cast-t10
+    cast-t14-2
+    cast-t13-2
+    cast-t14-3
+    cast-t10-2
+    cast-data-row-2
+    cast-data-row-3
+    mul-data-row
+    data-row-requires
     two-tones-requires
     same-length
     same-length-2

@@ -1,5 +1,6 @@
 -- `act` meets its contract. Assumes nothing.
-use Rattle.reader.specs.Source.{act, deedOf}
+use Rattle.reader.specs.Meaning.{deedOf}
+use Rattle.reader.specs.Source.{act}
 use Rattle.blocks.specs.Deeds.{does}
 use Rattle.blocks.specs.Sounds.{addSounds}
 use Rattle.blocks.proofs.Laws.{does-one}
@@ -15,11 +16,11 @@ enum-known-piece c = search needs
 is-header-requires : tie.Need-is-header-requires
 is-header-requires c κs = search needs
 
-cast-standard-data-block : tie.Need-cast-standard-data-block
-cast-standard-data-block c = search needs
+cast-pause : tie.Need-cast-pause
+cast-pause c = search needs
 
-mul-standard-data-block : tie.Need-mul-standard-data-block
-mul-standard-data-block c = search needs
+mul-pause : tie.Need-mul-pause
+mul-pause c = search needs
 
 standard-data-block-requires : tie.Need-standard-data-block-requires
 standard-data-block-requires c κs = search needs
@@ -49,6 +50,18 @@ pulse-blocks-requires c κs =
 enum-known-piece-5 : tie.Need-enum-known-piece-5
 enum-known-piece-5 c = search needs
 
+cast-t55 : tie.Need-cast-t55
+cast-t55 c = search needs
+
+cast-t56 : tie.Need-cast-t56
+cast-t56 c = search needs
+
+cast-t57 : tie.Need-cast-t57
+cast-t57 c = search needs
+
+cast-t58 : tie.Need-cast-t58
+cast-t58 c = search needs
+
 pure-data-block-requires : tie.Need-pure-data-block-requires
 pure-data-block-requires c κs = search needs
 
@@ -68,11 +81,11 @@ pause-block-requires c κs = search needs
 enum-known-piece-8 : tie.Need-enum-known-piece-8
 enum-known-piece-8 c = search needs
 
-cast-group-start : tie.Need-cast-group-start
-cast-group-start c = search needs
+cast-chars : tie.Need-cast-chars
+cast-chars c = search needs
 
-group-start-requires : tie.Need-group-start-requires
-group-start-requires c κs = search needs
+pend-requires : tie.Need-pend-requires
+pend-requires c κs = search needs
 
 enum-told : tie.Need-enum-told
 enum-told c = search needs
@@ -92,20 +105,23 @@ enum-told-2 c = search needs
 loop-end-requires : tie.Need-loop-end-requires
 loop-end-requires c κs = search needs
 
-enum-told-3 : tie.Need-enum-told-3
-enum-told-3 c = search needs
+enum-known-piece-10 : tie.Need-enum-known-piece-10
+enum-known-piece-10 c = search needs
 
 stop-on-48-requires : tie.Need-stop-on-48-requires
 stop-on-48-requires c κs = search needs
 
-enum-known-piece-10 : tie.Need-enum-known-piece-10
-enum-known-piece-10 c = search needs
+enum-known-piece-11 : tie.Need-enum-known-piece-11
+enum-known-piece-11 c = search needs
 
-cast-text-description : tie.Need-cast-text-description
-cast-text-description c = search needs
+cast-chars-2 : tie.Need-cast-chars-2
+cast-chars-2 c = search needs
 
-text-description-requires : tie.Need-text-description-requires
-text-description-requires c κs = search needs
+pend-requires-2 : tie.Need-pend-requires-2
+pend-requires-2 c κs = search needs
+
+enum-told-3 : tie.Need-enum-told-3
+enum-told-3 c = search needs
 
 enum-told-4 : tie.Need-enum-told-4
 enum-told-4 c = search needs
@@ -119,9 +135,6 @@ enum-told-6 c = search needs
 enum-told-7 : tie.Need-enum-told-7
 enum-told-7 c = search needs
 
-enum-told-8 : tie.Need-enum-told-8
-enum-told-8 c = search needs
-
 same-length : tie.Need-same-length
 same-length c = search needs
 
@@ -131,7 +144,7 @@ same-length-2 c = search needs
 returns : tie.Need-returns
 unfolding act deedOf
 returns c =
-    λ B N t h. rw (c .before .before .before .before .before .before .before .before .before .piece .given .1, ← c .before .before .before .before .before .before .before .is-header .ensures) (does-one _ _ (c .before .before .before .before .standard-data-block .ensures) B N t h)
+    λ B N t h. rw (c .before .before .before .before .before .before .before .before .before .piece .given .1, ← c .before .before .before .before .before .before .before .is-header .ensures) (does-one _ _ _ (c .before .before .before .before .standard-data-block .ensures) B N t h)
 
 same-length-3 : tie.Need-same-length-3
 same-length-3 c = search needs
@@ -142,7 +155,7 @@ same-length-4 c = search needs
 returns-2 : tie.Need-returns-2
 unfolding act deedOf
 returns-2 c =
-    λ B N t h. rw (c .before .before .before .before .before .before .before .before .piece2 .given .1) (does-one _ _ (c .before .before .before .before .turbo-data-block .ensures) B N t h)
+    λ B N t h. rw (c .before .before .before .before .before .before .before .before .piece2 .given .1) (does-one _ _ _ (c .before .before .before .before .turbo-data-block .ensures) B N t h)
 
 same-length-5 : tie.Need-same-length-5
 same-length-5 c = search needs
@@ -153,7 +166,7 @@ same-length-6 c = search needs
 returns-3 : tie.Need-returns-3
 unfolding act deedOf
 returns-3 c =
-    λ B N t h. rw (c .before .before .before .before .before .before .before .before .piece3 .given .1) (does-one _ _ (c .before .before .before .before .pure-tone-block .ensures) B N t h)
+    λ B N t h. rw (c .before .before .before .before .before .before .before .before .piece3 .given .1) (does-one _ _ _ (c .before .before .before .before .pure-tone-block .ensures) B N t h)
 
 same-length-7 : tie.Need-same-length-7
 same-length-7 c = search needs
@@ -175,7 +188,7 @@ same-length-10 c = search needs
 returns-5 : tie.Need-returns-5
 unfolding act deedOf
 returns-5 c =
-    λ B N t h. rw (c .before .before .before .before .before .before .before .before .piece5 .given .1) (does-one _ _ (c .before .before .before .before .pure-data-block .ensures) B N t h)
+    λ B N t h. rw (c .before .before .before .before .before .before .before .before .piece5 .given .1) (does-one _ _ _ (c .before .before .before .before .pure-data-block .ensures) B N t h)
 
 same-length-11 : tie.Need-same-length-11
 same-length-11 c = search needs
@@ -194,12 +207,12 @@ same-length-13 c = search needs
 returns-7 : tie.Need-returns-7
 unfolding act deedOf
 returns-7 c =
-    λ B N t h. rw (c .before .before .before .before .before .piece7 .given .1) (does-one _ _ (c .before .before .pause-block .ensures _) B N t h)
+    λ B N t h. rw (c .before .before .before .before .before .piece7 .given .1) (does-one _ _ _ (c .before .before .pause-block .ensures _) B N t h)
 
 returns-8 : tie.Need-returns-8
 unfolding act deedOf does
 returns-8 c =
-    λ B N t h. rw (c .before .before .piece8 .given .1) (c .group-start .ensures B N _ _ t h)
+    λ B N t h. rw (c .before .before .piece8 .given .1) (c .pend .ensures B N _ _ t h)
 
 same-length-14 : tie.Need-same-length-14
 same-length-14 c = search needs
@@ -228,37 +241,37 @@ same-length-16 c = search needs
 returns-12 : tie.Need-returns-12
 unfolding act deedOf
 returns-12 c =
-    λ B N t h. rw (c .before .before .before .before .enum-told3 .given .1) (c .before .before .stop-on-48 .ensures _ B N t h)
+    λ B N t h. rw (c .before .before .before .before .before .piece10 .given .1) (c .before .before .stop-on-48 .ensures _ B N t h)
 
 returns-13 : tie.Need-returns-13
 unfolding act deedOf does
 returns-13 c =
-    λ B N t h. rw (c .before .before .piece10 .given .1) (c .text-description .ensures B N _ _ t h)
+    λ B N t h. rw (c .before .before .piece11 .given .1) (c .pend2 .ensures B N _ _ t h)
 
 returns-14 : tie.Need-returns-14
 unfolding act deedOf does addSounds
 returns-14 c =
-    λ B N t h. rw (c .enum-told4 .given .1) (goes h)
+    λ B N t h. rw (c .enum-told3 .given .1) (goes h)
 
 returns-15 : tie.Need-returns-15
 unfolding act deedOf does addSounds
 returns-15 c =
-    λ B N t h. rw (c .enum-told5 .given .1) (goes h)
+    λ B N t h. rw (c .enum-told4 .given .1) (goes h)
 
 returns-16 : tie.Need-returns-16
 unfolding act deedOf does addSounds
 returns-16 c =
-    λ B N t h. rw (c .enum-told6 .given .1) (goes h)
+    λ B N t h. rw (c .enum-told5 .given .1) (goes h)
 
 returns-17 : tie.Need-returns-17
 unfolding act deedOf does addSounds
 returns-17 c =
-    λ B N t h. rw (c .enum-told7 .given .1) (goes h)
+    λ B N t h. rw (c .enum-told6 .given .1) (goes h)
 
 returns-18 : tie.Need-returns-18
 unfolding act deedOf does addSounds
 returns-18 c =
-    λ B N t h. rw (c .enum-told8 .given .1) (goes h)
+    λ B N t h. rw (c .enum-told7 .given .1) (goes h)
 
 pub act-spec : {M : Type 1} → statement M
 act-spec =
@@ -266,8 +279,8 @@ act-spec =
     (tie.spec
     enum-known-piece
     is-header-requires
-    cast-standard-data-block
-    mul-standard-data-block
+    cast-pause
+    mul-pause
     standard-data-block-requires
     enum-known-piece-2
     turbo-data-block-requires
@@ -277,30 +290,34 @@ act-spec =
     cast-pulse-blocks
     pulse-blocks-requires
     enum-known-piece-5
+    cast-t55
+    cast-t56
+    cast-t57
+    cast-t58
     pure-data-block-requires
     enum-known-piece-6
     generalized-data-block-requires
     enum-known-piece-7
     pause-block-requires
     enum-known-piece-8
-    cast-group-start
-    group-start-requires
+    cast-chars
+    pend-requires
     enum-told
     group-end-requires
     enum-known-piece-9
     loop-start-requires
     enum-told-2
     loop-end-requires
-    enum-told-3
-    stop-on-48-requires
     enum-known-piece-10
-    cast-text-description
-    text-description-requires
+    stop-on-48-requires
+    enum-known-piece-11
+    cast-chars-2
+    pend-requires-2
+    enum-told-3
     enum-told-4
     enum-told-5
     enum-told-6
     enum-told-7
-    enum-told-8
     same-length
     same-length-2
     returns

@@ -1,36 +1,42 @@
 -- `read_tap` meets its contract. Assumes nothing.
-use Rattle.reader.proofs.Rest.{Rest, rest-begins, rest-over, rest-bad, rest-no, rest-on, tap-stops, tap-sees, blank-holds}
-use Rattle.blocks.specs.Does.{lentOf}
-use Rattle.reader.specs.Source.{tapOf, tapSee, foldFrom, readTap}
-use Rattle.pieces.proofs.CuttingTap.{tap-forward}
-use Rattle.parser.specs.Parser.{empty}
 use borrow.Author.Needs.{needs}
-use lib.ListN.{length}
-use native.Mathlib.Omega.{arith}
-use Prim.Native.Nat.{_-_}
 use mathlib.Core.Path.{sym, _∙_}
+use Prim.Native.Nat.{_-_}
+use native.Mathlib.Omega.{arith}
+use lib.ListN.{length}
+use Rattle.parser.specs.Parser.{empty}
+use Rattle.pieces.proofs.CuttingTap.{tap-forward}
+use Rattle.reader.specs.Source.{tapOf, tapSee, foldFrom, readTap}
+use Rattle.blocks.specs.Does.{lentOf}
+use Rattle.reader.proofs.Rest.{Rest, rest-begins, rest-over, rest-bad, rest-no, rest-on, tap-stops, tap-sees, blank-holds}
 use Rattle.reading.proofs.read_tap.Statement.{statement}
 use Rattle.reading.proofs.read_tap.Tie as tie
 
 abbrev Inv-loop : tie.InvT-loop
 Inv-loop tape blocks₀ tones₀ s₀ at₀ blocks tones s at =
-    Rest (length tape) (tapSee (lentOf (length blocks₀) (length tones₀)) tape) (length blocks₀) (length tones₀) at s blocks tones (foldFrom (tapSee (lentOf (length blocks₀) (length tones₀)) tape) (length tape) 0 empty)
+    let see = tapSee (lentOf (length blocks₀) (length tones₀)) tape in
+    Rest (length tape) see (length blocks₀) (length tones₀) at s blocks tones (foldFrom see (length tape) 0 empty)
 
 abbrev μ-loop : tie.MeasureT-loop
 μ-loop tape blocks₀ tones₀ s₀ at₀ blocks tones s at = length tape - at
 
 new-state-requires : tie.Need-new-state-requires Inv-loop μ-loop
-new-state-requires c κs = search needs
+new-state-requires c κs =
+    search needs
 
 loop-holds : tie.Need-loop-holds Inv-loop μ-loop
 loop-holds c =
-    rest-begins 0 (tap-stops (lentOf (length (c .before .before .before .before .args .blocks .now)) (length (c .before .before .before .before .args .tones .now))) (c .before .before .before .before .args .tape .now)) (blank-holds (c .before .before .before .before .pre .0) (c .before .before .before .before .pre .1) (c .new-state .ensures _ _))
+    let a = c .before .before .before .before .args in
+    let pre = c .before .before .before .before .pre in
+    rest-begins 0 (tap-stops (lentOf (length (a .blocks .now)) (length (a .tones .now))) (a .tape .now)) (blank-holds (pre .0) (pre .1) (c .new-state .ensures _ _))
 
 cut-tap-requires : tie.Need-cut-tap-requires Inv-loop μ-loop
-cut-tap-requires c κs = search needs
+cut-tap-requires c κs =
+    search needs
 
 enum-told : tie.Need-enum-told Inv-loop μ-loop
-enum-told c = search needs
+enum-told c =
+    search needs
 
 same-length : tie.Need-same-length Inv-loop μ-loop
 same-length c =
@@ -43,10 +49,13 @@ same-length-2 c =
 returns : tie.Need-returns Inv-loop μ-loop
 unfolding tapOf readTap
 returns c =
-    rest-over (c .before .before .before .before .loop .inv) (tap-sees (lentOf (length (c .before .before .before .before .before .before .before .before .before .args .blocks .now)) (length (c .before .before .before .before .before .before .before .before .before .args .tones .now))) (c .before .before .before .before .before .before .before .before .before .args .tape .now) (c .before .before .before .before .loop .at) (sym (c .enum-told .given .1) ∙ c .before .before .cut-tap .ensures))
+    let a = c .before .before .before .before .before .before .before .before .before .args in
+    let l = c .before .before .before .before .loop in
+    rest-over (l .inv) (tap-sees (lentOf (length (a .blocks .now)) (length (a .tones .now))) (a .tape .now) (l .at) (sym (c .enum-told .given .1) ∙ c .before .before .cut-tap .ensures))
 
 enum-told-2 : tie.Need-enum-told-2 Inv-loop μ-loop
-enum-told-2 c = search needs
+enum-told-2 c =
+    search needs
 
 same-length-3 : tie.Need-same-length-3 Inv-loop μ-loop
 same-length-3 c =
@@ -59,22 +68,29 @@ same-length-4 c =
 returns-2 : tie.Need-returns-2 Inv-loop μ-loop
 unfolding tapOf readTap
 returns-2 c =
-    rest-over (c .before .before .before .before .loop .inv) (tap-sees (lentOf (length (c .before .before .before .before .before .before .before .before .before .args .blocks .now)) (length (c .before .before .before .before .before .before .before .before .before .args .tones .now))) (c .before .before .before .before .before .before .before .before .before .args .tape .now) (c .before .before .before .before .loop .at) (sym (c .enum-told2 .given .1) ∙ c .before .before .cut-tap .ensures))
+    let a = c .before .before .before .before .before .before .before .before .before .args in
+    let l = c .before .before .before .before .loop in
+    rest-over (l .inv) (tap-sees (lentOf (length (a .blocks .now)) (length (a .tones .now))) (a .tape .now) (l .at) (sym (c .enum-told2 .given .1) ∙ c .before .before .cut-tap .ensures))
 
 enum-known-from : tie.Need-enum-known-from Inv-loop μ-loop
-enum-known-from c = search needs
+enum-known-from c =
+    search needs
 
 is-header-requires : tie.Need-is-header-requires Inv-loop μ-loop
-is-header-requires c κs = search needs
+is-header-requires c κs =
+    search needs
 
 standard-pause-requires : tie.Need-standard-pause-requires Inv-loop μ-loop
-standard-pause-requires c κs = search needs
+standard-pause-requires c κs =
+    search needs
 
 standard-data-block-requires : tie.Need-standard-data-block-requires Inv-loop μ-loop
-standard-data-block-requires c κs = search needs
+standard-data-block-requires c κs =
+    search needs
 
 enum-known-after : tie.Need-enum-known-after Inv-loop μ-loop
-enum-known-after c = search needs
+enum-known-after c =
+    search needs
 
 loop-less : tie.Need-loop-less Inv-loop μ-loop
 loop-less c =
@@ -83,26 +99,38 @@ loop-less c =
 loop-again : tie.Need-loop-again Inv-loop μ-loop
 unfolding tapOf
 loop-again c =
-    rest-on (c .before .before .before .before .before .before .before .before .before .before .before .before .before .before .before .before .before .loop .inv) (tap-sees (lentOf (length (c .before .before .before .before .before .before .before .before .before .before .before .before .before .before .before .before .before .before .before .before .before .before .args .blocks .now)) (length (c .before .before .before .before .before .before .before .before .before .before .before .before .before .before .before .before .before .before .before .before .before .before .args .tones .now))) (c .before .before .before .before .before .before .before .before .before .before .before .before .before .before .before .before .before .before .before .before .before .before .args .tape .now) (c .before .before .before .before .before .before .before .before .before .before .before .before .before .before .before .before .before .loop .at) (sym (c .before .before .before .before .before .before .before .before .before .before .before .before .before .from .given .1) ∙ c .before .before .before .before .before .before .before .before .before .before .before .before .before .before .before .cut-tap .ensures)) (let d = rw (c .before .before .before .before .before .before .before .before .before .before .standard-pause .ensures, c .before .before .before .before .before .before .before .before .before .before .before .is-header .ensures) at (c .before .before .before .before .before .before .before .standard-data-block .ensures) in d _ _ (c .before .before .before .before .before .before .before .before .before .before .before .before .before .before .before .before .before .loop .inv .here) (c .before .before .before .before .before .before .before .before .before .before .before .before .before .before .before .before .before .loop .inv .holds)) (c .before .after .given .1) (omega (arith, tap-forward (c .before .before .before .before .before .before .before .before .before .before .before .before .before .before .before .before .before .before .before .before .before .before .args .tape .now) (c .before .before .before .before .before .before .before .before .before .before .before .before .before .before .before .before .before .loop .at) (sym (c .before .before .before .before .before .before .before .before .before .before .before .before .before .before .before .cut-tap .ensures) ∙ c .before .before .before .before .before .before .before .before .before .before .before .before .before .from .given .1) .0))
+    let a = c .before .before .before .before .before .before .before .before .before .before .before .before .before .before .before .before .before .before .before .before .before .before .args in
+    let l = c .before .before .before .before .before .before .before .before .before .before .before .before .before .before .before .before .before .loop in
+    let q = sym (c .before .before .before .before .before .before .before .before .before .before .before .before .before .from .given .1) ∙ c .before .before .before .before .before .before .before .before .before .before .before .before .before .before .before .cut-tap .ensures in
+    rest-on (l .inv) (tap-sees (lentOf (length (a .blocks .now)) (length (a .tones .now))) (a .tape .now) (l .at) q) (rw (c .before .before .before .before .before .before .before .before .before .before .standard-pause .ensures, c .before .before .before .before .before .before .before .before .before .before .before .is-header .ensures) at (c .before .before .before .before .before .before .before .standard-data-block .ensures _ _ (l .inv .here) (l .inv .holds))) (c .before .after .given .1) (omega (arith, tap-forward (a .tape .now) (l .at) (sym q) .0))
 
 enum-known-k : tie.Need-enum-known-k Inv-loop μ-loop
-enum-known-k c = search needs
+enum-known-k c =
+    search needs
+
+halted-requires : tie.Need-halted-requires Inv-loop μ-loop
+halted-requires c κs =
+    search needs
 
 same-length-5 : tie.Need-same-length-5 Inv-loop μ-loop
 same-length-5 c =
-    c .before .before .before .before .before .before .before .standard-data-block .kept .1 .0 ∙ c .before .before .before .before .before .before .before .before .before .before .before .before .before .before .before .before .before .loop .inv .holds .lenB
+    c .before .before .before .before .before .before .before .before .standard-data-block .kept .1 .0 ∙ c .before .before .before .before .before .before .before .before .before .before .before .before .before .before .before .before .before .before .loop .inv .holds .lenB
 
 same-length-6 : tie.Need-same-length-6 Inv-loop μ-loop
 same-length-6 c =
-    c .before .before .before .before .before .before .before .standard-data-block .kept .1 .1 .0 ∙ c .before .before .before .before .before .before .before .before .before .before .before .before .before .before .before .before .before .loop .inv .holds .lenT
+    c .before .before .before .before .before .before .before .before .standard-data-block .kept .1 .1 .0 ∙ c .before .before .before .before .before .before .before .before .before .before .before .before .before .before .before .before .before .before .loop .inv .holds .lenT
 
 returns-3 : tie.Need-returns-3 Inv-loop μ-loop
 unfolding tapOf readTap
 returns-3 c =
-    rest-no (c .before .before .before .before .before .before .before .before .before .before .before .before .before .before .before .before .before .loop .inv) (tap-sees (lentOf (length (c .before .before .before .before .before .before .before .before .before .before .before .before .before .before .before .before .before .before .before .before .before .before .args .blocks .now)) (length (c .before .before .before .before .before .before .before .before .before .before .before .before .before .before .before .before .before .before .before .before .before .before .args .tones .now))) (c .before .before .before .before .before .before .before .before .before .before .before .before .before .before .before .before .before .before .before .before .before .before .args .tape .now) (c .before .before .before .before .before .before .before .before .before .before .before .before .before .before .before .before .before .loop .at) (sym (c .before .before .before .before .before .before .before .before .before .before .before .before .before .from .given .1) ∙ c .before .before .before .before .before .before .before .before .before .before .before .before .before .before .before .cut-tap .ensures)) (let d = rw (c .before .before .before .before .before .before .before .before .before .before .standard-pause .ensures, c .before .before .before .before .before .before .before .before .before .before .before .is-header .ensures) at (c .before .before .before .before .before .before .before .standard-data-block .ensures) in d _ _ (c .before .before .before .before .before .before .before .before .before .before .before .before .before .before .before .before .before .loop .inv .here) (c .before .before .before .before .before .before .before .before .before .before .before .before .before .before .before .before .before .loop .inv .holds)) (c .before .k .given .1)
+    let a = c .before .before .before .before .before .before .before .before .before .before .before .before .before .before .before .before .before .before .before .before .before .before .before .args in
+    let l = c .before .before .before .before .before .before .before .before .before .before .before .before .before .before .before .before .before .before .loop in
+    let q = sym (c .before .before .before .before .before .before .before .before .before .before .before .before .before .before .from .given .1) ∙ c .before .before .before .before .before .before .before .before .before .before .before .before .before .before .before .before .cut-tap .ensures in
+    rest-no (l .inv) (tap-sees (lentOf (length (a .blocks .now)) (length (a .tones .now))) (a .tape .now) (l .at) q) (rw (c .before .before .before .before .before .before .before .before .before .before .before .standard-pause .ensures, c .before .before .before .before .before .before .before .before .before .before .before .before .is-header .ensures) at (c .before .before .before .before .before .before .before .before .standard-data-block .ensures _ _ (l .inv .here) (l .inv .holds))) (c .before .before .k .given .1) (c .halted .ensures _ _ _ _)
 
 enum-known-place : tie.Need-enum-known-place Inv-loop μ-loop
-enum-known-place c = search needs
+enum-known-place c =
+    search needs
 
 same-length-7 : tie.Need-same-length-7 Inv-loop μ-loop
 same-length-7 c =
@@ -115,7 +143,9 @@ same-length-8 c =
 returns-4 : tie.Need-returns-4 Inv-loop μ-loop
 unfolding tapOf readTap
 returns-4 c =
-    rest-bad (c .before .before .before .before .before .loop .inv) (tap-sees (lentOf (length (c .before .before .before .before .before .before .before .before .before .before .args .blocks .now)) (length (c .before .before .before .before .before .before .before .before .before .before .args .tones .now))) (c .before .before .before .before .before .before .before .before .before .before .args .tape .now) (c .before .before .before .before .before .loop .at) (sym (c .before .place .given .1) ∙ c .before .before .before .cut-tap .ensures))
+    let a = c .before .before .before .before .before .before .before .before .before .before .args in
+    let l = c .before .before .before .before .before .loop in
+    rest-bad (l .inv) (tap-sees (lentOf (length (a .blocks .now)) (length (a .tones .now))) (a .tape .now) (l .at) (sym (c .before .place .given .1) ∙ c .before .before .before .cut-tap .ensures))
 
 same-length-9 : tie.Need-same-length-9 Inv-loop μ-loop
 same-length-9 c =
@@ -128,7 +158,9 @@ same-length-10 c =
 returns-5 : tie.Need-returns-5 Inv-loop μ-loop
 unfolding readTap
 returns-5 c =
-    rest-over (c .before .loop .inv) (tap-stops (lentOf (length (c .before .before .before .before .before .before .args .blocks .now)) (length (c .before .before .before .before .before .before .args .tones .now))) (c .before .before .before .before .before .before .args .tape .now) (c .before .loop .at) (c .loop-test .left))
+    let a = c .before .before .before .before .before .before .args in
+    let l = c .before .loop in
+    rest-over (l .inv) (tap-stops (lentOf (length (a .blocks .now)) (length (a .tones .now))) (a .tape .now) (l .at) (c .loop-test .left))
 
 pub read-tap-spec : {M : Type 1} → statement M
 read-tap-spec =
@@ -155,6 +187,7 @@ read-tap-spec =
     loop-less
     loop-again
     enum-known-k
+    halted-requires
     same-length-5
     same-length-6
     returns-3

@@ -21,12 +21,13 @@ use Rattle.pieces.specs.declared.Piece.{Piece}
 use Rattle.pieces.specs.declared.Piece.the-variants.{Standard, Turbo, Tone as PureTone, Pulses, Pure, Generalized, Pause, GroupStart, GroupEnd, LoopStart, LoopEnd, Stop48, Text, Message, Archive, Hardware, Custom, Glue}
 use Rattle.parser.specs.Parser.{Tape, Out, on, no}
 use Rattle.parser.proofs.Kept.{Sure, sure, none, sure-also}
-use Rattle.blocks.specs.Blocks.{ms, toneOf, isHeader, standardCycles, standardTones, turboTones, pureToneTones}
+use Rattle.blocks.specs.Sounds.{ms, toneOf, Sound as Birth, rowOf, addSounds}
+use Rattle.blocks.specs.Blocks.{isHeader, standardCycles, standardTones, turboTones, pureToneTones, standardSound, turboSound, toneSound, pairSounds}
 use Rattle.blocks.specs.Adds.{Lent}
-use Rattle.blocks.specs.Sounds.{Sound as Birth, rowOf, standardSound, turboSound, toneSound, pairSounds, addSounds}
 use Rattle.blocks.specs.Deeds.{does}
 use Rattle.blocks.proofs.Laws.{one-sound}
-use Rattle.reader.specs.Source.{act, deedOf}
+use Rattle.reader.specs.Meaning.{deedOf}
+use Rattle.reader.specs.Source.{act}
 use Rattle.format.specs.Format.{Length, lasts, Sound, Said, sounds, unsaid, paused, each, again, dataPulses, bitsSaid, pilotCount, format10, format11, format12, format13, format14, format2A, formatOf, lengthsOf, lasting}
 use Rattle.format.specs.Kept.{evenCount, kept11, kept12, kept13, kept, told, lengths, listOf, Plays, Keeps, as-said}
 use Rattle.format.proofs.Lengths.{long, long-append, lasting-append, wavesOf, dataIn, pauseIn, blockLengths}

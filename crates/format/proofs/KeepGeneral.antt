@@ -15,10 +15,9 @@ use Rattle.pieces.specs.Places.{Places}
 use Rattle.general.specs.General.{Symbol, symbolAt, plain, toned, pilotOf, ordinary, lastBits, dataOf, withPilot, withData, generalOf}
 use Rattle.parser.specs.Parser.{Tape}
 use Rattle.parser.proofs.Kept.{Sure}
-use Rattle.blocks.specs.Blocks.{ms}
+use Rattle.blocks.specs.Sounds.{ms, Sound as Birth, bitsAt, noBits, rowOf}
 use Rattle.blocks.specs.Adds.{Lent}
-use Rattle.blocks.specs.Sounds.{Sound as Birth, Bits, bitsAt, noBits, rowOf, generalSound}
-use Rattle.blocks.specs.Deeds.{generalDeed, does}
+use Rattle.blocks.specs.Deeds.{generalDeed, stop48Deed, does}
 use Rattle.format.specs.Format.{Length, lasts, Sound, sounds, paused, each, dataPulses, pilotPulses, symbolPulses, symbolsSaid, format19}
 use Rattle.format.specs.Kept.{keptPilot, keptData, kept19, Keeps}
 use Rattle.format.proofs.Lengths.{long, long-append, waveIn, wavesOf, dataIn, pauseIn}
@@ -68,14 +67,14 @@ module _ (lent : Lent) (s : List ℕ) (model : ℕ) (t : Tape) (g : GeneralizedD
   sound19 = soundWith (pilotIn ++ symbolsIn) (paused (g .pause))
 
   keep-toned : (ps ts : List Tone) → long (wavesOf ps) ≡ long pilotIn → long (wavesOf ts) ≡ long symbolsIn → Sure (λ u. Keeps s t u (sounds sound19)) (does lent model (generalDeed g (toned (ps ++ ts))) t)
-  unfolding does generalDeed
+  unfolding does generalDeed stop48Deed
   keep-toned ps ts p q =
       keep-one lent s t (tonedBirth g (ps ++ ts)) sound19
       (λ n. toned-same s g ps ts pilotIn symbolsIn n p q) (born-pause (ps ++ ts) noBits (ms (g .pause)))
 
   keep-plain : (ps : List Tone) (off one last : ℕ) → long (wavesOf ps) ≡ long pilotIn → long (dataPulses s off one (max 1 last) (g .from) (g .size)) ≡ long symbolsIn
       → Sure (λ u. Keeps s t u (sounds sound19)) (does lent model (generalDeed g (plain ps off one last)) t)
-  unfolding does generalDeed
+  unfolding does generalDeed stop48Deed
   keep-plain ps off one last p q =
       keep-one lent s t (plainBirth g ps off one last) sound19
       (λ n. plain-same s g ps off one last pilotIn symbolsIn n p q) (born-pause ps (bitsAt (g .from) (g .size) off one last) (ms (g .pause)))

@@ -13,9 +13,9 @@ use Rattle.rows.specs.declared.Tone.{Tone}
 use Rattle.entries.specs.Entries.{cyclesOf}
 use Rattle.parser.specs.Parser.{Tape}
 use Rattle.parser.proofs.Kept.{Sure, sure, sure-also, sure-then}
-use Rattle.blocks.specs.Blocks.{toneOf, pulseAt}
+use Rattle.blocks.specs.Sounds.{toneOf, rowOf, addSounds}
+use Rattle.blocks.specs.Blocks.{pulseAt, toneSound, pairSounds}
 use Rattle.blocks.specs.Adds.{Lent}
-use Rattle.blocks.specs.Sounds.{rowOf, toneSound, pairSounds, addSounds}
 use Rattle.format.specs.Format.{lasts, each, dataPulses, format13, lengthsOf, lasting}
 use Rattle.format.specs.Kept.{kept13, Plays, Keeps, as-said}
 use Rattle.format.proofs.Lengths.{long, long-append, lasting-append, wavesOf, pauseIn, blockLengths}

@@ -7,8 +7,9 @@ use lib.ListN.{length}
 use lib.Dec.{eqb}
 use Rattle.pieces.specs.declared.Piece.{Piece}
 use Rattle.pieces.specs.declared.Piece.the-variants.{Standard, Turbo, Tone as PureTone, Pulses, Pure, Generalized, Pause, GroupStart, GroupEnd, LoopStart, LoopEnd, Stop48, Text, Message, Archive, Hardware, Custom, Glue}
-use Rattle.reader.specs.Source.{act, deedOf}
-use Rattle.parser.specs.Parser.{Tape, startGroup, noteText, openLoop}
+use Rattle.reader.specs.Meaning.{deedOf}
+use Rattle.reader.specs.Source.{act}
+use Rattle.parser.specs.Parser.{Tape, pend, openLoop}
 use Rattle.parser.proofs.Kept.{Sure, sure}
 use Rattle.blocks.specs.Adds.{Lent}
 use Rattle.blocks.specs.Sounds.{addSounds}
@@ -22,7 +23,7 @@ use Rattle.format.proofs.KeepGeneral.{keep19}
 
 -- THE THEOREM: the blocks that a kept piece adds play the lengths above 0 that the format gives it, in order
 pub keeps : (lent : Lent) (s : List ℕ) (model : ℕ) (piece : Piece) (t : Tape) → Tables s piece → kept s piece ≡ true → Sure (λ u. Keeps s t u (formatOf (eqb model 0) s piece)) (act lent s model piece t)
-unfolding kept formatOf act deedOf does addSounds startGroup noteText openLoop
+unfolding kept formatOf act deedOf does addSounds pend openLoop
 keeps lent s model (Standard pause from size) t places e = absurd (differ (sym e))
 keeps lent s model (Turbo d) t places e = keep11 lent s t d e
 keeps lent s model (PureTone half count) t places e = keep12 lent s t half count e

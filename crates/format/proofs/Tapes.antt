@@ -21,7 +21,7 @@ use Rattle.pieces.specs.Cut.{named, cutAt, headAt}
 use Rattle.parser.specs.Parser.{Tape, Out, empty}
 use Rattle.parser.proofs.Kept.{Sure, sure, none}
 use Rattle.blocks.specs.Adds.{Lent}
-use Rattle.reader.specs.Source.{Read, done, failed, refused, after, seeing, foldFrom, stopLength, act, tooManyBits, judged, tzxOf, tzxSee, headed, readTzx, readTap, tzx, no, orTap, orElse, loadOf}
+use Rattle.reader.specs.Source.{Read, done, failed, refused, after, seeing, foldFrom, halted, act, tooManyBits, judged, tzxOf, tzxSee, headed, readTzx, readTap, tzx, no, orTap, orElse, loadOf}
 use Rattle.reader.specs.Source as source
 use Rattle.reader.specs.declared.Failure.the-variants as failure
 use Rattle.format.specs.Format.{Said, formatOf, full, lasting}

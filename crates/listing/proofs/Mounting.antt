@@ -21,7 +21,7 @@ use Rattle.tape.specs.declared.Format.the-variants.{Tap, Tzx}
 use Rattle.tape.specs.declared.Loaded.{Loaded}
 use Rattle.tape.specs.Load.{namedTape, named, loadNamed, answerOf, blocksOf, tonesOf, Leaves}
 use Rattle.loads.specs.Sizes.{Bytes}
-use Rattle.loads.specs.Made.{Reads, as-tzx, as-tap}
+use Rattle.loads.specs.OfSource.{Reads, as-tzx, as-tap}
 use Rattle.loads.proofs.Room.{load-within}
 use Rattle.loads.proofs.Well.{table-length, loaded-well}
 use Rattle.loads.proofs.Left.{mounted}

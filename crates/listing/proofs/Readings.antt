@@ -11,12 +11,13 @@ use Rattle.pieces.specs.Grammar.{countedAt, passAt, textsAt, wholeAt, sealed, e
 use Rattle.pieces.specs.Kinds.{kind10, kind11, kind12, kind13, kind14, stream19, kind19, kind20, kind21, kind22, kind24, kind25, kind2A, kind30, kind31, info32, kind32, kind33, kind35, kind5A, kinds, kindOf}
 use Rattle.pieces.specs.Cut.{signature, startsAt, headAt, named as kindNamed, cutAt, blockOf, tapAt}
 use Rattle.general.specs.General.{pilotOf, dataOf as generalData, withPilot, withData, generalOf}
-use Rattle.parser.specs.Parser.{empty, _⟫_, addTones, addBlock, startGroup, noteText, endGroup, openLoop, copyRows, copies, closed, closeLoop, paused, lastPaused}
-use Rattle.blocks.specs.Blocks.{isHeader, standardCycles, standardTones, standardPause, turboTones, pureTones, pureToneTones, pulseAt}
+use Rattle.parser.specs.Parser.{empty, _⟫_, addTones, addBlock, pend, endGroup, openLoop, copyRows, copies, closed, closeLoop, paused, lastPaused}
+use Rattle.blocks.specs.Sounds.{rowOf, addSound, addSounds}
+use Rattle.blocks.specs.Blocks.{isHeader, standardCycles, standardTones, standardPause, turboTones, pureTones, pureToneTones, pulseAt, standardSound, turboSound, pairSounds, pureSound, pauseSound}
 use Rattle.blocks.specs.Adds.{addRows}
-use Rattle.blocks.specs.Sounds.{rowOf, standardSound, turboSound, pairSounds, pureSound, pauseSound, addSound, addSounds}
-use Rattle.blocks.specs.Deeds.{generalDeed, does}
-use Rattle.reader.specs.Source.{deedOf, act, after, seeing, foldFrom, stopLength, tooManyBits, judged, tzxOf, tzxSee, headed, readTzx, tapOf, tapSee, readTap, orTap, orElse, loadOf}
+use Rattle.blocks.specs.Deeds.{generalDeed, stop48Deed, does}
+use Rattle.reader.specs.Meaning.{deedOf}
+use Rattle.reader.specs.Source.{act, after, seeing, foldFrom, halted, tooManyBits, judged, tzxOf, tzxSee, headed, readTzx, tapOf, tapSee, readTap, orTap, orElse, loadOf}
 use Rattle.text.specs.Out.{ascii, decimal, digits, latin1, each}
 use Rattle.encoding.specs.Encoding.{table, encoded}
 use Rattle.headers.specs.Headers.{typeName, headerName}
@@ -77,5 +78,5 @@ readings =
     []
 
 pub listings-said : map (λ (e : Reading). listingOf (e .tape) (e .model)) readings ≡ map (λ (e : Reading). e .gives) readings
-unfolding leAt numberAt fieldAt placeOf times eachAt groupsAt countedAt passAt textsAt wholeAt sealed enclosed fittingAt readAt bits orFull heldIf kind10 kind11 kind12 kind13 kind14 stream19 kind19 kind20 kind21 kind22 kind24 kind25 kind2A kind30 kind31 info32 kind32 kind33 kind35 kind5A kinds kindOf startsAt headAt kindNamed cutAt blockOf tapAt pilotOf generalData withPilot withData generalOf empty _⟫_ addTones addBlock startGroup noteText endGroup openLoop copyRows copies closed closeLoop paused lastPaused isHeader standardCycles standardTones standardPause turboTones pureTones pureToneTones pulseAt addRows rowOf standardSound turboSound pairSounds pureSound pauseSound addSound addSounds generalDeed does deedOf act after seeing foldFrom stopLength tooManyBits judged tzxOf tzxSee headed readTzx tapOf tapSee readTap orTap orElse loadOf decimal digits latin1 each table encoded isHeading typeName headerName sizeShown sizeName guessed nameOf unselected passed nameAll namedTape named loadNamed blocksOf tonesOf over time comesTo run entryOf cyclesOf toneOf toneEntries bitsAt halfOf byteOf dataOf pauseOf soundOf entriesOf lastsOf listFrom shown timeText markText rowText rowsText modelText formatText countText loadingText restText listingText loadedOf mounted listed listingOf
+unfolding leAt numberAt fieldAt placeOf times eachAt groupsAt countedAt passAt textsAt wholeAt sealed enclosed fittingAt readAt bits orFull heldIf kind10 kind11 kind12 kind13 kind14 stream19 kind19 kind20 kind21 kind22 kind24 kind25 kind2A kind30 kind31 info32 kind32 kind33 kind35 kind5A kinds kindOf startsAt headAt kindNamed cutAt blockOf tapAt pilotOf generalData withPilot withData generalOf empty _⟫_ addTones addBlock pend endGroup openLoop copyRows copies closed closeLoop paused lastPaused isHeader standardCycles standardTones standardPause turboTones pureTones pureToneTones pulseAt addRows rowOf standardSound turboSound pairSounds pureSound pauseSound addSound addSounds generalDeed stop48Deed does deedOf act after seeing foldFrom halted tooManyBits judged tzxOf tzxSee headed readTzx tapOf tapSee readTap orTap orElse loadOf decimal digits latin1 each table encoded isHeading typeName headerName sizeShown sizeName guessed nameOf unselected passed nameAll namedTape named loadNamed blocksOf tonesOf over time comesTo run entryOf cyclesOf toneOf toneEntries bitsAt halfOf byteOf dataOf pauseOf soundOf entriesOf lastsOf listFrom shown timeText markText rowText rowsText modelText formatText countText loadingText restText listingText loadedOf mounted listed listingOf
 listings-said = refl

@@ -20,7 +20,7 @@ use Rattle.entries.specs.Places as entries
 use Rattle.entries.specs.Mounted.{tapeOf, overfull, wellRow}
 use Rattle.entries.proofs.Formed.{Whole}
 use Rattle.loads.specs.Sizes.{Bytes}
-use Rattle.loads.specs.Made.{Reads, as-tzx, as-tap}
+use Rattle.loads.specs.OfSource.{Reads, as-tzx, as-tap}
 use Rattle.loads.proofs.Well.{loaded-fits, loaded-well}
 
 -- the tape that was read, and the tables that hold it, named

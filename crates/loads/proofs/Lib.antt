@@ -1,7 +1,9 @@
 pub mod Sizes
+pub mod Keeps
 pub mod Steps
 pub mod Loading
 pub mod Rows
+pub mod Every
 pub mod Tones
 pub mod Fine
 pub mod Formed

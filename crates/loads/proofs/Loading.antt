@@ -1,12 +1,11 @@
 -- ONE INDUCTION OVER THE LOAD: what its steps keep holds of every tape that a load reads. Assumes nothing but that bytes are below 256.
 use Prim.Native.Nat.{ℕ, zero, suc}
-use mathlib.Core.Path.{_≡_, refl}
+use mathlib.Core.Path.{_≡_, refl, sym, ap, _∙_}
 use mathlib.Core.Bool.{Bool, true, false}
-use mathlib.Core.List.{List}
-use lib.ListN.{length}
-use lib.Dec.{leb, ltb, eqb}
+use mathlib.Core.List.{List, List·Memᴰ·head}
+use lib.ListN.{length, getD}
+use lib.Dec.{leb, ltb}
 use Rattle.laws.specs.Rules.{_⇒_, _∣_}
-use Rattle.pieces.specs.declared.Piece.{Piece}
 use Rattle.pieces.specs.declared.Taken.{Taken}
 use Rattle.pieces.specs.declared.Taken.the-variants as taken
 use Rattle.pieces.specs.declared.TakenTap.{TakenTap}
@@ -14,17 +13,29 @@ use Rattle.pieces.specs.declared.TakenTap.the-variants as tap
 use Rattle.pieces.specs.declared.Heading.{Heading}
 use Rattle.pieces.specs.declared.Heading.the-variants as heading
 use Rattle.pieces.specs.Cut.{cutAt, tapAt, headAt}
+use Rattle.parser.specs.declared.Halt.the-variants.{Refusal, Length}
 use Rattle.parser.specs.Parser.{Tape, Out, empty}
 use Rattle.parser.proofs.Kept.{Sure, sure, none}
+use Rattle.blocks.specs.declared.Origin.{Origin}
 use Rattle.blocks.specs.Adds.{Lent}
+use Rattle.blocks.specs.Sounds.{originAt}
 use Rattle.reader.specs.declared.Failure.{Failure}
-use Rattle.reader.specs.declared.Failure.the-variants as failure
 use Rattle.reader.specs.Source as source
-use Rattle.reader.specs.Source.{See, thing, Read, after, seeing, foldFrom, stopLength, full, act, tooManyBits, judged, tzxOf, tzxSee, headed, readTzx, tapOf, tapSee, readTap, Loaded, orTap, orElse, loadOf}
+use Rattle.reader.specs.Source.{See, thing, Read, after, seeing, foldFrom, halted, tapKind, full, tooManyBits, judged, tzxOf, tzxSee, headed, readTzx, tapOf, tapSee, readTap, Loaded, orTap, orElse, loadOf}
 use Rattle.loads.specs.Sizes.{Bytes}
-use Rattle.loads.specs.Made.{Pends, OfPiece, OfTap, Reads, as-tzx, as-tap}
+use Rattle.loads.specs.Made.{Pends, OfPiece, of}
+use Rattle.loads.specs.OfSource.{sourceTable, tapTable, Reads, as-tzx, as-tap}
 use Rattle.loads.proofs.Sizes.{cut-named, cut-sized, tap-sized}
-use Rattle.loads.proofs.Steps.{Keeps, sound-keeps, act-keeps}
+use Rattle.loads.proofs.Keeps.{Keeps, sound-keeps}
+use Rattle.loads.proofs.Steps.{act-keeps}
+
+-- the origin that a cut piece names
+abbrev originIn : Taken → Origin
+originIn taken.End = originAt 0 0
+originIn (taken.Whole kind from next piece) = originAt kind from
+originIn (taken.Unknown kind described) = originAt 0 0
+originIn (taken.Short kind p w) = originAt 0 0
+originIn (taken.Overflow kind p) = originAt 0 0
 
 -- what stands at a place keeps K
 data Safe (K : Tape → Type 0) : See → Type 0 where
@@ -47,9 +58,10 @@ data Answers (K L : Tape → Type 0) : Loaded → Type 0 where
 
 module _ {K : Tape → Type 0} where
   after-keeps : {o : Out} (k : Tape → Read) → Sure K o → ((t : Tape) → K t → Final K (k t)) → Final K (after o k)
-  unfolding after
+  unfolding after halted
   after-keeps k (sure {t = t} h) f = f t h
-  after-keeps k (none) f = refused
+  after-keeps k (none {k = Refusal j}) f = refused
+  after-keeps k (none {k = Length n}) f = failed
 
   seeing-keeps : {x : See} (k : ℕ → Tape → Read) → Safe K x → ((at : ℕ) (t : Tape) → K t → Final K (k at t)) → (t : Tape) → K t → Final K (seeing x t k)
   unfolding seeing
@@ -79,18 +91,17 @@ judged-keeps failed = failed
 judged-keeps refused = refused
 
 module _ {lent : Lent} {s : List ℕ} (b : Bytes s) where
-  module _ {K : Tape → Type 0} (k : Keeps lent (OfPiece s) (Pends s) K) where
+  module _ {K : Tape → Type 0} (k : Keeps lent (OfPiece (sourceTable s)) (Pends (sourceTable s)) K) where
     tzx-safe : (model at : ℕ) → Safe K (tzxSee lent s model at)
     unfolding tzxSee tzxOf
     tzx-safe model at = by-cut (cutAt s at full) refl
       where
-        by-length : {kind from next : ℕ} (piece : Piece) (z : Bool) → cutAt s at full ≡ taken.Whole kind from next piece → Safe K (z ⇒ thing next (act lent s model piece) ∣ source.bad (failure.Length (stopLength piece)))
-        by-length piece true e = does (act-keeps k model piece (record { at = at; next = _; cut = cut-named s at e; sized = cut-sized s at e b }))
-        by-length piece false e = bad
-
         by-cut : (x : Taken) → cutAt s at full ≡ x → Safe K (tzxOf lent s model at x)
         by-cut taken.End e = over
-        by-cut (taken.Whole kind from next piece) e = by-length piece (eqb (stopLength piece) 0) e
+        by-cut (taken.Whole kind from next piece) e =
+            let c = cut-named s at e in
+            let o : originAt kind from ≡ originAt (getD s at 0) at = ap (λ (x : Taken). originIn x) (sym e ∙ c) in
+            rw o (does (act-keeps k model at piece (record { next = next; cut = c; sized = cut-sized s at e b })))
         by-cut (taken.Unknown kind described) e = does (λ t h. sure h)
         by-cut (taken.Short kind p w) e = bad
         by-cut (taken.Overflow kind p) e = refuses
@@ -104,15 +115,15 @@ module _ {lent : Lent} {s : List ℕ} (b : Bytes s) where
         by-head heading.BadSignature = failed
         by-head (heading.Short p w) = failed
 
-  module _ {L : Tape → Type 0} (l : Keeps lent (OfTap s) (Pends s) L) where
+  module _ {L : Tape → Type 0} (l : Keeps lent (OfPiece (tapTable s)) (Pends (sourceTable s)) L) where
     tap-safe : (at : ℕ) → Safe L (tapSee lent s at)
     unfolding tapSee tapOf
     tap-safe at = by-cut (tapAt s at) refl
       where
-        by-cut : (x : TakenTap) → tapAt s at ≡ x → Safe L (tapOf lent s x)
+        by-cut : (x : TakenTap) → tapAt s at ≡ x → Safe L (tapOf lent s at x)
         by-cut tap.End e = over
         by-cut tap.Lone e = over
-        by-cut (tap.Block from size next) e = does (λ t h. sound-keeps l _ t (OfTap.of (record { at = at; next = next; cut = e; range = tap-sized s at e b })) h)
+        by-cut (tap.Block from size next) e = does (λ t h. sound-keeps l (originAt tapKind at) _ t (of {piece = record { from = from; size = size }} (record { next = next; cut = e; range = tap-sized s at e b }) (List·Memᴰ·head refl)) h)
         by-cut (tap.Short p w) e = bad
 
     tap-read : Final L (readTap lent s)
@@ -146,6 +157,6 @@ answered f g (tapped h) as-tap = g _ h
 
 -- THE INDUCTION: where a TZX's pieces keep K, a TAP's blocks keep L, and each gives M, every tape that a load reads has M
 module _ {K L M : Tape → Type 0} (lent : Lent) (s : List ℕ) (model : ℕ) {t : Tape} where
-  pub load-keeps : Bytes s → Keeps lent (OfPiece s) (Pends s) K → Keeps lent (OfTap s) (Pends s) L → ((u : Tape) → Judged K u → M u) → ((u : Tape) → L u → M u)
+  pub load-keeps : Bytes s → Keeps lent (OfPiece (sourceTable s)) (Pends (sourceTable s)) K → Keeps lent (OfPiece (tapTable s)) (Pends (sourceTable s)) L → ((u : Tape) → Judged K u → M u) → ((u : Tape) → L u → M u)
       → Reads (loadOf lent s model) t → M t
   load-keeps b k l f g r = answered f g (load-answers lent s model (tzx-keeps b k model) (tap-read b l)) r

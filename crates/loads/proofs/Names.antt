@@ -27,8 +27,9 @@ use Rattle.names.specs.Names.{isHeader, sizeShown, sizeName, guessed, nameOf, u
 use Rattle.headers.proofs.Headers.{type-length}
 use Rattle.names.proofs.Selecting.{name-all-length}
 use Rattle.loads.specs.Sizes.{Bytes}
-use Rattle.loads.specs.Made.{Everywhere, Reads}
-use Rattle.loads.proofs.Rows.{paused-same, every-row}
+use Rattle.loads.specs.OfSource.{Everywhere, Reads}
+use Rattle.loads.proofs.Rows.{paused-same}
+use Rattle.loads.proofs.Every.{every-row}
 use Rattle.loads.proofs.Formed.{given-small}
 
 -- a given name's characters, whatever the row's tones
@@ -39,8 +40,8 @@ pub few : (s : List ℕ) → Bytes s → Everywhere s Few
 unfolding unselected rowOf
 few s b =
     record {
-      pieces = λ d tone m. omega arith;
-      taps = λ d tone m. omega arith;
+      pieces = λ origin d tone m. omega arith;
+      taps = λ origin d tone m. omega arith;
       lasts = record {
         naming = λ mark case text chars ts r g h. let n = given-small b g .name .small in omega arith;
         pausing = λ ts r h. let e = paused-same (λ q. q .chars) r refl in omega arith;

@@ -4,7 +4,7 @@ use Prim.Native.Nat.{ℕ, _≤_, _<_}
 use native.Mathlib.Omega.{arith}
 use mathlib.Core.Path.{_≡_, refl}
 use mathlib.Core.Bool.{Bool, true, false, _&&_}
-use mathlib.Core.List.{List, [], _∷_}
+use mathlib.Core.List.{List, [], _∷_, List·Memᴰ·head}
 use lib.ListN.{length, length-append}
 use lib.Dec.{leb, ltb}
 use borrow.Author.Tests.{ltb-false}
@@ -15,14 +15,17 @@ use Rattle.parser.specs.declared.Pending.{Pending}
 use Rattle.parser.specs.Parser.{Tape, empty}
 use Rattle.parser.proofs.Adds.{paused-length}
 use Rattle.parser.proofs.Kept.{All, nil, cons, all-also}
-use Rattle.blocks.specs.Sounds.{Sound, rowOf, standardSound}
+use Rattle.blocks.specs.declared.Origin.{Origin}
+use Rattle.blocks.specs.Sounds.{Sound, rowOf}
+use Rattle.blocks.specs.Blocks.{standardSound}
 use Rattle.blocks.specs.Adds.{Lent}
 use Rattle.reader.specs.Source as source
 use Rattle.reader.specs.Source.{tooManyBits, Loaded, readTzx, readTap, orElse, loadOf}
 use Rattle.names.specs.Names.{unselected, nameAll}
 use Rattle.loads.specs.Sizes.{Bytes}
-use Rattle.loads.specs.Made.{Pends, OfPiece, OfTap, Row, Lasts, Reads, as-tzx, as-tap}
-use Rattle.loads.proofs.Steps.{Keeps}
+use Rattle.loads.specs.Made.{Pends, OfPiece, of, Row, Births, Lasts}
+use Rattle.loads.specs.OfSource.{sourceTable, tapTable, Reads, as-tzx, as-tap}
+use Rattle.loads.proofs.Keeps.{Keeps}
 use Rattle.loads.proofs.Loading.{load-keeps}
 use Rattle.loads.proofs.Rows.{paused-same, rows-keep, named-all}
 
@@ -31,12 +34,12 @@ pub record Within (lent : Lent) (t : Tape) : Type 0 where
   pub blocks : length (t .blocks) ≤ lent .blocks
   pub tones : length (t .tones) ≤ lent .tones
 
-within-keeps : (lent : Lent) (M : Sound → Type 0) (Q : Pending → Type 0) → Keeps lent M Q (Within lent)
+within-keeps : (lent : Lent) (M : Sound → Origin → Type 0) (Q : Pending → Type 0) → Keeps lent M Q (Within lent)
 unfolding empty
 within-keeps lent M Q =
     record {
       begins = record { blocks = omega arith; tones = omega arith };
-      adding = λ d t m a b h. record { blocks = rw length-append (omega arith); tones = rw length-append a };
+      adding = λ origin d t m a b h. record { blocks = rw length-append (omega arith); tones = rw length-append a };
       steps = record {
         copying = λ r t i b h. record { blocks = rw length-append (omega arith); tones = h .tones };
         naming = λ p t q h. record { blocks = h .blocks; tones = h .tones };
@@ -49,9 +52,9 @@ within-keeps lent M Q =
 abbrev Any : Tape → Type 0
 Any t = Unit {0}
 
-any-keeps : (lent : Lent) (M : Sound → Type 0) (Q : Pending → Type 0) → Keeps lent M Q Any
+any-keeps : (lent : Lent) (M : Sound → Origin → Type 0) (Q : Pending → Type 0) → Keeps lent M Q Any
 any-keeps lent M Q =
-    record { begins = tt; adding = λ d t m a b h. tt; steps = record { copying = λ r t i b h. tt; naming = λ p t q h. tt; pausing = λ t h. tt; looping = λ l t h. tt } }
+    record { begins = tt; adding = λ origin d t m a b h. tt; steps = record { copying = λ r t i b h. tt; naming = λ p t q h. tt; pausing = λ t h. tt; looping = λ l t h. tt } }
 
 -- last bits at most 8 where there is data
 abbrev pub Bits : Block → Type 0
@@ -74,14 +77,14 @@ bits-all (r ∷ rs) e = let p = bits-one r (tooManyBits rs) e in cons (p .0) (bi
 abbrev Eight : List Tone → Block → Type 0
 Eight ts r = r .last ≡ 8
 
-eight-lasts : (s : List ℕ) → Lasts s Eight
+eight-lasts : (s : List ℕ) → Lasts (sourceTable s) Eight
 unfolding unselected
 eight-lasts s =
     record { naming = λ mark case text chars ts r g h. h; pausing = λ ts r h. rw (paused-same (λ q. q .last) r refl) h; passing = λ ts r h. h }
 
-tap-eight : {s : List ℕ} (d : Sound) (tone : ℕ) → OfTap s d → Eight (d .tones) (rowOf d tone)
+tap-eight : {s : List ℕ} → Births (tapTable s) Eight
 unfolding standardSound rowOf
-tap-eight d tone (OfTap.of f) = refl
+tap-eight origin d tone (of f (List·Memᴰ·head e)) = rw e refl
 
 eight-bits : {all : List Tone} (r : Block) → Row Eight all r → Bits r
 eight-bits r h n = omega (arith, h .has)
@@ -100,12 +103,12 @@ module _ (lent : Lent) (s : List ℕ) (model : ℕ) {t : Tape} where
   -- ALL ROWS ARE LENT ONES
   pub load-within : Bytes s → Reads (loadOf lent s model) t → Within lent t
   load-within b r =
-      load-keeps lent s model b (within-keeps lent (OfPiece s) (Pends s)) (within-keeps lent (OfTap s) (Pends s)) (λ u h. h .kept) (λ u h. h) r
+      load-keeps lent s model b (within-keeps lent (OfPiece (sourceTable s)) (Pends (sourceTable s))) (within-keeps lent (OfPiece (tapTable s)) (Pends (sourceTable s))) (λ u h. h .kept) (λ u h. h) r
 
   -- LAST BITS: for TZX by refusal 7, for TAP by the standard block's 8
   pub read-bits : Bytes s → Reads (loadOf lent s model) t → All Bits (t .blocks)
   read-bits b r =
-      load-keeps lent s model b (any-keeps lent (OfPiece s) (Pends s)) (rows-keep (eight-lasts s) tap-eight lent) (λ u h. bits-all (u .blocks) (h .bits)) (λ u h. all-also eight-bits (h .rows)) r
+      load-keeps lent s model b (any-keeps lent (OfPiece (sourceTable s)) (Pends (sourceTable s))) (rows-keep (eight-lasts s) tap-eight lent) (λ u h. bits-all (u .blocks) (h .bits)) (λ u h. all-also eight-bits (h .rows)) r
 
   pub load-bits : Bytes s → Reads (loadOf lent s model) t → All Bits (nameAll s false (t .blocks))
   unfolding unselected

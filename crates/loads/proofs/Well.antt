@@ -26,8 +26,10 @@ use Rattle.names.specs.Names.{nameAll}
 use Rattle.names.proofs.Selecting.{name-all-length}
 use Rattle.entries.specs.Mounted.{tapeOf, overfull, sizeOf, wellRow}
 use Rattle.loads.specs.Sizes.{Bytes}
-use Rattle.loads.specs.Made.{tonesIn, Row, Reads}
-use Rattle.loads.proofs.Rows.{own-count, own-tone, every-read, every-row}
+use Rattle.loads.specs.Made.{tonesIn, Row}
+use Rattle.loads.specs.OfSource.{Reads}
+use Rattle.loads.proofs.Rows.{own-count, own-tone}
+use Rattle.loads.proofs.Every.{every-read, every-row}
 use Rattle.loads.proofs.Formed.{Formed, formed}
 use Rattle.loads.proofs.Room.{Within, Bits, load-within, read-bits, load-bits, load-length}
 

@@ -11,16 +11,16 @@ use Rattle.blocks.specs.Adds.{Lent}
 use Rattle.reader.specs.Source.{loadOf}
 use Rattle.names.specs.Names.{nameAll}
 use Rattle.loads.specs.Sizes.{Bytes}
-use Rattle.loads.specs.Made.{Reads, Everywhere}
-use Rattle.loads.proofs.Rows.{every-row}
+use Rattle.loads.specs.OfSource.{Reads, Everywhere}
+use Rattle.loads.proofs.Every.{every-row}
 
 abbrev Any : List Tone → Block → Type 0
 Any ts r = Unit {0}
 
 any : (s : List ℕ) → Everywhere s Any
 any s = record {
-  pieces = λ d tone m. tt;
-  taps = λ d tone m. tt;
+  pieces = λ origin d tone m. tt;
+  taps = λ origin d tone m. tt;
   lasts = record { naming = λ mark case text chars ts r g h. tt; pausing = λ ts r h. tt; passing = λ ts r h. tt };
 }
 

@@ -14,9 +14,9 @@ use Rattle.rows.specs.Well.{wellRanges, wellTone, wellNumbers, wellCases, wellT
 use Rattle.pieces.specs.Grammar.{countedAt}
 use Rattle.pieces.specs.Cut.{startsAt, headAt, blockOf, tapAt}
 use Rattle.parser.specs.Parser.{empty, _⟫_, addTones, addBlock}
-use Rattle.blocks.specs.Blocks.{isHeader, standardCycles, standardTones, standardPause}
+use Rattle.blocks.specs.Sounds.{rowOf, addSound}
+use Rattle.blocks.specs.Blocks.{isHeader, standardCycles, standardTones, standardPause, standardSound}
 use Rattle.blocks.specs.Adds.{addRows}
-use Rattle.blocks.specs.Sounds.{rowOf, standardSound, addSound}
 use Rattle.reader.specs.Source.{after, seeing, foldFrom, headed, readTzx, tapOf, tapSee, readTap, orTap, orElse, loadOf}
 use Rattle.text.specs.Out.{decimal, digits}
 use Rattle.names.specs.Names.{isHeader as isHeading, sizeShown, sizeName, guessed, nameOf, unselected, passed, nameAll}

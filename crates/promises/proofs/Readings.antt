@@ -15,13 +15,14 @@ use Rattle.rows.specs.Well.{wellRanges, wellTone, wellNumbers, wellCases, wellT
 use Rattle.pieces.specs.Grammar.{countedAt, passAt, textsAt, wholeAt, sealed, enclosed, fittingAt, readAt, digits, orFull, heldIf}
 use Rattle.pieces.specs.Kinds.{kind10, kind11, kind12, kind13, kind14, stream19, kind19, kind20, kind21, kind22, kind24, kind25, kind2A, kind30, kind31, info32, kind32, kind33, kind35, kind5A, kinds, kindOf}
 use Rattle.pieces.specs.Cut.{signature, startsAt, headAt, named, cutAt, blockOf, tapAt}
-use Rattle.parser.specs.Parser.{empty, _⟫_, addTones, addBlock, startGroup, noteText, endGroup, openLoop, copyRows, copies, closed, closeLoop, paused, lastPaused}
-use Rattle.blocks.specs.Blocks.{isHeader, standardCycles, standardTones, standardPause, turboTones, pureTones, pureToneTones, pulseAt}
+use Rattle.parser.specs.Parser.{empty, _⟫_, addTones, addBlock, pend, endGroup, openLoop, copyRows, copies, closed, closeLoop, paused, lastPaused}
+use Rattle.blocks.specs.Sounds.{rowOf, addSound, addSounds}
+use Rattle.blocks.specs.Blocks.{isHeader, standardCycles, standardTones, standardPause, turboTones, pureTones, pureToneTones, pulseAt, standardSound, turboSound, pairSounds, pureSound, pauseSound}
 use Rattle.blocks.specs.Does.{lentOf}
 use Rattle.blocks.specs.Adds.{addRows}
-use Rattle.blocks.specs.Sounds.{rowOf, standardSound, turboSound, pairSounds, pureSound, pauseSound, addSound, addSounds}
-use Rattle.blocks.specs.Deeds.{generalDeed, does}
-use Rattle.reader.specs.Source.{deedOf, act, after, seeing, foldFrom, stopLength, tooManyBits, judged, tzxOf, tzxSee, headed, readTzx, tapOf, tapSee, readTap, Loaded, tzx, tapped, no, orTap, orElse, loadOf}
+use Rattle.blocks.specs.Deeds.{generalDeed, stop48Deed, does}
+use Rattle.reader.specs.Meaning.{deedOf}
+use Rattle.reader.specs.Source.{act, after, seeing, foldFrom, halted, tooManyBits, judged, tzxOf, tzxSee, headed, readTzx, tapOf, tapSee, readTap, Loaded, tzx, tapped, no, orTap, orElse, loadOf}
 use Rattle.text.specs.Out.{decimal, digits as digitsOf}
 use Rattle.names.specs.Names.{isHeader as isHeading, sizeShown, sizeName, guessed, nameOf, unselected, passed, nameAll}
 use Rattle.tape.specs.declared.Format.{Format}
@@ -101,7 +102,7 @@ readings =
     ∷ []
 
 pub readings-read : map (λ e. reads (e .0) (loadNamed (lentOf 39 12) (e .0) 0)) readings ≡ map (λ e. e .1) readings
-unfolding loadNamed naming namedTape loadOf orElse orTap readTzx readTap headed headAt startsAt judged tooManyBits foldFrom seeing after tzxSee tzxOf tapSee tapOf tapAt blockOf cutAt named kindOf kinds kind10 kind11 kind12 kind13 kind14 stream19 kind19 kind20 kind21 kind22 kind24 kind25 kind2A kind30 kind31 info32 kind32 kind33 kind35 kind5A readAt countedAt passAt textsAt wholeAt sealed enclosed fittingAt digits orFull heldIf fieldAt numberAt leAt placeOf times eachAt groupsAt stopLength rowOf standardSound turboSound pairSounds pureSound pauseSound addSound addSounds generalDeed does deedOf act addRows addTones addBlock _⟫_ empty startGroup noteText endGroup openLoop copyRows copies closed closeLoop paused lastPaused isHeader standardCycles standardTones standardPause turboTones pureTones pureToneTones pulseAt nameAll passed unselected isHeading nameOf guessed sizeName sizeShown decimal digitsOf blocksOf tonesOf tableOver lastsOf comesTo time entriesOf soundOf tonesIn toneOf cyclesOf dataOf byteOf bitsAt halfOf pauseOf entryOf run
+unfolding loadNamed naming namedTape loadOf orElse orTap readTzx readTap headed headAt startsAt judged tooManyBits foldFrom seeing after tzxSee tzxOf tapSee tapOf tapAt blockOf cutAt named kindOf kinds kind10 kind11 kind12 kind13 kind14 stream19 kind19 kind20 kind21 kind22 kind24 kind25 kind2A kind30 kind31 info32 kind32 kind33 kind35 kind5A readAt countedAt passAt textsAt wholeAt sealed enclosed fittingAt digits orFull heldIf fieldAt numberAt leAt placeOf times eachAt groupsAt halted rowOf standardSound turboSound pairSounds pureSound pauseSound addSound addSounds generalDeed stop48Deed does deedOf act addRows addTones addBlock _⟫_ empty pend endGroup openLoop copyRows copies closed closeLoop paused lastPaused isHeader standardCycles standardTones standardPause turboTones pureTones pureToneTones pulseAt nameAll passed unselected isHeading nameOf guessed sizeName sizeShown decimal digitsOf blocksOf tonesOf tableOver lastsOf comesTo time entriesOf soundOf tonesIn toneOf cyclesOf dataOf byteOf bitsAt halfOf pauseOf entryOf run
 readings-read = refl
 
 -- a sole 12 of 100 and 4, loaded
@@ -115,5 +116,5 @@ sole = mounted soleBytes (loadNamed (lentOf 39 12) soleBytes 0) 1
 pub players-read :
     (map (λ n. playMeasured sole (startAt 0) n) (99 ∷ 100 ∷ []) ≡ At (stand (placed 0 (Tones 0 0 false) (T 1)) 1 low) ∷ At (stand (placed 0 (Tones 0 0 true) (T 100)) 2 high) ∷ [])
     × (map (λ n. playSource sole (startAt 0) n) (99 ∷ 100 ∷ []) ≡ At (stand (placed 0 (Tones 0 0 false) (T 1)) 1 low) ∷ Ended (stand (startAt 1) 6 low) ∷ [])
-unfolding loadNamed naming namedTape loadOf orElse orTap readTzx readTap headed headAt startsAt judged tooManyBits foldFrom seeing after tzxSee tzxOf cutAt named kindOf kinds kind12 readAt wholeAt fieldAt numberAt leAt placeOf stopLength rowOf standardSound turboSound pairSounds pureSound pauseSound addSound addSounds generalDeed does deedOf act addRows addTones addBlock _⟫_ empty pureToneTones nameAll passed unselected isHeading blocksOf tonesOf tableOver playMeasured playSource unless checked ruledOut badRow wellRow wellBlock wellRanges wellNumbers wellCases wellTones wellTone valid hasEntry remains lengthAt walkFrom sourceFrom sourceAnswer sourced turns turn afterTurn reached walked formed firstBad told toldAs levelHere headOf leftOf answer rest over shown status leftAt listFrom entriesOf soundOf tonesIn toneOf cyclesOf dataOf pauseOf entryOf run
+unfolding loadNamed naming namedTape loadOf orElse orTap readTzx readTap headed headAt startsAt judged tooManyBits foldFrom seeing after tzxSee tzxOf cutAt named kindOf kinds kind12 readAt wholeAt fieldAt numberAt leAt placeOf halted rowOf standardSound turboSound pairSounds pureSound pauseSound addSound addSounds generalDeed stop48Deed does deedOf act addRows addTones addBlock _⟫_ empty pureToneTones nameAll passed unselected isHeading blocksOf tonesOf tableOver playMeasured playSource unless checked ruledOut badRow wellRow wellBlock wellRanges wellNumbers wellCases wellTones wellTone valid hasEntry remains lengthAt walkFrom sourceFrom sourceAnswer sourced turns turn afterTurn reached walked formed firstBad told toldAs levelHere headOf leftOf answer rest over shown status leftAt listFrom entriesOf soundOf tonesIn toneOf cyclesOf dataOf pauseOf entryOf run
 players-read = (refl, refl)

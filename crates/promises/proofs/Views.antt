@@ -21,7 +21,7 @@ use Rattle.names.specs.Names.{nameAll}
 use Rattle.names.proofs.Selecting.{name-all-length}
 use Rattle.entries.specs.Mounted.{tapeOf}
 use Rattle.loads.specs.Sizes.{Bytes}
-use Rattle.loads.specs.Made.{Reads, as-tzx, as-tap}
+use Rattle.loads.specs.OfSource.{Reads, as-tzx, as-tap}
 use Rattle.loads.proofs.Left.{left}
 use Rattle.loads.proofs.Within.{rows-within}
 use Rattle.views.specs.View.{View, tonesFrom, viewOf, blocksOf, viewsIn, blockList}

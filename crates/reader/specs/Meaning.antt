@@ -4,10 +4,9 @@ use mathlib.Core.List.{List, [], _∷_}
 use Rattle.pieces.specs.declared.Piece.{Piece}
 use Rattle.pieces.specs.declared.Piece.the-variants.{Standard, Turbo, Tone as PureTone, Pulses, Pure, Generalized, Pause, GroupStart, GroupEnd, LoopStart, LoopEnd, Stop48, Text, Message, Archive, Hardware, Custom, Glue}
 use Rattle.general.specs.General.{generalOf}
-use Rattle.parser.specs.declared.Pending.the-variants as pending
 use Rattle.blocks.specs.Sounds.{ms, bitsAt}
 use Rattle.blocks.specs.Blocks.{isHeader, standardSound, turboSound, pureToneTones, toneSound, pairSounds, pureSound, pauseSound}
-use Rattle.blocks.specs.Deeds.{Deed, adds, names, groupEnds, opens, closes, nothing, generalDeed, stop48Deed}
+use Rattle.blocks.specs.Deeds.{Deed, adds, groups, texts, groupEnds, opens, closes, nothing, generalDeed, stop48Deed}
 
 -- in the tape s
 unfoldable pub deedOf : List ℕ → Piece → Deed
@@ -18,12 +17,12 @@ deedOf s (Pulses count from) = adds (pairSounds s from 0 (count / 2))
 deedOf s (Pure nil one last pause from size) = adds (pureSound (bitsAt from size nil one last) (ms pause) ∷ [])
 deedOf s (Generalized g) = generalDeed g (generalOf s g)
 deedOf s (Pause n) = adds (pauseSound n ∷ [])
-deedOf s (GroupStart from size) = names (pending.First from size)
+deedOf s (GroupStart from size) = groups from size
 deedOf s GroupEnd = groupEnds
 deedOf s (LoopStart times) = opens times
 deedOf s LoopEnd = closes
 deedOf s (Stop48 length) = stop48Deed length
-deedOf s (Text from size) = names (pending.Text from size)
+deedOf s (Text from size) = texts from size
 deedOf s (Message seconds from size) = nothing
 deedOf s (Archive count from) = nothing
 deedOf s (Hardware count from) = nothing

@@ -12,13 +12,14 @@ use Rattle.pieces.specs.Grammar.{countedAt, passAt, textsAt, wholeAt, sealed, e
 use Rattle.pieces.specs.Kinds.{kind10, kind11, kind12, kind13, kind14, stream19, kind19, kind20, kind21, kind22, kind24, kind25, kind2A, kind30, kind31, info32, kind32, kind33, kind35, kind5A, kinds, kindOf}
 use Rattle.pieces.specs.Cut.{signature, startsAt, headAt, named, cutAt, blockOf, tapAt}
 use Rattle.general.specs.General.{pilotOf, dataOf, withPilot, withData, generalOf}
-use Rattle.parser.specs.Parser.{empty, _⟫_, addTones, addBlock, startGroup, noteText, endGroup, openLoop, copyRows, copies, closed, closeLoop, paused, lastPaused}
-use Rattle.blocks.specs.Blocks.{isHeader, standardCycles, standardTones, standardPause, turboTones, pureTones, pureToneTones, pulseAt}
+use Rattle.parser.specs.Parser.{empty, _⟫_, addTones, addBlock, pend, endGroup, openLoop, copyRows, copies, closed, closeLoop, paused, lastPaused}
+use Rattle.blocks.specs.Sounds.{rowOf, addSound, addSounds}
+use Rattle.blocks.specs.Blocks.{isHeader, standardCycles, standardTones, standardPause, turboTones, pureTones, pureToneTones, pulseAt, standardSound, turboSound, pairSounds, pureSound, pauseSound}
 use Rattle.blocks.specs.Does.{lentOf}
 use Rattle.blocks.specs.Adds.{Lent, addRows}
-use Rattle.blocks.specs.Sounds.{rowOf, standardSound, turboSound, pairSounds, pureSound, pauseSound, addSound, addSounds}
-use Rattle.blocks.specs.Deeds.{generalDeed, does}
-use Rattle.reader.specs.Source.{deedOf, act, after, seeing, foldFrom, stopLength, tooManyBits, judged, tzxOf, tzxSee, headed, readTzx, tapOf, tapSee, readTap, Loaded, tzx, tapped, no, orTap, orElse, loadOf}
+use Rattle.blocks.specs.Deeds.{generalDeed, stop48Deed, does}
+use Rattle.reader.specs.Meaning.{deedOf}
+use Rattle.reader.specs.Source.{act, after, seeing, foldFrom, halted, tooManyBits, judged, tzxOf, tzxSee, headed, readTzx, tapOf, tapSee, readTap, Loaded, tzx, tapped, no, orTap, orElse, loadOf}
 use Rattle.text.specs.Out.{decimal, digits as digitsOf, latin1, each}
 use Rattle.encoding.specs.Encoding.{table, encoded}
 use Rattle.headers.specs.Headers.{typeName, headerName as namedAs}
@@ -146,7 +147,7 @@ examples =
     of 0 (pieces (0x27 ∷ 0x20 ∷ 1 ∷ 0 ∷ 0xFF ∷ [])) (taken 1 (pause 0 ∷ []) [] (sized 0 ∷ [])) ∷ []
 
 shown : map (λ (e : Example). view (e .tape) (loadNamed (e .lent) (e .tape) (e .model))) examples ≡ map (λ (e : Example). e .gives) examples
-unfolding leAt numberAt fieldAt placeOf times eachAt groupsAt countedAt passAt textsAt wholeAt sealed enclosed fittingAt readAt digits orFull heldIf kind10 kind11 kind12 kind13 kind14 stream19 kind19 kind20 kind21 kind22 kind24 kind25 kind2A kind30 kind31 info32 kind32 kind33 kind35 kind5A kinds kindOf startsAt headAt named cutAt blockOf tapAt pilotOf dataOf withPilot withData generalOf empty _⟫_ addTones addBlock startGroup noteText endGroup openLoop copyRows copies closed closeLoop paused lastPaused isHeader standardCycles standardTones standardPause turboTones pureTones pureToneTones pulseAt addRows rowOf standardSound turboSound pairSounds pureSound pauseSound addSound addSounds generalDeed does deedOf act after seeing foldFrom stopLength tooManyBits judged tzxOf tzxSee headed readTzx tapOf tapSee readTap orTap orElse loadOf decimal digitsOf latin1 each table encoded isHeading typeName namedAs sizeShown sizeName guessed nameOf unselected passed nameAll namedTape naming loadNamed
+unfolding leAt numberAt fieldAt placeOf times eachAt groupsAt countedAt passAt textsAt wholeAt sealed enclosed fittingAt readAt digits orFull heldIf kind10 kind11 kind12 kind13 kind14 stream19 kind19 kind20 kind21 kind22 kind24 kind25 kind2A kind30 kind31 info32 kind32 kind33 kind35 kind5A kinds kindOf startsAt headAt named cutAt blockOf tapAt pilotOf dataOf withPilot withData generalOf empty _⟫_ addTones addBlock pend endGroup openLoop copyRows copies closed closeLoop paused lastPaused isHeader standardCycles standardTones standardPause turboTones pureTones pureToneTones pulseAt addRows rowOf standardSound turboSound pairSounds pureSound pauseSound addSound addSounds generalDeed stop48Deed does deedOf act after seeing foldFrom halted tooManyBits judged tzxOf tzxSee headed readTzx tapOf tapSee readTap orTap orElse loadOf decimal digitsOf latin1 each table encoded isHeading typeName namedAs sizeShown sizeName guessed nameOf unselected passed nameAll namedTape naming loadNamed
 shown = refl
 
 -- a tape over the limit, whatever its bytes
@@ -156,5 +157,5 @@ too-long lent s model h k = rw (lt-leb 3 model h, lt-ltb 1048576 (length s) k)
 
 -- two tapes are accepted and leave different block rows: so a load that refuses all tapes, or has one listing for all, does not meet the contract
 pub two-lists : {a a′ : Answer} {bt bt′ tt tt′ : List ℕ} → Leaves 39 12 (loadNamed (lentOf 39 12) (0 ∷ 0 ∷ []) 0) a bt tt → Leaves 39 12 (loadNamed (lentOf 39 12) (1 ∷ 0 ∷ 0xFF ∷ []) 0) a′ bt′ tt′ → (a ≡ Tape Tap 1 2) × (a′ ≡ Tape Tap 1 2) × (bt ≡ bt′ → ⊥)
-unfolding leAt numberAt fieldAt placeOf times eachAt groupsAt countedAt passAt textsAt wholeAt sealed enclosed fittingAt readAt digits orFull heldIf kind10 kind11 kind12 kind13 kind14 stream19 kind19 kind20 kind21 kind22 kind24 kind25 kind2A kind30 kind31 info32 kind32 kind33 kind35 kind5A kinds kindOf startsAt headAt named cutAt blockOf tapAt pilotOf dataOf withPilot withData generalOf empty _⟫_ addTones addBlock startGroup noteText endGroup openLoop copyRows copies closed closeLoop paused lastPaused isHeader standardCycles standardTones standardPause turboTones pureTones pureToneTones pulseAt addRows rowOf standardSound turboSound pairSounds pureSound pauseSound addSound addSounds generalDeed does deedOf act after seeing foldFrom stopLength tooManyBits judged tzxOf tzxSee headed readTzx tapOf tapSee readTap orTap orElse loadOf decimal digitsOf latin1 each table encoded isHeading typeName namedAs sizeShown sizeName guessed nameOf unselected passed nameAll namedTape naming loadNamed answerOf blocksOf tableOver
+unfolding leAt numberAt fieldAt placeOf times eachAt groupsAt countedAt passAt textsAt wholeAt sealed enclosed fittingAt readAt digits orFull heldIf kind10 kind11 kind12 kind13 kind14 stream19 kind19 kind20 kind21 kind22 kind24 kind25 kind2A kind30 kind31 info32 kind32 kind33 kind35 kind5A kinds kindOf startsAt headAt named cutAt blockOf tapAt pilotOf dataOf withPilot withData generalOf empty _⟫_ addTones addBlock pend endGroup openLoop copyRows copies closed closeLoop paused lastPaused isHeader standardCycles standardTones standardPause turboTones pureTones pureToneTones pulseAt addRows rowOf standardSound turboSound pairSounds pureSound pauseSound addSound addSounds generalDeed stop48Deed does deedOf act after seeing foldFrom halted tooManyBits judged tzxOf tzxSee headed readTzx tapOf tapSee readTap orTap orElse loadOf decimal digitsOf latin1 each table encoded isHeading typeName namedAs sizeShown sizeName guessed nameOf unselected passed nameAll namedTape naming loadNamed answerOf blocksOf tableOver
 two-lists x y = (x .answer, y .answer, λ e. suc-ne-zero 0 (ap (λ (l : List ℕ). getD l 3 0) (sym (y .blocks) ∙ sym e ∙ x .blocks)))

@@ -10,24 +10,29 @@ use Rattle.laws.specs.Rules.{_⇒_, _∣_}
 use Rattle.pieces.specs.declared.Heading.{Heading}
 use Rattle.pieces.specs.declared.Heading.the-variants as heading
 use Rattle.pieces.specs.Cut.{headAt}
+use Rattle.parser.specs.declared.Halt.the-variants.{Refusal, Length}
 use Rattle.parser.specs.Parser.{Tape, empty}
 use Rattle.blocks.specs.Adds.{Lent}
 use Rattle.reader.specs.declared.Failure.{Failure}
 use Rattle.reader.specs.declared.Failure.the-variants as failure
-use Rattle.reader.specs.Source.{See, Read, done, failed, refused, foldFrom, tooManyBits, judged, tzxSee, headed, readTzx, tapSee, readTap}
-use Rattle.promises.specs.Numbers.{Errs, Headed, Comes, here, past, Due, ends, errs, stands, answers, ByTzx, ByTap, Bad}
+use Rattle.reader.specs.Source.{See, Read, done, failed, refused, foldFrom, tooManyBits, judged, tzxSee, headed, readTzx, tapSee, readTap, halted}
+use Rattle.promises.specs.Numbers.{Errs, Headed, Comes, here, past, Due, ends, errs, stands, answers, ByTzx, ByTap, Bad, short, length48}
 use Rattle.promises.proofs.Runs.{comes-map, run-due}
 use Rattle.promises.proofs.Loads.{tzx-headed}
 use Rattle.promises.proofs.Dues.{tzx-bounded, tap-bounded}
 
 due-bad : {see : ℕ → See} {r : Read} {f : Failure} {at : ℕ} {t : Tape} → Due see r at t → r ≡ failed f → Bad see at t
+unfolding halted
 due-bad (ends e) q = let z : _≡_ {A = ℕ} 0 1 = cc in absurd (omega arith)
-due-bad (errs {f = f} e) q = (f, e)
+due-bad (errs e) q = short e
 due-bad (stands e) q = let z : _≡_ {A = ℕ} 0 1 = cc in absurd (omega arith)
-due-bad (answers e d) q = let z : _≡_ {A = ℕ} 0 1 = cc in absurd (omega arith)
+due-bad (answers {k = Refusal j} e d) q = let z : _≡_ {A = ℕ} 0 1 = cc in absurd (omega arith)
+due-bad (answers {k = Length n} e d) q = length48 e d
 
 bad-due : {see : ℕ → See} {at : ℕ} {t : Tape} → Comes see (Bad see) at t → (f : Failure) × Comes see (Due see (failed f)) at t
-bad-due (here x) = (x .0, here (errs (x .1)))
+unfolding halted
+bad-due (here (short {f = f} e)) = (f, here (errs e))
+bad-due (here (length48 {n = n} e d)) = (failure.Length n, here (answers {k = Length n} e d))
 bad-due (past e d c) = let x = bad-due c in (x .0, past e d (x .1))
 
 -- judging alters no error

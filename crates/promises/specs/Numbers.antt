@@ -16,10 +16,12 @@ use Rattle.pieces.specs.declared.Heading.the-variants.{Version}
 use Rattle.pieces.specs.Cut.{cutAt, headAt}
 use Rattle.general.specs.General.{generalOf, refused4}
 use Rattle.parser.specs.declared.Loop.the-variants.{Closed, Open}
+use Rattle.parser.specs.declared.Halt.{Halt}
+use Rattle.parser.specs.declared.Halt.the-variants.{Length}
 use Rattle.parser.specs.Parser.{Tape, Out, on, no, empty, _⟫_, withBody, addTones, addBlock, copies, closeLoop}
 use Rattle.blocks.specs.Adds.{Lent}
 use Rattle.reader.specs.declared.Failure.{Failure}
-use Rattle.reader.specs.Source.{See, over, bad, refuses, thing, Read, done, failed, refused, full, tzxSee, readTzx, tapSee}
+use Rattle.reader.specs.Source.{See, over, bad, refuses, thing, Read, done, failed, refused, halted, full, tzxSee, readTzx, tapSee}
 use Rattle.entries.specs.Places.{Tape as Mounted, blockIn}
 use Rattle.entries.specs.Mounted.{overfull, wellRow, formed}
 use Rattle.walks.specs.declared.Position.{Position}
@@ -43,12 +45,12 @@ pub data Comes (see : ℕ → See) (P : ℕ → Tape → Type 0) : ℕ → Tape 
   here : {at : ℕ} {t : Tape} → P at t → Comes see P at t
   past : {at next : ℕ} {does : Tape → Out} {t u : Tape} → see at ≡ thing next does → does t ≡ on u → Comes see P next u → Comes see P at t
 
--- a reading's answer is due at a place: the end; an error; a refusal, by what stands there or by what it does
+-- a reading's answer is due at a place: the end; an error or a refusal, by what stands there or by what it does
 pub data Due (see : ℕ → See) : Read → ℕ → Tape → Type 0 where
   ends : {at : ℕ} {t : Tape} → see at ≡ over → Due see (done t) at t
   errs : {at : ℕ} {t : Tape} {f : Failure} → see at ≡ bad f → Due see (failed f) at t
   stands : {at k : ℕ} {t : Tape} → see at ≡ refuses k → Due see (refused k) at t
-  answers : {at next k : ℕ} {does : Tape → Out} {t : Tape} → see at ≡ thing next does → does t ≡ no k → Due see (refused k) at t
+  answers : {at next : ℕ} {k : Halt} {does : Tape → Out} {t : Tape} → see at ≡ thing next does → does t ≡ no k → Due see (halted k) at t
 
 -- a TZX is read from 10 on, a TAP from 0 on, both with nothing read so far
 abbrev pub ByTzx : Lent → List ℕ → ℕ → (ℕ → Tape → Type 0) → Type 0
@@ -58,8 +60,9 @@ abbrev pub ByTap : Lent → List ℕ → (ℕ → Tape → Type 0) → Type 0
 ByTap lent s P = Comes (tapSee lent s) P 0 empty
 
 -- 3: what stands here errs: a short read, or a 2A of another length than 0
-abbrev pub Bad : (ℕ → See) → ℕ → Tape → Type 0
-Bad see at t = (f : Failure) × (see at ≡ bad f)
+pub data Bad (see : ℕ → See) (at : ℕ) (t : Tape) : Type 0 where
+  short : {f : Failure} → see at ≡ bad f → Bad see at t
+  length48 : {next n : ℕ} {does : Tape → Out} → see at ≡ thing next does → does t ≡ no (Length n) → Bad see at t
 
 -- 4: a generalised piece on which the Rust panics: before its data bytes, or by its entries and symbols
 pub data Panics (s : List ℕ) (at : ℕ) (t : Tape) : Type 0 where

@@ -30,6 +30,7 @@ use Rattle.pieces.proofs.Others.{unnamed}
 use Rattle.pieces.proofs.Places.{cut-places}
 use Rattle.parser.specs.Parser.{Tape}
 use Rattle.parser.proofs.Kept.{Sure}
+use Rattle.blocks.specs.declared.Origin.{Origin}
 use Rattle.blocks.specs.Adds.{Lent}
 use Rattle.reader.specs.Source.{act}
 use Rattle.format.specs.Format.{Said, unsaid, soundOf, paused, each, pilotSymbol, repetitions, pilotPulses, dataNumber, symbolPulses, every, symbolsSaid, format19, formatOf, full}
@@ -242,18 +243,18 @@ kept-cut s at e kept =
     record { other = r .other; cut = cut-there s at full h ∙ ap (named (getD s at 0) at) (r .whole); said = r .said }
 
 -- the piece that the format cuts at a place, and that the source reading's piece there is played as it says
-pub record KeptAt (lent : Lent) (s : List ℕ) (model at next : ℕ) (piece : Piece) (t : Tape) : Type 0 where
+pub record KeptAt (lent : Lent) (origin : Origin) (s : List ℕ) (model at next : ℕ) (piece : Piece) (t : Tape) : Type 0 where
   pub other : Piece
   pub cut : cutAt s at full ≡ taken.Whole (getD s at 0) at next other
-  pub plays : Sure (λ u. Keeps s t u (formatOf (eqb model 0) s other)) (act lent s model piece t)
+  pub plays : Sure (λ u. Keeps s t u (formatOf (eqb model 0) s other)) (act lent s model origin piece t)
 
 -- KEEPS, for a piece of a tape
-pub cut-keeps : (lent : Lent) (s : List ℕ) (model at : ℕ) (t : Tape) {k a next : ℕ} {piece : Piece} → cutAt s at 255 ≡ taken.Whole k a next piece → kept s piece ≡ true → KeptAt lent s model at next piece t
-cut-keeps lent s model at t {k} {a} {next} {piece} cut e =
+pub cut-keeps : (lent : Lent) (origin : Origin) (s : List ℕ) (model at : ℕ) (t : Tape) {k a next : ℕ} {piece : Piece} → cutAt s at 255 ≡ taken.Whole k a next piece → kept s piece ≡ true → KeptAt lent origin s model at next piece t
+cut-keeps lent origin s model at t {k} {a} {next} {piece} cut e =
     let c = kept-cut s at cut e in
     let tables : Tables s piece = λ g q. cut-places s at 255 (cut ∙ ap (λ (x : Piece). taken.Whole k a next x) q) .places in
     record {
       other = c .other;
       cut = c .cut;
-      plays = subst (λ (x : Said). Sure (λ u. Keeps s t u x) (act lent s model piece t)) (sym (c .said (eqb model 0))) (keeps lent s model piece t tables e);
+      plays = subst (λ (x : Said). Sure (λ u. Keeps s t u x) (act lent s model origin piece t)) (sym (c .said (eqb model 0))) (keeps lent origin s model piece t tables e);
     }

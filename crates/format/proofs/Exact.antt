@@ -21,6 +21,7 @@ use Rattle.pieces.specs.declared.Piece.{Piece}
 use Rattle.pieces.specs.declared.Piece.the-variants.{Standard, Turbo, Tone as PureTone, Pulses, Pure, Generalized, Pause, GroupStart, GroupEnd, LoopStart, LoopEnd, Stop48, Text, Message, Archive, Hardware, Custom, Glue}
 use Rattle.parser.specs.Parser.{Tape, Out, on, no}
 use Rattle.parser.proofs.Kept.{Sure, sure, none, sure-also}
+use Rattle.blocks.specs.declared.Origin.{Origin}
 use Rattle.blocks.specs.Sounds.{ms, toneOf, Sound as Birth, rowOf, addSounds}
 use Rattle.blocks.specs.Blocks.{isHeader, standardCycles, standardTones, turboTones, pureToneTones, standardSound, turboSound, toneSound, pairSounds}
 use Rattle.blocks.specs.Adds.{Lent}
@@ -93,15 +94,15 @@ counts-apart xs ys p h e =
     h (omega arith)
 
 -- a block that plays another number of lengths
-add-differs : (lent : Lent) (s : List ℕ) (t : Tape) (d : Birth) (bits : List ℕ) (p : Length) (ys : List ℕ) {said : Said} → said ≡ sounds (record { pulses = ys; pause = p })
-    → ((n : ℕ) → dataIn s (rowOf d n) ≡ bits) → ((n : ℕ) → pauseIn (rowOf d n) ≡ p) → (count (wavesOf (d .tones) ++ bits) ≡ count ys → ⊥) → Sure (λ u. Keeps s t u said → ⊥) (addSounds lent (d ∷ []) t)
+add-differs : (lent : Lent) (origin : Origin) (s : List ℕ) (t : Tape) (d : Birth) (bits : List ℕ) (p : Length) (ys : List ℕ) {said : Said} → said ≡ sounds (record { pulses = ys; pause = p })
+    → ((n : ℕ) → dataIn s (rowOf origin d n) ≡ bits) → ((n : ℕ) → pauseIn (rowOf origin d n) ≡ p) → (count (wavesOf (d .tones) ++ bits) ≡ count ys → ⊥) → Sure (λ u. Keeps s t u said → ⊥) (addSounds lent origin (d ∷ []) t)
 unfolding lengthsOf blockLengths
-add-differs lent s t d bits p ys said b q h =
+add-differs lent origin s t d bits p ys said b q h =
     let xs = wavesOf (d .tones) ++ bits in
-    rw (one-sound lent d t) (sure-also (λ u k m. counts-apart xs ys p h (keeps-once (record { pulses = ys; pause = p }) said k m))
-    (sound-plays s d (map lasts xs ++ p ∷ [])
+    rw (one-sound lent origin d t) (sure-also (λ u k m. counts-apart xs ys p h (keeps-once (record { pulses = ys; pause = p }) said k m))
+    (sound-plays s origin d (map lasts xs ++ p ∷ [])
     (λ n.
-    ap₂ (λ (a c : List Length). a ++ c) (sym (long-append (wavesOf (d .tones)) (dataIn s (rowOf d n))) ∙ ap (λ (l : List ℕ). long (wavesOf (d .tones) ++ l)) (b n)) (ap (λ (l : Length). lasting (l ∷ [])) (q n))
+    ap₂ (λ (a c : List Length). a ++ c) (sym (long-append (wavesOf (d .tones)) (dataIn s (rowOf origin d n))) ∙ ap (λ (l : List ℕ). long (wavesOf (d .tones) ++ l)) (b n)) (ap (λ (l : Length). lasting (l ∷ [])) (q n))
     ∙ sym (lasting-append (map lasts xs) (p ∷ [])))
     lent t))
 
@@ -120,13 +121,13 @@ neither false b e = (refl, e)
 few : (x n : ℕ) → (eqb (suc x) 0 || ltb 1 n) ≡ false → n ≤ 1
 few x n e = let l = ltb-false 1 n (neither (eqb (suc x) 0) (ltb 1 n) e .1) in omega arith
 
-differs12 : (lent : Lent) (s : List ℕ) (t : Tape) (half count′ : ℕ) → kept12 half count′ ≡ false
-    → Sure (λ u. Keeps s t u (format12 half count′) → ⊥) (addSounds lent (toneSound (pureToneTones half count′) ∷ []) t)
+differs12 : (lent : Lent) (origin : Origin) (s : List ℕ) (t : Tape) (half count′ : ℕ) → kept12 half count′ ≡ false
+    → Sure (λ u. Keeps s t u (format12 half count′) → ⊥) (addSounds lent origin (toneSound (pureToneTones half count′) ∷ []) t)
 unfolding kept12 format12 rowOf dataPulses each pauseIn
-differs12 lent s t zero count′ e = absurd (differ e)
-differs12 lent s t (suc x) count′ e =
+differs12 lent origin s t zero count′ e = absurd (differ e)
+differs12 lent origin s t (suc x) count′ e =
     let l : count′ ≤ 1 = few x count′ e in
-    add-differs lent s t (toneSound (pureToneTones (suc x) count′)) [] (lasts 0) (again count′ (suc x ∷ [])) refl
+    add-differs lent origin s t (toneSound (pureToneTones (suc x) count′)) [] (lasts 0) (again count′ (suc x ∷ [])) refl
     (λ n. refl) (λ n. refl) (tone-count x count′ l)
 
 -- a pilot in front of two syncs and data: only the pilot's number tells
@@ -160,28 +161,28 @@ odd-of true b c e q z = cc
 odd-of false true c e q z = sym q ∙ e
 odd-of false false c e q z = refl
 
-turbo-bits : (s : List ℕ) (d : TurboData) (n : ℕ) → bitsSaid (d .last) (d .size) ≡ true → dataIn s (rowOf (turboSound d) n) ≡ dataPulses s (d .zero) (d .one) (d .last) (d .from) (d .size)
+turbo-bits : (origin : Origin) (s : List ℕ) (d : TurboData) (n : ℕ) → bitsSaid (d .last) (d .size) ≡ true → dataIn s (rowOf origin (turboSound d) n) ≡ dataPulses s (d .zero) (d .one) (d .last) (d .from) (d .size)
 unfolding turboSound rowOf
-turbo-bits s d n b = data-same s (d .zero) (d .one) (d .last) (d .from) (d .size) b
+turbo-bits origin s d n b = data-same s (d .zero) (d .one) (d .last) (d .from) (d .size) b
 
-differs11 : (lent : Lent) (s : List ℕ) (t : Tape) (d : TurboData) → kept11 d ≡ false → Sure (λ u. Keeps s t u (format11 s d) → ⊥) (addSounds lent (turboSound d ∷ []) t)
+differs11 : (lent : Lent) (origin : Origin) (s : List ℕ) (t : Tape) (d : TurboData) → kept11 d ≡ false → Sure (λ u. Keeps s t u (format11 s d) → ⊥) (addSounds lent origin (turboSound d ∷ []) t)
 unfolding kept11 format11 turboSound
-differs11 lent s t d e = by-bits (bitsSaid (d .last) (d .size)) refl
+differs11 lent origin s t d e = by-bits (bitsSaid (d .last) (d .size)) refl
   where
     bits : List ℕ
     bits = dataPulses s (d .zero) (d .one) (d .last) (d .from) (d .size)
 
     by-pilot : (x : ℕ) → d .pilot ≡ x → bitsSaid (d .last) (d .size) ≡ true
-        → Sure (λ u. Keeps s t u (sounds (record { pulses = again (d .pilots) (d .pilot ∷ []) ++ d .sync1 ∷ d .sync2 ∷ bits; pause = paused (d .pause) })) → ⊥) (addSounds lent (turboSound d ∷ []) t)
+        → Sure (λ u. Keeps s t u (sounds (record { pulses = again (d .pilots) (d .pilot ∷ []) ++ d .sync1 ∷ d .sync2 ∷ bits; pause = paused (d .pause) })) → ⊥) (addSounds lent origin (turboSound d ∷ []) t)
     by-pilot zero p b = absurd (differ (sym (rw (b, eq-eqb (d .pilot) 0 p)) ∙ e))
     by-pilot (suc x) p b =
         let z : eqb (d .pilot) 0 ≡ false = ne-eqb (d .pilot) 0 (omega arith) in
         let c : evenCount (d .pilots) ≡ false = odd-of (eqb (d .pilot) 0) (evenCount (d .pilots)) (bitsSaid (d .last) (d .size)) e b z in
-        add-differs lent s t (turboSound d) bits (paused (d .pause)) (again (d .pilots) (d .pilot ∷ []) ++ d .sync1 ∷ d .sync2 ∷ bits) refl
-        (λ n. turbo-bits s d n b) (turbo-pause d) (turbo-count x d bits p c)
+        add-differs lent origin s t (turboSound d) bits (paused (d .pause)) (again (d .pilots) (d .pilot ∷ []) ++ d .sync1 ∷ d .sync2 ∷ bits) refl
+        (λ n. turbo-bits origin s d n b) (turbo-pause origin d) (turbo-count x d bits p c)
 
     by-bits : (b : Bool) → bitsSaid (d .last) (d .size) ≡ b
-        → Sure (λ u. Keeps s t u (b ⇒ sounds (record { pulses = again (d .pilots) (d .pilot ∷ []) ++ d .sync1 ∷ d .sync2 ∷ bits; pause = paused (d .pause) }) ∣ unsaid) → ⊥) (addSounds lent (turboSound d ∷ []) t)
+        → Sure (λ u. Keeps s t u (b ⇒ sounds (record { pulses = again (d .pilots) (d .pilot ∷ []) ++ d .sync1 ∷ d .sync2 ∷ bits; pause = paused (d .pause) }) ∣ unsaid) → ⊥) (addSounds lent origin (turboSound d ∷ []) t)
     by-bits true b = by-pilot (d .pilot) refl b
     by-bits false b = unsaid-differs refl _
 
@@ -205,17 +206,17 @@ standard-count false bits q =
     pilot-apart (again 1612 (2168 ∷ 2168 ∷ [])) (again 3223 (2168 ∷ [])) (667 ∷ 735 ∷ bits)
     (λ e. let a = count-cycles 2167 1612 in let b = count-again 2167 3223 in omega arith) (ap count (sym (two-rows 1612 2168 667 735 bits)) ∙ q)
 
-standard-bits : (s : List ℕ) (b : Bool) (from size pause n : ℕ) → dataIn s (rowOf (standardSound b from size pause) n) ≡ dataPulses s 855 1710 8 from size
+standard-bits : (origin : Origin) (s : List ℕ) (b : Bool) (from size pause n : ℕ) → dataIn s (rowOf origin (standardSound b from size pause) n) ≡ dataPulses s 855 1710 8 from size
 unfolding standardSound rowOf
-standard-bits s b from size pause n = refl
+standard-bits origin s b from size pause n = refl
 
-standard-pause : (b : Bool) (from size pause n : ℕ) → pauseIn (rowOf (standardSound b from size pause) n) ≡ lasts pause
+standard-pause : (origin : Origin) (b : Bool) (from size pause n : ℕ) → pauseIn (rowOf origin (standardSound b from size pause) n) ≡ lasts pause
 unfolding standardSound rowOf pauseIn
-standard-pause b from size pause n = refl
+standard-pause origin b from size pause n = refl
 
-differs10 : (lent : Lent) (s : List ℕ) (t : Tape) (pause from size : ℕ) → Sure (λ u. Keeps s t u (format10 s pause from size) → ⊥) (addSounds lent (standardSound (isHeader s from size) from size (ms pause) ∷ []) t)
+differs10 : (lent : Lent) (origin : Origin) (s : List ℕ) (t : Tape) (pause from size : ℕ) → Sure (λ u. Keeps s t u (format10 s pause from size) → ⊥) (addSounds lent origin (standardSound (isHeader s from size) from size (ms pause) ∷ []) t)
 unfolding standardSound format10 isHeader pilotCount
-differs10 lent s t pause from size = by-size (eqb size 0)
+differs10 lent origin s t pause from size = by-size (eqb size 0)
   where
     bits : List ℕ
     bits = dataPulses s 855 1710 8 from size
@@ -224,11 +225,11 @@ differs10 lent s t pause from size = by-size (eqb size 0)
     flag = ltb (getD s from 0) 128
 
     by-size : (b : Bool)
-        → Sure (λ u. Keeps s t u (b ⇒ unsaid ∣ sounds (record { pulses = again (flag ⇒ 8063 ∣ 3223) (2168 ∷ []) ++ 667 ∷ 735 ∷ bits; pause = paused pause })) → ⊥) (addSounds lent (standardSound (b || flag) from size (ms pause) ∷ []) t)
+        → Sure (λ u. Keeps s t u (b ⇒ unsaid ∣ sounds (record { pulses = again (flag ⇒ 8063 ∣ 3223) (2168 ∷ []) ++ 667 ∷ 735 ∷ bits; pause = paused pause })) → ⊥) (addSounds lent origin (standardSound (b || flag) from size (ms pause) ∷ []) t)
     by-size true = unsaid-differs refl _
     by-size false =
-        add-differs lent s t (standardSound flag from size (ms pause)) bits (paused pause) (again (flag ⇒ 8063 ∣ 3223) (2168 ∷ []) ++ 667 ∷ 735 ∷ bits) refl
-        (standard-bits s flag from size (ms pause)) (standard-pause flag from size (ms pause)) (standard-count flag bits)
+        add-differs lent origin s t (standardSound flag from size (ms pause)) bits (paused pause) (again (flag ⇒ 8063 ∣ 3223) (2168 ∷ []) ++ 667 ∷ 735 ∷ bits) refl
+        (standard-bits origin s flag from size (ms pause)) (standard-pause origin flag from size (ms pause)) (standard-count flag bits)
 
 one-heard : (v : ℕ) → (v ≡ 0 → ⊥) → count (v ∷ []) ≡ 1
 unfolding lasting
@@ -254,31 +255,31 @@ odd-last s count′ from e q =
     let n : count (each f 0 m) ≡ count (each f 0 count′) = ap length q in
     omega arith
 
-differs13 : (lent : Lent) (s : List ℕ) (t : Tape) (count′ from : ℕ) → kept13 s count′ from ≡ false → Sure (λ u. Keeps s t u (format13 s count′ from) → ⊥) (addSounds lent (pairSounds s from 0 (count′ / 2)) t)
+differs13 : (lent : Lent) (origin : Origin) (s : List ℕ) (t : Tape) (count′ from : ℕ) → kept13 s count′ from ≡ false → Sure (λ u. Keeps s t u (format13 s count′ from) → ⊥) (addSounds lent origin (pairSounds s from 0 (count′ / 2)) t)
 unfolding format13
-differs13 lent s t count′ from e =
+differs13 lent origin s t count′ from e =
     sure-also (λ u p k. odd-last s count′ from e (keeps-once (record { pulses = each (pulseIn s from) 0 count′; pause = lasts 0 }) refl p k ∙ no-pause (each (pulseIn s from) 0 count′)))
-    (pairs-play lent s from 0 (count′ / 2) t)
+    (pairs-play lent origin s from 0 (count′ / 2) t)
 
 -- THE CONVERSE: where `kept` is false, no block list that the piece adds plays what the format says
-pub unkept-differs : (lent : Lent) (s : List ℕ) (model : ℕ) (piece : Piece) (t : Tape) → told piece ≡ true → kept s piece ≡ false
-    → Sure (λ u. Keeps s t u (formatOf (eqb model 0) s piece) → ⊥) (act lent s model piece t)
+pub unkept-differs : (lent : Lent) (origin : Origin) (s : List ℕ) (model : ℕ) (piece : Piece) (t : Tape) → told piece ≡ true → kept s piece ≡ false
+    → Sure (λ u. Keeps s t u (formatOf (eqb model 0) s piece) → ⊥) (act lent s model origin piece t)
 unfolding told kept formatOf act deedOf does
-unkept-differs lent s model (Standard pause from size) t k e = differs10 lent s t pause from size
-unkept-differs lent s model (Turbo d) t k e = differs11 lent s t d e
-unkept-differs lent s model (PureTone half count′) t k e = differs12 lent s t half count′ e
-unkept-differs lent s model (Pulses count′ from) t k e = differs13 lent s t count′ from e
-unkept-differs lent s model (Pure off one last pause from size) t k e = differs14 s t off one last pause from size e _
-unkept-differs lent s model (Generalized g) t k e = absurd (differ (sym k))
-unkept-differs lent s model (Pause n) t k e = absurd (differ e)
-unkept-differs lent s model (GroupStart from size) t k e = absurd (differ e)
-unkept-differs lent s model GroupEnd t k e = absurd (differ (sym k))
-unkept-differs lent s model (LoopStart times) t k e = absurd (differ e)
-unkept-differs lent s model LoopEnd t k e = absurd (differ (sym k))
-unkept-differs lent s model (Stop48 length) t k e = differs2A s t (eqb model 0) length e _
-unkept-differs lent s model (Text from size) t k e = absurd (differ e)
-unkept-differs lent s model (Message seconds from size) t k e = absurd (differ e)
-unkept-differs lent s model (Archive count′ from) t k e = absurd (differ e)
-unkept-differs lent s model (Hardware count′ from) t k e = absurd (differ e)
-unkept-differs lent s model (Custom id from size) t k e = absurd (differ e)
-unkept-differs lent s model Glue t k e = absurd (differ e)
+unkept-differs lent origin s model (Standard pause from size) t k e = differs10 lent origin s t pause from size
+unkept-differs lent origin s model (Turbo d) t k e = differs11 lent origin s t d e
+unkept-differs lent origin s model (PureTone half count′) t k e = differs12 lent origin s t half count′ e
+unkept-differs lent origin s model (Pulses count′ from) t k e = differs13 lent origin s t count′ from e
+unkept-differs lent origin s model (Pure off one last pause from size) t k e = differs14 s t off one last pause from size e _
+unkept-differs lent origin s model (Generalized g) t k e = absurd (differ (sym k))
+unkept-differs lent origin s model (Pause n) t k e = absurd (differ e)
+unkept-differs lent origin s model (GroupStart from size) t k e = absurd (differ e)
+unkept-differs lent origin s model GroupEnd t k e = absurd (differ (sym k))
+unkept-differs lent origin s model (LoopStart times) t k e = absurd (differ e)
+unkept-differs lent origin s model LoopEnd t k e = absurd (differ (sym k))
+unkept-differs lent origin s model (Stop48 length) t k e = differs2A s t (eqb model 0) length e _
+unkept-differs lent origin s model (Text from size) t k e = absurd (differ e)
+unkept-differs lent origin s model (Message seconds from size) t k e = absurd (differ e)
+unkept-differs lent origin s model (Archive count′ from) t k e = absurd (differ e)
+unkept-differs lent origin s model (Hardware count′ from) t k e = absurd (differ e)
+unkept-differs lent origin s model (Custom id from size) t k e = absurd (differ e)
+unkept-differs lent origin s model Glue t k e = absurd (differ e)

@@ -11,6 +11,7 @@ use Rattle.reader.specs.Meaning.{deedOf}
 use Rattle.reader.specs.Source.{act}
 use Rattle.parser.specs.Parser.{Tape, pend, openLoop}
 use Rattle.parser.proofs.Kept.{Sure, sure}
+use Rattle.blocks.specs.declared.Origin.{Origin}
 use Rattle.blocks.specs.Adds.{Lent}
 use Rattle.blocks.specs.Sounds.{addSounds}
 use Rattle.blocks.specs.Deeds.{does}
@@ -22,23 +23,23 @@ use Rattle.format.proofs.KeepPulses.{keep13}
 use Rattle.format.proofs.KeepGeneral.{keep19}
 
 -- THE THEOREM: the blocks that a kept piece adds play the lengths above 0 that the format gives it, in order
-pub keeps : (lent : Lent) (s : List ℕ) (model : ℕ) (piece : Piece) (t : Tape) → Tables s piece → kept s piece ≡ true → Sure (λ u. Keeps s t u (formatOf (eqb model 0) s piece)) (act lent s model piece t)
+pub keeps : (lent : Lent) (origin : Origin) (s : List ℕ) (model : ℕ) (piece : Piece) (t : Tape) → Tables s piece → kept s piece ≡ true → Sure (λ u. Keeps s t u (formatOf (eqb model 0) s piece)) (act lent s model origin piece t)
 unfolding kept formatOf act deedOf does addSounds pend openLoop
-keeps lent s model (Standard pause from size) t places e = absurd (differ (sym e))
-keeps lent s model (Turbo d) t places e = keep11 lent s t d e
-keeps lent s model (PureTone half count) t places e = keep12 lent s t half count e
-keeps lent s model (Pulses count from) t places e = keep13 lent s t count from e
-keeps lent s model (Pure off one last pause from size) t places e = keep14 lent s t off one last pause from size e
-keeps lent s model (Generalized g) t places e = keep19 lent s model t g (places g refl) e
-keeps lent s model (Pause n) t places e = keep20 lent s t n
-keeps lent s model (GroupStart from size) t places e = sure (keep-none refl refl)
-keeps lent s model GroupEnd t places e = absurd (differ (sym e))
-keeps lent s model (LoopStart times) t places e = sure (keep-none refl refl)
-keeps lent s model LoopEnd t places e = absurd (differ (sym e))
-keeps lent s model (Stop48 length) t places e = keep2A lent s t model length e
-keeps lent s model (Text from size) t places e = sure (keep-none refl refl)
-keeps lent s model (Message seconds from size) t places e = sure (keep-none refl refl)
-keeps lent s model (Archive count from) t places e = sure (keep-none refl refl)
-keeps lent s model (Hardware count from) t places e = sure (keep-none refl refl)
-keeps lent s model (Custom id from size) t places e = sure (keep-none refl refl)
-keeps lent s model Glue t places e = sure (keep-none refl refl)
+keeps lent origin s model (Standard pause from size) t places e = absurd (differ (sym e))
+keeps lent origin s model (Turbo d) t places e = keep11 lent origin s t d e
+keeps lent origin s model (PureTone half count) t places e = keep12 lent origin s t half count e
+keeps lent origin s model (Pulses count from) t places e = keep13 lent origin s t count from e
+keeps lent origin s model (Pure off one last pause from size) t places e = keep14 lent origin s t off one last pause from size e
+keeps lent origin s model (Generalized g) t places e = keep19 lent origin s model t g (places g refl) e
+keeps lent origin s model (Pause n) t places e = keep20 lent origin s t n
+keeps lent origin s model (GroupStart from size) t places e = sure (keep-none refl refl)
+keeps lent origin s model GroupEnd t places e = absurd (differ (sym e))
+keeps lent origin s model (LoopStart times) t places e = sure (keep-none refl refl)
+keeps lent origin s model LoopEnd t places e = absurd (differ (sym e))
+keeps lent origin s model (Stop48 length) t places e = keep2A lent origin s t model length e
+keeps lent origin s model (Text from size) t places e = sure (keep-none refl refl)
+keeps lent origin s model (Message seconds from size) t places e = sure (keep-none refl refl)
+keeps lent origin s model (Archive count from) t places e = sure (keep-none refl refl)
+keeps lent origin s model (Hardware count from) t places e = sure (keep-none refl refl)
+keeps lent origin s model (Custom id from size) t places e = sure (keep-none refl refl)
+keeps lent origin s model Glue t places e = sure (keep-none refl refl)

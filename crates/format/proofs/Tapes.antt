@@ -18,17 +18,19 @@ use Rattle.pieces.specs.declared.Heading.the-variants as heading
 use Rattle.pieces.specs.Grammar.{readAt}
 use Rattle.pieces.specs.Kinds.{kindOf}
 use Rattle.pieces.specs.Cut.{named, cutAt, headAt}
+use Rattle.parser.specs.declared.Halt.the-variants.{Refusal, Length}
 use Rattle.parser.specs.Parser.{Tape, Out, empty}
 use Rattle.parser.proofs.Kept.{Sure, sure, none}
 use Rattle.blocks.specs.Adds.{Lent}
-use Rattle.reader.specs.Source.{Read, done, failed, refused, after, seeing, foldFrom, halted, act, tooManyBits, judged, tzxOf, tzxSee, headed, readTzx, readTap, tzx, no, orTap, orElse, loadOf}
+use Rattle.blocks.specs.Sounds.{originAt}
+use Rattle.reader.specs.Source.{Read, done, failed, refused, after, seeing, foldFrom, halted, tooManyBits, judged, tzxOf, tzxSee, headed, readTzx, readTap, tzx, no, orTap, orElse, loadOf}
 use Rattle.reader.specs.Source as source
 use Rattle.reader.specs.declared.Failure.the-variants as failure
 use Rattle.format.specs.Format.{Said, formatOf, full, lasting}
 use Rattle.format.specs.Kept.{kept, Plays, Keeps, as-said}
 use Rattle.format.specs.Tapes.{keptThen, keptFrom, saidOf, saidThen, formatFrom}
 use Rattle.format.proofs.Adds.{plays-none, plays-then}
-use Rattle.format.proofs.Cuts.{KeptAt, cut-keeps}
+use Rattle.format.proofs.Cuts.{cut-keeps}
 
 nothing-heard : lasting [] ≡ []
 unfolding lasting
@@ -54,9 +56,10 @@ record Went (K : Tape → Type 0) (k : Tape → Read) (u : Tape) : Type 0 where
   then : k tape ≡ done u
 
 went : {K : Tape → Type 0} {o : Out} {u : Tape} (k : Tape → Read) → Sure K o → after o k ≡ done u → Went K k u
-unfolding after
+unfolding after halted
 went k (sure {t = t} h) e = record { tape = t; has = h; then = e }
-went k (none) e = absurd (let z : _≡_ {A = ℕ} 0 1 = cc in omega arith)
+went k (none {k = Refusal j}) e = absurd (let z : _≡_ {A = ℕ} 0 1 = cc in omega arith)
+went k (none {k = Length n}) e = absurd (let z : _≡_ {A = ℕ} 0 1 = cc in omega arith)
 
 -- the end is the end to both
 named-on : (kind at : ℕ) (b : Body) → named kind at b ≡ taken.End → ⊥
@@ -85,15 +88,9 @@ module _ (lent : Lent) (s : List ℕ) (model : ℕ) where
   piece-then n at t u taken.End q e f later = rw (end-same s at q) (done-none f)
   piece-then n at t u (taken.Whole kind from next piece) q e f later =
       let k = first (kept s piece) (keptFrom s n next) e in
-      let c = cut-keeps lent s model at t q k in
-      rw (c .cut) (by-length (eqb (stopLength piece) 0) f c)
-    where
-      by-length : (b : Bool) → seeing (b ⇒ source.thing next (act lent s model piece) ∣ source.bad (failure.Length (stopLength piece))) t (foldFrom (tzxSee lent s model) n) ≡ done u → (c : KeptAt lent s model at next piece t)
-          → Plays s (saidOf (formatOf (eqb model 0) s (c .other)) ++ formatFrom (eqb model 0) s n next) t u
-      by-length true g c =
-          let w = went (foldFrom (tzxSee lent s model) n next) (c .plays) g in
-          plays-then (keeps-said (w .has)) (later next (w .tape) (second (kept s piece) (keptFrom s n next) e) (w .then))
-      by-length false g c = absurd (let z : _≡_ {A = ℕ} 0 1 = cc in omega arith)
+      let c = cut-keeps lent (originAt kind from) s model at t q k in
+      let w = went (foldFrom (tzxSee lent s model) n next) (c .plays) f in
+      rw (c .cut) (plays-then (keeps-said (w .has)) (later next (w .tape) (second (kept s piece) (keptFrom s n next) e) (w .then)))
   piece-then n at t u (taken.Unknown kind described) q e f later = absurd (let z : _≡_ {A = ℕ} 0 1 = cc in omega arith)
   piece-then n at t u (taken.Short kind p w) q e f later = absurd (let z : _≡_ {A = ℕ} 0 1 = cc in omega arith)
   piece-then n at t u (taken.Overflow kind p) q e f later = absurd (let z : _≡_ {A = ℕ} 0 1 = cc in omega arith)

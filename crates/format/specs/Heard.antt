@@ -9,7 +9,9 @@ use Rattle.rows.specs.Rows.{tone}
 use Rattle.pieces.specs.declared.Taken.{Taken}
 use Rattle.pieces.specs.declared.Taken.the-variants as taken
 use Rattle.pieces.specs.Cut.{cutAt}
-use Rattle.parser.specs.Parser.{Out, on, no as refuse, empty}
+use Rattle.parser.specs.declared.Halt.the-variants.{Refusal, Length as Longer}
+use Rattle.parser.specs.Parser.{Out, on, no as halt, empty}
+use Rattle.blocks.specs.Sounds.{originAt}
 use Rattle.blocks.specs.Adds.{Lent}
 use Rattle.reader.specs.Source as source
 use Rattle.format.specs.Format.{Length, lasts, forever, Said, sounds, unsaid, formatOf, full, lengthsOf, lasting}
@@ -28,7 +30,8 @@ heardIn unsaid = nothing
 
 unfoldable pub playedBy : List ℕ → Out → Heard
 playedBy s (on t) = plays (lasting (lengths (listOf s (tableOf tone (t .tones) 0) 0 (t .blocks))))
-playedBy s (refuse k) = refused k
+playedBy s (halt (Refusal k)) = refused k
+playedBy s (halt (Longer n)) = errs
 
 abbrev pub most : Lent
 most = record { blocks = 4096; tones = 65536 }
@@ -43,7 +46,7 @@ formatOn s (taken.Overflow kind p) = nothing
 
 unfoldable pub sourceOn : List ℕ → Taken → Heard
 sourceOn s taken.End = nothing
-sourceOn s (taken.Whole kind at next piece) = eqb (source.stopLength piece) 0 ⇒ playedBy s (source.act most s 0 piece empty) ∣ errs
+sourceOn s (taken.Whole kind at next piece) = playedBy s (source.act most s 0 (originAt kind at) piece empty)
 sourceOn s (taken.Unknown kind described) = nothing
 sourceOn s (taken.Short kind p w) = errs
 sourceOn s (taken.Overflow kind p) = refused 4

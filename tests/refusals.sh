@@ -22,7 +22,7 @@ cmp -s "$room/code" "$room/header" || bad "crates/refusals and include/glyvrask.
 
 # ---- bare numbers
 # Prints FILE:LINE: TEXT for each line with one. In code: an argument of a refusal, or what a function that answers a `u32` answers, in a file that names refusals.
-# In contracts, definitions and proofs: a refusal's number, what a number for no is said to be, and what the tests of count and room give.
+# In contracts, definitions and proofs: a refusal's number, what a number for no is said to be or to lie between, and what the tests of count and room give.
 bare() { # FILE..
     awk '
         FNR == 1 { names = 0; result = "" }
@@ -34,8 +34,8 @@ bare() { # FILE..
             gsub(/"[^"]*"/, "", line)
             said = code ? line ~ /⌜/ : line !~ /^ *(use|unfolding) /
             found = 0
+            if (line ~ /^use (refusals::|Rattle.refusals[.])/) names = 1
             if (code) {
-                if (line ~ /^use refusals::/) names = 1
                 if (line ~ /(^| )fn [a-z]/) result = ""
                 if (line ~ /-> [A-Za-z0-9]+( \{)?$/) { result = line; sub(/.*-> /, "", result); sub(/ \{$/, "", result) }
                 if (line ~ "(Refused|No|refuse|refused)[(]([^()]*, )?" n "[)]") found = 1
@@ -45,6 +45,8 @@ bare() { # FILE..
                 if (line ~ ("(^|[^A-Za-z0-9_-])([a-z]+[.])?(tell-)?(refused|Refused|refuse|refuses|refusal|refusedText|refusedLine|no|No) " n "([^0-9A-Za-z]|$)")) found = 1
                 if (line ~ ("(numberNo|markNo|timeNo|numberOf|numberFor|refusalOf|answerTo|loadNumber) .*≡ " n "([^0-9A-Za-z]|$)")) found = 1
                 if (line ~ ("(overfull|fits) .*(⇒|∣) " n "([^0-9A-Za-z]|$)")) found = 1
+                if (line ~ ("(Between|Says|Sees|Tells) " n " " n "([^0-9A-Za-z]|$)")) found = 1
+                if (names && line ~ ("((^|[^A-Za-z0-9_])k ≡ " n "|(^|[^0-9])" n " ≡ k)([^0-9A-Za-z]|$)")) found = 1
             }
             if (found) print FILENAME ":" FNR ": " $0
         }' n='([1-9]|10|11)' "$@"
@@ -64,12 +66,15 @@ fn refusal(count: u64) -> u32
     ensures { λ k. ⌜ k ≡ (fits words answer ⇒ 0 ∣ 10) ⌝ }
 CODE
 cat > "$room/bad.antt" <<'LAW'
+use Rattle.refusals.specs.Refusals.{tapeBad}
 orTap (failed f) = no 3
     ∣ ltb 65535 (length s) ⇒ refused 2
 walk-9 : numberOf walks ≡ 9 → ⊥
 lenOf w = overfull w ⇒ number.Refused 11 ∣ number.Is (w .count)
 numberOf a row = fits (a .values) row ⇒ a .no ∣ 10
 by-count true k row e = tell-refused 11 row
+    tap-no : readTap lent s ≡ refused k → Between 5 6 k → Given k
+    both-no : Errs (readTap lent s) → k ≡ 3 → Given k
 LAW
 cat > "$room/good.rt" <<'CODE'
 use refusals::NO_ROOM;
@@ -90,11 +95,11 @@ refusal-8 : (refusalOf w i ≡ noBlock) ↔ PastCount w i
 bitsIn used size pos = eqb (pos + 1) size ⇒ used ∣ 8
 LAW
 [ "$(bare "$room/bad.rt" | wc -l)" -eq 8 ] || bad "the search misses a bare number in code: it finds $(bare "$room/bad.rt")"
-[ "$(bare "$room/bad.antt" | wc -l)" -eq 6 ] || bad "the search misses a bare number in a law: it finds $(bare "$room/bad.antt")"
+[ "$(bare "$room/bad.antt" | wc -l)" -eq 8 ] || bad "the search misses a bare number in a law: it finds $(bare "$room/bad.antt")"
 [ -z "$(bare "$room/good.rt" "$room/good.antt")" ] || bad "the search finds what is no bare number: $(bare "$room/good.rt" "$room/good.antt")"
 
 # the crates that still have bare numbers
-later='crates/(parser|blocks|tones|stops|signals|reader|run|reading|general|made|loads|loops)/|crates/promises/proofs/(Dues|Lacking)|crates/format/proofs/'
+later='crates/(parser|blocks|tones|stops|signals|reader|run|reading|general|made|loads)/|crates/promises/proofs/(Dues|Lacking)|crates/format/proofs/'
 found=$(bare $(find crates \( -path 'crates/*/src/*.rt' -o -name '*.antt' \) ! -path 'crates/refusals/*' | grep -vE "$later" | LC_ALL=C sort))
 [ -z "$found" ] || bad "a bare number for no; crate refusals has its name:
 $found"

@@ -8,6 +8,7 @@ use lib.ListN.{length, drop, set, getD}
 use lib.Seq.{paste, paste-suc, take-length}
 use borrow.Author.Tests.{le-leb, lt-leb}
 use Rattle.laws.specs.Rules.{_⇒_, _∣_}
+use Rattle.refusals.specs.Refusals.{noRoom}
 use Rattle.text.specs.Out.{fits, told}
 use Rattle.answers.specs.Answers.{refused, numberOf, valuesOf}
 
@@ -21,12 +22,12 @@ tell-turn ws row row′ j e hr hw =
     ∙ ap (λ (n : ℕ). paste row 0 ws n) (sym (add-one j))
 
 -- a row of fewer words is not written, and the answer is 10
-pub tell-short : (ws row : List ℕ) → length row < length ws → (_≡_ {A = ℕ} 10 (fits ws row ⇒ 0 ∣ 10)) × (row ≡ told ws row)
+pub tell-short : (ws row : List ℕ) → length row < length ws → (_≡_ {A = ℕ} noRoom (fits ws row ⇒ 0 ∣ noRoom)) × (row ≡ told ws row)
 unfolding told
 tell-short ws row h = (rw (lt-leb (length ws) (length row) h), rw (lt-leb (length ws) (length row) h))
 
 -- in a row that holds them they stand first
-pub tell-whole : (ws row row′ : List ℕ) (j : ℕ) → length ws ≤ length row → j ≡ length ws → row′ ≡ paste row 0 ws j → (_≡_ {A = ℕ} 0 (fits ws row ⇒ 0 ∣ 10)) × (row′ ≡ told ws row)
+pub tell-whole : (ws row row′ : List ℕ) (j : ℕ) → length ws ≤ length row → j ≡ length ws → row′ ≡ paste row 0 ws j → (_≡_ {A = ℕ} 0 (fits ws row ⇒ 0 ∣ noRoom)) × (row′ ≡ told ws row)
 unfolding told
 tell-whole ws row row′ j h k e =
     let z : 0 + j ≡ length ws = omega arith in

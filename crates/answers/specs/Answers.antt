@@ -2,6 +2,7 @@
 use Prim.Native.Nat.{ℕ}
 use mathlib.Core.List.{List, [], _∷_}
 use Rattle.laws.specs.Rules.{_⇒_, _∣_}
+use Rattle.refusals.specs.Refusals.{noPosition, noRoom, badRow}
 use Rattle.text.specs.Out.{fits, told}
 use Rattle.walks.specs.declared.Position.{Position}
 use Rattle.walks.specs.declared.Stand.{Stand}
@@ -35,7 +36,7 @@ refused k = record { no = k; values = [] }
 
 -- WHAT IS RETURNED: the number; 10 where the lent row is shorter than the values
 unfoldable pub numberOf : Answer → List ℕ → ℕ
-numberOf a row = fits (a .values) row ⇒ a .no ∣ 10
+numberOf a row = fits (a .values) row ⇒ a .no ∣ noRoom
 
 -- WHAT IS LEFT OF THE LENT ROW: the values, then the words that were there; all of them where nothing is told
 unfoldable pub valuesOf : Answer → List ℕ → List ℕ
@@ -63,8 +64,8 @@ ofPosition q = given (wordsOf q)
 -- a block for a menu
 unfoldable pub ofSelected : Selected → Answer
 ofSelected (selected.Block b) = given (b ∷ [])
-ofSelected selected.BadPosition = refused 9
-ofSelected selected.BadRow = refused 11
+ofSelected selected.BadPosition = refused noPosition
+ofSelected selected.BadRow = refused badRow
 
 -- where a call leaves the head: how it stands, the entries passed, the level, the position
 unfoldable pub standWords : ℕ → Stand → List ℕ
@@ -75,8 +76,8 @@ unfoldable pub ofReached : Reached → Answer
 ofReached (reached.At s) = given (standWords 0 s)
 ofReached (reached.Stopped s) = given (standWords 1 s)
 ofReached (reached.Ended s) = given (standWords 2 s)
-ofReached reached.NotValid = refused 9
-ofReached reached.NotFormed = refused 11
+ofReached reached.NotValid = refused noPosition
+ofReached reached.NotFormed = refused badRow
 
 -- a tape's format: 0 TAP, 1 TZX
 unfoldable pub formatOf : Format → ℕ

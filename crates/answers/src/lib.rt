@@ -3,6 +3,9 @@ use deck::Selected;
 use queries::Mark;
 use queries::Number;
 use queries::Time;
+use refusals::BAD_ROW;
+use refusals::NO_POSITION;
+use refusals::NO_ROOM;
 use tape::Format;
 use tape::Loaded;
 use walks::Position;
@@ -13,16 +16,17 @@ use words::span_of;
 use words::spot_of;
 ghost use mathlib.Core.Path.{_≡_};
 ghost use Rattle.laws.specs.Rules.{_⇒_, _∣_};
+ghost use Rattle.refusals.specs.Refusals.{noRoom};
 ghost use Rattle.text.specs.Out.{fits, told};
 ghost use Rattle.answers.specs.Answers.{numberOf, valuesOf, ofNumber, ofMark, ofTime, ofPosition, ofSelected, standWords, ofReached, formatOf, ofLoaded};
 
 // The words into a row that holds them, and 0; else 10, and nothing is written.
 fn tell(words: &[u64], answer: &mut [u64]) -> u32
-    ensures { λ k. ⌜ k ≡ (fits (now (words .entry)) (now (answer .entry)) ⇒ 0 ∣ 10) ⌝ }
+    ensures { λ k. ⌜ k ≡ (fits (now (words .entry)) (now (answer .entry)) ⇒ 0 ∣ noRoom) ⌝ }
     ensures { λ _. ⌜ now (answer .exit) ≡ told (now (words .entry)) (now (answer .entry)) ⌝ }
 {
     if answer.len() < words.len() {
-        return 10;
+        return NO_ROOM;
     }
     let mut j = 0;
     while j < words.len() {
@@ -101,13 +105,13 @@ pub fn tell_selected(a: Selected, answer: &mut [u64]) -> u32
             let w = [b];
             tell(&w, answer)
         }
-        Selected::BadPosition => 9,
-        Selected::BadRow => 11,
+        Selected::BadPosition => NO_POSITION,
+        Selected::BadRow => BAD_ROW,
     }
 }
 
 fn tell_stand(how: u64, s: Stand, answer: &mut [u64]) -> u32
-    ensures { λ k. ⌜ k ≡ (fits (standWords how s) (now (answer .entry)) ⇒ 0 ∣ 10) ⌝ }
+    ensures { λ k. ⌜ k ≡ (fits (standWords how s) (now (answer .entry)) ⇒ 0 ∣ noRoom) ⌝ }
     ensures { λ _. ⌜ now (answer .exit) ≡ told (standWords how s) (now (answer .entry)) ⌝ }
 {
     let pos = s.position;
@@ -138,8 +142,8 @@ pub fn tell_reached(a: Reached, answer: &mut [u64]) -> u32
         Reached::At(s) => tell_stand(0, s, answer),
         Reached::Stopped(s) => tell_stand(1, s, answer),
         Reached::Ended(s) => tell_stand(2, s, answer),
-        Reached::NotValid => 9,
-        Reached::NotFormed => 11,
+        Reached::NotValid => NO_POSITION,
+        Reached::NotFormed => BAD_ROW,
     }
 }
 

@@ -29,7 +29,7 @@ use Rattle.walks.specs.Heads.{startAt, stand, ahead, levelHere, toldAs, walkFro
 use Rattle.walks.proofs.Leaves.{tells-end}
 use Rattle.deck.specs.declared.Check.the-variants.{Fine, NotValid, NotFormed}
 use Rattle.entries.specs.Mounted.{overfull}
-use Rattle.deck.specs.Deck.{atStart, ruledOut, badRow, validAt, judged, stays}
+use Rattle.deck.specs.Deck.{atStart, ruledOut, illFormed, validAt, judged, stays}
 
 -- two tests that hold together are one
 pub same-test : (a b : Bool) → (a ≡ true → b ≡ true) → (b ≡ true → a ≡ true) → a ≡ b
@@ -53,7 +53,7 @@ module _ (w : Tape) (q : Position) where
 
   module _ (fits : w .count ≤ capacityOf block blockMost (w .blocks)) where
     pub judged-start : w .count ≤ q .block → atStart q ≡ true → judged w q ≡ Fine
-    unfolding judged ruledOut badRow valid
+    unfolding judged ruledOut illFormed valid
     judged-start h e =
         rw (le-ltb (capacityOf block blockMost (w .blocks)) (w .count) fits, le-leb (w .count) (q .block) h, le-ltb (q .block) (w .count) h, e)
 
@@ -63,7 +63,7 @@ module _ (w : Tape) (q : Position) where
 
     module _ (h : q .block < w .count) where
       pub judged-bad : wellRow w (q .block) ≡ false → judged w q ≡ NotFormed
-      unfolding judged ruledOut badRow
+      unfolding judged ruledOut illFormed
       judged-bad e =
           rw (le-ltb (capacityOf block blockMost (w .blocks)) (w .count) fits, lt-leb (w .count) (q .block) h, lt-ltb (q .block) (w .count) h, e)
 
@@ -71,12 +71,12 @@ module _ (w : Tape) (q : Position) where
       entryFine = hasIn w (q .block) (q .phase) && remains (q .left) (lengthIn w (q .block) (q .phase))
 
       pub judged-not : wellRow w (q .block) ≡ true → entryFine ≡ false → judged w q ≡ NotValid
-      unfolding judged ruledOut badRow
+      unfolding judged ruledOut illFormed
       judged-not e f =
           rw (le-ltb (capacityOf block blockMost (w .blocks)) (w .count) fits, lt-leb (w .count) (q .block) h, lt-ltb (q .block) (w .count) h, e, valid-below w (q .block) (q .phase) (q .left) h, f)
 
       pub judged-fine : wellRow w (q .block) ≡ true → entryFine ≡ true → judged w q ≡ Fine
-      unfolding judged ruledOut badRow
+      unfolding judged ruledOut illFormed
       judged-fine e f =
           rw (le-ltb (capacityOf block blockMost (w .blocks)) (w .count) fits, lt-leb (w .count) (q .block) h, lt-ltb (q .block) (w .count) h, e, valid-below w (q .block) (q .phase) (q .left) h, f)
 
@@ -107,12 +107,12 @@ none-is Endless e = cc
 
 -- A FINE POSITION: below the count one that a walk can begin at, otherwise a start
 module _ (w : Tape) (q : Position) (fine : judged w q ≡ Fine) where
-  tests : Passed (overfull w) (ruledOut w q) (badRow w q) (validAt w q)
+  tests : Passed (overfull w) (ruledOut w q) (illFormed w q) (validAt w q)
   unfolding judged
-  tests = passed (overfull w) (ruledOut w q) (badRow w q) (validAt w q) fine
+  tests = passed (overfull w) (ruledOut w q) (illFormed w q) (validAt w q) fine
 
   pub fine-below : q .block < w .count → Walkable w q
-  unfolding badRow
+  unfolding illFormed
   fine-below h =
       let r : (true && not (wellRow w (q .block))) ≡ false = rw (lt-ltb (q .block) (w .count) h) at (tests .row) in
       record { lent = ltb-false _ _ (tests .over); below = h; row = not-false (wellRow w (q .block)) r; stands = tests .valid }

@@ -17,7 +17,7 @@ use Rattle.walks.specs.declared.Position.{Position}
 use Rattle.walks.specs.Heads.{told, walked}
 use Rattle.entries.proofs.Formed.{Whole, not-both}
 use Rattle.deck.specs.declared.Check.the-variants.{Fine}
-use Rattle.deck.specs.Deck.{atStart, ruledOut, badRow, validAt, judged}
+use Rattle.deck.specs.Deck.{atStart, ruledOut, illFormed, validAt, judged}
 
 or-false : (a b : Bool) → (a || b) ≡ true → b ≡ false → a ≡ true
 or-false true b e f = refl
@@ -37,9 +37,9 @@ ruled-out w q v =
     rw (or-false (atStart q) _ v e) (and-not (leb (w .count) (q .block))))
     (lt-or-ge (q .block) (w .count))
 
-bad-row : (w : Tape) → Whole w → (q : Position) → badRow w q ≡ false
-unfolding badRow
-bad-row w whole q =
+ill-formed : (w : Tape) → Whole w → (q : Position) → illFormed w q ≡ false
+unfolding illFormed
+ill-formed w whole q =
     ⊎-elim
     (λ l. rw (whole .rows (q .block) l) (and-not (ltb (q .block) (w .count))))
     (λ g. rw (le-ltb (q .block) (w .count) g))
@@ -59,5 +59,5 @@ module _ (w : Tape) (whole : Whole w) where
       ruled : ruledOut w q ≡ false
       ruled = ruled-out w q v
 
-      row : badRow w q ≡ false
-      row = bad-row w whole q
+      row : illFormed w q ≡ false
+      row = ill-formed w whole q

@@ -5,6 +5,7 @@ use mathlib.Core.List.{List}
 use lib.Dec.{ltb, leb, eqb}
 use lib.ListN.{length}
 use Rattle.laws.specs.Rules.{_⇒_, _∣_}
+use Rattle.refusals.specs.Refusals.{noPosition, badRow}
 use Rattle.pulses.specs.Play.{Entry, ended, Answer, made, shown, answer}
 use Rattle.pulses.specs.Source.{source}
 use Rattle.entries.specs.Entries.{Spot}
@@ -30,8 +31,8 @@ unfoldable pub ruledOut : Tape → Position → Bool
 ruledOut w q = leb (w .count) (q .block) && not (atStart q)
 
 -- its row, if below the count, is not well formed
-unfoldable pub badRow : Tape → Position → Bool
-badRow w q = ltb (q .block) (w .count) && not (wellRow w (q .block))
+unfoldable pub illFormed : Tape → Position → Bool
+illFormed w q = ltb (q .block) (w .count) && not (wellRow w (q .block))
 
 abbrev pub validAt : Tape → Position → Bool
 validAt w q = valid w (q .block) (q .phase) (q .left)
@@ -41,15 +42,15 @@ unfoldable pub judged : Tape → Position → Check
 judged w q =
     overfull w ⇒ NotFormed
     ∣ ruledOut w q ⇒ NotValid
-    ∣ badRow w q ⇒ NotFormed
+    ∣ illFormed w q ⇒ NotFormed
     ∣ not (validAt w q) ⇒ NotValid
     ∣ Fine
 
 -- the refusal, or r where there is none
 unfoldable pub unless : Check → Reached → Reached
 unless Fine r = r
-unless NotValid r = refused 9
-unless NotFormed r = refused 11
+unless NotValid r = refused noPosition
+unless NotFormed r = refused badRow
 
 -- a call of 0 alters nothing and answers stopped at an endless pause, otherwise standing
 unfoldable pub stays : Tape → Position → Reached
@@ -81,8 +82,8 @@ backTo w (suc b) = not (wellRow w (suc b)) ⇒ BadRow ∣ eqb (blockIn w (suc b)
 -- document 01's numbers for no; 0 where the query isn't refused
 unfoldable pub numberFor : Selected → ℕ
 numberFor (Block b) = 0
-numberFor BadPosition = 9
-numberFor BadRow = 11
+numberFor BadPosition = noPosition
+numberFor BadRow = badRow
 
 -- A POSITION'S BLOCK: 4,294,967,295 past the end, else back to a selectable one or 0
 unfoldable pub blockOf : Tape → Position → Check → Selected

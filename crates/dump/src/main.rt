@@ -2,23 +2,25 @@
 use models::model_of;
 use printing::print_loaded;
 use printing::print_refused;
+use refusals::BAD_MODEL;
+use refusals::TAPE_LONG;
 use tape::load;
 
 // What is printed of the input, and whether more input followed.
 fn dump(input: &[u8], more: usize, blocks: &mut [u64], tones: &mut [u64]) {
     if input.len() == 0 {
-        return print_refused(1);
+        return print_refused(BAD_MODEL);
     }
     let model = model_of(input[0]);
     if model == 3 {
-        return print_refused(1);
+        return print_refused(BAD_MODEL);
     }
     if 0 < more {
-        return print_refused(2);
+        return print_refused(TAPE_LONG);
     }
     let tape = &input[1..];
     if 65535 < tape.len() {
-        return print_refused(2);
+        return print_refused(TAPE_LONG);
     }
     let loaded = load(tape, model, blocks, tones);
     print_loaded(tape, tones, blocks, loaded);

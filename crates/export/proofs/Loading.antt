@@ -4,6 +4,7 @@ use mathlib.Core.Path.{_≡_, sym, ap, _∙_}
 use mathlib.Core.List.{List}
 use lib.ListN.{length}
 use borrow.Author.Tests.{le-leb, lt-leb, le-ltb, lt-ltb}
+use Rattle.refusals.specs.Refusals.{noRoom}
 use Rattle.text.specs.Out.{told}
 use Rattle.reader.specs.Source.{Loaded as Load}
 use Rattle.tape.specs.declared.Loaded.{Loaded}
@@ -26,7 +27,7 @@ unwritten (Tape f b t) row h = rw (lt-leb 3 (length row) h)
 unwritten (Refused k) row h = tell-refused k row .1
 
 pub load-short : (l : Load) (B N : ℕ) (bs ts row : List ℕ) → length row < 3
-    → (_≡_ {A = ℕ} 10 (loadNumber (answerOf l) row)) × ((bs ≡ loadTable row bs (blocksOf B l)) × ((ts ≡ loadTable row ts (tonesOf N l)) × (row ≡ valuesOf (ofLoaded (answerOf l)) row)))
+    → (_≡_ {A = ℕ} noRoom (loadNumber (answerOf l) row)) × ((bs ≡ loadTable row bs (blocksOf B l)) × ((ts ≡ loadTable row ts (tonesOf N l)) × (row ≡ valuesOf (ofLoaded (answerOf l)) row)))
 unfolding loadNumber loadTable
 load-short l B N bs ts row h =
     (rw (lt-ltb (length row) 3 h), (rw (lt-ltb (length row) 3 h), (rw (lt-ltb (length row) 3 h), unwritten (answerOf l) row h)))

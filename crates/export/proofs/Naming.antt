@@ -6,17 +6,18 @@ use mathlib.Core.List.{List}
 use lib.ListN.{length}
 use borrow.Author.Tests.{le-ltb, lt-ltb, lt-leb}
 use Rattle.laws.specs.Rules.{_⇒_, _∣_}
+use Rattle.refusals.specs.Refusals.{noRoom}
 use Rattle.text.specs.Out.{fits, told}
 use Rattle.entries.specs.Places.{Tape, blockIn}
 use Rattle.queries.specs.declared.Number.{Number}
 use Rattle.queries.specs.declared.Number.the-variants.{Is, Refused}
-use Rattle.queries.specs.Queries.{refusalOf, numberUnless, sizeOf, nameIn, lengthOr10, nameAnswer, nameBytes}
+use Rattle.queries.specs.Queries.{refusalOf, numberUnless, sizeOf, nameIn, lengthOrNoRoom, nameAnswer, nameBytes}
 use Rattle.answers.specs.Answers.{numberOf, valuesOf, ofNumber}
 use Rattle.export.specs.Export.{nameLeft}
 use Rattle.answers.proofs.Telling.{tell-refused}
 
 -- a number for which there is no word
-no-word : (n : ℕ) (row : List ℕ) → length row < 1 → (numberOf (ofNumber (Is n)) row ≡ 10) × (valuesOf (ofNumber (Is n)) row ≡ row)
+no-word : (n : ℕ) (row : List ℕ) → length row < 1 → (numberOf (ofNumber (Is n)) row ≡ noRoom) × (valuesOf (ofNumber (Is n)) row ≡ row)
 unfolding numberOf valuesOf ofNumber told
 no-word n row h = (rw (lt-leb 1 (length row) h), rw (lt-leb 1 (length row) h))
 
@@ -26,13 +27,13 @@ no-number k row = (sym (tell-refused k row .0), sym (tell-refused k row .1))
 
 -- a length, or 10 since the bytes don't hold the name: 10 either way
 no-length : (t : Bool) (n : ℕ) (row : List ℕ) → length row < 1
-    → (numberOf (ofNumber (t ⇒ Is n ∣ Refused 10)) row ≡ 10) × (valuesOf (ofNumber (t ⇒ Is n ∣ Refused 10)) row ≡ row)
+    → (numberOf (ofNumber (t ⇒ Is n ∣ Refused noRoom)) row ≡ noRoom) × (valuesOf (ofNumber (t ⇒ Is n ∣ Refused noRoom)) row ≡ row)
 no-length true n row h = no-word n row h
-no-length false n row h = no-number 10 row
+no-length false n row h = no-number noRoom row
 
 alike : (k s n : ℕ) (t : Bool) (row : List ℕ) → length row < 1
-    → (numberOf (ofNumber (numberUnless k (Is s))) row ≡ numberOf (ofNumber (numberUnless k (t ⇒ Is n ∣ Refused 10))) row)
-    × (valuesOf (ofNumber (numberUnless k (Is s))) row ≡ valuesOf (ofNumber (numberUnless k (t ⇒ Is n ∣ Refused 10))) row)
+    → (numberOf (ofNumber (numberUnless k (Is s))) row ≡ numberOf (ofNumber (numberUnless k (t ⇒ Is n ∣ Refused noRoom))) row)
+    × (valuesOf (ofNumber (numberUnless k (Is s))) row ≡ valuesOf (ofNumber (numberUnless k (t ⇒ Is n ∣ Refused noRoom))) row)
 unfolding numberUnless
 alike zero s n t row h = (no-word s row h .0 ∙ sym (no-length t n row h .0), no-word s row h .1 ∙ sym (no-length t n row h .1))
 alike (suc k) s n t row h = (refl, refl)
@@ -40,7 +41,7 @@ alike (suc k) s n t row h = (refl, refl)
 pub name-unwritten : (w : Tape) (i : ℕ) (out row : List ℕ) {a : Number} {k : ℕ} {row′ : List ℕ} → length row < 1 → a ≡ sizeOf w i
     → (k ≡ numberOf (ofNumber a) row) × (row′ ≡ valuesOf (ofNumber a) row)
     → (k ≡ numberOf (ofNumber (nameAnswer w i out)) row) × ((out ≡ nameLeft w i row out) × (row′ ≡ valuesOf (ofNumber (nameAnswer w i out)) row))
-unfolding sizeOf nameAnswer lengthOr10 nameLeft
+unfolding sizeOf nameAnswer lengthOrNoRoom nameLeft
 name-unwritten w i out row h q e =
     let both = alike (refusalOf w i) (blockIn w i .size) (length (nameIn w i)) (fits (nameIn w i) out) row h in
     let f = rw q at e in

@@ -4,6 +4,7 @@ use mathlib.Core.List.{List}
 use lib.Dec.{ltb}
 use lib.ListN.{length}
 use Rattle.laws.specs.Rules.{_⇒_, _∣_}
+use Rattle.refusals.specs.Refusals.{noPosition, noRoom, badRow}
 use Rattle.entries.specs.Places.{Tape}
 use Rattle.entries.specs.Mounted.{overfull}
 use Rattle.walks.specs.declared.Position.{Position}
@@ -21,7 +22,7 @@ use Rattle.answers.specs.Answers.{Answer, refused, ofSelected, ofReached, ofLoa
 -- WITH A POSITION as words: 11 for the count, then 9 where they name none; else what f says of it
 unfoldable pub withPlace : (Position → Answer) → Tape → Placed → Answer
 withPlace f w (place.Is q) = f q
-withPlace f w place.Not = overfull w ⇒ refused 11 ∣ refused 9
+withPlace f w place.Not = overfull w ⇒ refused badRow ∣ refused noPosition
 
 -- a position's block, and both players' answers, from lent words
 abbrev pub selectedAt : Tape → List ℕ → Answer
@@ -39,7 +40,7 @@ loadIn blocks tones tape model = loadNamed (lentOf (length blocks) (length tones
 
 -- a load whose answer doesn't fit its row of three words is 10, before anything is read, and alters nothing
 unfoldable pub loadNumber : Loaded → List ℕ → ℕ
-loadNumber a row = ltb (length row) 3 ⇒ 10 ∣ ofLoaded a .no
+loadNumber a row = ltb (length row) 3 ⇒ noRoom ∣ ofLoaded a .no
 
 unfoldable pub loadTable : List ℕ → List ℕ → List ℕ → List ℕ
 loadTable row was now = ltb (length row) 3 ⇒ was ∣ now

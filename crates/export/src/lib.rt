@@ -7,6 +7,8 @@ use answers::tell_reached;
 use answers::tell_selected;
 use answers::tell_time;
 use queries::Number;
+use refusals::NO_POSITION;
+use refusals::NO_ROOM;
 use walks::Position;
 use words::Placed;
 use words::position_from;
@@ -15,6 +17,7 @@ ghost use mathlib.Core.List.{List};
 ghost use Prim.Native.Nat.{ℕ};
 ghost use lib.ListN.{length};
 ghost use Rattle.laws.specs.Rules.{_⇒_, _∣_};
+ghost use Rattle.refusals.specs.Refusals.{noPosition, badRow};
 ghost use Rattle.entries.specs.Mounted.{overfull, tapeOf};
 ghost use Rattle.walks.specs.Heads.{startAt};
 ghost use Rattle.queries.specs.Queries.{lenOf, sizeOf, selectableOf, timeOf, nameAnswer, loadingOf};
@@ -24,10 +27,10 @@ ghost use Rattle.export.specs.Export.{loadIn, selectedAt, sourceAt, meas
 
 // Words that name no position: 11 for the count, then 9.
 fn misplaced(blocks: &[u64], count: u64) -> u32
-    ensures { λ k. ⌜ ((bytes tones : List ℕ) → k ≡ (overfull (tapeOf bytes tones (now (blocks .entry)) count) ⇒ 11 ∣ 9)) ⌝ }
+    ensures { λ k. ⌜ ((bytes tones : List ℕ) → k ≡ (overfull (tapeOf bytes tones (now (blocks .entry)) count) ⇒ badRow ∣ noPosition)) ⌝ }
 {
     match queries::len(blocks, count) {
-        Number::Is(_) => 9,
+        Number::Is(_) => NO_POSITION,
         Number::Refused(k) => k,
     }
 }
@@ -47,7 +50,7 @@ pub extern "C" fn glyvrask_load(
     ensures { λ _. ⌜ now (answer .exit) ≡ valuesOf (ofLoaded (answerOf (loadIn (now (blocks .entry)) (now (tones .entry)) (now (tape .entry)) model))) (now (answer .entry)) ⌝ }
 {
     if answer.len() < 3 {
-        return 10;
+        return NO_ROOM;
     }
     tell_loaded(tape::load(tape, model, blocks, tones), answer)
 }

@@ -4,6 +4,7 @@ use mathlib.Core.Bool.{Bool, true, false, _&&_}
 use mathlib.Core.List.{List, [], _∷_}
 use lib.Dec.{eqb}
 use Rattle.laws.specs.Rules.{_⇒_, _∣_}
+use Rattle.refusals.specs.Refusals.{generalised}
 use Rattle.rows.specs.Table.{tableOf}
 use Rattle.rows.specs.Rows.{tone}
 use Rattle.pieces.specs.declared.Taken.{Taken}
@@ -49,7 +50,7 @@ sourceOn s taken.End = nothing
 sourceOn s (taken.Whole kind at next piece) = playedBy s (source.act most s 0 (originAt kind at) piece empty)
 sourceOn s (taken.Unknown kind described) = nothing
 sourceOn s (taken.Short kind p w) = errs
-sourceOn s (taken.Overflow kind p) = refused 4
+sourceOn s (taken.Overflow kind p) = refused generalised
 
 unfoldable pub keptOn : List ℕ → Taken → Bool
 keptOn s taken.End = false

@@ -7,23 +7,24 @@ use mathlib.Core.List.{List, [], _∷_}
 use lib.ListN.{length, length-drop, getD, take, drop}
 use lib.Seq.{length-take-le, take-all}
 use borrow.Author.Tests.{le-leb, lt-leb}
+use Rattle.refusals.specs.Refusals.{badModel, tapeLong}
 use Rattle.io.specs.Counts.{Counts}
 use Rattle.listing.specs.Listing.{refused, listingOf}
 use Rattle.listing.specs.Printed.{refusedText, printedOf, Says}
 use Rattle.models.specs.Models.{modelOf}
 use Rattle.list.specs.Heard.{heard}
 
-heard-none : (input : List ℕ) (more : Bool) → length input ≤ 0 → heard input more ≡ refused 1
+heard-none : (input : List ℕ) (more : Bool) → length input ≤ 0 → heard input more ≡ refused badModel
 unfolding heard
 heard-none [] more h = refl
 heard-none (b ∷ tape) more h = absurd (omega arith)
 
-heard-bad : (input : List ℕ) (more : Bool) → 0 < length input → 3 ≤ modelOf (getD input 0 0) → heard input more ≡ refused 1
+heard-bad : (input : List ℕ) (more : Bool) → 0 < length input → 3 ≤ modelOf (getD input 0 0) → heard input more ≡ refused badModel
 unfolding heard
 heard-bad [] more h k = refl
 heard-bad (b ∷ tape) more h k = rw (le-leb 3 (modelOf b) k)
 
-heard-long : (input : List ℕ) (more : Bool) → 0 < length input → modelOf (getD input 0 0) < 3 → more ≡ true → heard input more ≡ refused 2
+heard-long : (input : List ℕ) (more : Bool) → 0 < length input → modelOf (getD input 0 0) < 3 → more ≡ true → heard input more ≡ refused tapeLong
 unfolding heard
 heard-long [] more h k e = absurd (omega arith)
 heard-long (b ∷ tape) more h k e = rw (lt-leb 3 (modelOf b) k, e)
@@ -44,7 +45,7 @@ refuses : {r k : ℕ} {out : List ℕ} (input : List ℕ) (more : Bool) → hear
 unfolding printedOf
 refuses input more e s = answers input more (sym (ap printedOf e)) s
 
-pub says-none : {r : ℕ} {out : List ℕ} (input : List ℕ) (more : Bool) → length input ≤ 0 → Says (refusedText 1) r out → Answers input more r out
+pub says-none : {r : ℕ} {out : List ℕ} (input : List ℕ) (more : Bool) → length input ≤ 0 → Says (refusedText badModel) r out → Answers input more r out
 says-none input more h s = refuses input more (heard-none input more h) s
 
 -- all from byte 1 on is the tape
@@ -53,10 +54,10 @@ behind input = take-all (length input - 1) (drop 1 input) (rw length-drop (omega
 
 -- the model's number as it was found
 module _ {r m : ℕ} {out : List ℕ} (input : List ℕ) (more : Bool) (h : 0 < length input) (e : m ≡ modelOf (getD input 0 0)) where
-  pub says-bad : 3 ≤ m → Says (refusedText 1) r out → Answers input more r out
+  pub says-bad : 3 ≤ m → Says (refusedText badModel) r out → Answers input more r out
   says-bad k s = refuses input more (heard-bad input more h (omega arith)) s
 
-  pub says-long : m < 3 → more ≡ true → Says (refusedText 2) r out → Answers input more r out
+  pub says-long : m < 3 → more ≡ true → Says (refusedText tapeLong) r out → Answers input more r out
   says-long k q s = refuses input more (heard-long input more h (omega arith) q) s
 
   pub says-tape : m < 3 → more ≡ false → Says (printedOf (listingOf (take (length input - 1) (drop 1 input)) m)) r out → Answers input more r out

@@ -4,10 +4,11 @@ use mathlib.Core.Bool.{Bool}
 use mathlib.Core.List.{List, [], _∷_}
 use lib.Dec.{leb}
 use Rattle.laws.specs.Rules.{_⇒_, _∣_}
+use Rattle.refusals.specs.Refusals.{badModel, tapeLong}
 use Rattle.models.specs.Models.{modelOf}
 use Rattle.listing.specs.Listing.{Listing, refused, listingOf}
 
 -- of the first 65,536 bytes, and whether more followed: a bad or missing first byte is 1, longer is 2
 unfoldable pub heard : List ℕ → Bool → Listing
-heard [] more = refused 1
-heard (b ∷ tape) more = leb 3 (modelOf b) ⇒ refused 1 ∣ more ⇒ refused 2 ∣ listingOf tape (modelOf b)
+heard [] more = refused badModel
+heard (b ∷ tape) more = leb 3 (modelOf b) ⇒ refused badModel ∣ more ⇒ refused tapeLong ∣ listingOf tape (modelOf b)

@@ -2,6 +2,8 @@
 use listing::say;
 use listing::say_refused;
 use models::model_of;
+use refusals::BAD_MODEL;
+use refusals::TAPE_LONG;
 ghost use mathlib.Core.Path.{_≡_};
 ghost use Prim.Native.Nat.{_≤_};
 ghost use lib.ListN.{length, take};
@@ -16,14 +18,14 @@ fn answer(input: &[u8], more: bool, out: &mut [u8]) -> usize
     ensures { λ r. ⌜ take r (now (out .exit)) ≡ printedOf (heard (now (input .entry)) more) ⌝ }
 {
     if input.len() == 0 {
-        return say_refused(out, 1);
+        return say_refused(out, BAD_MODEL);
     }
     let model = model_of(input[0]);
     if 3 <= model {
-        return say_refused(out, 1);
+        return say_refused(out, BAD_MODEL);
     }
     if more {
-        return say_refused(out, 2);
+        return say_refused(out, TAPE_LONG);
     }
     say(&input[1..], model, out)
 }

@@ -11,6 +11,7 @@ use lib.Dec.{ltb}
 use borrow.Author.Tests.{lt-leb, le-leb}
 use Rattle.laws.specs.Rules.{_⇒_, _∣_}
 use Rattle.laws.specs.Numbers.{lt-or-ge}
+use Rattle.refusals.specs.Refusals.{tapeLong}
 use Rattle.text.specs.Out.{fits}
 use Rattle.blocks.specs.Adds.{Lent}
 use Rattle.reader.specs.Source.{Loaded as Load, tzx, tapped, no}
@@ -45,7 +46,7 @@ module _ (s : List ℕ) where
   loads-alike m m′ h h′ e =
       rw (lt-leb 3 m h, lt-leb 3 m′ h′) (by-length (ltb 65535 (length s)) (subst (λ (l : Load). Alike m m′ (listed s m (loadedOf s m)) (listed s m′ l)) e (listed-alike s m m′ (loadedOf s m))))
     where
-      by-length : (b : Bool) {x y : Listing} → Alike m m′ x y → Alike m m′ (b ⇒ refused 2 ∣ x) (b ⇒ refused 2 ∣ y)
+      by-length : (b : Bool) {x y : Listing} → Alike m m′ x y → Alike m m′ (b ⇒ refused tapeLong ∣ x) (b ⇒ refused tapeLong ∣ y)
       by-length true a = refusals
       by-length false a = a
 

@@ -7,6 +7,7 @@ use mathlib.Core.Bool.{false}
 use mathlib.Core.List.{List}
 use lib.ListN.{length}
 use borrow.Author.Tests.{le-leb, lt-leb, lt-ltb, le-ltb}
+use Rattle.refusals.specs.Refusals.{badModel, tapeLong}
 use Rattle.rows.specs.Table.{tableOf}
 use Rattle.rows.specs.Rows.{block, tone}
 use Rattle.parser.specs.Parser.{Tape as Rows}
@@ -97,11 +98,11 @@ abbrev pub Answered : List ℕ → ℕ → List ℕ → ℕ → List ℕ → Typ
 Answered s model out r out′ = (r ≡ answerTo (listingOf s model) out) × (out′ ≡ bytesAfter (listingOf s model) out)
 
 module _ (s : List ℕ) (model : ℕ) where
-  pub no-model : (out : List ℕ) → 3 ≤ model → Answered s model out 1 out
+  pub no-model : (out : List ℕ) → 3 ≤ model → Answered s model out badModel out
   unfolding listingOf answerTo bytesAfter
   no-model out h = (rw (le-leb 3 model h), rw (le-leb 3 model h))
 
-  pub too-long : (out : List ℕ) → model < 3 → 65535 < length s → Answered s model out 2 out
+  pub too-long : (out : List ℕ) → model < 3 → 65535 < length s → Answered s model out tapeLong out
   unfolding listingOf answerTo bytesAfter
   too-long out h k = (rw (lt-leb 3 model h, lt-ltb 65535 (length s) k), rw (lt-leb 3 model h, lt-ltb 65535 (length s) k))
 

@@ -8,6 +8,7 @@ use lib.ListN.{length, drop}
 use lib.Dec.{leb, ltb}
 use borrow.Author.Tests.{leb-true, leb-false}
 use Rattle.laws.specs.Rules.{_⇒_, _∣_}
+use Rattle.refusals.specs.Refusals.{badModel, tapeLong, lastBits, noRoom}
 use Rattle.text.specs.Out.{fits, told}
 use Rattle.reader.specs.Source.{Loaded as Load}
 use Rattle.tape.specs.Load.{loadNamed}
@@ -19,7 +20,7 @@ use Rattle.page.proofs.Texts.{text-least}
 -- a text of 37 bytes at least, or a refusal by a number from 1 to 7
 pub data Sized : Listing → Type 0 where
   long : {t : List ℕ} → 37 ≤ length t → Sized (text t)
-  small : {k : ℕ} → 1 ≤ k → k ≤ 7 → Sized (refused k)
+  small : {k : ℕ} → badModel ≤ k → k ≤ lastBits → Sized (refused k)
 
 listed-sized : (s : List ℕ) (model : ℕ) {l : Load} → Numbered l → Sized (listed s model l)
 unfolding listed
@@ -32,9 +33,9 @@ pub listing-sized : (s : List ℕ) (model : ℕ) → Sized (listingOf s model)
 unfolding listingOf loadedOf loadNamed
 listing-sized s model = by-cases (leb 3 model) (ltb 65535 (length s))
   where
-    by-cases : (a b : Bool) → Sized (a ⇒ refused 1 ∣ b ⇒ refused 2 ∣ listed s model (loadedOf s model))
-    by-cases true b = small {k = 1} (omega arith) (omega arith)
-    by-cases false true = small {k = 2} (omega arith) (omega arith)
+    by-cases : (a b : Bool) → Sized (a ⇒ refused badModel ∣ b ⇒ refused tapeLong ∣ listed s model (loadedOf s model))
+    by-cases true b = small {k = badModel} (omega arith) (omega arith)
+    by-cases false true = small {k = tapeLong} (omega arith) (omega arith)
     by-cases false false = listed-sized s model (named-numbered s (load-numbered _ s model))
 
 pub text-length : (s : List ℕ) (model : ℕ) {t : List ℕ} → listingOf s model ≡ text t → 37 ≤ length t
@@ -46,15 +47,15 @@ text-length s model {t} e = of (listing-sized s model) e
 
 -- what the number r, and the output bytes after the call, are
 pub data Tells (l : Listing) (out : List ℕ) : ℕ → List ℕ → Type 0 where
-  refusal : {k : ℕ} → l ≡ refused k → 1 ≤ k → k ≤ 7 → Tells l out k out
-  no-room : {t : List ℕ} → l ≡ text t → length out < length t → Tells l out 10 out
+  refusal : {k : ℕ} → l ≡ refused k → badModel ≤ k → k ≤ lastBits → Tells l out k out
+  no-room : {t : List ℕ} → l ≡ text t → length out < length t → Tells l out noRoom out
   listing : {t : List ℕ} → l ≡ text t → 37 ≤ length t → length t ≤ length out → Tells l out (length t) (t ++ drop (length t) out)
 
 pub tells-number : (l : Listing) (out : List ℕ) → Sized l → Tells l out (answerTo l out) (bytesAfter l out)
 unfolding answerTo bytesAfter told
 tells-number (text t) out (long h) = by-room (fits t out) refl
   where
-    by-room : (b : Bool) → fits t out ≡ b → Tells (text t) out (b ⇒ length t ∣ 10) (b ⇒ t ++ drop (length t) out ∣ out)
+    by-room : (b : Bool) → fits t out ≡ b → Tells (text t) out (b ⇒ length t ∣ noRoom) (b ⇒ t ++ drop (length t) out ∣ out)
     by-room true e = listing refl h (leb-true _ _ e)
     by-room false e = no-room refl (leb-false _ _ e)
 tells-number (refused k) out (small a b) = refusal refl a b
@@ -64,7 +65,7 @@ pub data Spoken (l : Listing) (out : List ℕ) (r : ℕ) (out′ : List ℕ) : T
   spoken : {t : List ℕ} → l ≡ text t → r ≡ length t → out′ ≡ t ++ drop (length t) out → Spoken l out r out′
 
 -- BELOW 32 A REFUSAL, and no byte is written; ELSE THE TEXT'S LENGTH, and the text stands in front
-below : {l : Listing} {out out′ : List ℕ} {r : ℕ} → Tells l out r out′ → r < 32 → (r ≤ 10) × (out′ ≡ out)
+below : {l : Listing} {out out′ : List ℕ} {r : ℕ} → Tells l out r out′ → r < 32 → (r ≤ noRoom) × (out′ ≡ out)
 below (refusal e a b) h = (omega arith, refl)
 below (no-room e k) h = (omega arith, refl)
 below (listing e k m) h = absurd (omega arith)
@@ -75,6 +76,6 @@ above (no-room e k) h = absurd (omega arith)
 above (listing e k m) h = spoken e refl refl
 
 pub number-tells : (s : List ℕ) (model : ℕ) (out : List ℕ)
-    → (answerTo (listingOf s model) out < 32 → (answerTo (listingOf s model) out ≤ 10) × (bytesAfter (listingOf s model) out ≡ out))
+    → (answerTo (listingOf s model) out < 32 → (answerTo (listingOf s model) out ≤ noRoom) × (bytesAfter (listingOf s model) out ≡ out))
     × (32 ≤ answerTo (listingOf s model) out → Spoken (listingOf s model) out (answerTo (listingOf s model) out) (bytesAfter (listingOf s model) out))
 number-tells s model out = let x = tells-number (listingOf s model) out (listing-sized s model) in (below x, above x)

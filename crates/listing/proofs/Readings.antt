@@ -2,6 +2,7 @@
 use Prim.Native.Nat.{ℕ}
 use mathlib.Core.Path.{_≡_, refl}
 use mathlib.Core.List.{List, [], _∷_, _++_, map}
+use Rattle.refusals.specs.Refusals.{badModel, tapeBad, generalised, lastBits}
 use Rattle.pulses.specs.Play.{time, comesTo}
 use Rattle.pulses.specs.Runs.{run}
 use Rattle.fields.specs.Field.{leAt, numberAt, fieldAt, placeOf}
@@ -50,14 +51,14 @@ readings =
     lists 1 (pieces (0x12 ∷ 0x64 ∷ 0x00 ∷ 0x04 ∷ 0x00 ∷ 0x20 ∷ 0x01 ∷ 0x00 ∷ 0x2A ∷ 0x00 ∷ 0x00 ∷ 0x00 ∷ 0x00 ∷ [])) (text (ascii "model 128K format TZX blocks 2\n0 - 0 400 0 bytes\n1 - 0 3500 0 bytes\ntime 3900\n")) ∷
     lists 2 (pieces (0x12 ∷ 0x64 ∷ 0x00 ∷ 0x04 ∷ 0x00 ∷ 0x20 ∷ 0x01 ∷ 0x00 ∷ 0x2A ∷ 0x00 ∷ 0x00 ∷ 0x00 ∷ 0x00 ∷ [])) (text (ascii "model Plus3 format TZX blocks 2\n0 - 0 400 0 bytes\n1 - 0 3500 0 bytes\ntime 3900\n")) ∷
     -- no such model
-    lists 3 (pieces (0x12 ∷ 0x64 ∷ 0x00 ∷ 0x04 ∷ 0x00 ∷ 0x20 ∷ 0x01 ∷ 0x00 ∷ 0x2A ∷ 0x00 ∷ 0x00 ∷ 0x00 ∷ 0x00 ∷ [])) (refused 1) ∷
+    lists 3 (pieces (0x12 ∷ 0x64 ∷ 0x00 ∷ 0x04 ∷ 0x00 ∷ 0x20 ∷ 0x01 ∷ 0x00 ∷ 0x2A ∷ 0x00 ∷ 0x00 ∷ 0x00 ∷ 0x00 ∷ [])) (refused badModel) ∷
     -- empty or one byte: TAP, no blocks
     lists 0 [] (text (ascii "model 48K format TAP blocks 0\ntime 0\n")) ∷
     lists 2 (0x13 ∷ []) (text (ascii "model Plus3 format TAP blocks 0\ntime 0\n")) ∷
     -- `00 00`: one block, 4,032 cycles; `01 00 FF`: 1,612 cycles, pause 7,000,000; `02 00 FF`: refused 3
     lists 0 (0x00 ∷ 0x00 ∷ []) (text (ascii "model 48K format TAP blocks 1\n0 * 0 20984154 0 bytes\ntime 20984154\n")) ∷
     lists 0 (0x01 ∷ 0x00 ∷ 0xFF ∷ []) (text (ascii "model 48K format TAP blocks 1\n0 * 1 14018394 1 bytes\ntime 14018394\n")) ∷
-    lists 0 (0x02 ∷ 0x00 ∷ 0xFF ∷ []) (refused 3) ∷
+    lists 0 (0x02 ∷ 0x00 ∷ 0xFF ∷ []) (refused tapeBad) ∷
     -- 12 with length 100: count 1, count 0
     lists 0 (pieces (0x12 ∷ 0x64 ∷ 0x00 ∷ 0x01 ∷ 0x00 ∷ [])) (text (ascii "model 48K format TZX blocks 1\n0 - 0 300 0 bytes\ntime 300\n")) ∷
     lists 0 (pieces (0x12 ∷ 0x64 ∷ 0x00 ∷ 0x00 ∷ 0x00 ∷ [])) (text (ascii "model 48K format TZX blocks 1\n0 - 0 200 0 bytes\ntime 200\n")) ∷
@@ -66,7 +67,7 @@ readings =
     -- pure data byte 80, zero 10, one 20, last bits 0, pause 0; last bits 8 accepted, 9 refused 7
     lists 0 (pieces (0x14 ∷ 0x0A ∷ 0x00 ∷ 0x14 ∷ 0x00 ∷ 0x00 ∷ 0x00 ∷ 0x00 ∷ 0x01 ∷ 0x00 ∷ 0x00 ∷ 0x80 ∷ [])) (text (ascii "model 48K format TZX blocks 1\n0 * 1 40 1 bytes\ntime 40\n")) ∷
     lists 0 (pieces (0x14 ∷ 0x0A ∷ 0x00 ∷ 0x14 ∷ 0x00 ∷ 0x08 ∷ 0x00 ∷ 0x00 ∷ 0x01 ∷ 0x00 ∷ 0x00 ∷ 0x80 ∷ [])) (text (ascii "model 48K format TZX blocks 1\n0 * 1 180 1 bytes\ntime 180\n")) ∷
-    lists 0 (pieces (0x14 ∷ 0x0A ∷ 0x00 ∷ 0x14 ∷ 0x00 ∷ 0x09 ∷ 0x00 ∷ 0x00 ∷ 0x01 ∷ 0x00 ∷ 0x00 ∷ 0x80 ∷ [])) (refused 7) ∷
+    lists 0 (pieces (0x14 ∷ 0x0A ∷ 0x00 ∷ 0x14 ∷ 0x00 ∷ 0x09 ∷ 0x00 ∷ 0x00 ∷ 0x01 ∷ 0x00 ∷ 0x00 ∷ 0x80 ∷ [])) (refused lastBits) ∷
     -- a given name of code points 31, 32, 126 to 128, 159, 160 and 255, and an empty one
     -- (`? ~???`, A0 and `ÿ`, in UTF-8)
     lists 0 (pieces (0x30 ∷ 0x08 ∷ 0x1F ∷ 0x20 ∷ 0x7E ∷ 0x7F ∷ 0x80 ∷ 0x9F ∷ 0xA0 ∷ 0xFF ∷ 0x20 ∷ 0x01 ∷ 0x00 ∷ [])) (text (ascii "model 48K format TZX blocks 1\n0 * 0 3500 ? ~???" ++ (0xC2 ∷ 0xA0 ∷ 0xC3 ∷ 0xBF ∷ []) ++ ascii "\ntime 3500\n")) ∷
@@ -74,7 +75,7 @@ readings =
     -- the loading time ends at the first stop
     lists 0 (pieces (0x20 ∷ 0x01 ∷ 0x00 ∷ 0x20 ∷ 0x00 ∷ 0x00 ∷ 0x20 ∷ 0x02 ∷ 0x00 ∷ [])) (text (ascii "model 48K format TZX blocks 3\n0 - 0 3500 0 bytes\n1 * 0 stop stop\n2 - 0 7000 0 bytes\ntime 3500\n")) ∷
     -- a generalised piece with neither pilot nor data: refused 4
-    lists 0 (pieces (0x19 ∷ 0x00 ∷ 0x00 ∷ 0x00 ∷ 0x00 ∷ 0x00 ∷ 0x00 ∷ 0x00 ∷ 0x00 ∷ 0x00 ∷ 0x00 ∷ 0x00 ∷ 0x00 ∷ 0x00 ∷ 0x00 ∷ 0x00 ∷ 0x00 ∷ 0x00 ∷ 0x00 ∷ [])) (refused 4) ∷
+    lists 0 (pieces (0x19 ∷ 0x00 ∷ 0x00 ∷ 0x00 ∷ 0x00 ∷ 0x00 ∷ 0x00 ∷ 0x00 ∷ 0x00 ∷ 0x00 ∷ 0x00 ∷ 0x00 ∷ 0x00 ∷ 0x00 ∷ 0x00 ∷ 0x00 ∷ 0x00 ∷ 0x00 ∷ 0x00 ∷ [])) (refused generalised) ∷
     []
 
 pub listings-said : map (λ (e : Reading). listingOf (e .tape) (e .model)) readings ≡ map (λ (e : Reading). e .gives) readings

@@ -8,6 +8,7 @@ use lib.ListN.{length, length-append, drop}
 use lib.Seq.{take-length, take-append-le}
 use lib.Dec.{leb, ltb}
 use Rattle.laws.specs.Rules.{_⇒_, _∣_}
+use Rattle.refusals.specs.Refusals.{badModel, tapeLong}
 use Rattle.text.specs.Out.{Wrote}
 use Rattle.text.proofs.Writing.{counted, same-len}
 use Rattle.reader.specs.Source.{Loaded as Load, tzx, tapped, no}
@@ -43,7 +44,7 @@ module _ (s : List ℕ) (model : ℕ) (b : Bytes s) where
   unfolding listingOf
   listing-fits = by-cases (leb 3 model) (ltb 65535 (length s))
     where
-      by-cases : (c d : Bool) → Fits (c ⇒ refused 1 ∣ d ⇒ refused 2 ∣ listed s model (loadedOf s model))
+      by-cases : (c d : Bool) → Fits (c ⇒ refused badModel ∣ d ⇒ refused tapeLong ∣ listed s model (loadedOf s model))
       by-cases true d = none
       by-cases false true = none
       by-cases false false = listed-fits (loadedOf s model) refl

@@ -4,12 +4,13 @@ use mathlib.Core.Path.{_≡_}
 use mathlib.Core.List.{List}
 use lib.ListN.{length}
 use borrow.Author.Tests.{lt-leb, le-leb}
+use Rattle.refusals.specs.Refusals.{noRoom}
 use Rattle.text.specs.Out.{Wrote, told}
 use Rattle.text.proofs.Writing.{whole, counted}
 use Rattle.listing.specs.Listing.{text, answerTo, bytesAfter}
 
 -- what is told of a text that has no room, and of one that has
-pub tells-short : (t out : List ℕ) → length out < length t → (10 ≡ answerTo (text t) out) × (out ≡ bytesAfter (text t) out)
+pub tells-short : (t out : List ℕ) → length out < length t → (noRoom ≡ answerTo (text t) out) × (out ≡ bytesAfter (text t) out)
 unfolding answerTo bytesAfter told
 tells-short t out h = let e = lt-leb (length t) (length out) h in (rw e, rw e)
 

@@ -4,6 +4,7 @@ use mathlib.Core.List.{List}
 use lib.Dec.{ltb, leb}
 use lib.ListN.{length}
 use Rattle.laws.specs.Rules.{_⇒_, _∣_}
+use Rattle.refusals.specs.Refusals.{badModel, tapeLong, noRoom}
 use Rattle.text.specs.Out.{fits, told}
 use Rattle.entries.specs.Places.{Tape}
 use Rattle.entries.specs.Mounted.{tapeOf}
@@ -39,13 +40,13 @@ listed s model (no k) = refused k
 -- THE LISTING of a tape: 1, 2 over 65,535 bytes, 3 to 7
 unfoldable pub listingOf : List ℕ → ℕ → Listing
 listingOf s model =
-    leb 3 model ⇒ refused 1
-    ∣ ltb 65535 (length s) ⇒ refused 2
+    leb 3 model ⇒ refused badModel
+    ∣ ltb 65535 (length s) ⇒ refused tapeLong
     ∣ listed s model (loadedOf s model)
 
 -- the answer: the text's length, or the refusal's number: 10 where the output buffer is shorter than the text
 unfoldable pub answerTo : Listing → List ℕ → ℕ
-answerTo (text t) out = fits t out ⇒ length t ∣ 10
+answerTo (text t) out = fits t out ⇒ length t ∣ noRoom
 answerTo (refused k) out = k
 
 -- the output bytes after it: nothing is written on a refusal, bytes past the text stay

@@ -1,5 +1,8 @@
 // The listing: a loaded tape as text, and the function that our catalogue host calls.
 use page::put_listing;
+use refusals::BAD_MODEL;
+use refusals::NO_ROOM;
+use refusals::TAPE_LONG;
 use tape::Format;
 use tape::Loaded;
 use text::put;
@@ -52,7 +55,7 @@ fn tell(
 {
     let k = enough(out.len(), model, format, tape, tones, blocks, n);
     if out.len() < k {
-        return 10;
+        return NO_ROOM;
     }
     put_listing(out, model, format, tape, tones, blocks, n) as u32
 }
@@ -64,10 +67,10 @@ pub extern "C" fn glyvrask_listing(tape: &[u8], model: u32, out: &mut [u8]) -> u
     ensures { λ _. ⌜ now (out .exit) ≡ bytesAfter (listingOf (now (tape .entry)) model) (now (out .entry)) ⌝ }
 {
     if 3 <= model {
-        return 1;
+        return BAD_MODEL;
     }
     if 65535 < tape.len() {
-        return 2;
+        return TAPE_LONG;
     }
     let mut blocks = [0u64; 6656];
     let mut tones = [0u64; 6144];

@@ -4,6 +4,7 @@ use native.Mathlib.Omega.{arith}
 use borrow.Author.Tests.{lt-ltb, le-ltb}
 use mathlib.Core.Path.{_≡_, refl, sym, ap, _∙_}
 use mathlib.Core.Bool.{true, false}
+use Rattle.refusals.specs.Refusals.{badRow}
 use Rattle.pulses.specs.Play.{time, comesTo}
 use Rattle.rows.specs.declared.Block.{Block}
 use Rattle.rows.proofs.WellLaws.{block-clauses, numbers-most}
@@ -39,7 +40,7 @@ module _ {w : Tape} {b sum : ℕ} (l : Loads w b sum) where
       let o : v .count ≤ b = omega (arith, needs .most) in
       rw (l .comes ∙ comes-out v b o, le-ltb (v .count) (w .count) (omega (arith, l .from))) (ap number.Is (omega (arith, l .lasts, loading-out v b o)))
 
-  pub loads-bad : b < w .count → wellRow w b ≡ false → number.Refused 11 ≡ loadingIn w (formed w 0)
+  pub loads-bad : b < w .count → wellRow w b ≡ false → number.Refused badRow ≡ loadingIn w (formed w 0)
   unfolding loadingIn
   loads-bad h e =
       let v = formed w 0 in

@@ -2,6 +2,7 @@
 use phases::row_well;
 use queries::Number;
 use queries::overfull;
+use refusals::BAD_ROW;
 use rows::block_at;
 ghost use mathlib.Core.Path.{_≡_};
 ghost use Rattle.entries.specs.Mounted.{tapeOf};
@@ -12,13 +13,13 @@ pub fn loading_time(tape: &[u8], tones: &[u64], blocks: &[u64], count: u64) -> N
     ensures { λ r. ⌜ r ≡ loadingOf (tapeOf (now (tape .entry)) (now (tones .entry)) (now (blocks .entry)) count) ⌝ }
 {
     if overfull(blocks, count) {
-        return Number::Refused(11);
+        return Number::Refused(BAD_ROW);
     }
     let mut sum = 0;
     let mut b = 0;
     while b < count {
         if !row_well(tape, tones, blocks, b) {
-            return Number::Refused(11);
+            return Number::Refused(BAD_ROW);
         }
         let r = block_at(blocks, b as usize);
         sum += times::sound_time(tape, tones, r);

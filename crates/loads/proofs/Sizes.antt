@@ -24,11 +24,11 @@ use Rattle.pieces.specs.declared.Taken.the-variants as taken
 use Rattle.pieces.specs.declared.TakenTap.{TakenTap}
 use Rattle.pieces.specs.declared.TakenTap.the-variants as tap
 use Rattle.pieces.specs.Grammar.{Layout, number, counted, here, pass, within, fitting, whole, unknown, countedAt, passAt, wholeAt, sealed, enclosed, fittingAt, readAt}
-use Rattle.pieces.specs.Kinds.{kind10, kind11, kind12, kind13, kind14, stream19, kind19, kind20, kind21, kind22, kind24, kind25, kind2A, kind30, kind31, info32, kind32, kind33, kind35, kind5A, kinds, kindOf}
+use Rattle.pieces.specs.Kinds.{kind10, kind11, kind12, kind13, kind14, stream19, kind19, kind20, kind21, kind22, kind24, kind25, kind2A, kind30, kind31, info32, kind32, kind33, kind35, kind5A, unread, kinds, kindOf}
 use Rattle.pieces.specs.Cut.{named, cutAt, blockOf, tapAt}
 use Rattle.pieces.proofs.Layouts.{Ends, ends, none, short, wide, stuck, forward}
 use Rattle.pieces.proofs.Cutting.{cut-there, cut-inside}
-use Rattle.pieces.proofs.Others.{found-every, unnamed}
+use Rattle.pieces.proofs.Others.{Every, no-more, _&_, found-every, unnamed}
 use Rattle.reader.specs.Source.{full}
 use Rattle.reader.proofs.Rest.{cut-fit}
 use Rattle.loads.specs.Sizes.{Bytes, Range, Numbers, Sized}
@@ -164,59 +164,40 @@ module _ (P : Piece → Type 0) (most : ℕ) where
   allowed (unknown described) a s b h c = not-known
 
 -- each kind allows what its piece is said to be
-kinds-allow : (most full kind : ℕ) → Allows (Numbers most) most (kindOf full kind)
-unfolding kindOf kinds kind10 kind11 kind12 kind13 kind14 stream19 kind19 kind20 kind21 kind22 kind24 kind25 kind2A kind30 kind31 info32 kind32 kind33 kind35 kind5A
-kinds-allow most full kind =
-    found-every (Allows (Numbers most) most) (kinds full) kind (unknown _) (
-      (λ _ a _ _ b. (a, b)),
-      (
-        (λ _ a _ b _ d _ e _ f _ g _ h _ i _ _ j. record { pilot = a; sync1 = b; sync2 = d; zero = e; one = f; pilots = g; last = h; pause = i; bytes = j }),
-        (
-          (λ _ a _ b. (a, b)),
-          (
-            (λ _ a _. a),
-            (
-              (λ _ a _ b _ d _ e _ _ f. record { zero = a; one = b; last = d; pause = e; bytes = f }),
-              (
-                (λ _ _ _ a _ b _ d _ _ _ e _ f _ _ _ _ _ _. record { pause = a; totp = b; npp = d; totd = e; npd = f }),
-                (
-                  (λ _ a. a),
-                  (
-                    (λ _ _ a. a),
-                    (
-                      tt,
-                      (
-                        tt,
-                        (
-                          (λ _ a. a),
-                          (
-                            tt,
-                            (
-                              (λ _ a. a),
-                              (
-                                tt,
-                                (
-                                  (λ _ _ a. a),
-                                  (
-                                    (λ _ a _ _ b. (a, b)),
-                                    ((λ _ _ _ a _. a), ((λ _ a _. a), (tt, ((λ _ _ _ a. a), (tt, (tt, tt)))))),
-                                  ),
-                                ),
-                              ),
-                            ),
-                          ),
-                        ),
-                      ),
-                    ),
-                  ),
-                ),
-              ),
-            ),
-          ),
-        ),
-      ),
-    )
-    tt
+module _ (most : ℕ) where
+  allows : (l : Layout) → Allows (Numbers most) most l → Allows (Numbers most) most l
+  allows l h = h
+
+  each-allows : (full : ℕ) → Every (Allows (Numbers most) most) (kinds full)
+  unfolding kinds kind10 kind11 kind12 kind13 kind14 stream19 kind19 kind20 kind21 kind22 kind24 kind25 kind2A kind30 kind31 info32 kind32 kind33 kind35 kind5A
+  each-allows full =
+      allows kind10 (λ _ a _ _ b. (a, b)) &
+      allows kind11 (λ _ a _ b _ d _ e _ f _ g _ h _ i _ _ j. record { pilot = a; sync1 = b; sync2 = d; zero = e; one = f; pilots = g; last = h; pause = i; bytes = j }) &
+      allows kind12 (λ _ a _ b. (a, b)) &
+      allows kind13 (λ _ a _. a) &
+      allows kind14 (λ _ a _ b _ d _ e _ _ f. record { zero = a; one = b; last = d; pause = e; bytes = f }) &
+      allows (kind19 full) (λ _ _ _ a _ b _ d _ _ _ e _ f _ _ _ _ _ _. record { pause = a; totp = b; npp = d; totd = e; npd = f }) &
+      allows kind20 (λ _ a. a) &
+      allows kind21 (λ _ _ a. a) &
+      allows kind22 tt &
+      allows unread tt &
+      allows kind24 (λ _ a. a) &
+      allows kind25 tt &
+      allows kind2A (λ _ a. a) &
+      allows unread tt &
+      allows kind30 (λ _ _ a. a) &
+      allows kind31 (λ _ a _ _ b. (a, b)) &
+      allows kind32 (λ _ _ _ a _. a) &
+      allows kind33 (λ _ a _. a) &
+      allows unread tt &
+      allows kind35 (λ _ _ _ a. a) &
+      allows unread tt &
+      allows kind5A tt &
+      no-more
+
+  kinds-allow : (full kind : ℕ) → Allows (Numbers most) most (kindOf full kind)
+  unfolding kindOf
+  kinds-allow full kind = found-every (Allows (Numbers most) most) (kinds full) kind (unknown _) (each-allows full) tt
 
 module _ (s : List ℕ) (at : ℕ) {k a next : ℕ} {piece : Piece} (e : cutAt s at full ≡ taken.Whole k a next piece) where
   body : readAt (kindOf full (getD s at 0)) s (At (at + 1)) ≡ Whole piece next

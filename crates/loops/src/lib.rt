@@ -5,6 +5,7 @@ use parser::State;
 use parser::Step;
 use parser::add_block;
 use parser::rename;
+use refusals::BLOCKS_FULL;
 use rows::block_at;
 use rows::block_capacity;
 ghost use mathlib.Core.Path.{_≡_};
@@ -90,7 +91,7 @@ fn repeat(s: State, blocks: &mut [u64], start: u64, times: u32) -> Step
         return Step::On(s);
     }
     if (block_capacity(blocks) as u64) < end {
-        return Step::No(Halt::Refusal(6));
+        return Step::No(Halt::Refusal(BLOCKS_FULL));
     }
     copy_bodies(s, blocks, start, end, times)
 }

@@ -6,6 +6,7 @@ use mathlib.Core.Path.{_≡_, refl, sym, subst, ap, _∙_}
 use mathlib.Core.Bool.{true}
 use mathlib.Core.List.{List}
 use lib.ListN.{length}
+use Rattle.refusals.specs.Refusals.{noRoom}
 use Rattle.rows.specs.declared.Block.{Block}
 use Rattle.text.specs.Out.{Wrote}
 use Rattle.text.proofs.Writing.{dry-told, dry-short}
@@ -15,7 +16,7 @@ use Rattle.names.specs.Names.{nameOf}
 use Rattle.names.proofs.Naming.{inside-tape}
 use Rattle.queries.specs.declared.Number.{Number}
 use Rattle.queries.specs.declared.Number.the-variants as number
-use Rattle.queries.specs.Queries.{refusalOf, lengthOr10, nameIn, nameAnswer, nameBytes}
+use Rattle.queries.specs.Queries.{refusalOf, lengthOrNoRoom, nameIn, nameAnswer, nameBytes}
 use Rattle.queries.proofs.Refusals.{number-refused, number-given}
 
 -- what `put_name` asks of a row
@@ -39,21 +40,21 @@ pub name-refused : (w : Tape) (i k : ℕ) (out : List ℕ) → k ≡ refusalOf w
 unfolding nameAnswer nameBytes
 name-refused w i k out e f =
     let z : refusalOf w i ≡ 0 → ⊥ = λ y. f (e ∙ y) in
-    (number-refused k (lengthOr10 (nameIn w i) out) e f, rw (ne-eqb (refusalOf w i) 0 z))
+    (number-refused k (lengthOrNoRoom (nameIn w i) out) e f, rw (ne-eqb (refusalOf w i) 0 z))
 
 module _ (w : Tape) (i k : ℕ) (e : k ≡ refusalOf w i) (z : k ≡ 0) (r : Block) (q : r ≡ blockIn w i) where
   same : nameOf (w .bytes) r ≡ nameIn w i
   same = ap (nameOf (w .bytes)) q
 
-  pub name-short : {dry dry′ : List ℕ} {n : ℕ} (out : List ℕ) → Wrote dry 0 (nameOf (w .bytes) r) dry′ n → length out < n → Answered w i out (number.Refused 10) out
-  unfolding nameAnswer nameBytes lengthOr10
+  pub name-short : {dry dry′ : List ℕ} {n : ℕ} (out : List ℕ) → Wrote dry 0 (nameOf (w .bytes) r) dry′ n → length out < n → Answered w i out (number.Refused noRoom) out
+  unfolding nameAnswer nameBytes lengthOrNoRoom
   name-short out p h =
       let d = dry-short out (rw same at p) h in
       (number-given k e z (rw (d .0) refl), rw (← e, z) (sym (d .1)))
 
   pub name-told : {dry dry′ out out′ : List ℕ} {n n′ : ℕ} → Wrote dry 0 (nameOf (w .bytes) r) dry′ n → Wrote out 0 (nameOf (w .bytes) r) out′ n′ → n ≤ length out
       → Answered w i out (number.Is n) out′
-  unfolding nameAnswer nameBytes lengthOr10
+  unfolding nameAnswer nameBytes lengthOrNoRoom
   name-told p p′ h =
       let d = dry-told (rw same at p) (rw same at p′) h in
       (number-given k e z (rw (d .room) (ap number.Is (d .count))), rw (← e, z) (d .bytes))

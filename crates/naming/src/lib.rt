@@ -1,6 +1,7 @@
 // The query of a block's name.
 use queries::Number;
 use queries::refusal;
+use refusals::NO_ROOM;
 use rows::block_at;
 ghost use mathlib.Core.Path.{_≡_};
 ghost use Rattle.entries.specs.Mounted.{tapeOf};
@@ -26,7 +27,7 @@ pub fn block_name(
     let mut none = [0u8; 1];
     let n = names::put_name(&mut none, 0, tape, r);
     if out.len() < n {
-        return Number::Refused(10);
+        return Number::Refused(NO_ROOM);
     }
     names::put_name(out, 0, tape, r);
     Number::Is(n as u64)

@@ -75,17 +75,19 @@ module _ (is : Piece → Bool) where
   other-none (whole x) o s c = whole-other x c o
   other-none (unknown described) o s c = λ y next t e. let z : _≡_ {A = ℕ} 0 1 = cc in omega arith
 
--- what holds of every row of a table holds of what is found there
-abbrev pub Every : {A : Type 0} → (A → Type 0) → List (Arm A) → Type 0
-Every P [] = Unit {0}
-Every P (a ∷ more) = P (a .val) × Every P more
+-- what holds of every row of a table, a row after the other
+infixr 20 _&_
+pub data Every {A : Type 0} (P : A → Type 0) : List (Arm A) → Type 0 where
+  no-more : Every P []
+  _&_ : {a : Arm A} {more : List (Arm A)} → P (a .val) → Every P more → Every P (a ∷ more)
 
+-- what holds of every row of a table holds of what is found there
 pub found-every : {A : Type 0} (P : A → Type 0) (arms : List (Arm A)) (x : ℕ) (d : A) → Every P arms → P d → P (lookup arms x d)
-found-every P [] x d h k = k
-found-every P (a ∷ more) x d h k = by-cases (eqb x (a .key)) (found-every P more x d (h .1) k)
+found-every P [] x d no-more k = k
+found-every P (a ∷ more) x d (h & rest) k = by-cases (eqb x (a .key)) (found-every P more x d rest k)
   where
     by-cases : (t : Bool) → P (lookup more x d) → P (cond t (a .val) (lookup more x d))
-    by-cases true r = h .0
+    by-cases true r = h
     by-cases false r = r
 
 -- a body under its name

@@ -29,7 +29,7 @@ use Rattle.pieces.specs.Cut.{cutAt}
 use Rattle.pieces.specs.Steps.{head19}
 use Rattle.pieces.specs.Places.{Places}
 use Rattle.pieces.proofs.Cutting.{cut-there, cut-inside, cut-forward}
-use Rattle.pieces.proofs.Others.{Other, other-none, found-every, unnamed}
+use Rattle.pieces.proofs.Others.{Other, other-none, Every, no-more, _&_, found-every, unnamed}
 
 unfoldable isGeneral : Piece → Bool
 isGeneral (piece.Standard a b d) = false
@@ -146,77 +146,36 @@ module _ (full : ℕ) where
   abbrev Row : Layout → Type 0
   Row l = (s : List ℕ) (c : Cursor) → Placed full s (readAt l s c)
 
+  each-placed : Every Row (kinds full)
+  unfolding isGeneral kinds kind10 kind11 kind12 kind13 kind14 kind20 kind21 kind22 kind24 kind25 kind2A kind30 kind31 info32 kind32 kind33 kind35 kind5A
+  each-placed =
+      other-placed kind10 (λ _ _ _. refl) &
+      other-placed kind11 (λ _ _ _ _ _ _ _ _ _ _. refl) &
+      other-placed kind12 (λ _ _. refl) &
+      other-placed kind13 (λ _ _. refl) &
+      other-placed kind14 (λ _ _ _ _ _ _. refl) &
+      general-placed full &
+      other-placed kind20 (λ _. refl) &
+      other-placed kind21 (λ _ _. refl) &
+      other-placed kind22 refl &
+      other-placed unread tt &
+      other-placed kind24 (λ _. refl) &
+      other-placed kind25 refl &
+      other-placed kind2A (λ _. refl) &
+      other-placed unread tt &
+      other-placed kind30 (λ _ _. refl) &
+      other-placed kind31 (λ _ _ _. refl) &
+      other-placed kind32 (λ _ _ _. refl) &
+      other-placed kind33 (λ _ _. refl) &
+      other-placed unread tt &
+      other-placed kind35 (λ _ _ _. refl) &
+      other-placed unread tt &
+      other-placed kind5A refl &
+      no-more
+
   rows-placed : (kind : ℕ) → Row (kindOf full kind)
-  unfolding isGeneral kindOf kinds kind10 kind11 kind12 kind13 kind14 kind20 kind21 kind22 kind24 kind25 kind2A kind30 kind31 info32 kind32 kind33 kind35 kind5A
-  rows-placed kind =
-      found-every Row (kinds full) kind (unknown _) (
-        other-placed kind10 (λ _ _ _. refl),
-        (
-          other-placed kind11 (λ _ _ _ _ _ _ _ _ _ _. refl),
-          (
-            other-placed kind12 (λ _ _. refl),
-            (
-              other-placed kind13 (λ _ _. refl),
-              (
-                other-placed kind14 (λ _ _ _ _ _ _. refl),
-                (
-                  general-placed full,
-                  (
-                    other-placed kind20 (λ _. refl),
-                    (
-                      other-placed kind21 (λ _ _. refl),
-                      (
-                        other-placed kind22 refl,
-                        (
-                          other-placed unread tt,
-                          (
-                            other-placed kind24 (λ _. refl),
-                            (
-                              other-placed kind25 refl,
-                              (
-                                other-placed kind2A (λ _. refl),
-                                (
-                                  other-placed unread tt,
-                                  (
-                                    other-placed kind30 (λ _ _. refl),
-                                    (
-                                      other-placed kind31 (λ _ _ _. refl),
-                                      (
-                                        other-placed kind32 (λ _ _ _. refl),
-                                        (
-                                          other-placed kind33 (λ _ _. refl),
-                                          (
-                                            other-placed unread tt,
-                                            (
-                                              other-placed kind35 (λ _ _ _. refl),
-                                              (
-                                                other-placed unread tt,
-                                                (
-                                                  other-placed kind5A refl,
-                                                  tt,
-                                                ),
-                                              ),
-                                            ),
-                                          ),
-                                        ),
-                                      ),
-                                    ),
-                                  ),
-                                ),
-                              ),
-                            ),
-                          ),
-                        ),
-                      ),
-                    ),
-                  ),
-                ),
-              ),
-            ),
-          ),
-        ),
-      )
-      (other-placed (unknown _) tt)
+  unfolding kindOf
+  rows-placed kind = found-every Row (kinds full) kind (unknown _) each-placed (other-placed (unknown _) tt)
 
 -- a whole 19 has its tables where its places say
 pub cut-places : (s : List ℕ) (at full : ℕ) {k a next : ℕ} {g : GeneralizedData} → cutAt s at full ≡ taken.Whole k a next (piece.Generalized g) → Found full s g next

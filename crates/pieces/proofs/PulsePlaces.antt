@@ -20,7 +20,7 @@ use Rattle.pieces.specs.Grammar.{Layout, unknown, passAt, wholeAt, readA
 use Rattle.pieces.specs.Kinds.{kind10, kind11, kind12, kind13, kind14, stream19, kind19, kind20, kind21, kind22, kind24, kind25, kind2A, kind30, kind31, info32, kind32, kind33, kind35, kind5A, unread, kinds, kindOf}
 use Rattle.pieces.specs.Cut.{cutAt}
 use Rattle.pieces.proofs.Cutting.{cut-there, cut-inside, cut-forward}
-use Rattle.pieces.proofs.Others.{Other, other-none, found-every, unnamed}
+use Rattle.pieces.proofs.Others.{Other, other-none, Every, no-more, _&_, found-every, unnamed}
 
 unfoldable isPulses : Piece → Bool
 isPulses (piece.Standard a b d) = false
@@ -68,77 +68,36 @@ pulses-ended s c = whole-ended s (fieldAt s c 1 .value) (fieldAt s c 1 .cursor) 
 abbrev RowEnded : Layout → Type 0
 RowEnded l = (s : List ℕ) (c : Cursor) → Ended (readAt l s c)
 
+each-ended : (full : ℕ) → Every RowEnded (kinds full)
+unfolding isPulses kinds kind10 kind11 kind12 kind14 stream19 kind19 kind20 kind21 kind22 kind24 kind25 kind2A kind30 kind31 info32 kind32 kind33 kind35 kind5A
+each-ended full =
+    other-ended kind10 (λ _ _ _. refl) &
+    other-ended kind11 (λ _ _ _ _ _ _ _ _ _ _. refl) &
+    other-ended kind12 (λ _ _. refl) &
+    pulses-ended &
+    other-ended kind14 (λ _ _ _ _ _ _. refl) &
+    other-ended (kind19 full) (λ _ _ _ _ _ _ _ _ _ _ _ _. refl) &
+    other-ended kind20 (λ _. refl) &
+    other-ended kind21 (λ _ _. refl) &
+    other-ended kind22 refl &
+    other-ended unread tt &
+    other-ended kind24 (λ _. refl) &
+    other-ended kind25 refl &
+    other-ended kind2A (λ _. refl) &
+    other-ended unread tt &
+    other-ended kind30 (λ _ _. refl) &
+    other-ended kind31 (λ _ _ _. refl) &
+    other-ended kind32 (λ _ _ _. refl) &
+    other-ended kind33 (λ _ _. refl) &
+    other-ended unread tt &
+    other-ended kind35 (λ _ _ _. refl) &
+    other-ended unread tt &
+    other-ended kind5A refl &
+    no-more
+
 rows-ended : (full kind : ℕ) → RowEnded (kindOf full kind)
-unfolding isPulses kindOf kinds kind10 kind11 kind12 kind14 stream19 kind19 kind20 kind21 kind22 kind24 kind25 kind2A kind30 kind31 info32 kind32 kind33 kind35 kind5A
-rows-ended full kind =
-    found-every RowEnded (kinds full) kind (unknown _) (
-      other-ended kind10 (λ _ _ _. refl),
-      (
-        other-ended kind11 (λ _ _ _ _ _ _ _ _ _ _. refl),
-        (
-          other-ended kind12 (λ _ _. refl),
-          (
-            pulses-ended,
-            (
-              other-ended kind14 (λ _ _ _ _ _ _. refl),
-              (
-                other-ended (kind19 full) (λ _ _ _ _ _ _ _ _ _ _ _ _. refl),
-                (
-                  other-ended kind20 (λ _. refl),
-                  (
-                    other-ended kind21 (λ _ _. refl),
-                    (
-                      other-ended kind22 refl,
-                      (
-                        other-ended unread tt,
-                        (
-                          other-ended kind24 (λ _. refl),
-                          (
-                            other-ended kind25 refl,
-                            (
-                              other-ended kind2A (λ _. refl),
-                              (
-                                other-ended unread tt,
-                                (
-                                  other-ended kind30 (λ _ _. refl),
-                                  (
-                                    other-ended kind31 (λ _ _ _. refl),
-                                    (
-                                      other-ended kind32 (λ _ _ _. refl),
-                                      (
-                                        other-ended kind33 (λ _ _. refl),
-                                        (
-                                          other-ended unread tt,
-                                          (
-                                            other-ended kind35 (λ _ _ _. refl),
-                                            (
-                                              other-ended unread tt,
-                                              (
-                                                other-ended kind5A refl,
-                                                tt,
-                                              ),
-                                            ),
-                                          ),
-                                        ),
-                                      ),
-                                    ),
-                                  ),
-                                ),
-                              ),
-                            ),
-                          ),
-                        ),
-                      ),
-                    ),
-                  ),
-                ),
-              ),
-            ),
-          ),
-        ),
-      ),
-    )
-    (other-ended (unknown _) tt)
+unfolding kindOf
+rows-ended full kind = found-every RowEnded (kinds full) kind (unknown _) (each-ended full) (other-ended (unknown _) tt)
 
 -- a whole 13 ends where its pulses do, inside the tape
 pub cut-pulses : (s : List ℕ) (at full : ℕ) {k a next count from : ℕ} → cutAt s at full ≡ taken.Whole k a next (piece.Pulses count from) → from + count * 2 ≤ length s

@@ -10,6 +10,9 @@ use menu::block;
 use models::model_of;
 use mounted::head_after;
 use printing::print_refused;
+use refusals::BAD_MODEL;
+use refusals::NO_POSITION;
+use refusals::TAPE_LONG;
 use tape::Loaded;
 use tape::load;
 use tracing::put_line;
@@ -144,30 +147,30 @@ fn print_run(
 // A run: 1 for the model byte, 9 for any other fault of the description, 2 for a tape over 65,535 bytes, then the load's own refusal.
 pub fn print_trace(input: &[u8], blocks: &mut [u64], tones: &mut [u64]) {
     if input.len() == 0 {
-        return print_refused(1);
+        return print_refused(BAD_MODEL);
     }
     let model = model_of(input[0]);
     if model == 3 {
-        return print_refused(1);
+        return print_refused(BAD_MODEL);
     }
     if input.len() < 8 {
-        return print_refused(9);
+        return print_refused(NO_POSITION);
     }
     let player = input[1];
     if !is_player(player) {
-        return print_refused(9);
+        return print_refused(NO_POSITION);
     }
     let calls = number(input, 6, 2) as usize;
     if 1000 < calls {
-        return print_refused(9);
+        return print_refused(NO_POSITION);
     }
     let start = 8 + 4 * calls;
     if input.len() < start {
-        return print_refused(9);
+        return print_refused(NO_POSITION);
     }
     let tape = &input[start..];
     if 65535 < tape.len() {
-        return print_refused(2);
+        return print_refused(TAPE_LONG);
     }
     let from = number(input, 2, 4) as u64;
     print_run(

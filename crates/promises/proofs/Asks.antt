@@ -10,6 +10,7 @@ use lib.Dec.{leb, ltb, eqb}
 use lib.ListN.{length, drop}
 use Rattle.laws.specs.Rules.{_⇒_, _∣_}
 use Rattle.laws.specs.Tests.{first, second}
+use Rattle.refusals.specs.Refusals.{noBlock, noRoom, badRow}
 use Rattle.pulses.specs.Play.{Status, standing, stopped, ended, time, comesTo}
 use Rattle.pulses.specs.Source.{isEnded}
 use Rattle.text.specs.Out.{fits, told}
@@ -20,17 +21,17 @@ use Rattle.queries.specs.declared.Number.{Number}
 use Rattle.queries.specs.declared.Number.the-variants as number
 use Rattle.queries.specs.declared.Mark.the-variants as mark
 use Rattle.queries.specs.declared.Time.the-variants as lasting
-use Rattle.queries.specs.Queries.{numberNo, markNo, timeNo, refusalOf, lenOf, numberUnless, markUnless, timeUnless, sizeOf, selectableOf, timeOf, nameIn, lengthOr10, nameAnswer, nameBytes, loadingIn, loadingOf}
+use Rattle.queries.specs.Queries.{numberNo, markNo, timeNo, refusalOf, lenOf, numberUnless, markUnless, timeUnless, sizeOf, selectableOf, timeOf, nameIn, lengthOrNoRoom, nameAnswer, nameBytes, loadingIn, loadingOf}
 use Rattle.promises.specs.Numbers.{PastCount, Unformed, Asked, Runs}
 
 -- the rules of a query's refusal, tried in order
 data Rules (a b c : Bool) (k : ℕ) : Type 0 where
-  full : a ≡ true → k ≡ 11 → Rules a b c k
-  past : a ≡ false → b ≡ true → k ≡ 8 → Rules a b c k
-  bad : a ≡ false → b ≡ false → c ≡ false → k ≡ 11 → Rules a b c k
+  full : a ≡ true → k ≡ badRow → Rules a b c k
+  past : a ≡ false → b ≡ true → k ≡ noBlock → Rules a b c k
+  bad : a ≡ false → b ≡ false → c ≡ false → k ≡ badRow → Rules a b c k
   none : a ≡ false → b ≡ false → c ≡ true → k ≡ 0 → Rules a b c k
 
-rules : (a b c : Bool) → Rules a b c (a ⇒ 11 ∣ b ⇒ 8 ∣ c ⇒ 0 ∣ 11)
+rules : (a b c : Bool) → Rules a b c (a ⇒ badRow ∣ b ⇒ noBlock ∣ c ⇒ 0 ∣ badRow)
 rules true b c = full refl refl
 rules false true c = past refl refl refl
 rules false false true = none refl refl refl refl
@@ -59,16 +60,16 @@ after zero x k l = (λ e. inr (refl, e), λ h. ⊎-elim (λ z. absurd (omega ari
 after (suc m) x k l = (λ e. inl e, λ h. ⊎-elim (λ z. z) (λ z. absurd (omega (arith, z .0))) h)
 
 -- 10, or none
-room : (text out : List ℕ) → (numberNo (lengthOr10 text out) ≡ 0) ⊎ ((numberNo (lengthOr10 text out) ≡ 10) × (length out < length text))
-unfolding numberNo lengthOr10
+room : (text out : List ℕ) → (numberNo (lengthOrNoRoom text out) ≡ 0) ⊎ ((numberNo (lengthOrNoRoom text out) ≡ noRoom) × (length out < length text))
+unfolding numberNo lengthOrNoRoom
 room text out = of (fits text out) refl
   where
-    of : (b : Bool) → fits text out ≡ b → (numberNo (b ⇒ number.Is (length text) ∣ number.Refused 10) ≡ 0) ⊎ ((numberNo (b ⇒ number.Is (length text) ∣ number.Refused 10) ≡ 10) × (length out < length text))
+    of : (b : Bool) → fits text out ≡ b → (numberNo (b ⇒ number.Is (length text) ∣ number.Refused noRoom) ≡ 0) ⊎ ((numberNo (b ⇒ number.Is (length text) ∣ number.Refused noRoom) ≡ noRoom) × (length out < length text))
     of true e = inl refl
     of false e = inr (refl, leb-false _ _ e)
 
-no-room : (text out : List ℕ) → length out < length text → numberNo (lengthOr10 text out) ≡ 10
-unfolding numberNo lengthOr10
+no-room : (text out : List ℕ) → length out < length text → numberNo (lengthOrNoRoom text out) ≡ noRoom
+unfolding numberNo lengthOrNoRoom
 no-room text out h = rw (lt-leb (length text) (length out) h)
 
 module _ (w : Tape) (i : ℕ) where
@@ -76,27 +77,27 @@ module _ (w : Tape) (i : ℕ) where
   unfolding refusalOf
   of-rules = rules (overfull w) (leb (w .count) i) (wellRow w i)
 
-  refusal-8 : (refusalOf w i ≡ 8) ↔ PastCount w i
+  refusal-8 : (refusalOf w i ≡ noBlock) ↔ PastCount w i
   unfolding refusalOf
   refusal-8 = (λ e. of e of-rules, λ h. rw (h .0, le-leb (w .count) i (h .1)))
     where
-      of : refusalOf w i ≡ 8 → Rules (overfull w) (leb (w .count) i) (wellRow w i) (refusalOf w i) → PastCount w i
+      of : refusalOf w i ≡ noBlock → Rules (overfull w) (leb (w .count) i) (wellRow w i) (refusalOf w i) → PastCount w i
       of e (full a q) = absurd (omega arith)
       of e (past a b q) = (a, leb-true _ _ b)
       of e (bad a b c q) = absurd (omega arith)
       of e (none a b c q) = absurd (omega arith)
 
-  refusal-11 : (refusalOf w i ≡ 11) ↔ Unformed w i
+  refusal-11 : (refusalOf w i ≡ badRow) ↔ Unformed w i
   unfolding refusalOf
   refusal-11 = (λ e. of e of-rules, λ h. ⊎-elim (λ x. rw x) (λ x. by-full (overfull w) x) h)
     where
-      of : refusalOf w i ≡ 11 → Rules (overfull w) (leb (w .count) i) (wellRow w i) (refusalOf w i) → Unformed w i
+      of : refusalOf w i ≡ badRow → Rules (overfull w) (leb (w .count) i) (wellRow w i) (refusalOf w i) → Unformed w i
       of e (full a q) = inl a
       of e (past a b q) = absurd (omega arith)
       of e (bad a b c q) = inr (leb-false _ _ b, c)
       of e (none a b c q) = absurd (omega arith)
 
-      by-full : (a : Bool) → (i < w .count) × (wellRow w i ≡ false) → _≡_ {A = ℕ} (a ⇒ 11 ∣ leb (w .count) i ⇒ 8 ∣ wellRow w i ⇒ 0 ∣ 11) 11
+      by-full : (a : Bool) → (i < w .count) × (wellRow w i ≡ false) → _≡_ {A = ℕ} (a ⇒ badRow ∣ leb (w .count) i ⇒ noBlock ∣ wellRow w i ⇒ 0 ∣ badRow) badRow
       by-full true x = refl
       by-full false x = rw (lt-leb (w .count) i (x .0), x .1)
 
@@ -124,61 +125,61 @@ module _ (w : Tape) (i : ℕ) where
   time-no = time-unless (refusalOf w i) _
 
   -- the name: the refusal's number, then 10
-  name-no : (out : List ℕ) (k : ℕ) → 1 ≤ k → (numberNo (nameAnswer w i out) ≡ k) ↔ ((refusalOf w i ≡ k) ⊎ ((refusalOf w i ≡ 0) × (numberNo (lengthOr10 (nameIn w i) out) ≡ k)))
+  name-no : (out : List ℕ) (k : ℕ) → 1 ≤ k → (numberNo (nameAnswer w i out) ≡ k) ↔ ((refusalOf w i ≡ k) ⊎ ((refusalOf w i ≡ 0) × (numberNo (lengthOrNoRoom (nameIn w i) out) ≡ k)))
   unfolding nameAnswer
-  name-no out k l = after (refusalOf w i) (lengthOr10 (nameIn w i) out) k l
+  name-no out k l = after (refusalOf w i) (lengthOrNoRoom (nameIn w i) out) k l
 
-  name-other : (out : List ℕ) (k : ℕ) → 1 ≤ k → (k ≡ 10 → ⊥) → (numberNo (nameAnswer w i out) ≡ k) ↔ (refusalOf w i ≡ k)
+  name-other : (out : List ℕ) (k : ℕ) → 1 ≤ k → (k ≡ noRoom → ⊥) → (numberNo (nameAnswer w i out) ≡ k) ↔ (refusalOf w i ≡ k)
   name-other out k l d = (
     λ e. ⊎-elim (λ x. x) (λ x. absurd (⊎-elim (λ z. absurd (omega (arith, x .1, z))) (λ z. d (sym (x .1) ∙ z .0)) (room (nameIn w i) out))) (name-no out k l .0 e),
     λ e. name-no out k l .1 (inl e),
   )
 
   -- 8: block number not below the count (name, size, selectable; and the block's time)
-  pub given-8-name : (out : List ℕ) → (numberNo (nameAnswer w i out) ≡ 8) ↔ PastCount w i
-  given-8-name out = Iff·trans (name-other out 8 (omega arith) (λ e. omega arith)) refusal-8
+  pub given-8-name : (out : List ℕ) → (numberNo (nameAnswer w i out) ≡ noBlock) ↔ PastCount w i
+  given-8-name out = Iff·trans (name-other out noBlock (omega arith) (λ e. omega arith)) refusal-8
 
-  pub given-8-size : (numberNo (sizeOf w i) ≡ 8) ↔ PastCount w i
+  pub given-8-size : (numberNo (sizeOf w i) ≡ noBlock) ↔ PastCount w i
   given-8-size = rw size-no refusal-8
 
-  pub given-8-selectable : (markNo (selectableOf w i) ≡ 8) ↔ PastCount w i
+  pub given-8-selectable : (markNo (selectableOf w i) ≡ noBlock) ↔ PastCount w i
   given-8-selectable = rw selectable-no refusal-8
 
-  pub given-8-time : (timeNo (timeOf w i) ≡ 8) ↔ PastCount w i
+  pub given-8-time : (timeNo (timeOf w i) ≡ noBlock) ↔ PastCount w i
   given-8-time = rw time-no refusal-8
 
   -- 10: output buffer shorter than the text
-  pub given-10-name : (out : List ℕ) → (numberNo (nameAnswer w i out) ≡ 10) ↔ (Asked w i × (length out < length (nameIn w i)))
+  pub given-10-name : (out : List ℕ) → (numberNo (nameAnswer w i out) ≡ noRoom) ↔ (Asked w i × (length out < length (nameIn w i)))
   given-10-name out = (
-    λ e. ⊎-elim (λ x. absurd (never-10 x of-rules)) (λ x. (refusal-none .0 (x .0), ⊎-elim (λ z. absurd (omega (arith, x .1, z))) (λ z. z .1) (room (nameIn w i) out))) (name-no out 10 (omega arith) .0 e),
-    λ h. name-no out 10 (omega arith) .1 (inr (refusal-none .1 (h .0), no-room (nameIn w i) out (h .1))),
+    λ e. ⊎-elim (λ x. absurd (never-10 x of-rules)) (λ x. (refusal-none .0 (x .0), ⊎-elim (λ z. absurd (omega (arith, x .1, z))) (λ z. z .1) (room (nameIn w i) out))) (name-no out noRoom (omega arith) .0 e),
+    λ h. name-no out noRoom (omega arith) .1 (inr (refusal-none .1 (h .0), no-room (nameIn w i) out (h .1))),
   )
     where
-      never-10 : refusalOf w i ≡ 10 → Rules (overfull w) (leb (w .count) i) (wellRow w i) (refusalOf w i) → ⊥
+      never-10 : refusalOf w i ≡ noRoom → Rules (overfull w) (leb (w .count) i) (wellRow w i) (refusalOf w i) → ⊥
       never-10 e (full a q) = absurd (omega arith)
       never-10 e (past a b q) = absurd (omega arith)
       never-10 e (bad a b c q) = absurd (omega arith)
       never-10 e (none a b c q) = absurd (omega arith)
 
   -- 11: a needed row is not well formed, or the count exceeds capacity
-  pub given-11-name : (out : List ℕ) → (numberNo (nameAnswer w i out) ≡ 11) ↔ Unformed w i
-  given-11-name out = Iff·trans (name-other out 11 (omega arith) (λ e. omega arith)) refusal-11
+  pub given-11-name : (out : List ℕ) → (numberNo (nameAnswer w i out) ≡ badRow) ↔ Unformed w i
+  given-11-name out = Iff·trans (name-other out badRow (omega arith) (λ e. omega arith)) refusal-11
 
-  pub given-11-size : (numberNo (sizeOf w i) ≡ 11) ↔ Unformed w i
+  pub given-11-size : (numberNo (sizeOf w i) ≡ badRow) ↔ Unformed w i
   given-11-size = rw size-no refusal-11
 
-  pub given-11-selectable : (markNo (selectableOf w i) ≡ 11) ↔ Unformed w i
+  pub given-11-selectable : (markNo (selectableOf w i) ≡ badRow) ↔ Unformed w i
   given-11-selectable = rw selectable-no refusal-11
 
-  pub given-11-time : (timeNo (timeOf w i) ≡ 11) ↔ Unformed w i
+  pub given-11-time : (timeNo (timeOf w i) ≡ badRow) ↔ Unformed w i
   given-11-time = rw time-no refusal-11
 
 -- how many blocks there are: the count alone
-pub given-11-len : (w : Tape) → (numberNo (lenOf w) ≡ 11) ↔ (overfull w ≡ true)
+pub given-11-len : (w : Tape) → (numberNo (lenOf w) ≡ badRow) ↔ (overfull w ≡ true)
 unfolding numberNo lenOf
 given-11-len w = (λ e. of (overfull w) e, λ h. rw h)
   where
-    of : (a : Bool) → numberNo (a ⇒ number.Refused 11 ∣ number.Is (w .count)) ≡ 11 → a ≡ true
+    of : (a : Bool) → numberNo (a ⇒ number.Refused badRow ∣ number.Is (w .count)) ≡ badRow → a ≡ true
     of true e = refl
     of false e = absurd (omega arith)
 
@@ -188,7 +189,7 @@ ended-is stopped e = let z : _≡_ {A = ℕ} 0 1 = cc in absurd (omega arith)
 ended-is ended e = refl
 
 -- the loading time: its entries up to the first stop or the end come to a row that is not well formed
-pub given-11-loading : (w : Tape) → (numberNo (loadingOf w) ≡ 11) ↔ ((overfull w ≡ true) ⊎ Runs w 0 (comesTo (listFrom (formed w 0) 0)))
+pub given-11-loading : (w : Tape) → (numberNo (loadingOf w) ≡ badRow) ↔ ((overfull w ≡ true) ⊎ Runs w 0 (comesTo (listFrom (formed w 0) 0)))
 unfolding numberNo loadingOf loadingIn
 given-11-loading w = (
   λ e. of (overfull w) (isEnded end && ltb (formed w 0 .count) (w .count)) refl refl e,
@@ -199,24 +200,24 @@ given-11-loading w = (
     end = comesTo (listFrom (formed w 0) 0)
 
     answer : Bool → Bool → Number
-    answer a b = a ⇒ number.Refused 11 ∣ b ⇒ number.Refused 11 ∣ number.Is (time (listFrom (formed w 0) 0))
+    answer a b = a ⇒ number.Refused badRow ∣ b ⇒ number.Refused badRow ∣ number.Is (time (listFrom (formed w 0) 0))
 
-    of : (a b : Bool) → overfull w ≡ a → (isEnded end && ltb (formed w 0 .count) (w .count)) ≡ b → numberNo (answer a b) ≡ 11 → (overfull w ≡ true) ⊎ Runs w 0 end
+    of : (a b : Bool) → overfull w ≡ a → (isEnded end && ltb (formed w 0 .count) (w .count)) ≡ b → numberNo (answer a b) ≡ badRow → (overfull w ≡ true) ⊎ Runs w 0 end
     of true b q f e = inl q
     of false true q f e = inr (record { over = ended-is end (first (isEnded end) (ltb (formed w 0 .count) (w .count)) f); cut = ltb-true _ _ (second (isEnded end) (ltb (formed w 0 .count) (w .count)) f) })
     of false false q f e = absurd (omega arith)
 
-    back : (a b : Bool) → b ≡ true → numberNo (answer a b) ≡ 11
+    back : (a b : Bool) → b ≡ true → numberNo (answer a b) ≡ badRow
     back true b e = refl
     back false true e = refl
     back false false e = cc
 
 -- a refusal writes no output byte
 pub name-stays : (w : Tape) (i : ℕ) (out : List ℕ) → 0 < numberNo (nameAnswer w i out) → nameBytes w i out ≡ out
-unfolding numberNo numberUnless nameAnswer lengthOr10 nameBytes told
+unfolding numberNo numberUnless nameAnswer lengthOrNoRoom nameBytes told
 name-stays w i out h = of (refusalOf w i) (fits (nameIn w i) out) h
   where
-    of : (m : ℕ) (b : Bool) → 0 < numberNo (numberUnless m (b ⇒ number.Is (length (nameIn w i)) ∣ number.Refused 10)) → (eqb m 0 ⇒ (b ⇒ nameIn w i ++ drop (length (nameIn w i)) out ∣ out) ∣ out) ≡ out
+    of : (m : ℕ) (b : Bool) → 0 < numberNo (numberUnless m (b ⇒ number.Is (length (nameIn w i)) ∣ number.Refused noRoom)) → (eqb m 0 ⇒ (b ⇒ nameIn w i ++ drop (length (nameIn w i)) out ∣ out) ∣ out) ≡ out
     of zero true l = absurd (omega arith)
     of zero false l = refl
     of (suc m) b l = rw (ne-eqb (suc m) 0 (λ e. omega arith))

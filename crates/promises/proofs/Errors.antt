@@ -7,6 +7,7 @@ use mathlib.Core.Logic.{_↔_, _⊎_, inl, inr, ⊎-elim}
 use mathlib.Core.List.{List}
 use lib.ListN.{length}
 use Rattle.laws.specs.Rules.{_⇒_, _∣_}
+use Rattle.refusals.specs.Refusals.{lastBits}
 use Rattle.pieces.specs.declared.Heading.{Heading}
 use Rattle.pieces.specs.declared.Heading.the-variants as heading
 use Rattle.pieces.specs.Cut.{headAt}
@@ -40,7 +41,7 @@ judged-bad : (r : Read) {f : Failure} → judged r ≡ failed f → r ≡ failed
 unfolding judged
 judged-bad (done t) {f} e = of (tooManyBits (t .blocks)) e
   where
-    of : (b : Bool) → (b ⇒ refused 7 ∣ done t) ≡ failed f → done t ≡ failed f
+    of : (b : Bool) → (b ⇒ refused lastBits ∣ done t) ≡ failed f → done t ≡ failed f
     of true q = let z : _≡_ {A = ℕ} 0 1 = cc in absurd (omega arith)
     of false q = q
 judged-bad (failed g) e = e

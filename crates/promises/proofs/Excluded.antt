@@ -30,7 +30,7 @@ use Rattle.tape.specs.Load.{namedTape, named, loadNamed, blocksOf, tonesOf}
 use Rattle.walks.specs.declared.Position.{Position}
 use Rattle.walks.specs.declared.Reached.the-variants.{At, Ended}
 use Rattle.walks.specs.Heads.{startAt, stand, placed, levelHere, toldAs, told, walked, walkFrom}
-use Rattle.deck.specs.Deck.{ruledOut, badRow, judged, unless, playMeasured}
+use Rattle.deck.specs.Deck.{ruledOut, illFormed, judged, unless, playMeasured}
 use Rattle.deck.proofs.Answers.{positionIn, passedIn}
 use Rattle.shown.specs.Shown.{shown}
 use Rattle.lines.specs.Lines.{timeText, markText, rowText, rowsText}
@@ -60,7 +60,7 @@ two = tapeOf [] (2 ∷ 100 ∷ 100 ∷ []) (0 ∷ 1 ∷ 0 ∷ 0 ∷ 0 ∷ 0 ∷ 
 plays : (playMeasured two (startAt 0) 99 ≡ At (stand (placed 0 (Tones 0 0 false) (T 1)) 1 low))
     × (playMeasured two (placed 0 (Tones 0 0 false) (T 1)) 1 ≡ At (stand (placed 0 (Tones 0 0 true) (T 100)) 1 high))
     × (playMeasured two (startAt 7) 99 ≡ Ended (stand (startAt 1) 0 low))
-unfolding playMeasured unless judged ruledOut badRow wellRow wellBlock wellRanges wellNumbers wellCases wellTones wellTone valid hasEntry remains lengthAt walkFrom walked formed firstBad told toldAs levelHere headOf leftOf answer rest over shownAt status leftAt fromCycle fromTone fromByte fromPause listFrom entriesOf soundOf toneEntries toneOf cyclesOf dataOf pauseOf entryOf run
+unfolding playMeasured unless judged ruledOut illFormed wellRow wellBlock wellRanges wellNumbers wellCases wellTones wellTone valid hasEntry remains lengthAt walkFrom walked formed firstBad told toldAs levelHere headOf leftOf answer rest over shownAt status leftAt fromCycle fromTone fromByte fromPause listFrom entriesOf soundOf toneEntries toneOf cyclesOf dataOf pauseOf entryOf run
 plays = (refl, refl, refl)
 
 leftIn : Duration → ℕ

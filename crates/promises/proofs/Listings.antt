@@ -10,6 +10,7 @@ use lib.ListN.{length}
 use lib.Dec.{leb, ltb}
 use Rattle.text.specs.Out.{fits}
 use Rattle.laws.specs.Rules.{_⇒_, _∣_}
+use Rattle.refusals.specs.Refusals.{badModel, tapeLong, tapeBad, lastBits, noRoom}
 use Rattle.reader.specs.Source.{Loaded as Load, tzx, tapped, no}
 use Rattle.tape.specs.declared.Loaded.the-variants.{Refused}
 use Rattle.tape.specs.Load.{answerOf}
@@ -20,20 +21,20 @@ use Rattle.promises.proofs.Loads.{Ways, by-model, by-size, by-rest, way
 use Rattle.promises.proofs.Numbers.{given-1, given-2}
 
 -- the number that the host gets, of a refusal and of a text
-sized-no : (out : List ℕ) (k : ℕ) → k ≤ 7 → {l : Listing} → Sized l → (answerTo l out ≡ k) ↔ (l ≡ refused k)
+sized-no : (out : List ℕ) (k : ℕ) → k ≤ lastBits → {l : Listing} → Sized l → (answerTo l out ≡ k) ↔ (l ≡ refused k)
 unfolding answerTo
 sized-no out k m (long {t = t} h) = (λ e. absurd (of (fits t out) e), λ e. let z : _≡_ {A = ℕ} 0 1 = cc in absurd (omega arith))
   where
-    of : (b : Bool) → (b ⇒ length t ∣ 10) ≡ k → ⊥
+    of : (b : Bool) → (b ⇒ length t ∣ noRoom) ≡ k → ⊥
     of true e = absurd (omega arith)
     of false e = absurd (omega arith)
 sized-no out k m (small {k = j} a b) = (λ e. ap refused e, λ e. let z : j ≡ k = cc in z)
 
-sized-10 : (out : List ℕ) {l : Listing} → Sized l → (answerTo l out ≡ 10) ↔ ((t : List ℕ) × (l ≡ text t) × (length out < length t))
+sized-10 : (out : List ℕ) {l : Listing} → Sized l → (answerTo l out ≡ noRoom) ↔ ((t : List ℕ) × (l ≡ text t) × (length out < length t))
 unfolding answerTo
 sized-10 out (long {t = t} h) = (λ e. (t, refl, of (fits t out) refl e), λ x. let e = x .1 in let z : t ≡ x .0 = cc in let y : length t ≡ length (x .0) = ap length z in rw (lt-leb (length t) (length out) (omega (arith, x .2, y))))
   where
-    of : (b : Bool) → fits t out ≡ b → (b ⇒ length t ∣ 10) ≡ 10 → length out < length t
+    of : (b : Bool) → fits t out ≡ b → (b ⇒ length t ∣ noRoom) ≡ noRoom → length out < length t
     of true q e = absurd (omega arith)
     of false q e = leb-false _ _ q
 sized-10 out (small {k = j} a b) = (λ e. absurd (omega arith), λ x. let e = x .1 in let z : _≡_ {A = ℕ} 0 1 = cc in absurd (omega arith))
@@ -57,30 +58,30 @@ module _ (s : List ℕ) (model : ℕ) where
   checks k = (λ e. ways refused apart _ _ _ k e, λ w. ways-back refused apart w)
 
   module _ (out : List ℕ) where
-    number : (k : ℕ) → k ≤ 7 → (answerTo (listingOf s model) out ≡ k) ↔ Checks k
+    number : (k : ℕ) → k ≤ lastBits → (answerTo (listingOf s model) out ≡ k) ↔ Checks k
     number k m = Iff·trans (sized-no out k m (listing-sized s model)) (checks k)
 
-    pub listing-1 : (answerTo (listingOf s model) out ≡ 1) ↔ (3 ≤ model)
+    pub listing-1 : (answerTo (listingOf s model) out ≡ badModel) ↔ (3 ≤ model)
     unfolding loadedOf
-    listing-1 = (λ e. of (number 1 (omega arith) .0 e), λ h. number 1 (omega arith) .1 (by-model (le-leb _ _ h) refl))
+    listing-1 = (λ e. of (number badModel (omega arith) .0 e), λ h. number badModel (omega arith) .1 (by-model (le-leb _ _ h) refl))
       where
-        of : Checks 1 → 3 ≤ model
+        of : Checks badModel → 3 ≤ model
         of (by-model e q) = leb-true _ _ e
         of (by-size e f q) = absurd (omega arith)
-        of (by-rest e f q) = given-1 _ s model .0 (listed-no s model 1 _ .0 q)
+        of (by-rest e f q) = given-1 _ s model .0 (listed-no s model badModel _ .0 q)
 
     -- 2: in the listing, over 65,535
-    pub listing-2 : (answerTo (listingOf s model) out ≡ 2) ↔ ((model < 3) × (65535 < length s))
+    pub listing-2 : (answerTo (listingOf s model) out ≡ tapeLong) ↔ ((model < 3) × (65535 < length s))
     unfolding loadedOf
-    listing-2 = (λ e. of (number 2 (omega arith) .0 e), λ h. number 2 (omega arith) .1 (by-size (lt-leb _ _ (h .0)) (lt-ltb _ _ (h .1)) refl))
+    listing-2 = (λ e. of (number tapeLong (omega arith) .0 e), λ h. number tapeLong (omega arith) .1 (by-size (lt-leb _ _ (h .0)) (lt-ltb _ _ (h .1)) refl))
       where
-        of : Checks 2 → (model < 3) × (65535 < length s)
+        of : Checks tapeLong → (model < 3) × (65535 < length s)
         of (by-model e q) = absurd (omega arith)
         of (by-size e f q) = (leb-false _ _ e, ltb-true _ _ f)
-        of (by-rest e f q) = let x = given-2 _ s model .0 (listed-no s model 2 _ .0 q) in absurd (omega (arith, x .1, ltb-false 65535 (length s) f))
+        of (by-rest e f q) = let x = given-2 _ s model .0 (listed-no s model tapeLong _ .0 q) in absurd (omega (arith, x .1, ltb-false 65535 (length s) f))
 
     -- 3 to 7: the load's, with 512 block and 2,048 tone rows
-    pub listing-load : (k : ℕ) → 3 ≤ k → k ≤ 7 → (answerTo (listingOf s model) out ≡ k) ↔ (Admitted 65535 s model × (answerOf (loadedOf s model) ≡ Refused k))
+    pub listing-load : (k : ℕ) → tapeBad ≤ k → k ≤ lastBits → (answerTo (listingOf s model) out ≡ k) ↔ (Admitted 65535 s model × (answerOf (loadedOf s model) ≡ Refused k))
     listing-load k l m =
         (λ e. of (number k m .0 e), λ h. number k m .1 (by-rest (lt-leb _ _ (h .0 .known)) (le-ltb _ _ (h .0 .short)) (listed-no s model k _ .1 (h .1))))
       where
@@ -90,5 +91,5 @@ module _ (s : List ℕ) (model : ℕ) where
         of (by-rest e f q) = (record { known = leb-false _ _ e; short = ltb-false _ _ f }, listed-no s model k _ .0 q)
 
     -- 10: output buffer shorter than the text
-    pub listing-10 : (answerTo (listingOf s model) out ≡ 10) ↔ ((t : List ℕ) × (listingOf s model ≡ text t) × (length out < length t))
+    pub listing-10 : (answerTo (listingOf s model) out ≡ noRoom) ↔ ((t : List ℕ) × (listingOf s model ≡ text t) × (length out < length t))
     listing-10 = sized-10 out (listing-sized s model)

@@ -9,6 +9,7 @@ use mathlib.Core.List.{List}
 use lib.ListN.{length}
 use lib.Dec.{leb, ltb}
 use Rattle.laws.specs.Rules.{_⇒_, _∣_}
+use Rattle.refusals.specs.Refusals.{badModel, tapeLong, tapeBad, generalised, tonesFull, blocksFull, lastBits}
 use Rattle.parser.specs.Parser.{empty, Tape}
 use Rattle.pieces.specs.declared.Heading.{Heading}
 use Rattle.pieces.specs.declared.Heading.the-variants as heading
@@ -35,17 +36,17 @@ answers-no s k (no j) = (λ e. let z : j ≡ k = cc in ap no z, λ e. let z : j 
 
 -- the two checks, in order
 pub data Ways {A : Type 0} (give : ℕ → A) (a b : Bool) (x : A) (k : ℕ) : Type 0 where
-  by-model : a ≡ true → k ≡ 1 → Ways give a b x k
-  by-size : a ≡ false → b ≡ true → k ≡ 2 → Ways give a b x k
+  by-model : a ≡ true → k ≡ badModel → Ways give a b x k
+  by-size : a ≡ false → b ≡ true → k ≡ tapeLong → Ways give a b x k
   by-rest : a ≡ false → b ≡ false → x ≡ give k → Ways give a b x k
 
 module _ {A : Type 0} (give : ℕ → A) (apart : (i j : ℕ) → give i ≡ give j → i ≡ j) where
-  pub ways : (a b : Bool) (x : A) (k : ℕ) → (a ⇒ give 1 ∣ b ⇒ give 2 ∣ x) ≡ give k → Ways give a b x k
-  ways true b x k e = by-model refl (sym (apart 1 k e))
-  ways false true x k e = by-size refl refl (sym (apart 2 k e))
+  pub ways : (a b : Bool) (x : A) (k : ℕ) → (a ⇒ give badModel ∣ b ⇒ give tapeLong ∣ x) ≡ give k → Ways give a b x k
+  ways true b x k e = by-model refl (sym (apart badModel k e))
+  ways false true x k e = by-size refl refl (sym (apart tapeLong k e))
   ways false false x k e = by-rest refl refl e
 
-  pub ways-back : {a b : Bool} {x : A} {k : ℕ} → Ways give a b x k → (a ⇒ give 1 ∣ b ⇒ give 2 ∣ x) ≡ give k
+  pub ways-back : {a b : Bool} {x : A} {k : ℕ} → Ways give a b x k → (a ⇒ give badModel ∣ b ⇒ give tapeLong ∣ x) ≡ give k
   ways-back (by-model e q) = rw (e, q)
   ways-back (by-size e f q) = rw (e, f, q)
   ways-back (by-rest e f q) = rw (e, f) q
@@ -54,13 +55,13 @@ module _ {A : Type 0} (give : ℕ → A) (apart : (i j : ℕ) → give i ≡ giv
 data Both (r q : Read) (k : ℕ) : Type 0 where
   one : r ≡ refused k → Both r q k
   other : Errs r → q ≡ refused k → Both r q k
-  none : Errs r → Errs q → k ≡ 3 → Both r q k
+  none : Errs r → Errs q → k ≡ tapeBad → Both r q k
 
 both : (r q : Read) (k : ℕ) → orElse r q ≡ no k → Both r q k
 unfolding orElse orTap
 both (done t) q k e = let z : _≡_ {A = ℕ} 0 1 = cc in absurd (omega arith)
 both (failed f) (done t) k e = let z : _≡_ {A = ℕ} 0 1 = cc in absurd (omega arith)
-both (failed f) (failed g) k e = let z : 3 ≡ k = cc in none (f, refl) (g, refl) (sym z)
+both (failed f) (failed g) k e = let z : tapeBad ≡ k = cc in none (f, refl) (g, refl) (sym z)
 both (failed f) (refused j) k e = let z : j ≡ k = cc in other (f, refl) (ap refused z)
 both (refused j) q k e = let z : j ≡ k = cc in one (ap refused z)
 
@@ -73,11 +74,11 @@ both-back (none e f z) = rw (e .1, f .1, z)
 module _ (lent : Lent) (s : List ℕ) (model : ℕ) where
   -- THE NUMBERS OF A LOAD
   pub data Given (k : ℕ) : Type 0 where
-    model-no : 3 ≤ model → k ≡ 1 → Given k
-    size-no : model < 3 → 1048576 < length s → k ≡ 2 → Given k
-    both-no : Admitted 1048576 s model → Errs (readTzx lent s model) → Errs (readTap lent s) → k ≡ 3 → Given k
-    tzx-no : Admitted 1048576 s model → readTzx lent s model ≡ refused k → Between 4 7 k → Given k
-    tap-no : Admitted 1048576 s model → Errs (readTzx lent s model) → readTap lent s ≡ refused k → Between 5 6 k → Given k
+    model-no : 3 ≤ model → k ≡ badModel → Given k
+    size-no : model < 3 → 1048576 < length s → k ≡ tapeLong → Given k
+    both-no : Admitted 1048576 s model → Errs (readTzx lent s model) → Errs (readTap lent s) → k ≡ tapeBad → Given k
+    tzx-no : Admitted 1048576 s model → readTzx lent s model ≡ refused k → Between generalised lastBits k → Given k
+    tap-no : Admitted 1048576 s model → Errs (readTzx lent s model) → readTap lent s ≡ refused k → Between tonesFull blocksFull k → Given k
 
   apart-no : (i j : ℕ) → no i ≡ no j → i ≡ j
   apart-no i j e = cc
@@ -113,14 +114,14 @@ module _ (lent : Lent) (s : List ℕ) (model : ℕ) where
   -- 7, or what the pieces answer
   data Judges (k : ℕ) (r : Read) : Type 0 where
     piece : r ≡ refused k → Judges k r
-    last : (t : Tape) → r ≡ done t → tooManyBits (t .blocks) ≡ true → k ≡ 7 → Judges k r
+    last : (t : Tape) → r ≡ done t → tooManyBits (t .blocks) ≡ true → k ≡ lastBits → Judges k r
 
   judges : (k : ℕ) (r : Read) → judged r ≡ refused k → Judges k r
   unfolding judged
   judges k (done t) e = by-bits (tooManyBits (t .blocks)) refl e
     where
-      by-bits : (b : Bool) → tooManyBits (t .blocks) ≡ b → (b ⇒ refused 7 ∣ done t) ≡ refused k → Judges k (done t)
-      by-bits true q f = let z : 7 ≡ k = cc in last t refl q (sym z)
+      by-bits : (b : Bool) → tooManyBits (t .blocks) ≡ b → (b ⇒ refused lastBits ∣ done t) ≡ refused k → Judges k (done t)
+      by-bits true q f = let z : lastBits ≡ k = cc in last t refl q (sym z)
       by-bits false q f = let z : _≡_ {A = ℕ} 0 1 = cc in absurd (omega arith)
   judges k (failed f) e = let z : _≡_ {A = ℕ} 0 1 = cc in absurd (omega arith)
   judges k (refused j) e = let z : j ≡ k = cc in piece (ap refused z)
@@ -141,7 +142,7 @@ module _ (lent : Lent) (s : List ℕ) (model : ℕ) where
   tzx-headed (major, minor, q) = rw q
 
   -- 4, 5, 6: a piece's
-  pub tzx-piece : (k : ℕ) → k ≤ 6 → (readTzx lent s model ≡ refused k) ↔ (Headed s × (pieces ≡ refused k))
+  pub tzx-piece : (k : ℕ) → k ≤ blocksFull → (readTzx lent s model ≡ refused k) ↔ (Headed s × (pieces ≡ refused k))
   unfolding judged
   tzx-piece k l = (λ e. let x = tzx-judges k e in (x .0, of (x .1)), λ x. tzx-headed (x .0) ∙ ap judged (x .1))
     where
@@ -150,10 +151,10 @@ module _ (lent : Lent) (s : List ℕ) (model : ℕ) where
       of (last t e b z) = absurd (omega arith)
 
   -- 7: of the whole
-  pub tzx-last : (readTzx lent s model ≡ refused 7) ↔ (Headed s × ((t : Tape) × (pieces ≡ done t) × (tooManyBits (t .blocks) ≡ true)))
+  pub tzx-last : (readTzx lent s model ≡ refused lastBits) ↔ (Headed s × ((t : Tape) × (pieces ≡ done t) × (tooManyBits (t .blocks) ≡ true)))
   unfolding judged
-  tzx-last = (λ e. let x = tzx-judges 7 e in (x .0, of (x .1)), λ x. tzx-headed (x .0) ∙ ap judged (x .1 .1) ∙ rw (x .1 .2))
+  tzx-last = (λ e. let x = tzx-judges lastBits e in (x .0, of (x .1)), λ x. tzx-headed (x .0) ∙ ap judged (x .1 .1) ∙ rw (x .1 .2))
     where
-      of : Judges 7 pieces → (t : Tape) × (pieces ≡ done t) × (tooManyBits (t .blocks) ≡ true)
-      of (piece e) = let b = told 7 (pieces-tell lent s model) e in absurd (omega (arith, b .high))
+      of : Judges lastBits pieces → (t : Tape) × (pieces ≡ done t) × (tooManyBits (t .blocks) ≡ true)
+      of (piece e) = let b = told lastBits (pieces-tell lent s model) e in absurd (omega (arith, b .high))
       of (last t e b z) = (t, e, b)

@@ -5,6 +5,7 @@ use mathlib.Core.Path.{_≡_, refl}
 use mathlib.Core.Logic.{_↔_, inl, inr, ⊎-elim}
 use mathlib.Core.List.{List}
 use lib.ListN.{length}
+use Rattle.refusals.specs.Refusals.{badModel, tapeLong, tapeBad, generalised, tonesFull, blocksFull, lastBits}
 use Rattle.rows.specs.Table.{zeros}
 use Rattle.parser.specs.Parser.{Tape, empty}
 use Rattle.blocks.specs.Adds.{Lent}
@@ -18,10 +19,10 @@ use Rattle.promises.proofs.Dues.{tzx-bounded, panics-due, piece-due, ta
 
 module _ (lent : Lent) (s : List ℕ) (model : ℕ) where
   -- 1: model is not 0 (48K), 1 (128K), 2 (Plus3)
-  pub given-1 : (answerOf (loadNamed lent s model) ≡ Refused 1) ↔ (3 ≤ model)
-  given-1 = (λ e. of (given lent s model 1 .0 e), λ h. given lent s model 1 .1 (model-no h refl))
+  pub given-1 : (answerOf (loadNamed lent s model) ≡ Refused badModel) ↔ (3 ≤ model)
+  given-1 = (λ e. of (given lent s model badModel .0 e), λ h. given lent s model badModel .1 (model-no h refl))
     where
-      of : Given lent s model 1 → 3 ≤ model
+      of : Given lent s model badModel → 3 ≤ model
       of (model-no h q) = h
       of (size-no h l q) = absurd (omega arith)
       of (both-no a x y q) = absurd (omega arith)
@@ -29,10 +30,10 @@ module _ (lent : Lent) (s : List ℕ) (model : ℕ) where
       of (tap-no a x y b) = absurd (omega (arith, b .low))
 
   -- 2: tape over 1,048,576 bytes; 1 is checked first
-  pub given-2 : (answerOf (loadNamed lent s model) ≡ Refused 2) ↔ ((model < 3) × (1048576 < length s))
-  given-2 = (λ e. of (given lent s model 2 .0 e), λ h. given lent s model 2 .1 (size-no (h .0) (h .1) refl))
+  pub given-2 : (answerOf (loadNamed lent s model) ≡ Refused tapeLong) ↔ ((model < 3) × (1048576 < length s))
+  given-2 = (λ e. of (given lent s model tapeLong .0 e), λ h. given lent s model tapeLong .1 (size-no (h .0) (h .1) refl))
     where
-      of : Given lent s model 2 → (model < 3) × (1048576 < length s)
+      of : Given lent s model tapeLong → (model < 3) × (1048576 < length s)
       of (model-no h q) = absurd (omega arith)
       of (size-no h l q) = (h, l)
       of (both-no a x y q) = absurd (omega arith)
@@ -40,10 +41,10 @@ module _ (lent : Lent) (s : List ℕ) (model : ℕ) where
       of (tap-no a x y b) = absurd (omega (arith, b .low))
 
   -- 3: TZX and TAP reading both err
-  pub given-3 : (answerOf (loadNamed lent s model) ≡ Refused 3) ↔ (Admitted 1048576 s model × (Errs (readTzx lent s model) × Errs (readTap lent s)))
-  given-3 = (λ e. of (given lent s model 3 .0 e), λ h. given lent s model 3 .1 (both-no (h .0) (h .1 .0) (h .1 .1) refl))
+  pub given-3 : (answerOf (loadNamed lent s model) ≡ Refused tapeBad) ↔ (Admitted 1048576 s model × (Errs (readTzx lent s model) × Errs (readTap lent s)))
+  given-3 = (λ e. of (given lent s model tapeBad .0 e), λ h. given lent s model tapeBad .1 (both-no (h .0) (h .1 .0) (h .1 .1) refl))
     where
-      of : Given lent s model 3 → Admitted 1048576 s model × (Errs (readTzx lent s model) × Errs (readTap lent s))
+      of : Given lent s model tapeBad → Admitted 1048576 s model × (Errs (readTzx lent s model) × Errs (readTap lent s))
       of (model-no h q) = absurd (omega arith)
       of (size-no h l q) = absurd (omega arith)
       of (both-no a x y q) = (a, (x, y))
@@ -51,13 +52,13 @@ module _ (lent : Lent) (s : List ℕ) (model : ℕ) where
       of (tap-no a x y b) = absurd (omega (arith, b .low))
 
   -- a number of the TZX's pieces, of the whole TZX, and of the TAP: where the reading comes to
-  tzx-comes : (k : ℕ) → k ≤ 6 → {P : ℕ → Tape → Type 0} → ((at : ℕ) (t : Tape) → Due (tzxSee lent s model) (refused k) at t ↔ P at t) → (readTzx lent s model ≡ refused k) ↔ ByTzx lent s model P
+  tzx-comes : (k : ℕ) → k ≤ blocksFull → {P : ℕ → Tape → Type 0} → ((at : ℕ) (t : Tape) → Due (tzxSee lent s model) (refused k) at t ↔ P at t) → (readTzx lent s model ≡ refused k) ↔ ByTzx lent s model P
   tzx-comes k l p =
       let x = tzx-piece lent s model k l in
       let y = run-due (tzx-bounded lent s model) (length s) 10 empty (refused k) (omega arith) in
       (λ e. let z = x .0 e in (z .0, comes-map (λ at t. p at t .0) (y .0 (z .1))), λ c. x .1 (c .0, y .1 (comes-map (λ at t. p at t .1) (c .1))))
 
-  tzx-ends : (readTzx lent s model ≡ refused 7) ↔ ByTzx lent s model (Judged lent s model)
+  tzx-ends : (readTzx lent s model ≡ refused lastBits) ↔ ByTzx lent s model (Judged lent s model)
   tzx-ends =
       let x = tzx-last lent s model in
       let w = end-due lent s model 10 empty in
@@ -73,16 +74,16 @@ module _ (lent : Lent) (s : List ℕ) (model : ℕ) where
       (λ e. comes-map (λ at t. block-due lent s k at t .0) (y .0 e), λ c. y .1 (comes-map (λ at t. block-due lent s k at t .1) c))
 
   -- 4: a generalised piece on which the Rust panics
-  pub given-4 : (answerOf (loadNamed lent s model) ≡ Refused 4) ↔ (Admitted 1048576 s model × ByTzx lent s model (Panics s))
+  pub given-4 : (answerOf (loadNamed lent s model) ≡ Refused generalised) ↔ (Admitted 1048576 s model × ByTzx lent s model (Panics s))
   given-4 = (
-    λ e. of (given lent s model 4 .0 e),
-    λ h. given lent s model 4 .1 (tzx-no (h .0) (comes .1 (h .1)) (record { low = omega arith; high = omega arith })),
+    λ e. of (given lent s model generalised .0 e),
+    λ h. given lent s model generalised .1 (tzx-no (h .0) (comes .1 (h .1)) (record { low = omega arith; high = omega arith })),
   )
     where
-      comes : (readTzx lent s model ≡ refused 4) ↔ ByTzx lent s model (Panics s)
-      comes = tzx-comes 4 (omega arith) (panics-due lent s model)
+      comes : (readTzx lent s model ≡ refused generalised) ↔ ByTzx lent s model (Panics s)
+      comes = tzx-comes generalised (omega arith) (panics-due lent s model)
 
-      of : Given lent s model 4 → Admitted 1048576 s model × ByTzx lent s model (Panics s)
+      of : Given lent s model generalised → Admitted 1048576 s model × ByTzx lent s model (Panics s)
       of (model-no h q) = absurd (omega arith)
       of (size-no h l q) = absurd (omega arith)
       of (both-no a x y q) = absurd (omega arith)
@@ -90,7 +91,7 @@ module _ (lent : Lent) (s : List ℕ) (model : ℕ) where
       of (tap-no a x y b) = absurd (omega (arith, b .low))
 
   -- 5, 6: by the TZX's pieces, or, where TZX errs, by the TAP's blocks
-  lacking : (k : ℕ) → 5 ≤ k → k ≤ 6 → (answerOf (loadNamed lent s model) ≡ Refused k) ↔ (Admitted 1048576 s model × Lacking lent s model k)
+  lacking : (k : ℕ) → tonesFull ≤ k → k ≤ blocksFull → (answerOf (loadNamed lent s model) ≡ Refused k) ↔ (Admitted 1048576 s model × Lacking lent s model k)
   lacking k l m = (
     λ e. of (given lent s model k .0 e),
     λ h. ⊎-elim
@@ -110,21 +111,21 @@ module _ (lent : Lent) (s : List ℕ) (model : ℕ) where
       of (tap-no a x y b) = (a, inr (x, tap-comes k .0 y))
 
   -- 5: a block needs more tone rows than remain
-  pub given-5 : (answerOf (loadNamed lent s model) ≡ Refused 5) ↔ (Admitted 1048576 s model × Lacking lent s model 5)
-  given-5 = lacking 5 (omega arith) (omega arith)
+  pub given-5 : (answerOf (loadNamed lent s model) ≡ Refused tonesFull) ↔ (Admitted 1048576 s model × Lacking lent s model tonesFull)
+  given-5 = lacking tonesFull (omega arith) (omega arith)
 
   -- 6: more block rows than remain
-  pub given-6 : (answerOf (loadNamed lent s model) ≡ Refused 6) ↔ (Admitted 1048576 s model × Lacking lent s model 6)
-  given-6 = lacking 6 (omega arith) (omega arith)
+  pub given-6 : (answerOf (loadNamed lent s model) ≡ Refused blocksFull) ↔ (Admitted 1048576 s model × Lacking lent s model blocksFull)
+  given-6 = lacking blocksFull (omega arith) (omega arith)
 
   -- 7: TZX was read whole, but a block with data has last bits above 8
-  pub given-7 : (answerOf (loadNamed lent s model) ≡ Refused 7) ↔ (Admitted 1048576 s model × ByTzx lent s model (Judged lent s model))
+  pub given-7 : (answerOf (loadNamed lent s model) ≡ Refused lastBits) ↔ (Admitted 1048576 s model × ByTzx lent s model (Judged lent s model))
   given-7 = (
-    λ e. of (given lent s model 7 .0 e),
-    λ h. given lent s model 7 .1 (tzx-no (h .0) (tzx-ends .1 (h .1)) (record { low = omega arith; high = omega arith })),
+    λ e. of (given lent s model lastBits .0 e),
+    λ h. given lent s model lastBits .1 (tzx-no (h .0) (tzx-ends .1 (h .1)) (record { low = omega arith; high = omega arith })),
   )
     where
-      of : Given lent s model 7 → Admitted 1048576 s model × ByTzx lent s model (Judged lent s model)
+      of : Given lent s model lastBits → Admitted 1048576 s model × ByTzx lent s model (Judged lent s model)
       of (model-no h q) = absurd (omega arith)
       of (size-no h l q) = absurd (omega arith)
       of (both-no a x y q) = absurd (omega arith)

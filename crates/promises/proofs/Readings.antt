@@ -4,6 +4,7 @@ use mathlib.Core.Path.{_≡_, refl}
 use mathlib.Core.Bool.{true, false}
 use mathlib.Core.List.{List, [], _∷_, _++_, map}
 use lib.ListN.{length}
+use Rattle.refusals.specs.Refusals.{tapeBad, lastBits}
 use Rattle.fields.specs.Field.{leAt, numberAt, fieldAt, placeOf}
 use Rattle.fields.specs.Run.{times, eachAt, groupsAt}
 use Rattle.pulses.specs.Play.{low, high, answer, rest, over, shown, status, time, comesTo}
@@ -36,7 +37,7 @@ use Rattle.entries.specs.Places.{Tape, blockIn, listFrom, leftAt, hasEntry, len
 use Rattle.entries.specs.Mounted.{wellRow, firstBad, formed, tapeOf}
 use Rattle.walks.specs.declared.Reached.the-variants.{At, Ended}
 use Rattle.walks.specs.Heads.{placed, startAt, stand, levelHere, toldAs, told, walked, walkFrom}
-use Rattle.deck.specs.Deck.{ruledOut, badRow, judged as checked, unless, playMeasured, sourceAnswer, sourceFrom, playSource}
+use Rattle.deck.specs.Deck.{ruledOut, illFormed, judged as checked, unless, playMeasured, sourceAnswer, sourceFrom, playSource}
 
 -- what is said of a block: the cycles of its first tone row, its pause, its T-states, its name
 pub record Said : Type 0 where
@@ -88,7 +89,7 @@ readings =
     -- `01 00 FF`: 1,612 cycles, pause 7,000,000
     ∷ (1 ∷ 0 ∷ 0xFF ∷ [], is Tap (block 1612 7000000 14018394 1 ∷ []))
     -- `02 00 FF`: refused 3
-    ∷ (2 ∷ 0 ∷ 0xFF ∷ [], refused 3)
+    ∷ (2 ∷ 0 ∷ 0xFF ∷ [], refused tapeBad)
     -- 12 with length 100, count 1: 300 T; count 0: 200
     ∷ (pieces (0x12 ∷ 100 ∷ 0 ∷ 1 ∷ 0 ∷ []), is Tzx (block 1 0 300 0 ∷ []))
     ∷ (pieces (0x12 ∷ 100 ∷ 0 ∷ 0 ∷ 0 ∷ []), is Tzx (block 0 0 200 0 ∷ []))
@@ -98,7 +99,7 @@ readings =
     ∷ (pieces (0x14 ∷ 10 ∷ 0 ∷ 20 ∷ 0 ∷ 0 ∷ 0 ∷ 0 ∷ 1 ∷ 0 ∷ 0 ∷ 0x80 ∷ []), is Tzx (block 0 0 40 1 ∷ []))
     -- last bits 8 accepted, 9 refused 7
     ∷ (pieces (0x14 ∷ 10 ∷ 0 ∷ 20 ∷ 0 ∷ 8 ∷ 0 ∷ 0 ∷ 1 ∷ 0 ∷ 0 ∷ 0x80 ∷ []), is Tzx (block 0 0 180 1 ∷ []))
-    ∷ (pieces (0x14 ∷ 10 ∷ 0 ∷ 20 ∷ 0 ∷ 9 ∷ 0 ∷ 0 ∷ 1 ∷ 0 ∷ 0 ∷ 0x80 ∷ []), refused 7)
+    ∷ (pieces (0x14 ∷ 10 ∷ 0 ∷ 20 ∷ 0 ∷ 9 ∷ 0 ∷ 0 ∷ 1 ∷ 0 ∷ 0 ∷ 0x80 ∷ []), refused lastBits)
     ∷ []
 
 pub readings-read : map (λ e. reads (e .0) (loadNamed (lentOf 39 12) (e .0) 0)) readings ≡ map (λ e. e .1) readings
@@ -116,5 +117,5 @@ sole = mounted soleBytes (loadNamed (lentOf 39 12) soleBytes 0) 1
 pub players-read :
     (map (λ n. playMeasured sole (startAt 0) n) (99 ∷ 100 ∷ []) ≡ At (stand (placed 0 (Tones 0 0 false) (T 1)) 1 low) ∷ At (stand (placed 0 (Tones 0 0 true) (T 100)) 2 high) ∷ [])
     × (map (λ n. playSource sole (startAt 0) n) (99 ∷ 100 ∷ []) ≡ At (stand (placed 0 (Tones 0 0 false) (T 1)) 1 low) ∷ Ended (stand (startAt 1) 6 low) ∷ [])
-unfolding loadNamed naming namedTape loadOf orElse orTap readTzx readTap headed headAt startsAt judged tooManyBits foldFrom seeing after tzxSee tzxOf cutAt named kindOf kinds kind12 readAt wholeAt fieldAt numberAt leAt placeOf halted rowOf standardSound turboSound pairSounds pureSound pauseSound addSound addSounds generalDeed stop48Deed does deedOf act addRows addTones addBlock _⟫_ empty pureToneTones nameAll passed unselected isHeading blocksOf tonesOf tableOver playMeasured playSource unless checked ruledOut badRow wellRow wellBlock wellRanges wellNumbers wellCases wellTones wellTone valid hasEntry remains lengthAt walkFrom sourceFrom sourceAnswer sourced turns turn afterTurn reached walked formed firstBad told toldAs levelHere headOf leftOf answer rest over shown status leftAt listFrom entriesOf soundOf tonesIn toneOf cyclesOf dataOf pauseOf entryOf run
+unfolding loadNamed naming namedTape loadOf orElse orTap readTzx readTap headed headAt startsAt judged tooManyBits foldFrom seeing after tzxSee tzxOf cutAt named kindOf kinds kind12 readAt wholeAt fieldAt numberAt leAt placeOf halted rowOf standardSound turboSound pairSounds pureSound pauseSound addSound addSounds generalDeed stop48Deed does deedOf act addRows addTones addBlock _⟫_ empty pureToneTones nameAll passed unselected isHeading blocksOf tonesOf tableOver playMeasured playSource unless checked ruledOut illFormed wellRow wellBlock wellRanges wellNumbers wellCases wellTones wellTone valid hasEntry remains lengthAt walkFrom sourceFrom sourceAnswer sourced turns turn afterTurn reached walked formed firstBad told toldAs levelHere headOf leftOf answer rest over shown status leftAt listFrom entriesOf soundOf tonesIn toneOf cyclesOf dataOf pauseOf entryOf run
 players-read = (refl, refl)

@@ -6,6 +6,7 @@ use mathlib.Core.Logic.{_⊎_}
 use mathlib.Core.List.{List, _∷_}
 use lib.ListN.{length, drop}
 use lib.Dec.{eqb}
+use Rattle.refusals.specs.Refusals.{tonesFull, blocksFull}
 use Rattle.pulses.specs.Play.{Status, ended}
 use Rattle.rows.specs.declared.Block.{Block}
 use Rattle.rows.specs.declared.Tone.{Tone}
@@ -71,8 +72,8 @@ pub data Panics (s : List ℕ) (at : ℕ) (t : Tape) : Type 0 where
 
 -- 5, 6, BLOCK BY BLOCK: of the steps that are done here, one after the other, one needs more tone rows than remain of those lent, or more block rows
 pub data Lacks (lent : Lent) : ℕ → (Tape → Out) → Tape → Type 0 where
-  tones : (ts : List Tone) {t : Tape} → lent .tones < length (t .tones) + length ts → Lacks lent 5 (addTones (lent .tones) ts) t
-  row : (r : Block) {t : Tape} → lent .blocks ≤ length (t .blocks) → Lacks lent 6 (addBlock (lent .blocks) r) t
+  tones : (ts : List Tone) {t : Tape} → lent .tones < length (t .tones) + length ts → Lacks lent tonesFull (addTones (lent .tones) ts) t
+  row : (r : Block) {t : Tape} → lent .blocks ≤ length (t .blocks) → Lacks lent blocksFull (addBlock (lent .blocks) r) t
   first : (f : Tape → Out) (g : Tape → Tape → Out) {k : ℕ} {t : Tape} → Lacks lent k f t → Lacks lent k (λ v. f v ⟫ g v) t
   next : (f : Tape → Out) (g : Tape → Tape → Out) {k : ℕ} {t u : Tape} → f t ≡ on u → Lacks lent k (g t) u → Lacks lent k (λ v. f v ⟫ g v) t
   copy : {k start times : ℕ} {t : Tape} → t .body ≡ Open start times → Lacks lent k (copies (lent .blocks) times (drop start (t .blocks))) (withBody Closed t) → Lacks lent k (closeLoop (lent .blocks)) t

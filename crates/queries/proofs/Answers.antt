@@ -7,6 +7,7 @@ use mathlib.Core.List.{List}
 use lib.Dec.{eqb}
 use native.Mathlib.Omega.{arith}
 use Rattle.laws.specs.Rules.{_⇒_, _∣_}
+use Rattle.refusals.specs.Refusals.{noRoom}
 use Rattle.pulses.specs.Play.{time, comesTo}
 use Rattle.pulses.specs.Source.{isEnded}
 use Rattle.text.specs.Out.{fits, told}
@@ -17,7 +18,7 @@ use Rattle.entries.proofs.Formed.{Whole, whole-formed}
 use Rattle.queries.specs.declared.Number.the-variants as number
 use Rattle.queries.specs.declared.Mark.the-variants as mark
 use Rattle.queries.specs.declared.Time.the-variants as lasting
-use Rattle.queries.specs.Queries.{numberNo, markNo, timeNo, refusalOf, numberUnless, markUnless, timeUnless, lenOf, sizeOf, selectableOf, timeOf, nameIn, lengthOr10, nameAnswer, nameBytes, loadingIn, loadingOf}
+use Rattle.queries.specs.Queries.{numberNo, markNo, timeNo, refusalOf, numberUnless, markUnless, timeUnless, lenOf, sizeOf, selectableOf, timeOf, nameIn, lengthOrNoRoom, nameAnswer, nameBytes, loadingIn, loadingOf}
 use Rattle.queries.proofs.Refusals.{refusal-none}
 
 -- a rule whose second test fails
@@ -58,7 +59,7 @@ module _ (w : Tape) (whole : Whole w) where
     unfolding timeOf timeUnless
     time-whole = rw none
 
-    pub name-whole : (out : List ℕ) → nameAnswer w i out ≡ lengthOr10 (nameIn w i) out
+    pub name-whole : (out : List ℕ) → nameAnswer w i out ≡ lengthOrNoRoom (nameIn w i) out
     unfolding nameAnswer numberUnless
     name-whole out = rw none
 
@@ -72,11 +73,11 @@ pub record Answered (w : Tape) (i : ℕ) : Type 0 where
   pub size : numberNo (sizeOf w i) ≡ 0
   pub selectable : markNo (selectableOf w i) ≡ 0
   pub lasts : timeNo (timeOf w i) ≡ 0
-  pub name : (out : List ℕ) → numberNo (nameAnswer w i out) ≡ (fits (nameIn w i) out ⇒ 0 ∣ 10)
+  pub name : (out : List ℕ) → numberNo (nameAnswer w i out) ≡ (fits (nameIn w i) out ⇒ 0 ∣ noRoom)
   pub loading : numberNo (loadingOf w) ≡ 0
 
 pub whole-answered : (w : Tape) → Whole w → (i : ℕ) → i < w .count → Answered w i
-unfolding numberNo markNo timeNo lengthOr10
+unfolding numberNo markNo timeNo lengthOrNoRoom
 whole-answered w whole i h =
     record {
       len = ap numberNo (len-whole w whole);
@@ -87,9 +88,9 @@ whole-answered w whole i h =
       loading = ap numberNo (loading-whole w whole);
     }
   where
-    by-room : (t : Bool) (n : ℕ) → numberNo (t ⇒ number.Is n ∣ number.Refused 10) ≡ (t ⇒ 0 ∣ 10)
+    by-room : (t : Bool) (n : ℕ) → numberNo (t ⇒ number.Is n ∣ number.Refused noRoom) ≡ (t ⇒ 0 ∣ noRoom)
     by-room true n = refl
     by-room false n = refl
 
-    length-no : (text out : List ℕ) → numberNo (lengthOr10 text out) ≡ (fits text out ⇒ 0 ∣ 10)
+    length-no : (text out : List ℕ) → numberNo (lengthOrNoRoom text out) ≡ (fits text out ⇒ 0 ∣ noRoom)
     length-no text out = by-room (fits text out) _

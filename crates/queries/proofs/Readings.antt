@@ -3,6 +3,7 @@ use Prim.Native.Nat.{ℕ}
 use mathlib.Core.Path.{_≡_, refl}
 use mathlib.Core.Bool.{true, false}
 use mathlib.Core.List.{List, [], _∷_, _++_, map}
+use Rattle.refusals.specs.Refusals.{noBlock, noRoom, badRow}
 use Rattle.pulses.specs.Play.{time, comesTo}
 use Rattle.pulses.specs.Runs.{run}
 use Rattle.rows.specs.Well.{wellRanges, wellTone, wellNumbers, wellCases, wellTones, wellBlock}
@@ -19,7 +20,7 @@ use Rattle.queries.specs.declared.Mark.{Mark}
 use Rattle.queries.specs.declared.Mark.the-variants as mark
 use Rattle.queries.specs.declared.Time.{Time}
 use Rattle.queries.specs.declared.Time.the-variants as lasting
-use Rattle.queries.specs.Queries.{refusalOf, numberUnless, markUnless, timeUnless, sizeOf, selectableOf, timeOf, lengthOr10, nameAnswer, nameBytes, loadingIn, loadingOf}
+use Rattle.queries.specs.Queries.{refusalOf, numberUnless, markUnless, timeUnless, sizeOf, selectableOf, timeOf, lengthOrNoRoom, nameAnswer, nameBytes, loadingIn, loadingOf}
 
 -- all that is answered of a block, with the bytes that its name leaves, and the tape's loading time
 pub record Answers : Type 0 where
@@ -70,8 +71,8 @@ abbrev stopRow : List ℕ
 stopRow = sound 0 0 0 1 1 1
 
 -- last bits 9 of a byte: not well formed
-abbrev badRow : List ℕ
-badRow = 0 ∷ 0 ∷ 0 ∷ 1 ∷ 0 ∷ 0 ∷ 9 ∷ 0 ∷ 0 ∷ 1 ∷ 0 ∷ 0 ∷ 0 ∷ []
+abbrev brokenRow : List ℕ
+brokenRow = 0 ∷ 0 ∷ 0 ∷ 1 ∷ 0 ∷ 0 ∷ 9 ∷ 0 ∷ 0 ∷ 1 ∷ 0 ∷ 0 ∷ 0 ∷ []
 
 -- a pure tone of 100, as tone rows and blocks of one row
 abbrev pureTone : List ℕ → ℕ → Tape
@@ -95,17 +96,17 @@ readings =
     (printed, 1, nine, says 0 plain (T 3500) 7 (0x30 ∷ bytesWord ++ (8 ∷ 9 ∷ [])) 3900) ∷
     (printed, 2, stopWord, says 0 starred Endless 4 stopWord 3900) ∷
     -- 11 for the count goes before 8
-    (tapeOf [] [] stopRow 2, 2, [], refuses 11 [] (number.Refused 11)) ∷
+    (tapeOf [] [] stopRow 2, 2, [], refuses badRow [] (number.Refused badRow)) ∷
     -- 8 before 11 for the row: the row behind the count is not well formed
-    (tapeOf (0 ∷ []) [] (stopRow ++ badRow) 1, 1, nine, refuses 8 nine (number.Is 0)) ∷
-    (tapeOf [] [] [] 0, 0, [], refuses 8 [] (number.Is 0)) ∷
+    (tapeOf (0 ∷ []) [] (stopRow ++ brokenRow) 1, 1, nine, refuses noBlock nine (number.Is 0)) ∷
+    (tapeOf [] [] [] 0, 0, [], refuses noBlock [] (number.Is 0)) ∷
     -- 11 for the row before 10; the loading time needs no row beyond the first stop, and each up to it
-    (tapeOf (0 ∷ []) [] (stopRow ++ badRow) 2, 1, [], refuses 11 [] (number.Is 0)) ∷
-    (tapeOf (0 ∷ []) [] (badRow ++ stopRow) 2, 0, [], refuses 11 [] (number.Refused 11)) ∷
+    (tapeOf (0 ∷ []) [] (stopRow ++ brokenRow) 2, 1, [], refuses badRow [] (number.Is 0)) ∷
+    (tapeOf (0 ∷ []) [] (brokenRow ++ stopRow) 2, 0, [], refuses badRow [] (number.Refused badRow)) ∷
     -- 10: three bytes are too short for `stop`, and stay
-    (printed, 2, 1 ∷ 2 ∷ 3 ∷ [], record { refusal = 0; size = number.Is 0; selectable = starred; lasts = lasting.Lasts Endless; name = number.Refused 10; bytes = 1 ∷ 2 ∷ 3 ∷ []; loading = number.Is 3900 }) ∷
+    (printed, 2, 1 ∷ 2 ∷ 3 ∷ [], record { refusal = 0; size = number.Is 0; selectable = starred; lasts = lasting.Lasts Endless; name = number.Refused noRoom; bytes = 1 ∷ 2 ∷ 3 ∷ []; loading = number.Is 3900 }) ∷
     []
 
 pub readings-said : map (λ e. answered (e .0) (e .1) (e .2)) readings ≡ map (λ e. e .3) readings
-unfolding refusalOf numberUnless markUnless timeUnless sizeOf selectableOf timeOf lengthOr10 nameAnswer nameBytes told loadingOf loadingIn formed firstBad wellRow wellBlock wellRanges wellNumbers wellCases wellTones wellTone nameOf guessed isHeader sizeName sizeShown decimal digits lastsOf comesTo time listFrom entriesOf soundOf tonesOf toneOf cyclesOf dataOf byteOf bitsAt halfOf pauseOf entryOf run
+unfolding refusalOf numberUnless markUnless timeUnless sizeOf selectableOf timeOf lengthOrNoRoom nameAnswer nameBytes told loadingOf loadingIn formed firstBad wellRow wellBlock wellRanges wellNumbers wellCases wellTones wellTone nameOf guessed isHeader sizeName sizeShown decimal digits lastsOf comesTo time listFrom entriesOf soundOf tonesOf toneOf cyclesOf dataOf byteOf bitsAt halfOf pauseOf entryOf run
 readings-said = refl

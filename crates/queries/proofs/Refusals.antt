@@ -6,6 +6,7 @@ use mathlib.Core.Path.{_≡_, refl, sym, _∙_}
 use mathlib.Core.Bool.{Bool, true, false}
 use lib.Dec.{leb}
 use Rattle.laws.specs.Rules.{_⇒_, _∣_}
+use Rattle.refusals.specs.Refusals.{noBlock, badRow}
 use Rattle.rows.specs.Table.{capacityOf}
 use Rattle.rows.specs.Rows.{block, blockMost}
 use Rattle.entries.specs.Places.{Tape}
@@ -22,7 +23,7 @@ use Rattle.queries.specs.Queries.{refusalOf, numberUnless, markUnless, t
 data Tests (t : Bool) (b : Bool) (r : Bool) : Type 0 where
   passed : t ≡ false → b ≡ false → r ≡ true → Tests t b r
 
-all-passed : (t b r : Bool) → _≡_ {A = ℕ} (t ⇒ 11 ∣ b ⇒ 8 ∣ r ⇒ 0 ∣ 11) 0 → Tests t b r
+all-passed : (t b r : Bool) → _≡_ {A = ℕ} (t ⇒ badRow ∣ b ⇒ noBlock ∣ r ⇒ 0 ∣ badRow) 0 → Tests t b r
 all-passed true b r e = absurd (omega arith)
 all-passed false true r e = absurd (omega arith)
 all-passed false false true e = passed refl refl refl

@@ -5,6 +5,7 @@ use mathlib.Core.List.{List}
 use lib.Dec.{ltb, leb, eqb}
 use lib.ListN.{length}
 use Rattle.laws.specs.Rules.{_⇒_, _∣_}
+use Rattle.refusals.specs.Refusals.{noBlock, noRoom, badRow}
 use Rattle.pulses.specs.Play.{time, comesTo}
 use Rattle.pulses.specs.Source.{isEnded}
 use Rattle.text.specs.Out.{fits, told}
@@ -34,11 +35,11 @@ timeNo (lasting.Refused k) = k
 
 -- QUERIES: 11 for the count, 8, 11 for the row; 0 where none of them is given
 unfoldable pub refusalOf : Tape → ℕ → ℕ
-refusalOf w i = overfull w ⇒ 11 ∣ leb (w .count) i ⇒ 8 ∣ wellRow w i ⇒ 0 ∣ 11
+refusalOf w i = overfull w ⇒ badRow ∣ leb (w .count) i ⇒ noBlock ∣ wellRow w i ⇒ 0 ∣ badRow
 
 -- how many blocks the tape has
 unfoldable pub lenOf : Tape → Number
-lenOf w = overfull w ⇒ number.Refused 11 ∣ number.Is (w .count)
+lenOf w = overfull w ⇒ number.Refused badRow ∣ number.Is (w .count)
 
 -- the answer to a query about block i, where the refusal k is none
 unfoldable pub numberUnless : ℕ → Number → Number
@@ -69,12 +70,12 @@ timeOf w i = timeUnless (refusalOf w i) (lasting.Lasts (lastsOf (entriesOf (w .b
 abbrev pub nameIn : Tape → ℕ → List ℕ
 nameIn w i = nameOf (w .bytes) (blockIn w i)
 
--- the text's length, or 10: the output buffer is shorter than the text
-unfoldable pub lengthOr10 : List ℕ → List ℕ → Number
-lengthOr10 text out = fits text out ⇒ number.Is (length text) ∣ number.Refused 10
+-- the text's length, or that the output buffer is shorter than the text
+unfoldable pub lengthOrNoRoom : List ℕ → List ℕ → Number
+lengthOrNoRoom text out = fits text out ⇒ number.Is (length text) ∣ number.Refused noRoom
 
 unfoldable pub nameAnswer : Tape → ℕ → List ℕ → Number
-nameAnswer w i out = numberUnless (refusalOf w i) (lengthOr10 (nameIn w i) out)
+nameAnswer w i out = numberUnless (refusalOf w i) (lengthOrNoRoom (nameIn w i) out)
 
 -- the output bytes after it: a refusal writes no byte, bytes past the text stay
 unfoldable pub nameBytes : Tape → ℕ → List ℕ → List ℕ
@@ -84,8 +85,8 @@ nameBytes w i out = eqb (refusalOf w i) 0 ⇒ told (nameIn w i) out ∣ out
 -- v is the tape up to the first row that is not well formed, and a list that ends where v is cut has come to that row
 unfoldable pub loadingIn : Tape → Tape → Number
 loadingIn w v =
-    (isEnded (comesTo (listFrom v 0)) && ltb (v .count) (w .count)) ⇒ number.Refused 11
+    (isEnded (comesTo (listFrom v 0)) && ltb (v .count) (w .count)) ⇒ number.Refused badRow
     ∣ number.Is (time (listFrom v 0))
 
 unfoldable pub loadingOf : Tape → Number
-loadingOf w = overfull w ⇒ number.Refused 11 ∣ loadingIn w (formed w 0)
+loadingOf w = overfull w ⇒ number.Refused badRow ∣ loadingIn w (formed w 0)

@@ -1,6 +1,8 @@
 // The queries of a mounted tape: what each answers, its refusals, the count, and of a block its size, mark and time.
 use entries::Duration;
 use phases::row_well;
+use refusals::BAD_ROW;
+use refusals::NO_BLOCK;
 use rows::block_at;
 use rows::block_capacity;
 ghost use mathlib.Core.Path.{_≡_};
@@ -42,15 +44,15 @@ pub fn refusal(tape: &[u8], tones: &[u64], blocks: &[u64], count: u64, i: u64) -
     ensures { λ k. ⌜ k ≡ refusalOf (tapeOf (now (tape .entry)) (now (tones .entry)) (now (blocks .entry)) count) i ⌝ }
 {
     if overfull(blocks, count) {
-        return 11;
+        return BAD_ROW;
     }
     if count <= i {
-        return 8;
+        return NO_BLOCK;
     }
     if row_well(tape, tones, blocks, i) {
         0
     } else {
-        11
+        BAD_ROW
     }
 }
 
@@ -59,7 +61,7 @@ pub fn len(blocks: &[u64], count: u64) -> Number
     ensures { λ r. ⌜ ((bytes tones : List ℕ) → r ≡ lenOf (tapeOf bytes tones (now (blocks .entry)) count)) ⌝ }
 {
     if overfull(blocks, count) {
-        return Number::Refused(11);
+        return Number::Refused(BAD_ROW);
     }
     Number::Is(count)
 }

@@ -5,6 +5,7 @@ use native.Mathlib.Nat.{suc-ne-zero}
 use mathlib.Core.Path.{_≡_, refl, sym, ap, _∙_}
 use mathlib.Core.List.{List, [], _∷_, _++_, map}
 use lib.ListN.{length, replicate, getD}
+use Rattle.refusals.specs.Refusals.{badModel, tapeLong, tapeBad, generalised, tonesFull, blocksFull, lastBits}
 use Rattle.fields.specs.Field.{leAt, numberAt, fieldAt, placeOf}
 use Rattle.fields.specs.Run.{times, eachAt, groupsAt}
 use Rattle.rows.specs.Rows.{encodeBlock, encodeTone}
@@ -118,28 +119,28 @@ examples =
     -- 00 00: one block, 4,032 cycles, `0 bytes`; 01 00 FF: 1,612 cycles, pause 7,000,000; 02 00 FF: refused 3
     of 0 (0 ∷ 0 ∷ []) (taken 0 (row 0 2 2 0 855 1710 8 3500000 1 ∷ []) long (sized 0 ∷ [])) ∷
     of 0 (1 ∷ 0 ∷ 0xFF ∷ []) (taken 0 (row 0 2 2 1 855 1710 8 7000000 1 ∷ []) short (sized 1 ∷ [])) ∷
-    of 0 (2 ∷ 0 ∷ 0xFF ∷ []) (refusal 3) ∷
+    of 0 (2 ∷ 0 ∷ 0xFF ∷ []) (refusal tapeBad) ∷
     -- 12 with length 100: count 1, count 0
     of 0 (pieces (0x12 ∷ 100 ∷ 0 ∷ 1 ∷ 0 ∷ [])) (taken 1 (row 0 2 0 0 0 0 0 0 0 ∷ []) ((1 ∷ 0 ∷ 100 ∷ []) ∷ (0 ∷ 100 ∷ 100 ∷ []) ∷ []) (sized 0 ∷ [])) ∷
     of 0 (pieces (0x12 ∷ 100 ∷ 0 ∷ 0 ∷ 0 ∷ [])) (taken 1 (row 0 1 0 0 0 0 0 0 0 ∷ []) ((0 ∷ 100 ∷ 100 ∷ []) ∷ []) (sized 0 ∷ [])) ∷
     -- loop 2 round one pause: three blocks; loop 3: refused 6
     of 0 (pieces (0x24 ∷ 2 ∷ 0 ∷ 0x20 ∷ 1 ∷ 0 ∷ 0x25 ∷ [])) (taken 1 (pause 0 ∷ pause 0 ∷ pause 0 ∷ []) [] (sized 0 ∷ sized 0 ∷ sized 0 ∷ [])) ∷
-    of 0 (pieces (0x24 ∷ 3 ∷ 0 ∷ 0x20 ∷ 1 ∷ 0 ∷ 0x25 ∷ [])) (refusal 6) ∷
+    of 0 (pieces (0x24 ∷ 3 ∷ 0 ∷ 0x20 ∷ 1 ∷ 0 ∷ 0x25 ∷ [])) (refusal blocksFull) ∷
     -- pure data: last bits 8 accepted, 9 refused 7
     of 0 (pure 8) (taken 1 (row 0 2 21 1 10 20 8 0 1 ∷ []) ((0 ∷ 0 ∷ 0 ∷ []) ∷ (1 ∷ 0 ∷ 0 ∷ []) ∷ []) (sized 1 ∷ [])) ∷
-    of 0 (pure 9) (refusal 7) ∷
+    of 0 (pure 9) (refusal lastBits) ∷
     -- the printed tape on the 48K, and on the others
     of 0 printed (taken 1 (row 0 1 0 0 0 0 0 0 0 ∷ pause 1 ∷ stop 1 ∷ []) ((2 ∷ 100 ∷ 100 ∷ []) ∷ []) (sized 0 ∷ sized 0 ∷ stopped ∷ [])) ∷
     of 1 printed (taken 1 (row 0 1 0 0 0 0 0 0 0 ∷ pause 1 ∷ []) ((2 ∷ 100 ∷ 100 ∷ []) ∷ []) (sized 0 ∷ sized 0 ∷ [])) ∷
     of 2 printed (taken 1 (row 0 1 0 0 0 0 0 0 0 ∷ pause 1 ∷ []) ((2 ∷ 100 ∷ 100 ∷ []) ∷ []) (sized 0 ∷ sized 0 ∷ [])) ∷
-    of 3 printed (refusal 1) ∷
+    of 3 printed (refusal badModel) ∷
     -- a generalised piece with neither pilot nor data: refused 4, no fallback
-    of 0 (pieces (0x19 ∷ replicate 18 0)) (refusal 4) ∷
+    of 0 (pieces (0x19 ∷ replicate 18 0)) (refusal generalised) ∷
     -- exactly full; one tone row short: refused 5; one block row short: refused 6; both: 5
     lending 2 2 two (taken 1 (row 0 2 0 0 0 0 0 0 0 ∷ pause 2 ∷ []) ((1 ∷ 0 ∷ 100 ∷ []) ∷ (0 ∷ 100 ∷ 100 ∷ []) ∷ []) (sized 0 ∷ sized 0 ∷ [])) ∷
-    lending 2 1 two (refusal 5) ∷
-    lending 1 2 two (refusal 6) ∷
-    lending 0 1 two (refusal 5) ∷
+    lending 2 1 two (refusal tonesFull) ∷
+    lending 1 2 two (refusal blocksFull) ∷
+    lending 0 1 two (refusal tonesFull) ∷
     lending 0 0 [] (taken 0 [] [] []) ∷
     -- the naming pass: the block after a header is not selectable
     of 0 headerTap (taken 0 (row 0 2 2 19 855 1710 8 3500000 1 ∷ row 2 2 23 1 855 1710 8 7000000 0 ∷ []) (long ++ short) (headerName ∷ sized 1 ∷ [])) ∷
@@ -151,7 +152,7 @@ unfolding leAt numberAt fieldAt placeOf times eachAt groupsAt countedAt passAt t
 shown = refl
 
 -- a tape over the limit, whatever its bytes
-pub too-long : (lent : Lent) (s : List ℕ) (model : ℕ) → model < 3 → 1048576 < length s → loadNamed lent s model ≡ no 2
+pub too-long : (lent : Lent) (s : List ℕ) (model : ℕ) → model < 3 → 1048576 < length s → loadNamed lent s model ≡ no tapeLong
 unfolding loadNamed naming loadOf
 too-long lent s model h k = rw (lt-leb 3 model h, lt-ltb 1048576 (length s) k)
 

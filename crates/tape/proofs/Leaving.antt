@@ -5,6 +5,7 @@ use mathlib.Core.Bool.{false}
 use mathlib.Core.List.{List}
 use lib.ListN.{length, length-replicate}
 use lib.Dec.{leb, ltb}
+use Rattle.refusals.specs.Refusals.{tapeBad}
 use Rattle.rows.specs.Table.{zeros}
 use Rattle.parser.specs.declared.State.{State}
 use Rattle.reader.specs.declared.Failure.{Failure}
@@ -40,7 +41,7 @@ module _ {B N : ℕ} {r : Reading} {bt tt : List ℕ} {o : Read} (f : Finds B N 
       ap (λ (x : ℕ). Tape Tap x (s .tones)) (d .2 .nb) ∙ ap (λ (x : ℕ). Tape Tap (length (d .0 .blocks)) x) (d .2 .nt) in
       rw (d .1) (record { answer = n; blocks = d .2 .isB; tones = d .2 .isT })
 
-  pub tap-fails : {x : Failure} → r ≡ Failed x → orTap o ≡ no 3
+  pub tap-fails : {x : Failure} → r ≡ Failed x → orTap o ≡ no tapeBad
   unfolding orTap
   tap-fails e = rw (found-failed f e)
 

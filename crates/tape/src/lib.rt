@@ -2,6 +2,9 @@
 use reader::Reading;
 use reading::read_tap;
 use reading::read_tzx;
+use refusals::BAD_MODEL;
+use refusals::TAPE_BAD;
+use refusals::TAPE_LONG;
 use rows::blank;
 use selecting::name_blocks;
 ghost use lib.ListN.{length};
@@ -48,7 +51,7 @@ fn load_tap(tape: &[u8], blocks: &mut [u64], tones: &mut [u64]) -> Loaded
                 tones: s.tones,
             }
         }
-        Reading::Failed(_f) => refuse(blocks, tones, 3),
+        Reading::Failed(_f) => refuse(blocks, tones, TAPE_BAD),
         Reading::Refused(k) => refuse(blocks, tones, k),
     }
 }
@@ -58,10 +61,10 @@ fn read(tape: &[u8], model: u32, blocks: &mut [u64], tones: &mut [u64]) -> Loade
     ensures { λ a. ⌜ Leaves (length (now (blocks .entry))) (length (now (tones .entry))) (loadOf (lentOf (length (now (blocks .entry))) (length (now (tones .entry)))) (now (tape .entry)) model) a (now (blocks .exit)) (now (tones .exit)) ⌝ }
 {
     if 3 <= model {
-        return refuse(blocks, tones, 1);
+        return refuse(blocks, tones, BAD_MODEL);
     }
     if 1048576 < tape.len() {
-        return refuse(blocks, tones, 2);
+        return refuse(blocks, tones, TAPE_LONG);
     }
     blank(blocks);
     blank(tones);

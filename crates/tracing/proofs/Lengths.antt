@@ -1,8 +1,9 @@
 -- HOW LONG A LINE CAN BE: no longer than 256 bytes, and its parts accordingly. Assumes nothing.
-use Prim.Native.Nat.{_≤_}
+use Prim.Native.Nat.{ℕ, _≤_}
 use native.Mathlib.Omega.{arith}
 use mathlib.Core.Bool.{Bool, true, false}
 use lib.ListN.{length, length-append}
+use Rattle.text.specs.Out.{digits, decimal}
 use Rattle.text.proofs.Writing.{decimal-length}
 use Rattle.walks.specs.declared.Stand.{Stand}
 use Rattle.walks.specs.declared.Reached.{Reached}
@@ -10,10 +11,14 @@ use Rattle.walks.specs.declared.Reached.the-variants.{At, Stopped, Ended, NotVa
 use Rattle.deck.specs.declared.Selected.{Selected}
 use Rattle.deck.specs.declared.Selected.the-variants.{Block, BadPosition, BadRow}
 use Rattle.places.proofs.Lengths.{place-length}
-use Rattle.tracing.specs.Lines.{selectedText, shown, told, sourceLine, measuredLine, lineOf}
+use Rattle.tracing.specs.Lines.{refusedText, refusedLine, selectedText, shown, told, sourceLine, measuredLine, lineOf}
+
+pub refused-length : (k : ℕ) → length (refusedText k) ≤ 28
+unfolding refusedText
+refused-length k = simp length-append (omega (arith, decimal-length k))
 
 pub selected-length : (b : Selected) → length (selectedText b) ≤ 20
-unfolding selectedText
+unfolding refusedText selectedText digits decimal
 selected-length (Block n) = decimal-length n
 selected-length BadPosition = omega arith
 selected-length BadRow = omega arith
@@ -27,7 +32,7 @@ unfolding told
 told-length s b = simp length-append (omega (arith, decimal-length (s .passed), shown-length s b))
 
 source-length : (r : Reached) (b : Selected) → length (sourceLine r b) ≤ 256
-unfolding sourceLine
+unfolding refusedText refusedLine sourceLine digits decimal
 source-length (At s) b = omega (arith, shown-length s b)
 source-length (Stopped s) b = omega (arith, shown-length s b)
 source-length (Ended s) b = omega arith
@@ -35,7 +40,7 @@ source-length NotValid b = omega arith
 source-length NotFormed b = omega arith
 
 measured-length : (r : Reached) (b : Selected) → length (measuredLine r b) ≤ 256
-unfolding measuredLine
+unfolding refusedText refusedLine measuredLine digits decimal
 measured-length (At s) b = omega (arith, told-length s b)
 measured-length (Stopped s) b = omega (arith, told-length s b)
 measured-length (Ended s) b = omega (arith, told-length s b)

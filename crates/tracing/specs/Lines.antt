@@ -2,6 +2,7 @@
 use Prim.Native.Nat.{ℕ}
 use mathlib.Core.Bool.{Bool, true, false}
 use mathlib.Core.List.{List, _++_}
+use Rattle.refusals.specs.Refusals.{noPosition, badRow}
 use Rattle.text.specs.Out.{ascii, decimal}
 use Rattle.walks.specs.declared.Stand.{Stand}
 use Rattle.walks.specs.declared.Reached.{Reached}
@@ -10,11 +11,18 @@ use Rattle.deck.specs.declared.Selected.{Selected}
 use Rattle.deck.specs.declared.Selected.the-variants.{Block, BadPosition, BadRow}
 use Rattle.places.specs.Places.{placeText}
 
+-- `refused n`
+unfoldable pub refusedText : ℕ → List ℕ
+refusedText k = ascii "refused " ++ decimal k
+
+unfoldable pub refusedLine : ℕ → List ℕ
+refusedLine k = refusedText k ++ ascii "\n"
+
 -- the block's number; `refused n` where it is refused
 unfoldable pub selectedText : Selected → List ℕ
 selectedText (Block n) = decimal n
-selectedText BadPosition = ascii "refused 9"
-selectedText BadRow = ascii "refused 11"
+selectedText BadPosition = refusedText noPosition
+selectedText BadRow = refusedText badRow
 
 -- `PLACE selected BLOCK`, and the line's end
 unfoldable pub shown : Stand → Selected → List ℕ
@@ -25,8 +33,8 @@ unfoldable pub sourceLine : Reached → Selected → List ℕ
 sourceLine (At s) b = shown s b
 sourceLine (Stopped s) b = shown s b
 sourceLine (Ended s) b = ascii "ended\n"
-sourceLine NotValid b = ascii "refused 9\n"
-sourceLine NotFormed b = ascii "refused 11\n"
+sourceLine NotValid b = refusedLine noPosition
+sourceLine NotFormed b = refusedLine badRow
 
 -- ` passed N at PLACE selected BLOCK`
 unfoldable pub told : Stand → Selected → List ℕ
@@ -37,8 +45,8 @@ unfoldable pub measuredLine : Reached → Selected → List ℕ
 measuredLine (At s) b = ascii "stands" ++ told s b
 measuredLine (Stopped s) b = ascii "stopped" ++ told s b
 measuredLine (Ended s) b = ascii "ended" ++ told s b
-measuredLine NotValid b = ascii "refused 9\n"
-measuredLine NotFormed b = ascii "refused 11\n"
+measuredLine NotValid b = refusedLine noPosition
+measuredLine NotFormed b = refusedLine badRow
 
 -- THE LINE of a call's answer, and of the block then shown
 unfoldable pub lineOf : Bool → Reached → Selected → List ℕ

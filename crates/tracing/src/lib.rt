@@ -1,6 +1,8 @@
 // The text of a call's answer, a line each, as a trace prints it.
 use deck::Selected;
 use places::put_place;
+use refusals::BAD_ROW;
+use refusals::NO_POSITION;
 use text::put;
 use text::put_all;
 use text::put_decimal;
@@ -8,17 +10,35 @@ use walks::Reached;
 use walks::Stand;
 ghost use Prim.Native.Nat.{_+_, _^_, _<_};
 ghost use Rattle.text.specs.Out.{Wrote};
-ghost use Rattle.tracing.specs.Lines.{selectedText, shown, told, sourceLine, measuredLine, lineOf};
+ghost use Rattle.tracing.specs.Lines.{refusedText, refusedLine, selectedText, shown, told, sourceLine, measuredLine, lineOf};
+
+// `refused n`
+fn put_refused(out: &mut [u8], at: usize, k: u32) -> usize
+    requires { ⌜ at + 32 < 2 ^ 63 ⌝ }
+    ensures { λ r. ⌜ Wrote (now (out .entry)) at (refusedText k) (now (out .exit)) r ⌝ }
+{
+    let x = put_all(out, at, b"refused ");
+    put_decimal(out, x, k as u64)
+}
+
+// The same, to the end of the line.
+fn put_refusal(out: &mut [u8], at: usize, k: u32) -> usize
+    requires { ⌜ at + 32 < 2 ^ 63 ⌝ }
+    ensures { λ r. ⌜ Wrote (now (out .entry)) at (refusedLine k) (now (out .exit)) r ⌝ }
+{
+    let x = put_refused(out, at, k);
+    put(out, x, b'\n')
+}
 
 // The block that it is shown under.
 fn put_selected(out: &mut [u8], at: usize, b: Selected) -> usize
-    requires { ⌜ at + 24 < 2 ^ 63 ⌝ }
+    requires { ⌜ at + 32 < 2 ^ 63 ⌝ }
     ensures { λ r. ⌜ Wrote (now (out .entry)) at (selectedText b) (now (out .exit)) r ⌝ }
 {
     match b {
         Selected::Block(n) => put_decimal(out, at, n),
-        Selected::BadPosition => put_all(out, at, b"refused 9"),
-        Selected::BadRow => put_all(out, at, b"refused 11"),
+        Selected::BadPosition => put_refused(out, at, NO_POSITION),
+        Selected::BadRow => put_refused(out, at, BAD_ROW),
     }
 }
 
@@ -42,8 +62,8 @@ fn put_source(out: &mut [u8], at: usize, answer: Reached, b: Selected) -> usize
         Reached::At(s) => put_shown(out, at, s, b),
         Reached::Stopped(s) => put_shown(out, at, s, b),
         Reached::Ended(_) => put_all(out, at, b"ended\n"),
-        Reached::NotValid => put_all(out, at, b"refused 9\n"),
-        Reached::NotFormed => put_all(out, at, b"refused 11\n"),
+        Reached::NotValid => put_refusal(out, at, NO_POSITION),
+        Reached::NotFormed => put_refusal(out, at, BAD_ROW),
     }
 }
 
@@ -76,8 +96,8 @@ fn put_measured(out: &mut [u8], at: usize, answer: Reached, b: Selected) -> usiz
             let x = put_all(out, at, b"ended");
             put_told(out, x, s, b)
         }
-        Reached::NotValid => put_all(out, at, b"refused 9\n"),
-        Reached::NotFormed => put_all(out, at, b"refused 11\n"),
+        Reached::NotValid => put_refusal(out, at, NO_POSITION),
+        Reached::NotFormed => put_refusal(out, at, BAD_ROW),
     }
 }
 

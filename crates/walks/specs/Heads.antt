@@ -5,6 +5,7 @@ use mathlib.Core.Bool.{true, _&&_}
 use mathlib.Core.List.{List, [], _∷_}
 use lib.Dec.{ltb, eqb}
 use Rattle.laws.specs.Rules.{_⇒_, _∣_}
+use Rattle.refusals.specs.Refusals.{noPosition, badRow}
 use Rattle.pulses.specs.Play.{Level, low, Entry, pulse, endless, Status, standing, stopped, ended, Answer, answer}
 use Rattle.pulses.specs.Source.{isEnded, dropped}
 use Rattle.rows.specs.Table.{capacityOf}
@@ -28,12 +29,12 @@ unfoldable pub numberOf : Reached → ℕ
 numberOf (At s) = 0
 numberOf (Stopped s) = 0
 numberOf (Ended s) = 0
-numberOf NotValid = 9
-numberOf NotFormed = 11
+numberOf NotValid = noPosition
+numberOf NotFormed = badRow
 
 -- the refusal of this number
 abbrev pub refused : ℕ → Reached
-refused n = eqb n 9 ⇒ NotValid ∣ NotFormed
+refused n = eqb n noPosition ⇒ NotValid ∣ NotFormed
 
 abbrev pub placed : ℕ → Phase → Duration → Position
 placed b f left = record { block = b; phase = f; left = left }
@@ -69,7 +70,7 @@ told w a = toldAs (a .tells) (stand (placeOf w (a .place)) (a .passed) (levelHer
 
 -- a walk that reaches a bad row answers 11: it came to the end of v, which is cut there, with T-states left
 unfoldable pub walked : Tape → Tape → Answer Spot → Reached
-walked w v a = (isEnded (a .tells) && ltb (v .count) (w .count)) ⇒ refused 11 ∣ told v a
+walked w v a = (isEnded (a .tells) && ltb (v .count) (w .count)) ⇒ refused badRow ∣ told v a
 
 -- at the start of block b, behind the one before, with d T-states left and i entries passed: into it, or where the walk has left
 unfoldable pub nextOf : Tape → ℕ → ℕ → ℕ → Next
@@ -77,7 +78,7 @@ nextOf w b d i =
     eqb d 0 ⇒ Left (At (stand (startAt b) i low))
     ∣ eqb b (w .count) ⇒ Left (Ended (stand (startAt (w .count)) i low))
     ∣ wellRow w b ⇒ Into
-    ∣ Left (refused 11)
+    ∣ Left (refused badRow)
 
 -- THE MEASURED WALK of n T-states from a position
 unfoldable pub walkFrom : Tape → Position → ℕ → Reached

@@ -44,20 +44,14 @@ put-told-requires-3 c κs = search needs
 enum-told : tie.Need-enum-told
 enum-told c = search needs
 
-slice-aggregate-put-all-4 : tie.Need-slice-aggregate-put-all-4
-slice-aggregate-put-all-4 c = search needs
-
-put-all-requires-4 : tie.Need-put-all-requires-4
-put-all-requires-4 c κs = search needs
+put-refusal-requires : tie.Need-put-refusal-requires
+put-refusal-requires c κs = search needs
 
 enum-told-2 : tie.Need-enum-told-2
 enum-told-2 c = search needs
 
-slice-aggregate-put-all-5 : tie.Need-slice-aggregate-put-all-5
-slice-aggregate-put-all-5 c = search needs
-
-put-all-requires-5 : tie.Need-put-all-requires-5
-put-all-requires-5 c κs = search needs
+put-refusal-requires-2 : tie.Need-put-refusal-requires-2
+put-refusal-requires-2 c κs = search needs
 
 same-length : tie.Need-same-length
 same-length c = search needs
@@ -89,7 +83,7 @@ same-length-4 c = search needs
 returns-4 : tie.Need-returns-4
 unfolding measuredLine
 returns-4 c =
-    rw (c .before .before .before .before .before .enum-told .given .1) (c .before .before .put-all4 .ensures)
+    rw (c .before .before .before .before .enum-told .given .1) (c .before .before .put-refusal .ensures)
 
 same-length-5 : tie.Need-same-length-5
 same-length-5 c = search needs
@@ -97,7 +91,7 @@ same-length-5 c = search needs
 returns-5 : tie.Need-returns-5
 unfolding measuredLine
 returns-5 c =
-    rw (c .before .before .before .before .before .enum-told2 .given .1) (c .before .before .put-all5 .ensures)
+    rw (c .before .before .before .before .enum-told2 .given .1) (c .before .before .put-refusal2 .ensures)
 
 pub put-measured-spec : {M : Type 1} → statement M
 put-measured-spec =
@@ -116,11 +110,9 @@ put-measured-spec =
     put-all-requires-3
     put-told-requires-3
     enum-told
-    slice-aggregate-put-all-4
-    put-all-requires-4
+    put-refusal-requires
     enum-told-2
-    slice-aggregate-put-all-5
-    put-all-requires-5
+    put-refusal-requires-2
     same-length
     returns
     same-length-2

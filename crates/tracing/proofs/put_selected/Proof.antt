@@ -13,20 +13,14 @@ put-decimal-requires c κs = search needs
 enum-told : tie.Need-enum-told
 enum-told c = search needs
 
-slice-aggregate-put-all : tie.Need-slice-aggregate-put-all
-slice-aggregate-put-all c = search needs
-
-put-all-requires : tie.Need-put-all-requires
-put-all-requires c κs = search needs
+put-refused-requires : tie.Need-put-refused-requires
+put-refused-requires c κs = search needs
 
 enum-told-2 : tie.Need-enum-told-2
 enum-told-2 c = search needs
 
-slice-aggregate-put-all-2 : tie.Need-slice-aggregate-put-all-2
-slice-aggregate-put-all-2 c = search needs
-
-put-all-requires-2 : tie.Need-put-all-requires-2
-put-all-requires-2 c κs = search needs
+put-refused-requires-2 : tie.Need-put-refused-requires-2
+put-refused-requires-2 c κs = search needs
 
 same-length : tie.Need-same-length
 same-length c = search needs
@@ -42,7 +36,7 @@ same-length-2 c = search needs
 returns-2 : tie.Need-returns-2
 unfolding selectedText
 returns-2 c =
-    rw (c .before .before .before .before .before .enum-told .given .1) (c .before .before .put-all .ensures)
+    rw (c .before .before .before .before .enum-told .given .1) (c .before .before .put-refused .ensures)
 
 same-length-3 : tie.Need-same-length-3
 same-length-3 c = search needs
@@ -50,7 +44,7 @@ same-length-3 c = search needs
 returns-3 : tie.Need-returns-3
 unfolding selectedText
 returns-3 c =
-    rw (c .before .before .before .before .before .enum-told2 .given .1) (c .before .before .put-all2 .ensures)
+    rw (c .before .before .before .before .enum-told2 .given .1) (c .before .before .put-refused2 .ensures)
 
 pub put-selected-spec : {M : Type 1} → statement M
 put-selected-spec =
@@ -59,11 +53,9 @@ put-selected-spec =
     enum-known-b
     put-decimal-requires
     enum-told
-    slice-aggregate-put-all
-    put-all-requires
+    put-refused-requires
     enum-told-2
-    slice-aggregate-put-all-2
-    put-all-requires-2
+    put-refused-requires-2
     same-length
     returns
     same-length-2

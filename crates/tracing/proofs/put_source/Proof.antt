@@ -28,20 +28,14 @@ put-all-requires c κs = search needs
 enum-told-2 : tie.Need-enum-told-2
 enum-told-2 c = search needs
 
-slice-aggregate-put-all-2 : tie.Need-slice-aggregate-put-all-2
-slice-aggregate-put-all-2 c = search needs
-
-put-all-requires-2 : tie.Need-put-all-requires-2
-put-all-requires-2 c κs = search needs
+put-refusal-requires : tie.Need-put-refusal-requires
+put-refusal-requires c κs = search needs
 
 enum-told-3 : tie.Need-enum-told-3
 enum-told-3 c = search needs
 
-slice-aggregate-put-all-3 : tie.Need-slice-aggregate-put-all-3
-slice-aggregate-put-all-3 c = search needs
-
-put-all-requires-3 : tie.Need-put-all-requires-3
-put-all-requires-3 c κs = search needs
+put-refusal-requires-2 : tie.Need-put-refusal-requires-2
+put-refusal-requires-2 c κs = search needs
 
 same-length : tie.Need-same-length
 same-length c = search needs
@@ -73,7 +67,7 @@ same-length-4 c = search needs
 returns-4 : tie.Need-returns-4
 unfolding sourceLine
 returns-4 c =
-    rw (c .before .before .before .before .before .enum-told2 .given .1) (c .before .before .put-all2 .ensures)
+    rw (c .before .before .before .before .enum-told2 .given .1) (c .before .before .put-refusal .ensures)
 
 same-length-5 : tie.Need-same-length-5
 same-length-5 c = search needs
@@ -81,7 +75,7 @@ same-length-5 c = search needs
 returns-5 : tie.Need-returns-5
 unfolding sourceLine
 returns-5 c =
-    rw (c .before .before .before .before .before .enum-told3 .given .1) (c .before .before .put-all3 .ensures)
+    rw (c .before .before .before .before .enum-told3 .given .1) (c .before .before .put-refusal2 .ensures)
 
 pub put-source-spec : {M : Type 1} → statement M
 put-source-spec =
@@ -95,11 +89,9 @@ put-source-spec =
     slice-aggregate-put-all
     put-all-requires
     enum-told-2
-    slice-aggregate-put-all-2
-    put-all-requires-2
+    put-refusal-requires
     enum-told-3
-    slice-aggregate-put-all-3
-    put-all-requires-3
+    put-refusal-requires-2
     same-length
     returns
     same-length-2

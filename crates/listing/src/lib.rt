@@ -1,5 +1,7 @@
 // The listing: a loaded tape as text, and the function that our catalogue host calls.
 use page::put_listing;
+use rows::BLOCK_TABLE;
+use rows::TONE_TABLE;
 use tape::Format;
 use tape::Loaded;
 use text::put;
@@ -69,8 +71,8 @@ pub extern "C" fn glyvrask_listing(tape: &[u8], model: u32, out: &mut [u8]) -> u
     if 65535 < tape.len() {
         return 2;
     }
-    let mut blocks = [0u64; 6656];
-    let mut tones = [0u64; 6144];
+    let mut blocks = [0u64; BLOCK_TABLE];
+    let mut tones = [0u64; TONE_TABLE];
     match tape::load(tape, model, &mut blocks, &mut tones) {
         Loaded::Tape {
             format,

@@ -12,8 +12,9 @@ pub mod bench {
         fn glyvrask_listing(tape: *const u8, n: usize, model: u32, out: *mut u8, on: usize) -> u32;
     }
 
-    const BLOCK_WORDS: usize = 4096 * 13;
-    const TONE_WORDS: usize = 65536 * 3;
+    // `run` adds BLOCK_WORDS and TONE_WORDS, the words of a row, from include/glyvrask.h
+    const MOST_BLOCKS: usize = 4096 * BLOCK_WORDS;
+    const MOST_TONES: usize = 65536 * TONE_WORDS;
     const POSITION_WORDS: usize = 7;
     const ENDED: u64 = 2;
 
@@ -27,7 +28,7 @@ pub mod bench {
 
     impl Ours {
         fn new(bytes: &[u8]) -> Ours {
-            Ours { bytes: bytes.to_vec(), blocks: vec![0; BLOCK_WORDS], tones: vec![0; TONE_WORDS], count: 0 }
+            Ours { bytes: bytes.to_vec(), blocks: vec![0; MOST_BLOCKS], tones: vec![0; MOST_TONES], count: 0 }
         }
         fn load(&mut self, block_words: usize, tone_words: usize) -> u32 {
             let mut answer = [0u64; 3];
@@ -174,12 +175,12 @@ pub mod bench {
     fn loads(what: &str, bytes: &[u8]) {
         let mut ours = Ours::new(bytes);
         let rust = rust_load(bytes);
-        assert_eq!(ours.load(BLOCK_WORDS, TONE_WORDS), 0);
+        assert_eq!(ours.load(MOST_BLOCKS, MOST_TONES), 0);
         assert_eq!(ours.count as usize, rust.len());
         let r = best(|| rust_load(bytes));
-        row(&format!("load {what}, tables of 4,096 and 65,536 rows"), r, best(|| ours.load(BLOCK_WORDS, TONE_WORDS)));
-        if ours.load(512 * 13, 2048 * 3) == 0 {
-            row(&format!("load {what}, tables of 512 and 2,048 rows"), r, best(|| ours.load(512 * 13, 2048 * 3)));
+        row(&format!("load {what}, tables of 4,096 and 65,536 rows"), r, best(|| ours.load(MOST_BLOCKS, MOST_TONES)));
+        if ours.load(512 * BLOCK_WORDS, 2048 * TONE_WORDS) == 0 {
+            row(&format!("load {what}, tables of 512 and 2,048 rows"), r, best(|| ours.load(512 * BLOCK_WORDS, 2048 * TONE_WORDS)));
             let mut out = vec![0u8; 300_000];
             let wanted = driver::listing(&driver::Loaded { tzx: true, tape: rust_load(bytes) }, Model::Spec48k);
             let n = ours.list(&mut out) as usize;
@@ -195,7 +196,7 @@ pub mod bench {
     fn plays(what: &str, bytes: &[u8], d: u32) {
         let mut ours = Ours::new(bytes);
         let rust = rust_load(bytes);
-        assert_eq!(ours.load(BLOCK_WORDS, TONE_WORDS), 0);
+        assert_eq!(ours.load(MOST_BLOCKS, MOST_TONES), 0);
         assert_eq!(rust_play(&rust, d), ours.play(false, d));
         let r = best(|| rust_play(&rust, d));
         row(&format!("{what}, calls of {d}: the source's play"), r, best(|| ours.play(false, d)));

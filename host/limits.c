@@ -10,10 +10,14 @@ typedef glyvrask_word word;
 
 enum { BLOCKS = 4098, TONES = 65538, MOST = 1048576 };
 
+/* the words of n rows */
+#define BLOCK_ROWS(n) ((n) * GLYVRASK_BLOCK_WORDS)
+#define TONE_ROWS(n) ((n) * GLYVRASK_TONE_WORDS)
+
 static byte tape[MOST + 2];
 static glyvrask_size used; /* bytes of the tape written so far */
-static word blocks[BLOCKS * GLYVRASK_BLOCK_WORDS], blocks_were[BLOCKS * GLYVRASK_BLOCK_WORDS];
-static word tones[TONES * GLYVRASK_TONE_WORDS], tones_were[TONES * GLYVRASK_TONE_WORDS];
+static word blocks[BLOCK_ROWS(BLOCKS)], blocks_were[BLOCK_ROWS(BLOCKS)];
+static word tones[TONE_ROWS(TONES)], tones_were[TONE_ROWS(TONES)];
 static word answer[16], answer_was[16];
 static byte out[64], out_was[64];
 static word count; /* of the tape that was loaded last */
@@ -138,7 +142,7 @@ static void load(const char *what, unsigned model, glyvrask_size b, glyvrask_siz
     is(answer[1], nb, "  blocks");
     is(answer[2], nt, "  tone rows");
     check(answer_kept(3), "  words past the answer stay");
-    check(zero(blocks, nb * GLYVRASK_BLOCK_WORDS, b) && zero(tones, nt * GLYVRASK_TONE_WORDS, t), "  words past the rows are zero");
+    check(zero(blocks, BLOCK_ROWS(nb), b) && zero(tones, TONE_ROWS(nt), t), "  words past the rows are zero");
 }
 
 #define LENT_BLOCKS (sizeof blocks / sizeof *blocks)
@@ -155,26 +159,26 @@ static void lengths(void) {
 
 static void block_rows(void) {
     tap_of(4096);
-    load("4,096 blocks load into 4,096 rows", 1, 4096 * 13, LENT_TONES, 0, 4096, 8192);
+    load("4,096 blocks load into 4,096 rows", 1, BLOCK_ROWS(4096), LENT_TONES, 0, 4096, 8192);
     load("and into a longer table", 1, LENT_BLOCKS - 5, LENT_TONES - 1, 0, 4096, 8192);
-    load("with the last row broken they are refused 6", 1, 4096 * 13 - 1, LENT_TONES, 6, 0, 0);
+    load("with the last row broken they are refused 6", 1, BLOCK_ROWS(4096) - 1, LENT_TONES, 6, 0, 0);
     tap_of(4097);
     load("4,097 blocks are refused 6 in a table of 4,098 rows", 1, LENT_BLOCKS, LENT_TONES, 6, 0, 0);
     tap_of(2);
-    load("two blocks load into two rows and twelve words", 2, 2 * 13 + 12, 4 * 3 + 2, 0, 2, 4);
+    load("two blocks load into two rows and a broken one", 2, BLOCK_ROWS(3) - 1, TONE_ROWS(5) - 1, 0, 2, 4);
     tap_of(3);
-    load("three blocks are refused 6 there", 2, 2 * 13 + 12, LENT_TONES, 6, 0, 0);
+    load("three blocks are refused 6 there", 2, BLOCK_ROWS(3) - 1, LENT_TONES, 6, 0, 0);
     load("and into no words at all", 2, 0, 0, 5, 0, 0);
 }
 
 static void tone_rows(void) {
     generalised(65536);
-    load("65,536 tone rows load into 65,536 rows", 0, 13, 65536 * 3, 0, 1, 65536);
+    load("65,536 tone rows load into 65,536 rows", 0, BLOCK_ROWS(1), TONE_ROWS(65536), 0, 1, 65536);
     is(answer[0], 1, "  as a TZX");
     is(blocks[GLYVRASK_TONES], 65536, "  all of one block");
-    is(tones[65535 * 3 + GLYVRASK_LEN2], 400, "  the last one too");
+    is(tones[TONE_ROWS(65535) + GLYVRASK_LEN2], 400, "  the last one too");
     load("and into a longer table", 0, LENT_BLOCKS, LENT_TONES, 0, 1, 65536);
-    load("with the last row broken they are refused 5", 0, 13, 65536 * 3 - 1, 5, 0, 0);
+    load("with the last row broken they are refused 5", 0, BLOCK_ROWS(1), TONE_ROWS(65536) - 1, 5, 0, 0);
     generalised(65537);
     load("65,537 tone rows are refused 5 in a table of 65,538 rows", 0, LENT_BLOCKS, LENT_TONES, 5, 0, 0);
     tap_of(1);
@@ -320,7 +324,7 @@ static void refusals(void) {
     out_len = 6;
     refused(NAME, count, 0, 1, 10, "a name of seven bytes is refused 10 in six");
     out_len = sizeof out;
-    blocks[GLYVRASK_BLOCK_WORDS + GLYVRASK_SELECTABLE] = 2; /* block 1's row is now bad */
+    blocks[BLOCK_ROWS(1) + GLYVRASK_SELECTABLE] = 2; /* block 1's row is now bad */
     for (unsigned c = 0; c < 4; c++) refused(of_block[c], count, 1, values[of_block[c]], 11, "a bad row is refused 11");
     refused(LOADING, count, 0, 1, 11, "a bad row is refused 11");
     at(1, 0, 0, 0, 0, 0, 0);

@@ -40,8 +40,9 @@ enum {
 };
 
 /* THE TABLES. Capacity is the whole rows lent, at most 4,096 blocks and 65,536 tones: a broken last row and rows past these
- * limits are never used. After a load every unused word of both tables is zero. */
-enum { GLYVRASK_BLOCK_WORDS = 13, GLYVRASK_TONE_WORDS = 3 };
+ * limits are never used. After a load every unused word of both tables is zero. A row's words: */
+#define GLYVRASK_BLOCK_WORDS 13
+#define GLYVRASK_TONE_WORDS 3
 
 /* the words of a block row */
 enum {
@@ -94,7 +95,8 @@ enum {
 
 /* The listing as text into `out`: its length, or a refusal's number. No text is shorter than 37 bytes and no number is above 11,
  * so below 32 it is a refusal. `tape` has at most 65,535 bytes; model 0 is the 48K, 1 the 128K, 2 the Plus3. Bytes of `out` past
- * the text stay. Its own tables, 512 block and 2,048 tone rows, take 100 KB of stack. Refusals: 1, 2, 3 to 7, 10. */
+ * the text stay. Its own tables, 512 block and 2,048 tone rows, take 8 * (512 * GLYVRASK_BLOCK_WORDS + 2048 *
+ * GLYVRASK_TONE_WORDS) bytes of stack. Refusals: 1, 2, 3 to 7, 10. */
 unsigned glyvrask_listing(const unsigned char *tape, glyvrask_size tape_len, unsigned model,
                           unsigned char *out, glyvrask_size out_len);
 

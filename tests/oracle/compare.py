@@ -29,11 +29,11 @@ def program(name):
 def loads(oracle, tapes):
     """Each tape's record, and the Rust's answer."""
     from replay import CAPACITIES
-    from tapes import BLOCK_WORDS, TONE_WORDS, record
+    from tapes import record
 
     for i, tape in enumerate(tapes):
         b, t = CAPACITIES[(i // 3) % len(CAPACITIES)]
-        yield record(i % 3, b * BLOCK_WORDS, t * TONE_WORDS, tape), oracle.dump(tape, i % 3, b, t)
+        yield record(i % 3, b, t, tape), oracle.dump(tape, i % 3, b, t)
 
 
 def listings(oracle, tapes):

@@ -12,9 +12,10 @@ import sys
 import tempfile
 from pathlib import Path
 
-from tapes import BLOCK_WORDS, MODELS, SIGNATURE, TONE_WORDS, each_kind_cut, long_fallbacks, record, too_many_bits
+from tapes import MODELS, SIGNATURE, each_kind_cut, long_fallbacks, record, too_many_bits
 
 GENERATED = 1300
+SPARE = (13, 3)  # words of a broken row are fewer; no row has fewer words than these
 CAPACITIES = [(4096, 65536), (512, 2048), (512, 2048), (3, 7), (2, 3), (8, 12), (1, 40), (40, 2)]
 
 
@@ -71,7 +72,7 @@ def main(home, out):
 
         def add(tape, model, blocks, tones, spare=(0, 0)):
             answer = oracle.dump(tape, model, min(blocks, 4096), min(tones, 65536))
-            records.append(record(model, blocks * BLOCK_WORDS + spare[0], tones * TONE_WORDS + spare[1], tape))
+            records.append(record(model, blocks, tones, tape, spare))
             answers.append(answer)
             key = answer.split(b"\n", 1)[0].split(b" ")
             key = (b" ".join(key) if key[0] == b"refused" else key[0]).decode()
@@ -80,7 +81,7 @@ def main(home, out):
 
         for i, tape in enumerate(oracle.corpus(2024, GENERATED)):
             blocks, tones = CAPACITIES[i % len(CAPACITIES)]
-            add(tape, i % 3, blocks, tones, (i % BLOCK_WORDS, i % TONE_WORDS))
+            add(tape, i % 3, blocks, tones, (i % SPARE[0], i % SPARE[1]))
         for i, tape in enumerate(oracle.corpus(7, 150)):
             answer = oracle.dump(tape, i % 3)
             if answer.startswith(b"refused"):
@@ -89,7 +90,7 @@ def main(home, out):
             tones = tone_rows(answer, oracle, tape, i % 3)
             for b, t in ((rows, tones), (rows - 1, tones), (rows, tones - 1)):
                 if b >= 0 and t >= 0:
-                    add(tape, i % 3, b, t, (12, 2))
+                    add(tape, i % 3, b, t, (SPARE[0] - 1, SPARE[1] - 1))
         for i, tape in enumerate(each_kind_cut()):
             add(tape, i % 3, 512, 2048)
         for i, tape in enumerate(too_many_bits()):

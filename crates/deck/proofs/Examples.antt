@@ -8,6 +8,7 @@ use Rattle.pulses.specs.Play.{low, high, answer, rest, over, shown, status}
 use Rattle.pulses.specs.Runs.{run}
 use Rattle.pulses.specs.Source.{after, turn, turns, sourced, reached}
 use Rattle.rows.specs.Well.{wellRanges, wellTone, wellNumbers, wellCases, wellTones, wellBlock}
+use Rattle.rows.proofs.Samples.{rowWords}
 use Rattle.entries.specs.declared.Phase.the-variants.{Tones, Pause}
 use Rattle.entries.specs.declared.Duration.the-variants.{T, Endless}
 use Rattle.entries.specs.Entries.{entryOf, cyclesOf, toneOf, tonesOf, dataOf, pauseOf, soundOf, entriesOf}
@@ -20,13 +21,13 @@ use Rattle.deck.specs.declared.Selected.the-variants.{Block, BadRow}
 
 -- a 12 of 100 and 4: two cycles, no data, no pause; a stop; and a row whose endless flag is 2
 abbrev pulses : List ℕ
-pulses = 0 ∷ 1 ∷ 0 ∷ 0 ∷ 0 ∷ 0 ∷ 0 ∷ 0 ∷ 0 ∷ 0 ∷ 0 ∷ 0 ∷ 0 ∷ []
+pulses = rowWords (0 ∷ 1 ∷ [])
 
 abbrev stop : List ℕ
-stop = 0 ∷ 0 ∷ 0 ∷ 0 ∷ 0 ∷ 0 ∷ 0 ∷ 0 ∷ 1 ∷ 1 ∷ 1 ∷ 0 ∷ 0 ∷ []
+stop = rowWords (0 ∷ 0 ∷ 0 ∷ 0 ∷ 0 ∷ 0 ∷ 0 ∷ 0 ∷ 1 ∷ 1 ∷ 1 ∷ [])
 
 abbrev bad : List ℕ
-bad = 0 ∷ 0 ∷ 0 ∷ 0 ∷ 0 ∷ 0 ∷ 0 ∷ 0 ∷ 2 ∷ 1 ∷ 1 ∷ 0 ∷ 0 ∷ []
+bad = rowWords (0 ∷ 0 ∷ 0 ∷ 0 ∷ 0 ∷ 0 ∷ 0 ∷ 0 ∷ 2 ∷ 1 ∷ 1 ∷ [])
 
 abbrev tones : List ℕ
 tones = 2 ∷ 100 ∷ 100 ∷ []

@@ -4,6 +4,8 @@ use printing::print_loaded;
 use printing::print_refused;
 use refusals::BAD_MODEL;
 use refusals::TAPE_LONG;
+use rows::BLOCK_TABLE;
+use rows::TONE_TABLE;
 use tape::load;
 
 // What is printed of the input, and whether more input followed.
@@ -31,7 +33,7 @@ fn main() {
     let n = io::read_full(0, &mut input);
     let mut one = [0u8; 1];
     let more = io::read_full(0, &mut one);
-    let mut blocks = [0u64; 6656];
-    let mut tones = [0u64; 6144];
+    let mut blocks = [0u64; BLOCK_TABLE];
+    let mut tones = [0u64; TONE_TABLE];
     dump(&input[..n], more, &mut blocks, &mut tones);
 }

@@ -8,6 +8,7 @@ use Rattle.pulses.specs.Runs.{run}
 use Rattle.rows.specs.Table.{zeros}
 use Rattle.rows.specs.Rows.{decodeTone, decodeBlock}
 use Rattle.rows.specs.declared.Block.{Block}
+use Rattle.rows.proofs.Samples.{rowWords}
 use Rattle.entries.specs.declared.Phase.{Phase}
 use Rattle.entries.specs.declared.Phase.the-variants.{Start, Tones, Data, Pause}
 use Rattle.entries.specs.declared.Duration.{Duration}
@@ -30,7 +31,7 @@ count-three = refl
 
 -- a block with two bytes of data, zero 10, one 20 and these last bits
 abbrev withLast : ℕ → Block
-withLast last = decodeBlock (0 ∷ 0 ∷ 1 ∷ 2 ∷ 10 ∷ 20 ∷ last ∷ 0 ∷ 0 ∷ 0 ∷ 0 ∷ 0 ∷ 0 ∷ [])
+withLast last = decodeBlock (0 ∷ 0 ∷ 1 ∷ 2 ∷ 10 ∷ 20 ∷ last ∷ [])
 
 -- 8 bits of the byte before the last; of the last 8, 3, and with 0 one
 bits : map (λ last. bitsAt (withLast last) 0 ∷ bitsAt (withLast last) 1 ∷ []) (8 ∷ 3 ∷ 0 ∷ []) ≡ (8 ∷ 8 ∷ []) ∷ (8 ∷ 3 ∷ []) ∷ (8 ∷ 1 ∷ []) ∷ []
@@ -61,7 +62,7 @@ byte-eight = refl
 
 -- one byte of data with 1 bit, behind a tone row and before a pause: its whole list, byte 80 at place 1 of the tape
 abbrev small : List ℕ
-small = 1 ∷ 1 ∷ 1 ∷ 1 ∷ 10 ∷ 20 ∷ 1 ∷ 3500 ∷ 0 ∷ 0 ∷ 0 ∷ 0 ∷ 0 ∷ []
+small = rowWords (1 ∷ 1 ∷ 1 ∷ 1 ∷ 10 ∷ 20 ∷ 1 ∷ 3500 ∷ [])
 
 abbrev tones : List ℕ
 tones = 9 ∷ 9 ∷ 9 ∷ 1 ∷ 667 ∷ 735 ∷ []
@@ -77,7 +78,7 @@ small-entries = refl
 
 -- a stop: its start, and a pause that never ends, whatever its word
 abbrev stop : List ℕ
-stop = 0 ∷ 0 ∷ 0 ∷ 0 ∷ 0 ∷ 0 ∷ 0 ∷ 77 ∷ 1 ∷ 1 ∷ 1 ∷ 0 ∷ 0 ∷ []
+stop = rowWords (0 ∷ 0 ∷ 0 ∷ 0 ∷ 0 ∷ 0 ∷ 0 ∷ 77 ∷ 1 ∷ 1 ∷ 1 ∷ [])
 
 stop-entries : entriesOf [] [] 2 (decodeBlock stop) ≡ pulse (spot 2 Start) low 0 ∷ endless (spot 2 Pause) low ∷ []
 unfolding entriesOf soundOf tonesOf dataOf pauseOf entryOf run
@@ -146,6 +147,6 @@ unfolding valid hasEntry lengthAt remains cyclesOf bitsAt halfOf pauseOf
 positions-judged = refl
 
 -- an entry of no length has 0 left
-none-left : valid (record { bytes = []; tones = zeros 3; blocks = 0 ∷ 1 ∷ zeros 11; count = 1 }) 0 (Tones 0 0 true) (T 0) ≡ true
+none-left : valid (record { bytes = []; tones = zeros 3; blocks = rowWords (0 ∷ 1 ∷ []); count = 1 }) 0 (Tones 0 0 true) (T 0) ≡ true
 unfolding valid hasEntry lengthAt remains cyclesOf
 none-left = refl

@@ -6,8 +6,8 @@ use mathlib.Core.List.{List, [], _∷_, map}
 use Rattle.pulses.specs.Play.{low, high, Entry, pulse, rest, over, shown, status, answer, time, comesTo}
 use Rattle.pulses.specs.Source.{Outcome, heard, source, sourced, reached, turns, turn, after}
 use Rattle.pulses.specs.Runs.{run}
-use Rattle.rows.specs.Table.{zeros}
 use Rattle.rows.specs.Rows.{decodeBlock}
+use Rattle.rows.proofs.Samples.{rowWords}
 use Rattle.entries.specs.declared.Phase.the-variants.{Tones, Pause}
 use Rattle.entries.specs.declared.Duration.{Duration}
 use Rattle.entries.specs.declared.Duration.the-variants.{T}
@@ -44,7 +44,7 @@ times-said = refl
 
 -- a sole 12 of 100 and 4: its list, from its start
 abbrev sole : List (Entry Spot)
-sole = listFrom (record { bytes = []; tones = 2 ∷ 100 ∷ 100 ∷ []; blocks = 0 ∷ 1 ∷ zeros 11; count = 1 }) 0
+sole = listFrom (record { bytes = []; tones = 2 ∷ 100 ∷ 100 ∷ []; blocks = rowWords (0 ∷ 1 ∷ []); count = 1 }) 0
 
 abbrev at : List (Entry Spot) → Outcome Spot
 at es = record { place = es; done = false }

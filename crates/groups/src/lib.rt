@@ -5,6 +5,7 @@ use rows::Block;
 use rows::block_at;
 use rows::block_capacity;
 use rows::put_block;
+use rows::with_pause;
 ghost use mathlib.Core.Path.{_≡_};
 ghost use mathlib.Core.List.{List};
 ghost use Prim.Native.Nat.{ℕ, _≤_};
@@ -13,10 +14,10 @@ ghost use Rattle.rows.specs.Table.{tableOf};
 ghost use Rattle.rows.specs.Rows.{block};
 ghost use Rattle.parser.specs.declared.Step.the-variants.{On};
 ghost use Rattle.parser.specs.Parser.{Tape, inGroup, paused, lastPaused, pend, endGroup};
-ghost use Rattle.parser.specs.Holds.{Holds, Gives, blockRoom, withName};
+ghost use Rattle.parser.specs.Holds.{Holds, Gives, blockRoom, nowPending};
 
 fn with_pending(s: State, pending: Pending) -> State
-    ensures { λ a. ⌜ a ≡ withName pending s ⌝ }
+    ensures { λ a. ⌜ a ≡ nowPending pending s ⌝ }
 {
     let body = s.body;
     State {
@@ -50,7 +51,7 @@ pub fn pend(s: State, new: Pending) -> State
 }
 
 // A block whose finite pause 0 is 3,500 instead.
-fn with_pause(r: Block) -> Block
+fn paused(r: Block) -> Block
     ensures { λ b. ⌜ b ≡ paused r ⌝ }
 {
     if r.endless != 0 {
@@ -59,9 +60,7 @@ fn with_pause(r: Block) -> Block
     if r.pause != 0 {
         return r;
     }
-    let mut b = r;
-    b.pause = 3500;
-    b
+    with_pause(3500, r)
 }
 
 // The last of n blocks with its pause, if any.
@@ -73,7 +72,7 @@ fn pause_last(blocks: &mut [u64], n: u64)
     }
     let i = (n - 1) as usize;
     if i < block_capacity(blocks) {
-        put_block(blocks, i, with_pause(block_at(blocks, i)));
+        put_block(blocks, i, paused(block_at(blocks, i)));
     }
 }
 

@@ -1,11 +1,12 @@
 -- The listing, document 01's 'Listing': a load's text or refusal, and what the exported function answers. Definitions alone; assumes nothing.
-use Prim.Native.Nat.{ℕ}
+use Prim.Native.Nat.{ℕ, _*_}
 use mathlib.Core.List.{List}
 use lib.Dec.{ltb, leb}
 use lib.ListN.{length}
 use Rattle.laws.specs.Rules.{_⇒_, _∣_}
 use Rattle.refusals.specs.Refusals.{badModel, tapeLong, noRoom}
 use Rattle.text.specs.Out.{fits, told}
+use Rattle.rows.specs.Rows.{block, tone}
 use Rattle.entries.specs.Places.{Tape}
 use Rattle.entries.specs.Mounted.{tapeOf}
 use Rattle.reader.specs.Source.{Loaded as Load, tzx, tapped, no}
@@ -13,12 +14,12 @@ use Rattle.tape.specs.declared.Format.the-variants.{Tap, Tzx}
 use Rattle.tape.specs.Load.{loadNamed, blocksOf, tonesOf}
 use Rattle.page.specs.Page.{listingText}
 
--- 512 block and 2,048 tone rows
+-- the words of 512 block and 2,048 tone rows
 abbrev pub blockWords : ℕ
-blockWords = 6656
+blockWords = 512 * block .width
 
 abbrev pub toneWords : ℕ
-toneWords = 6144
+toneWords = 2048 * tone .width
 
 unfoldable pub loadedOf : List ℕ → ℕ → Load
 loadedOf s model = loadNamed (record { blocks = 512; tones = 2048 }) s model

@@ -3,6 +3,8 @@ use page::put_listing;
 use refusals::BAD_MODEL;
 use refusals::NO_ROOM;
 use refusals::TAPE_LONG;
+use rows::BLOCK_TABLE;
+use rows::TONE_TABLE;
 use tape::Format;
 use tape::Loaded;
 use text::put;
@@ -72,8 +74,8 @@ pub extern "C" fn glyvrask_listing(tape: &[u8], model: u32, out: &mut [u8]) -> u
     if 65535 < tape.len() {
         return TAPE_LONG;
     }
-    let mut blocks = [0u64; 6656];
-    let mut tones = [0u64; 6144];
+    let mut blocks = [0u64; BLOCK_TABLE];
+    let mut tones = [0u64; TONE_TABLE];
     match tape::load(tape, model, &mut blocks, &mut tones) {
         Loaded::Tape {
             format,

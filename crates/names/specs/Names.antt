@@ -7,6 +7,7 @@ use lib.Dec.{eqb}
 use Rattle.laws.specs.Rules.{_⇒_, _∣_}
 use Rattle.text.specs.Out.{ascii, decimal, latin}
 use Rattle.rows.specs.declared.Block.{Block}
+use Rattle.rows.specs.Rows.{withMark}
 use Rattle.headers.specs.Headers.{headerName}
 
 -- 19 data bytes with first byte 0 is a header
@@ -33,8 +34,7 @@ nameOf s r =
 
 -- the naming pass, in order over blocks: the next non-header block after a header loses selectability
 unfoldable pub unselected : Block → Block
-unselected r =
-    record { tone = r .tone; tones = r .tones; start = r .start; size = r .size; zero = r .zero; one = r .one; last = r .last; pause = r .pause; endless = r .endless; selectable = 0; named = r .named; text = r .text; chars = r .chars }
+unselected r = withMark 0 r
 
 unfoldable pub passed : List ℕ → Bool → Block → Block
 passed s prefixed r = isHeader s r ⇒ r ∣ prefixed ⇒ unselected r ∣ r

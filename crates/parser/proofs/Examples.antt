@@ -5,14 +5,14 @@ use mathlib.Core.Path.{_≡_, refl}
 use mathlib.Core.List.{List, [], _∷_, map}
 use Rattle.rows.specs.declared.Block.{Block}
 use Rattle.rows.specs.declared.Tone.{Tone}
-use Rattle.rows.specs.Rows.{decodeBlock}
+use Rattle.rows.specs.Rows.{decodeTone, decodeBlock}
 use Rattle.parser.specs.declared.Pending.the-variants.{First, Text}
 use Rattle.parser.specs.declared.Halt.the-variants.{Refusal, Length}
 use Rattle.parser.specs.Parser.{Tape, empty, Out, on, no, _⟫_, paused, lastPaused, addTones, addBlock, pend, endGroup, openLoop, copyRows, copies, closed, closeLoop}
 
 -- a block as it is born, with tone rows from row n on, and these words: pause, endless, selectable, case of name
 abbrev born : ℕ → ℕ → ℕ → ℕ → ℕ → Tape → Out
-born n pause endless selectable case = addBlock 6 (decodeBlock (n ∷ 2 ∷ 0 ∷ 0 ∷ 0 ∷ 0 ∷ 0 ∷ pause ∷ endless ∷ selectable ∷ case ∷ 0 ∷ 0 ∷ []))
+born n pause endless selectable case = addBlock 6 (decodeBlock (n ∷ 2 ∷ 0 ∷ 0 ∷ 0 ∷ 0 ∷ 0 ∷ pause ∷ endless ∷ selectable ∷ case ∷ []))
 
 -- selectable, with a pause; not selectable, with pause 0; a stop
 abbrev a : Tape → Out
@@ -40,7 +40,7 @@ abbrev tones : List Tone → Tape → Out
 tones = addTones 3
 
 abbrev tone : Tone
-tone = record { num = 1; len1 = 2; len2 = 3 }
+tone = decodeTone (1 ∷ 2 ∷ 3 ∷ [])
 
 abbrev after : List (Tape → Out) → Out → Out
 after [] o = o

@@ -22,7 +22,7 @@ use Rattle.parser.specs.declared.Halt.{Halt}
 use Rattle.parser.specs.declared.Halt.the-variants.{Refusal}
 use Rattle.parser.specs.declared.Loop.the-variants.{Closed}
 use Rattle.parser.specs.Parser.{Tape, withTones, withPending, withBody, empty, Out, on, no, _⟫_, addTones}
-use Rattle.parser.specs.Holds.{Holds, withName, withLoop, Gives, goes, refuses}
+use Rattle.parser.specs.Holds.{Holds, nowPending, withLoop, Gives, goes, refuses}
 
 pub chain-assoc : (o : Out) (f g : Tape → Out) → o ⟫ f ⟫ g ≡ o ⟫ (λ t. f t ⟫ g)
 unfolding _⟫_
@@ -44,7 +44,7 @@ tones-append m xs ys t = by-cases (leb (length (t .tones) + length xs) m) refl
 
 -- a held tape with another pending name, and with another loop
 module _ {B N : ℕ} {s : State} {bt tt : List ℕ} {t : Tape} (h : Holds B N s bt tt t) where
-  pub holds-name : {p q : Pending} → p ≡ q → Holds B N (withName p s) bt tt (withPending q t)
+  pub holds-name : {p q : Pending} → p ≡ q → Holds B N (nowPending p s) bt tt (withPending q t)
   holds-name e =
       record { nb = h .nb; nt = h .nt; pends = e; loops = h .loops; roomB = h .roomB; roomT = h .roomT; lenB = h .lenB; lenT = h .lenT; isB = h .isB; isT = h .isT }
 

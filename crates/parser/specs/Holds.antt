@@ -15,8 +15,8 @@ use Rattle.parser.specs.declared.Pending.{Pending}
 use Rattle.parser.specs.Parser.{Tape, Out, on, no}
 
 -- a state with another pending name, and with another loop
-abbrev pub withName : Pending → State → State
-withName p s = record { blocks = s .blocks; tones = s .tones; pending = p; body = s .body }
+abbrev pub nowPending : Pending → State → State
+nowPending p s = record { blocks = s .blocks; tones = s .tones; pending = p; body = s .body }
 
 abbrev pub withLoop : Loop → State → State
 withLoop l s = record { blocks = s .blocks; tones = s .tones; pending = s .pending; body = l }

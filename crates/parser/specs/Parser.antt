@@ -7,6 +7,7 @@ use lib.Dec.{leb, ltb, eqb}
 use Rattle.laws.specs.Rules.{_⇒_, _∣_}
 use Rattle.rows.specs.declared.Block.{Block}
 use Rattle.rows.specs.declared.Tone.{Tone}
+use Rattle.rows.specs.Rows.{withName, withPause, withMark}
 use Rattle.parser.specs.declared.Pending.{Pending}
 use Rattle.parser.specs.declared.Pending.the-variants.{Nothing, First, Later, Text}
 use Rattle.parser.specs.declared.Loop.{Loop}
@@ -39,8 +40,7 @@ _⟫_ (no k) f = no k
 
 -- a block with another name and selectable mark
 abbrev pub renamed : ℕ → ℕ → ℕ → ℕ → Block → Block
-renamed selectable case text chars r =
-    record { tone = r .tone; tones = r .tones; start = r .start; size = r .size; zero = r .zero; one = r .one; last = r .last; pause = r .pause; endless = r .endless; selectable = selectable; named = case; text = text; chars = chars }
+renamed selectable case text chars r = withMark selectable (withName case text chars r)
 
 -- each added block takes a pending name: group first (selectable), group later (unselectable), text (selectable)
 abbrev pub named : Pending → Block → Block
@@ -92,10 +92,7 @@ pend new t = on (withPending (pended new (t .pending)) t)
 
 -- then, if the last block, if any, has finite pause 0, it becomes 3,500, group open or not
 unfoldable pub paused : Block → Block
-paused r =
-    (eqb (r .endless) 0 && eqb (r .pause) 0) ⇒
-    record { tone = r .tone; tones = r .tones; start = r .start; size = r .size; zero = r .zero; one = r .one; last = r .last; pause = 3500; endless = r .endless; selectable = r .selectable; named = r .named; text = r .text; chars = r .chars }
-    ∣ r
+paused r = (eqb (r .endless) 0 && eqb (r .pause) 0) ⇒ withPause 3500 r ∣ r
 
 unfoldable pub lastPaused : List Block → List Block
 lastPaused [] = []

@@ -4,6 +4,8 @@ use rows::Block;
 use rows::Tone;
 use rows::append_block;
 use rows::append_tone;
+use rows::with_mark;
+use rows::with_name;
 ghost use mathlib.Core.Path.{_≡_};
 ghost use mathlib.Core.List.{List, [], _∷_};
 ghost use Prim.Native.Nat.{ℕ};
@@ -61,16 +63,11 @@ pub fn new_state() -> State
 pub fn rename(selectable: u64, case: u64, text: u64, chars: u64, r: Block) -> Block
     ensures { λ b. ⌜ b ≡ renamed selectable case text chars r ⌝ }
 {
-    let mut b = r;
-    b.selectable = selectable;
-    b.named = case;
-    b.text = text;
-    b.chars = chars;
-    b
+    with_mark(selectable, with_name(case, text, chars, r))
 }
 
 // A block with the pending name.
-fn with_name(p: Pending, r: Block) -> Block
+fn take_name(p: Pending, r: Block) -> Block
     ensures { λ b. ⌜ b ≡ named p r ⌝ }
 {
     match p {
@@ -118,7 +115,7 @@ pub fn add_block(s: State, blocks: &mut [u64], r: Block) -> Step
 {
     let n = s.blocks;
     let p = s.pending;
-    if append_block(blocks, n as usize, with_name(p, r)) {
+    if append_block(blocks, n as usize, take_name(p, r)) {
         let pending = after_use(p);
         let body = s.body;
         Step::On(State {

@@ -11,6 +11,7 @@ use Rattle.pulses.specs.Play.{time, comesTo, low, high, answer, rest, over, sho
 use Rattle.pulses.specs.Runs.{run}
 use Rattle.rows.specs.Table.{over as tableOver}
 use Rattle.rows.specs.Well.{wellRanges, wellTone, wellNumbers, wellCases, wellTones, wellBlock}
+use Rattle.rows.proofs.Samples.{rowWords}
 use Rattle.pieces.specs.Grammar.{countedAt}
 use Rattle.pieces.specs.Cut.{startsAt, headAt, blockOf, tapAt}
 use Rattle.parser.specs.Parser.{empty, _⟫_, addTones, addBlock}
@@ -54,7 +55,7 @@ no-one-listing l one =
 
 -- two cycles of 100 and 100, no data, no pause
 abbrev two : Tape
-two = tapeOf [] (2 ∷ 100 ∷ 100 ∷ []) (0 ∷ 1 ∷ 0 ∷ 0 ∷ 0 ∷ 0 ∷ 0 ∷ 0 ∷ 0 ∷ 0 ∷ 0 ∷ 0 ∷ 0 ∷ []) 1
+two = tapeOf [] (2 ∷ 100 ∷ 100 ∷ []) (rowWords (0 ∷ 1 ∷ [])) 1
 
 -- from its start 99 leaves 1 of the first half, 1 more the second half full; past its count nothing is passed
 plays : (playMeasured two (startAt 0) 99 ≡ At (stand (placed 0 (Tones 0 0 false) (T 1)) 1 low))

@@ -1,5 +1,5 @@
 -- THE P READINGS of document 01, all of them, each from a tape's bytes through the definitions that the contracts cite, by computation. Assumes nothing.
-use Prim.Native.Nat.{ℕ, zero, suc, _+_}
+use Prim.Native.Nat.{ℕ, zero, suc, _+_, _*_}
 use mathlib.Core.Path.{_≡_, refl}
 use mathlib.Core.Bool.{true, false}
 use mathlib.Core.List.{List, [], _∷_, _++_, map}
@@ -11,7 +11,7 @@ use Rattle.pulses.specs.Play.{low, high, answer, rest, over, shown, status, tim
 use Rattle.pulses.specs.Runs.{run}
 use Rattle.pulses.specs.Source.{after as afterTurn, turn, turns, sourced, reached}
 use Rattle.rows.specs.Table.{get, over as tableOver}
-use Rattle.rows.specs.Rows.{tone}
+use Rattle.rows.specs.Rows.{tone, block as row}
 use Rattle.rows.specs.Well.{wellRanges, wellTone, wellNumbers, wellCases, wellTones, wellBlock}
 use Rattle.pieces.specs.Grammar.{countedAt, passAt, textsAt, wholeAt, sealed, enclosed, fittingAt, readAt, digits, orFull, heldIf}
 use Rattle.pieces.specs.Kinds.{kind10, kind11, kind12, kind13, kind14, stream19, kind19, kind20, kind21, kind22, kind24, kind25, kind2A, kind30, kind31, info32, kind32, kind33, kind35, kind5A, kinds, kindOf}
@@ -50,9 +50,16 @@ pub data Reading : Type 0 where
   is : Format → List Said → Reading
   refused : ℕ → Reading
 
--- the tables of a load into room for three blocks and four tone rows
+-- room for three blocks and four tone rows, in words
+abbrev blockWords : ℕ
+blockWords = 3 * row .width
+
+abbrev toneWords : ℕ
+toneWords = 4 * tone .width
+
+-- the tables of a load into that room
 abbrev mounted : List ℕ → Loaded → ℕ → Tape
-mounted s l n = tapeOf s (tonesOf 12 l) (blocksOf 39 l) n
+mounted s l n = tapeOf s (tonesOf toneWords l) (blocksOf blockWords l) n
 
 abbrev said : Tape → ℕ → Said
 said w i =
@@ -102,7 +109,7 @@ readings =
     ∷ (pieces (0x14 ∷ 10 ∷ 0 ∷ 20 ∷ 0 ∷ 9 ∷ 0 ∷ 0 ∷ 1 ∷ 0 ∷ 0 ∷ 0x80 ∷ []), refused lastBits)
     ∷ []
 
-pub readings-read : map (λ e. reads (e .0) (loadNamed (lentOf 39 12) (e .0) 0)) readings ≡ map (λ e. e .1) readings
+pub readings-read : map (λ e. reads (e .0) (loadNamed (lentOf blockWords toneWords) (e .0) 0)) readings ≡ map (λ e. e .1) readings
 unfolding loadNamed naming namedTape loadOf orElse orTap readTzx readTap headed headAt startsAt judged tooManyBits foldFrom seeing after tzxSee tzxOf tapSee tapOf tapAt blockOf cutAt named kindOf kinds kind10 kind11 kind12 kind13 kind14 stream19 kind19 kind20 kind21 kind22 kind24 kind25 kind2A kind30 kind31 info32 kind32 kind33 kind35 kind5A readAt countedAt passAt textsAt wholeAt sealed enclosed fittingAt digits orFull heldIf fieldAt numberAt leAt placeOf times eachAt groupsAt halted rowOf standardSound turboSound pairSounds pureSound pauseSound addSound addSounds generalDeed stop48Deed does deedOf act addRows addTones addBlock _⟫_ empty pend endGroup openLoop copyRows copies closed closeLoop paused lastPaused isHeader standardCycles standardTones standardPause turboTones pureTones pureToneTones pulseAt nameAll passed unselected isHeading nameOf guessed sizeName sizeShown decimal digitsOf blocksOf tonesOf tableOver lastsOf comesTo time entriesOf soundOf tonesIn toneOf cyclesOf dataOf byteOf bitsAt halfOf pauseOf entryOf run
 readings-read = refl
 
@@ -111,7 +118,7 @@ abbrev soleBytes : List ℕ
 soleBytes = pieces (0x12 ∷ 100 ∷ 0 ∷ 4 ∷ 0 ∷ [])
 
 abbrev sole : Tape
-sole = mounted soleBytes (loadNamed (lentOf 39 12) soleBytes 0) 1
+sole = mounted soleBytes (loadNamed (lentOf blockWords toneWords) soleBytes 0) 1
 
 -- from its start: 99 leaves both players in the first half with 1 left; 100 leaves the measured one at the high half, full, the source's ended
 pub players-read :

@@ -7,7 +7,7 @@ use mathlib.Core.Bool.{false}
 use mathlib.Core.List.{List, [], _∷_}
 use lib.ListN.{length, take, drop, getD}
 use Rattle.rows.specs.Table.{rowsOf, tableOf, zeros}
-use Rattle.rows.specs.Rows.{block, tone}
+use Rattle.rows.specs.Rows.{block, tone, decodeTone}
 use Rattle.rows.specs.declared.Block.{Block}
 use Rattle.rows.specs.declared.Tone.{Tone}
 use Rattle.rows.proofs.Tables.{get-row, rows-over}
@@ -28,7 +28,7 @@ use Rattle.views.specs.View.{View, tonesFrom, viewOf, blocksOf, viewsIn, blockL
 use Rattle.promises.specs.Demands.{listOf}
 
 none : Tone
-none = record { num = 0; len1 = 0; len2 = 0 }
+none = decodeTone []
 
 -- the list from place i on, where it has one more
 drop-next : (ts : List Tone) (i : ℕ) → i < length ts → drop i ts ≡ getD ts i none ∷ drop (suc i) ts

@@ -1,6 +1,8 @@
 // Prints the runs on standard input one after the other: 4 bytes give how many there are; each has its length (4 bytes) and its description.
 use fields::number_up_to;
 use playback::print_trace;
+use rows::BLOCK_TABLE;
+use rows::TONE_TABLE;
 
 // A run that fills `input`.
 fn run(input: &mut [u8], blocks: &mut [u64], tones: &mut [u64]) {
@@ -30,7 +32,7 @@ fn main() {
     io::read_full(0, &mut head);
     let n = number_up_to(&head, 0, 4, 1000000);
     let mut bytes = io::large_buffer();
-    let mut blocks = [0u64; 6656];
-    let mut tones = [0u64; 6144];
+    let mut blocks = [0u64; BLOCK_TABLE];
+    let mut tones = [0u64; TONE_TABLE];
     retrace_all(&mut bytes, &mut blocks, &mut tones, n);
 }

@@ -1,6 +1,6 @@
 -- Worked examples by computation: rows as words, appending, capacity, and each clause of well-formedness at its limit and past it.
 -- Assumes nothing.
-use Prim.Native.Nat.{ℕ}
+use Prim.Native.Nat.{ℕ, zero, suc, _*_, _-_}
 use mathlib.Core.Path.{_≡_, refl}
 use mathlib.Core.Bool.{Bool, true, false}
 use mathlib.Core.List.{List, [], _∷_, map}
@@ -9,11 +9,16 @@ use Rattle.rows.specs.Table.{zeros, capacityOf, appended}
 use Rattle.rows.specs.Rows.{tone, toneMost, encodeTone, decodeTone, block, blockMost, encodeBlock, decodeBlock}
 use Rattle.rows.specs.Well.{wellTone, wellTones, wellRanges, wellNumbers, wellCases, wellBlock}
 
+-- n numbers, each one more than the one before it
+abbrev upFrom : ℕ → ℕ → List ℕ
+upFrom k zero = []
+upFrom k (suc n) = k ∷ upFrom (suc k) n
+
 -- the words of a tone and of a block, read and written back
 tone-words : encodeTone (decodeTone (7 ∷ 8 ∷ 9 ∷ [])) ≡ 7 ∷ 8 ∷ 9 ∷ []
 tone-words = refl
 
-block-words : encodeBlock (decodeBlock (1 ∷ 2 ∷ 3 ∷ 4 ∷ 5 ∷ 6 ∷ 7 ∷ 8 ∷ 9 ∷ 10 ∷ 11 ∷ 12 ∷ 13 ∷ [])) ≡ 1 ∷ 2 ∷ 3 ∷ 4 ∷ 5 ∷ 6 ∷ 7 ∷ 8 ∷ 9 ∷ 10 ∷ 11 ∷ 12 ∷ 13 ∷ []
+block-words : encodeBlock (decodeBlock (upFrom 1 (block .width))) ≡ upFrom 1 (block .width)
 block-words = refl
 
 -- eight words are two tone rows and a broken one: row 1 is appended, row 2 is not
@@ -21,10 +26,10 @@ appends : map (λ n. appended tone toneMost (zeros 8) n (decodeTone (7 ∷ 8 ∷
 appends = refl
 
 -- whole rows alone count, and no more than the limit
-block-capacities : map (λ n. capacityOf block blockMost (zeros n)) (12 ∷ 13 ∷ 53247 ∷ 53248 ∷ 53261 ∷ []) ≡ 0 ∷ 1 ∷ 4095 ∷ 4096 ∷ 4096 ∷ []
+block-capacities : map (λ n. capacityOf block blockMost (zeros n)) ((block .width - 1) ∷ block .width ∷ (4096 * block .width - 1) ∷ 4096 * block .width ∷ 4097 * block .width ∷ []) ≡ 0 ∷ 1 ∷ 4095 ∷ 4096 ∷ 4096 ∷ []
 block-capacities = refl
 
-tone-capacities : map (λ n. capacityOf tone toneMost (zeros n)) (2 ∷ 3 ∷ 196611 ∷ []) ≡ 0 ∷ 1 ∷ 65536 ∷ []
+tone-capacities : map (λ n. capacityOf tone toneMost (zeros n)) ((tone .width - 1) ∷ tone .width ∷ 65537 * tone .width ∷ []) ≡ 0 ∷ 1 ∷ 65536 ∷ []
 tone-capacities = refl
 
 -- tones, and whether they are well formed

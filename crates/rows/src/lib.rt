@@ -5,7 +5,7 @@ ghost use lib.ListN.{length, replicate};
 ghost use lib.Dec.{ltb};
 ghost use lib.Seq.{paste};
 ghost use Rattle.rows.specs.Table.{get, put, appended, capacityOf};
-ghost use Rattle.rows.specs.Rows.{block, decodeBlock, tone, decodeTone, blockMost, toneMost};
+ghost use Rattle.rows.specs.Rows.{block, decodeBlock, withName, withPause, withMark, tone, decodeTone, blockMost, toneMost};
 
 // One run of equal cycles; the Rust's `Tone`.
 pub struct Tone {
@@ -31,10 +31,44 @@ pub struct Block {
     pub chars: u64,
 }
 
-// The words of a tone row and of a block row.
-const TONE_WORDS: usize = 3;
+// The words of a tone row and of a block row; the proofs of `put_tone` and `put_block` hold them to the rows themselves.
+pub const TONE_WORDS: usize = 3;
 
-const BLOCK_WORDS: usize = 13;
+pub const BLOCK_WORDS: usize = 13;
+
+// The tables of the listing and of our programs: 2,048 tones and 512 blocks.
+pub const TONE_TABLE: usize = 2048 * TONE_WORDS;
+
+pub const BLOCK_TABLE: usize = 512 * BLOCK_WORDS;
+
+// A block with another name: its case, its place in the tape and its length.
+pub fn with_name(case: u64, text: u64, chars: u64, r: Block) -> Block
+    ensures { λ b. ⌜ b ≡ withName case text chars r ⌝ }
+{
+    let mut b = r;
+    b.named = case;
+    b.text = text;
+    b.chars = chars;
+    b
+}
+
+// A block with another pause.
+pub fn with_pause(pause: u64, r: Block) -> Block
+    ensures { λ b. ⌜ b ≡ withPause pause r ⌝ }
+{
+    let mut b = r;
+    b.pause = pause;
+    b
+}
+
+// A block with another selectable mark.
+pub fn with_mark(selectable: u64, r: Block) -> Block
+    ensures { λ b. ⌜ b ≡ withMark selectable r ⌝ }
+{
+    let mut b = r;
+    b.selectable = selectable;
+    b
+}
 
 // Every lent word becomes zero.
 pub fn blank(t: &mut [u64])

@@ -1,6 +1,7 @@
 // The naming pass: which blocks stay selectable.
 use names::is_header;
 use rows::Block;
+use rows::with_mark;
 ghost use mathlib.Core.Path.{_≡_};
 ghost use mathlib.Core.Bool.{false};
 ghost use Prim.Native.Nat.{_*_, _≤_};
@@ -14,14 +15,13 @@ ghost use Rattle.names.specs.Names.{unselected, nameAll};
 fn name_row(header: bool, prefixed: bool, r: Block) -> Block
     ensures { λ q. ⌜ q ≡ (header ⇒ r ∣ prefixed ⇒ unselected r ∣ r) ⌝ }
 {
-    let mut row = r;
     if header {
-        return row;
+        return r;
     }
     if prefixed {
-        row.selectable = 0;
+        return with_mark(0, r);
     }
-    row
+    r
 }
 
 // The naming pass over the first n rows; our crates alone call it.

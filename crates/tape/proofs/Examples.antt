@@ -1,5 +1,5 @@
 -- Worked examples of a load by computation, document 01's readings about loading among them: the answer, every row's words, the blocks' names. Assumes nothing.
-use Prim.Native.Nat.{ℕ, _+_, _<_}
+use Prim.Native.Nat.{ℕ, _+_, _*_, _<_}
 use borrow.Author.Tests.{lt-leb, lt-ltb}
 use native.Mathlib.Nat.{suc-ne-zero}
 use mathlib.Core.Path.{_≡_, refl, sym, ap, _∙_}
@@ -8,7 +8,8 @@ use lib.ListN.{length, replicate, getD}
 use Rattle.refusals.specs.Refusals.{badModel, tapeLong, tapeBad, generalised, tonesFull, blocksFull, lastBits}
 use Rattle.fields.specs.Field.{leAt, numberAt, fieldAt, placeOf}
 use Rattle.fields.specs.Run.{times, eachAt, groupsAt}
-use Rattle.rows.specs.Rows.{encodeBlock, encodeTone}
+use Rattle.rows.specs.Rows.{encodeBlock, encodeTone, block, tone}
+use Rattle.rows.proofs.Samples.{rowWords}
 use Rattle.pieces.specs.Grammar.{countedAt, passAt, textsAt, wholeAt, sealed, enclosed, fittingAt, readAt, digits, orFull, heldIf}
 use Rattle.pieces.specs.Kinds.{kind10, kind11, kind12, kind13, kind14, stream19, kind19, kind20, kind21, kind22, kind24, kind25, kind2A, kind30, kind31, info32, kind32, kind33, kind35, kind5A, kinds, kindOf}
 use Rattle.pieces.specs.Cut.{signature, startsAt, headAt, named, cutAt, blockOf, tapAt}
@@ -35,6 +36,13 @@ use Rattle.tape.specs.Load.{namedTape, named as naming, loadNamed, answe
 abbrev room : Lent
 room = record { blocks = 3; tones = 4 }
 
+-- the words of so many rows
+abbrev threeBlocks : ℕ
+threeBlocks = 3 * block .width
+
+abbrev fourTones : ℕ
+fourTones = 4 * tone .width
+
 -- a TZX of these pieces
 abbrev pieces : List ℕ → List ℕ
 pieces s = signature ++ 1 ∷ 20 ∷ s
@@ -56,10 +64,10 @@ view s (no k) = refusal k
 
 -- a nameless block's words: tone, tones, start, size, zero, one, last, pause, selectable
 abbrev row : ℕ → ℕ → ℕ → ℕ → ℕ → ℕ → ℕ → ℕ → ℕ → List ℕ
-row t n start size nil one last pause mark = t ∷ n ∷ start ∷ size ∷ nil ∷ one ∷ last ∷ pause ∷ 0 ∷ mark ∷ 0 ∷ 0 ∷ 0 ∷ []
+row t n start size nil one last pause mark = rowWords (t ∷ n ∷ start ∷ size ∷ nil ∷ one ∷ last ∷ pause ∷ 0 ∷ mark ∷ [])
 
 abbrev stop : ℕ → List ℕ
-stop t = t ∷ 0 ∷ 0 ∷ 0 ∷ 0 ∷ 0 ∷ 0 ∷ 0 ∷ 1 ∷ 1 ∷ 1 ∷ 0 ∷ 0 ∷ []
+stop t = rowWords (t ∷ 0 ∷ 0 ∷ 0 ∷ 0 ∷ 0 ∷ 0 ∷ 0 ∷ 1 ∷ 1 ∷ 1 ∷ [])
 
 abbrev pause : ℕ → List ℕ
 pause t = row t 0 0 0 0 0 0 3500 0
@@ -157,6 +165,6 @@ unfolding loadNamed naming loadOf
 too-long lent s model h k = rw (lt-leb 3 model h, lt-ltb 1048576 (length s) k)
 
 -- two tapes are accepted and leave different block rows: so a load that refuses all tapes, or has one listing for all, does not meet the contract
-pub two-lists : {a a′ : Answer} {bt bt′ tt tt′ : List ℕ} → Leaves 39 12 (loadNamed (lentOf 39 12) (0 ∷ 0 ∷ []) 0) a bt tt → Leaves 39 12 (loadNamed (lentOf 39 12) (1 ∷ 0 ∷ 0xFF ∷ []) 0) a′ bt′ tt′ → (a ≡ Tape Tap 1 2) × (a′ ≡ Tape Tap 1 2) × (bt ≡ bt′ → ⊥)
+pub two-lists : {a a′ : Answer} {bt bt′ tt tt′ : List ℕ} → Leaves threeBlocks fourTones (loadNamed (lentOf threeBlocks fourTones) (0 ∷ 0 ∷ []) 0) a bt tt → Leaves threeBlocks fourTones (loadNamed (lentOf threeBlocks fourTones) (1 ∷ 0 ∷ 0xFF ∷ []) 0) a′ bt′ tt′ → (a ≡ Tape Tap 1 2) × (a′ ≡ Tape Tap 1 2) × (bt ≡ bt′ → ⊥)
 unfolding leAt numberAt fieldAt placeOf times eachAt groupsAt countedAt passAt textsAt wholeAt sealed enclosed fittingAt readAt digits orFull heldIf kind10 kind11 kind12 kind13 kind14 stream19 kind19 kind20 kind21 kind22 kind24 kind25 kind2A kind30 kind31 info32 kind32 kind33 kind35 kind5A kinds kindOf startsAt headAt named cutAt blockOf tapAt pilotOf dataOf withPilot withData generalOf empty _⟫_ addTones addBlock pend endGroup openLoop copyRows copies closed closeLoop paused lastPaused isHeader standardCycles standardTones standardPause turboTones pureTones pureToneTones pulseAt addRows rowOf standardSound turboSound pairSounds pureSound pauseSound addSound addSounds generalDeed stop48Deed does deedOf act after seeing foldFrom halted tooManyBits judged tzxOf tzxSee headed readTzx tapOf tapSee readTap orTap orElse loadOf decimal digitsOf latin1 each table encoded isHeading typeName namedAs sizeShown sizeName guessed nameOf unselected passed nameAll namedTape naming loadNamed answerOf blocksOf tableOver
 two-lists x y = (x .answer, y .answer, λ e. suc-ne-zero 0 (ap (λ (l : List ℕ). getD l 3 0) (sym (y .blocks) ∙ sym e ∙ x .blocks)))

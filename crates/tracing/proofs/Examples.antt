@@ -7,6 +7,7 @@ use Rattle.pulses.specs.Play.{answer, rest, over, shown, status}
 use Rattle.pulses.specs.Runs.{run}
 use Rattle.pulses.specs.Source.{after, turn, turns, sourced, reached}
 use Rattle.rows.specs.Well.{wellRanges, wellTone, wellNumbers, wellCases, wellTones, wellBlock}
+use Rattle.rows.proofs.Samples.{rowWords}
 use Rattle.text.specs.Out.{ascii, digits, decimal}
 use Rattle.entries.specs.Entries.{entryOf, cyclesOf, toneOf, tonesOf, bitsAt, halfOf, byteOf, dataOf, pauseOf, soundOf, entriesOf}
 use Rattle.entries.specs.Places.{Tape, listFrom, fromPause, fromByte, fromBit, fromTone, fromCycle, leftAt, hasEntry, lengthAt, remains, valid, headOf, leftOf}
@@ -38,7 +39,7 @@ abbrev stopping : Tape
 stopping =
     tapeOf (90 ∷ 88 ∷ 84 ∷ 97 ∷ 112 ∷ 101 ∷ 33 ∷ 26 ∷ 1 ∷ 20 ∷ 18 ∷ 100 ∷ 0 ∷ 4 ∷ 0 ∷ 20 ∷ 10 ∷ 0 ∷ 20 ∷ 0 ∷ 2 ∷ 1 ∷ 0 ∷ 2 ∷ 0 ∷ 0 ∷ 128 ∷ 192 ∷ 32 ∷ 0 ∷ 0 ∷ [])
     (2 ∷ 100 ∷ 100 ∷ 0 ∷ 0 ∷ 0 ∷ 1 ∷ 0 ∷ 0 ∷ [])
-    (0 ∷ 1 ∷ 0 ∷ 0 ∷ 0 ∷ 0 ∷ 0 ∷ 0 ∷ 0 ∷ 0 ∷ 0 ∷ 0 ∷ 0 ∷ 1 ∷ 2 ∷ 26 ∷ 2 ∷ 10 ∷ 20 ∷ 2 ∷ 3500 ∷ 0 ∷ 1 ∷ 0 ∷ 0 ∷ 0 ∷ 3 ∷ 0 ∷ 0 ∷ 0 ∷ 0 ∷ 0 ∷ 0 ∷ 0 ∷ 1 ∷ 1 ∷ 1 ∷ 0 ∷ 0 ∷ [])
+    (rowWords (0 ∷ 1 ∷ []) ++ rowWords (1 ∷ 2 ∷ 26 ∷ 2 ∷ 10 ∷ 20 ∷ 2 ∷ 3500 ∷ 0 ∷ 1 ∷ []) ++ rowWords (3 ∷ 0 ∷ 0 ∷ 0 ∷ 0 ∷ 0 ∷ 0 ∷ 0 ∷ 1 ∷ 1 ∷ 1 ∷ []))
     3
 
 -- 12 of 100 and 5; a pause of 1 ms
@@ -46,7 +47,7 @@ abbrev ending : Tape
 ending =
     tapeOf (90 ∷ 88 ∷ 84 ∷ 97 ∷ 112 ∷ 101 ∷ 33 ∷ 26 ∷ 1 ∷ 20 ∷ 18 ∷ 100 ∷ 0 ∷ 5 ∷ 0 ∷ 32 ∷ 1 ∷ 0 ∷ [])
     (1 ∷ 0 ∷ 100 ∷ 2 ∷ 100 ∷ 100 ∷ [])
-    (0 ∷ 2 ∷ 0 ∷ 0 ∷ 0 ∷ 0 ∷ 0 ∷ 0 ∷ 0 ∷ 0 ∷ 0 ∷ 0 ∷ 0 ∷ 2 ∷ 0 ∷ 0 ∷ 0 ∷ 0 ∷ 0 ∷ 0 ∷ 3500 ∷ 0 ∷ 0 ∷ 0 ∷ 0 ∷ 0 ∷ [])
+    (rowWords (0 ∷ 2 ∷ []) ++ rowWords (2 ∷ 0 ∷ 0 ∷ 0 ∷ 0 ∷ 0 ∷ 0 ∷ 3500 ∷ []))
     2
 
 -- oracle play 4 FILE 1 5 11 9 7 12 3 4000: through the data to the stop

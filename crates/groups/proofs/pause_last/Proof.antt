@@ -23,8 +23,8 @@ block-capacity-requires c κs = search needs
 block-at-requires : tie.Need-block-at-requires
 block-at-requires c κs = search needs
 
-with-pause-requires : tie.Need-with-pause-requires
-with-pause-requires c κs = search needs
+paused-requires : tie.Need-paused-requires
+paused-requires c κs = search needs
 
 put-block-requires : tie.Need-put-block-requires
 put-block-requires c κs = search needs
@@ -39,7 +39,7 @@ returns-2 c =
     let r = p .before .before in
     let n = r .before .before .before .before .before .before .before .before .args .n in
     let q : length rs ≡ suc (n - 1) = omega arith in
-    table-paused (r .block-at .result) rs B (n - 1) q e (rw (p .before .with-pause .ensures, r .block-at .ensures) at (p .put-block .ensures))
+    table-paused (r .block-at .result) rs B (n - 1) q e (rw (p .before .paused .ensures, r .block-at .ensures) at (p .put-block .ensures))
 
 same-length-2 : tie.Need-same-length-2
 same-length-2 c = search needs
@@ -56,7 +56,7 @@ pause-last-spec =
     sub-i
     block-capacity-requires
     block-at-requires
-    with-pause-requires
+    paused-requires
     put-block-requires
     same-length
     returns-2

@@ -13,8 +13,8 @@ use borrow.Author.Needs.{needs}
 use Rattle.parser.proofs.add_block.Statement.{statement}
 use Rattle.parser.proofs.add_block.Tie as tie
 
-with-name-requires : tie.Need-with-name-requires
-with-name-requires c κs = search needs
+take-name-requires : tie.Need-take-name-requires
+take-name-requires c κs = search needs
 
 append-block-requires : tie.Need-append-block-requires
 append-block-requires c κs = search needs
@@ -40,7 +40,7 @@ returns c =
     let p = a .before .before .before .before .args in
     let e = c .before .if1 .taken in
     let k = fits block blockMost (p .blocks .now) (t .blocks) B (p .s .blocks) (h .lenB) (h .nb) (a .append-block .ensures .0) e in
-    let q = rw (a .before .with-name .ensures, h .pends) at (a .append-block .ensures .1) in
+    let q = rw (a .before .take-name .ensures, h .pends) at (a .append-block .ensures .1) in
     let r = named (t .pending) (p .r) in
     rw (lt-ltb _ _ k)
     (goes (holds-block h r k (omega arith) (adds block blockMost (p .blocks .now) (t .blocks) B (p .s .blocks) (h .lenB) (h .nb) (a .append-block .ensures .0) r (h .isB) q e) (rw (h .pends) at (c .after-use .ensures))))
@@ -61,7 +61,7 @@ pub add-block-spec : {M : Type 1} → statement M
 add-block-spec =
     tie.close
     (tie.spec
-    with-name-requires
+    take-name-requires
     append-block-requires
     after-use-requires
     add-t14

@@ -1,7 +1,7 @@
--- `with_name` meets its contract. Assumes nothing.
+-- `take_name` meets its contract. Assumes nothing.
 use borrow.Author.Needs.{needs}
-use Rattle.parser.proofs.with_name.Statement.{statement}
-use Rattle.parser.proofs.with_name.Tie as tie
+use Rattle.parser.proofs.take_name.Statement.{statement}
+use Rattle.parser.proofs.take_name.Tie as tie
 
 enum-told : tie.Need-enum-told
 enum-told c = search needs
@@ -40,8 +40,8 @@ returns-4 : tie.Need-returns-4
 returns-4 c =
     rw (c .before .before .p3 .given .1) (c .rename3 .ensures)
 
-pub with-name-spec : {M : Type 1} → statement M
-with-name-spec =
+pub take-name-spec : {M : Type 1} → statement M
+take-name-spec =
     tie.close
     (tie.spec
     enum-told

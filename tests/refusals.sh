@@ -98,8 +98,6 @@ LAW
 [ "$(bare "$room/bad.antt" | wc -l)" -eq 8 ] || bad "the search misses a bare number in a law: it finds $(bare "$room/bad.antt")"
 [ -z "$(bare "$room/good.rt" "$room/good.antt")" ] || bad "the search finds what is no bare number: $(bare "$room/good.rt" "$room/good.antt")"
 
-# the crates that still have bare numbers
-later='crates/(parser|blocks|tones|stops|signals|reader|run|reading|general|made|loads)/|crates/promises/proofs/(Dues|Lacking)|crates/format/proofs/'
-found=$(bare $(find crates \( -path 'crates/*/src/*.rt' -o -name '*.antt' \) ! -path 'crates/refusals/*' | grep -vE "$later" | LC_ALL=C sort))
+found=$(bare $(find crates \( -path 'crates/*/src/*.rt' -o -name '*.antt' \) ! -path 'crates/refusals/*' | LC_ALL=C sort))
 [ -z "$found" ] || bad "a bare number for no; crate refusals has its name:
 $found"

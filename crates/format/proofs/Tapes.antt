@@ -6,6 +6,7 @@ use mathlib.Core.Bool.{Bool, true, false}
 use mathlib.Core.List.{List, [], _++_}
 use lib.ListN.{length, getD}
 use lib.Dec.{leb, ltb, eqb}
+use Rattle.refusals.specs.Refusals.{badModel, tapeLong, lastBits}
 use Rattle.laws.specs.Rules.{_⇒_, _∣_}
 use Rattle.laws.specs.Tests.{first, second}
 use Rattle.fields.specs.declared.Cursor.the-variants.{At}
@@ -104,7 +105,7 @@ module _ (lent : Lent) (s : List ℕ) (model : ℕ) where
   unfolding judged
   judged-done {r} {u} e = by-read r e
     where
-      by-bits : (t : Tape) (b : Bool) → (b ⇒ refused 7 ∣ done t) ≡ done u → done t ≡ done u
+      by-bits : (t : Tape) (b : Bool) → (b ⇒ refused lastBits ∣ done t) ≡ done u → done t ≡ done u
       by-bits t true q = absurd (let z : _≡_ {A = ℕ} 0 1 = cc in omega arith)
       by-bits t false q = q
 
@@ -133,7 +134,7 @@ module _ (lent : Lent) (s : List ℕ) (model : ℕ) where
       by-head heading.BadSignature q = absurd (let z : _≡_ {A = ℕ} 0 1 = cc in omega arith)
       by-head (heading.Short p w) q = absurd (let z : _≡_ {A = ℕ} 0 1 = cc in omega arith)
 
-      by-model : (b c : Bool) → (b ⇒ no 1 ∣ c ⇒ no 2 ∣ orElse (readTzx lent s model) (readTap lent s)) ≡ tzx u → foldFrom (tzxSee lent s model) (length s) 10 empty ≡ done u
+      by-model : (b c : Bool) → (b ⇒ no badModel ∣ c ⇒ no tapeLong ∣ orElse (readTzx lent s model) (readTap lent s)) ≡ tzx u → foldFrom (tzxSee lent s model) (length s) 10 empty ≡ done u
       by-model true c q = absurd (let z : _≡_ {A = ℕ} 0 1 = cc in omega arith)
       by-model false true q = absurd (let z : _≡_ {A = ℕ} 0 1 = cc in omega arith)
       by-model false false q = by-head (headAt s) (by-read (readTzx lent s model) q)

@@ -6,6 +6,7 @@ use mathlib.Core.List.{List}
 use lib.ListN.{length}
 use lib.Dec.{leb, ltb}
 use borrow.Author.Tests.{leb-true, ltb-true}
+use Rattle.refusals.specs.Refusals.{tonesFull, blocksFull}
 use Rattle.laws.specs.Rules.{_⇒_, _∣_}
 use Rattle.rows.specs.declared.Block.{Block}
 use Rattle.parser.specs.declared.Pending.{Pending}
@@ -28,7 +29,7 @@ block-sure : {K : Tape → Type 0} (m : ℕ) (r : Block) (t : Tape) → (length 
 unfolding addBlock
 block-sure {K} m r t h = by-cases (ltb (length (t .blocks)) m) refl
   where
-    by-cases : (b : Bool) → ltb (length (t .blocks)) m ≡ b → Sure K (b ⇒ on (withBlock r t) ∣ no (Refusal 6))
+    by-cases : (b : Bool) → ltb (length (t .blocks)) m ≡ b → Sure K (b ⇒ on (withBlock r t) ∣ no (Refusal blocksFull))
     by-cases true e = sure (h (ltb-true _ _ e))
     by-cases false e = none
 
@@ -38,7 +39,7 @@ module _ {lent : Lent} {M : Sound → Origin → Type 0} {Q : Pending → Type 0
   sound-keeps origin d t m h = by-cases (leb (length (t .tones) + length (d .tones)) (lent .tones)) refl
     where
       by-cases : (b : Bool) → leb (length (t .tones) + length (d .tones)) (lent .tones) ≡ b
-          → Sure K ((b ⇒ on (withTones (d .tones) t) ∣ no (Refusal 5)) ⟫ addBlock (lent .blocks) (rowOf origin d (length (t .tones))))
+          → Sure K ((b ⇒ on (withTones (d .tones) t) ∣ no (Refusal tonesFull)) ⟫ addBlock (lent .blocks) (rowOf origin d (length (t .tones))))
       by-cases true e = block-sure (lent .blocks) _ (withTones (d .tones) t) (λ room. k .adding origin d t m (leb-true _ _ e) room h)
       by-cases false e = none
 

@@ -5,6 +5,7 @@ use mathlib.Core.Bool.{Bool, true, false}
 use mathlib.Core.List.{List, List·Memᴰ·head}
 use lib.ListN.{length, getD}
 use lib.Dec.{leb, ltb}
+use Rattle.refusals.specs.Refusals.{badModel, tapeLong, lastBits}
 use Rattle.laws.specs.Rules.{_⇒_, _∣_}
 use Rattle.pieces.specs.declared.Taken.{Taken}
 use Rattle.pieces.specs.declared.Taken.the-variants as taken
@@ -84,7 +85,7 @@ judged-keeps : {K : Tape → Type 0} {r : Read} → Final K r → Final (Judged 
 unfolding judged
 judged-keeps {K} (done {t = t} h) = by-cases (tooManyBits (t .blocks)) refl
   where
-    by-cases : (b : Bool) → tooManyBits (t .blocks) ≡ b → Final (Judged K) (b ⇒ source.refused 7 ∣ source.done t)
+    by-cases : (b : Bool) → tooManyBits (t .blocks) ≡ b → Final (Judged K) (b ⇒ source.refused lastBits ∣ source.done t)
     by-cases true e = refused
     by-cases false e = done (record { kept = h; bits = e })
 judged-keeps failed = failed
@@ -146,7 +147,7 @@ load-answers : {K L : Tape → Type 0} (lent : Lent) (s : List ℕ) (model : ℕ
 unfolding loadOf
 load-answers {K} {L} lent s model f g = by-cases (leb 3 model) (ltb 1048576 (length s))
   where
-    by-cases : (a b : Bool) → Answers K L (a ⇒ source.no 1 ∣ b ⇒ source.no 2 ∣ orElse (readTzx lent s model) (readTap lent s))
+    by-cases : (a b : Bool) → Answers K L (a ⇒ source.no badModel ∣ b ⇒ source.no tapeLong ∣ orElse (readTzx lent s model) (readTap lent s))
     by-cases true b = no
     by-cases false true = no
     by-cases false false = or-else f g

@@ -8,6 +8,7 @@ use mathlib.Core.List.{List, [], _∷_, List·Memᴰ·head}
 use lib.ListN.{length, length-append}
 use lib.Dec.{leb, ltb}
 use borrow.Author.Tests.{ltb-false}
+use Rattle.refusals.specs.Refusals.{badModel, tapeLong}
 use Rattle.laws.specs.Rules.{_⇒_, _∣_}
 use Rattle.rows.specs.declared.Block.{Block}
 use Rattle.rows.specs.declared.Tone.{Tone}
@@ -94,7 +95,7 @@ not-refused : {a : Loaded} {t : Tape} {j : ℕ} → Reads a t → a ≡ source.n
 not-refused as-tzx e = let z : _≡_ {A = ℕ} 0 1 = cc in omega arith
 not-refused as-tap e = let z : _≡_ {A = ℕ} 0 1 = cc in omega arith
 
-past-two : (a : Loaded) {t : Tape} (m n : Bool) → Reads (m ⇒ source.no 1 ∣ n ⇒ source.no 2 ∣ a) t → n ≡ false
+past-two : (a : Loaded) {t : Tape} (m n : Bool) → Reads (m ⇒ source.no badModel ∣ n ⇒ source.no tapeLong ∣ a) t → n ≡ false
 past-two a true n r = absurd (not-refused r refl)
 past-two a false true r = absurd (not-refused r refl)
 past-two a false false r = refl

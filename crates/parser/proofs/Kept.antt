@@ -8,6 +8,7 @@ use mathlib.Core.List.{List, [], _∷_, _++_, List·Memᴰ, List·Memᴰ·head, 
 use lib.ListN.{length, getD, drop}
 use lib.Dec.{ltb, leb}
 use borrow.Author.Tests.{ltb-true}
+use Rattle.refusals.specs.Refusals.{blocksFull}
 use Rattle.laws.specs.Rules.{_⇒_, _∣_}
 use Rattle.rows.specs.declared.Block.{Block}
 use Rattle.rows.specs.declared.Tone.{Tone}
@@ -80,7 +81,7 @@ module _ (P : Block → Type 0) (K : Tape → Type 0) (m : ℕ) (keep : (r : Blo
   unfolding addBlock
   block-keeps r t p k = by-cases (ltb (length (t .blocks)) m) refl
     where
-      by-cases : (b : Bool) → ltb (length (t .blocks)) m ≡ b → Sure K (b ⇒ on (withBlock r t) ∣ no (Refusal 6))
+      by-cases : (b : Bool) → ltb (length (t .blocks)) m ≡ b → Sure K (b ⇒ on (withBlock r t) ∣ no (Refusal blocksFull))
       by-cases true e = sure (keep r t (ltb-true _ _ e) p k)
       by-cases false e = none
 

@@ -7,6 +7,7 @@ use mathlib.Core.List.{List, _++_, append-assoc}
 use lib.ListN.{length, length-append, length-replicate}
 use lib.Dec.{leb}
 use borrow.Author.Tests.{lt-leb, leb-false}
+use Rattle.refusals.specs.Refusals.{tonesFull}
 use Rattle.laws.specs.Rules.{_⇒_, _∣_}
 use Rattle.rows.specs.declared.Tone.{Tone}
 use Rattle.rows.specs.Table.{zeros}
@@ -34,7 +35,7 @@ pub tones-append : (m : ℕ) (xs ys : List Tone) (t : Tape) → addTones m (xs +
 unfolding addTones _⟫_
 tones-append m xs ys t = by-cases (leb (length (t .tones) + length xs) m) refl
   where
-    by-cases : (b : Bool) → leb (length (t .tones) + length xs) m ≡ b → addTones m (xs ++ ys) t ≡ (b ⇒ on (withTones xs t) ∣ no (Refusal 5)) ⟫ addTones m ys
+    by-cases : (b : Bool) → leb (length (t .tones) + length xs) m ≡ b → addTones m (xs ++ ys) t ≡ (b ⇒ on (withTones xs t) ∣ no (Refusal tonesFull)) ⟫ addTones m ys
     by-cases true e =
         let n : length (t .tones ++ xs) + length ys ≡ length (t .tones) + length (xs ++ ys) = rw (length-append, length-append) (omega arith) in
         rw (n, append-assoc)

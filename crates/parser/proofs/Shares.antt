@@ -5,6 +5,7 @@ use mathlib.Core.Bool.{Bool, true, false}
 use mathlib.Core.List.{List, [], _∷_, _++_, map, map-append, append-assoc, append-nil}
 use lib.ListN.{length, drop}
 use lib.Dec.{ltb}
+use Rattle.refusals.specs.Refusals.{blocksFull}
 use Rattle.laws.specs.Rules.{_⇒_, _∣_}
 use Rattle.rows.specs.declared.Block.{Block}
 use Rattle.parser.specs.declared.Pending.{Pending}
@@ -46,7 +47,7 @@ module _ {A : Type 0} (f : Block → A) (blind : (mark case text chars : ℕ) (r
       one : f (named (t .pending) (nameless r)) ≡ f r
       one = name-blind (t .pending) (nameless r) ∙ blind 0 0 0 0 r
 
-      by-cases : (b : Bool) → Sure (More t (f r ∷ [])) (b ⇒ on (withBlock (nameless r) t) ∣ no (Refusal 6))
+      by-cases : (b : Bool) → Sure (More t (f r ∷ [])) (b ⇒ on (withBlock (nameless r) t) ∣ no (Refusal blocksFull))
       by-cases true = sure (map-append f (t .blocks) (named (t .pending) (nameless r) ∷ []) ∙ ap (λ (x : A). map f (t .blocks) ++ x ∷ []) one, refl)
       by-cases false = none
 

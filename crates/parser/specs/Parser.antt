@@ -4,6 +4,7 @@ use mathlib.Core.Bool.{Bool, true, false, _&&_}
 use mathlib.Core.List.{List, [], _∷_, _++_}
 use lib.ListN.{length, drop}
 use lib.Dec.{leb, ltb, eqb}
+use Rattle.refusals.specs.Refusals.{tonesFull, blocksFull}
 use Rattle.laws.specs.Rules.{_⇒_, _∣_}
 use Rattle.rows.specs.declared.Block.{Block}
 use Rattle.rows.specs.declared.Tone.{Tone}
@@ -64,11 +65,11 @@ withBlock r t = tapeOf (t .blocks ++ named (t .pending) r ∷ []) (t .tones) (us
 
 -- tone rows, where no more than `most` are then used: otherwise 5
 unfoldable pub addTones : ℕ → List Tone → Tape → Out
-addTones most ts t = leb (length (t .tones) + length ts) most ⇒ on (withTones ts t) ∣ no (Refusal 5)
+addTones most ts t = leb (length (t .tones) + length ts) most ⇒ on (withTones ts t) ∣ no (Refusal tonesFull)
 
 -- a block, where one row at least remains of `most`: otherwise 6
 unfoldable pub addBlock : ℕ → Block → Tape → Out
-addBlock most r t = ltb (length (t .blocks)) most ⇒ on (withBlock r t) ∣ no (Refusal 6)
+addBlock most r t = ltb (length (t .blocks)) most ⇒ on (withBlock r t) ∣ no (Refusal blocksFull)
 
 abbrev pub inGroup : Pending → Bool
 inGroup Nothing = false

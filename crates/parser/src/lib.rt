@@ -1,5 +1,7 @@
 // The parser's state: pending name, open loop, blocks and tones so far; a row added to either table. It knows no kinds and no places of pieces.
 // Every promise is of each tape that the state and the tables hold; code is safe for any state, so it minds the capacity by itself.
+use refusals::BLOCKS_FULL;
+use refusals::TONES_FULL;
 use rows::Block;
 use rows::Tone;
 use rows::append_block;
@@ -105,7 +107,7 @@ pub fn add_tone(s: State, tones: &mut [u64], r: Tone) -> Step
             body,
         })
     } else {
-        Step::No(Halt::Refusal(5))
+        Step::No(Halt::Refusal(TONES_FULL))
     }
 }
 
@@ -125,6 +127,6 @@ pub fn add_block(s: State, blocks: &mut [u64], r: Block) -> Step
             body,
         })
     } else {
-        Step::No(Halt::Refusal(6))
+        Step::No(Halt::Refusal(BLOCKS_FULL))
     }
 }

@@ -6,6 +6,7 @@ use mathlib.Core.List.{List, [], _∷_}
 use native.Mathlib.Omega.{arith}
 use lib.ListN.{length, getD, drop}
 use lib.Dec.{ltb}
+use Rattle.refusals.specs.Refusals.{lastBits}
 use Rattle.laws.specs.Rules.{_⇒_, _∣_}
 use Rattle.rows.specs.declared.Block.{Block}
 use Rattle.rows.specs.Table.{get, tableOf, capacityOf, zeros}
@@ -76,7 +77,7 @@ module _ {B N : ℕ} {r : Reading} {bt tt : List ℕ} {o : Read} (f : Finds B N 
   done-room e = let h = found-done e .2 in rw (h .lenB) (omega (arith, h .nb, h .roomB))
 
   module _ {s : State} (e : r ≡ Done s) {b : Bool} (k : (B : ℕ) (rs : List Block) → s .blocks ≡ length rs → bt ≡ tableOf block rs B → b ≡ tooManyBits rs) where
-    pub judged-seven : b ≡ true → Finds B N (Refused 7) bt tt (judged o)
+    pub judged-seven : b ≡ true → Finds B N (Refused lastBits) bt tt (judged o)
     unfolding judged
     judged-seven q =
         let d = found-done e in

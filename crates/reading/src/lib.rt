@@ -12,6 +12,7 @@ use pieces::head;
 use reader::Failure;
 use reader::Reading;
 use reader::halted;
+use refusals::LAST_BITS;
 use rows::Block;
 use rows::block_at;
 use run::read_pieces;
@@ -65,7 +66,7 @@ pub fn read_tzx(tape: &[u8], model: u32, blocks: &mut [u64], tones: &mut [u64]) 
             match read_pieces(tape, model, blocks, tones) {
                 Reading::Done(s) => {
                     if too_many_bits(blocks, s.blocks) {
-                        Reading::Refused(7)
+                        Reading::Refused(LAST_BITS)
                     } else {
                         Reading::Done(s)
                     }

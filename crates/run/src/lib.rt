@@ -8,6 +8,7 @@ use reader::Failure;
 use reader::Reading;
 use reader::act;
 use reader::halted;
+use refusals::GENERALISED;
 ghost use lib.ListN.{length};
 ghost use Rattle.parser.specs.Parser.{empty};
 ghost use Rattle.blocks.specs.Does.{lentOf};
@@ -49,7 +50,7 @@ pub fn read_pieces(tape: &[u8], model: u32, blocks: &mut [u64], tones: &mut [u64
             Taken::Short { kind, place, width } => {
                 return Reading::Failed(Failure::ShortPiece { kind, place, width });
             }
-            Taken::Overflow { kind: _, place: _ } => return Reading::Refused(4),
+            Taken::Overflow { kind: _, place: _ } => return Reading::Refused(GENERALISED),
         }
     }
     Reading::Done(s)

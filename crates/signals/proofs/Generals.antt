@@ -7,6 +7,7 @@ use native.Mathlib.Omega.{arith}
 use lib.ListN.{length, length-append}
 use lib.Dec.{leb}
 use borrow.Author.Tests.{le-leb, lt-leb, leb-true, leb-false}
+use Rattle.refusals.specs.Refusals.{generalised, tonesFull}
 use Rattle.laws.specs.Rules.{_⇒_, _∣_}
 use Rattle.rows.specs.declared.Block.{Block}
 use Rattle.rows.specs.declared.Tone.{Tone}
@@ -95,11 +96,11 @@ module _ (room : ℕ) where
       (ts, refl, cc, l .0)
 
 -- rows that do not fit
-no-room : (lent : Lent) (origin : Origin) (d : Sound) (t : Tape) → lent .tones < length (t .tones) + length (d .tones) → addSound lent origin d t ≡ no (Refusal 5)
+no-room : (lent : Lent) (origin : Origin) (d : Sound) (t : Tape) → lent .tones < length (t .tones) + length (d .tones) → addSound lent origin d t ≡ no (Refusal tonesFull)
 unfolding addSound addRows addTones _⟫_
 no-room lent origin d t h = rw (lt-leb (length (t .tones) + length (d .tones)) (lent .tones) h)
 
-made-full : (lent : Lent) (model : ℕ) (origin : Origin) (g : GeneralizedData) (t : Tape) (given : Given) → Full ≡ madeOf (lent .tones - length (t .tones)) given → does lent model origin (generalDeed g given) t ≡ no (Refusal 5)
+made-full : (lent : Lent) (model : ℕ) (origin : Origin) (g : GeneralizedData) (t : Tape) (given : Given) → Full ≡ madeOf (lent .tones - length (t .tones)) given → does lent model origin (generalDeed g given) t ≡ no (Refusal tonesFull)
 unfolding madeOf does generalDeed
 made-full lent model origin g t refused4 e = absurd (let z : _≡_ {A = ℕ} 0 1 = cc in omega arith)
 made-full lent model origin g t stop e = absurd (let z : _≡_ {A = ℕ} 0 1 = cc in omega arith)
@@ -134,11 +135,11 @@ module _ {B N : ℕ} {s : State} {bt tt : List ℕ} {t : Tape} (h : Holds B N s 
       rw (le-leb (length (t .tones) + length ts) (toneRoom N) m, ← h .nt, ← b) (k (withTones ts t) (subst (λ (z : State). Holds B N z bt tt′ (withTones ts t)) (sym a) now))
 
   module _ (g : GeneralizedData) (model : ℕ) (origin : Origin) {given : Given} {r : Made} {tt′ : List ℕ} (d : Done given (s .tones) tt tt′ r) where
-    pub general-no4 : {bt′ tt″ : List ℕ} → r ≡ Refused → Gives B N (No (Refusal 4)) bt′ tt″ (does (lentOf B N) model origin (generalDeed g given) t)
+    pub general-no4 : {bt′ tt″ : List ℕ} → r ≡ Refused → Gives B N (No (Refusal generalised)) bt′ tt″ (does (lentOf B N) model origin (generalDeed g given) t)
     unfolding does generalDeed
     general-no4 e = rw (made-refused (capacityOf tone toneMost tt - s .tones) given (sym e ∙ d .answer)) refuses
 
-    pub general-no5 : {bt′ tt″ : List ℕ} → r ≡ Full → Gives B N (No (Refusal 5)) bt′ tt″ (does (lentOf B N) model origin (generalDeed g given) t)
+    pub general-no5 : {bt′ tt″ : List ℕ} → r ≡ Full → Gives B N (No (Refusal tonesFull)) bt′ tt″ (does (lentOf B N) model origin (generalDeed g given) t)
     general-no5 e = rw (made-full (lentOf B N) model origin g t given (sym e ∙ d .answer ∙ ap (λ (n : ℕ). madeOf n given) room-left)) refuses
 
     pub general-stop : {x : Step} {bt′ : List ℕ} → r ≡ Stop → Gives B N x bt′ tt (addSound (lentOf B N) origin stopSound t) → Gives B N x bt′ tt′ (does (lentOf B N) model origin (generalDeed g given) t)

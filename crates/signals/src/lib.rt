@@ -14,6 +14,8 @@ use parser::State;
 use parser::Step;
 use parser::add_block;
 use pieces::GeneralizedData;
+use refusals::GENERALISED;
+use refusals::TONES_FULL;
 use rows::Tone;
 use stops::stop_block;
 ghost use mathlib.Core.Path.{_≡_};
@@ -95,8 +97,8 @@ pub fn generalized_data_block(
     ensures { λ x. ⌜ ((model : ℕ) → Does (λ lent. does lent model origin (generalDeed g (generalOf (now (tape .entry)) g))) s x (now (blocks .entry)) (now (tones .entry)) (now (blocks .exit)) (now (tones .exit))) ⌝ }
 {
     match general(tape, g, tones, s.tones as usize) {
-        Made::Refused => Step::No(Halt::Refusal(4)),
-        Made::Full => Step::No(Halt::Refusal(5)),
+        Made::Refused => Step::No(Halt::Refusal(GENERALISED)),
+        Made::Full => Step::No(Halt::Refusal(TONES_FULL)),
         Made::Stop => stop_block(s, blocks, origin),
         Made::Data {
             rows,

@@ -20,11 +20,7 @@ pub fn pause_block(s: State, blocks: &mut [u64], origin: Origin, pause: u32) -> 
     if pause == 0 {
         return no_tone(s, blocks, stop_row(origin, s.tones));
     }
-    no_tone(
-        s,
-        blocks,
-        bare_row(origin, s.tones, 0, pause as u64 * 3500),
-    )
+    no_tone(s, blocks, bare_row(origin, s.tones, 0, pause as u64 * 3500))
 }
 
 // A stop block.

@@ -10,27 +10,27 @@ use Rattle.rows.specs.Rows.{tone, toneMost, encodeTone, decodeTone, bloc
 use Rattle.rows.specs.Well.{wellTone, wellTones, wellRanges, wellNumbers, wellCases, wellBlock}
 
 -- the words of a tone and of a block, read and written back
-tone-words : encodeTone (decodeTone (7 ∷ 8 ∷ 9 ∷ [])) ≡ 7 ∷ 8 ∷ 9 ∷ []
+tone-words : encodeTone (decodeTone (7 ∷ 8 ∷ 9 ∷ 6 ∷ [])) ≡ 7 ∷ 8 ∷ 9 ∷ 6 ∷ []
 tone-words = refl
 
-block-words : encodeBlock (decodeBlock (1 ∷ 2 ∷ 3 ∷ 4 ∷ 5 ∷ 6 ∷ 7 ∷ 8 ∷ 9 ∷ 10 ∷ 11 ∷ 12 ∷ 13 ∷ [])) ≡ 1 ∷ 2 ∷ 3 ∷ 4 ∷ 5 ∷ 6 ∷ 7 ∷ 8 ∷ 9 ∷ 10 ∷ 11 ∷ 12 ∷ 13 ∷ []
+block-words : encodeBlock (decodeBlock (1 ∷ 2 ∷ 3 ∷ 4 ∷ 5 ∷ 6 ∷ 7 ∷ 8 ∷ 9 ∷ 10 ∷ 11 ∷ 12 ∷ 13 ∷ 14 ∷ 15 ∷ 16 ∷ [])) ≡ 1 ∷ 2 ∷ 3 ∷ 4 ∷ 5 ∷ 6 ∷ 7 ∷ 8 ∷ 9 ∷ 10 ∷ 11 ∷ 12 ∷ 13 ∷ 14 ∷ 15 ∷ 16 ∷ []
 block-words = refl
 
--- eight words are two tone rows and a broken one: row 1 is appended, row 2 is not
-appends : map (λ n. appended tone toneMost (zeros 8) n (decodeTone (7 ∷ 8 ∷ 9 ∷ []))) (1 ∷ 2 ∷ []) ≡ (0 ∷ 0 ∷ 0 ∷ 7 ∷ 8 ∷ 9 ∷ 0 ∷ 0 ∷ []) ∷ zeros 8 ∷ []
+-- ten words are two tone rows and a broken one: row 1 is appended, row 2 is not
+appends : map (λ n. appended tone toneMost (zeros 10) n (decodeTone (7 ∷ 8 ∷ 9 ∷ 6 ∷ []))) (1 ∷ 2 ∷ []) ≡ (0 ∷ 0 ∷ 0 ∷ 0 ∷ 7 ∷ 8 ∷ 9 ∷ 6 ∷ 0 ∷ 0 ∷ []) ∷ zeros 10 ∷ []
 appends = refl
 
 -- whole rows alone count, and no more than the limit
-block-capacities : map (λ n. capacityOf block blockMost (zeros n)) (12 ∷ 13 ∷ 53247 ∷ 53248 ∷ 53261 ∷ []) ≡ 0 ∷ 1 ∷ 4095 ∷ 4096 ∷ 4096 ∷ []
+block-capacities : map (λ n. capacityOf block blockMost (zeros n)) (15 ∷ 16 ∷ 65535 ∷ 65536 ∷ 65552 ∷ []) ≡ 0 ∷ 1 ∷ 4095 ∷ 4096 ∷ 4096 ∷ []
 block-capacities = refl
 
-tone-capacities : map (λ n. capacityOf tone toneMost (zeros n)) (2 ∷ 3 ∷ 196611 ∷ []) ≡ 0 ∷ 1 ∷ 65536 ∷ []
+tone-capacities : map (λ n. capacityOf tone toneMost (zeros n)) (3 ∷ 4 ∷ 262148 ∷ []) ≡ 0 ∷ 1 ∷ 65536 ∷ []
 tone-capacities = refl
 
 -- tones, and whether they are well formed
 tones-judged :
-    map (λ w. wellTone (decodeTone w)) ((65535 ∷ 65535 ∷ 65535 ∷ []) ∷ (65536 ∷ 0 ∷ 0 ∷ []) ∷ (0 ∷ 65536 ∷ 0 ∷ []) ∷ (0 ∷ 0 ∷ 65536 ∷ []) ∷ [])
-    ≡ true ∷ false ∷ false ∷ false ∷ []
+    map (λ w. wellTone (decodeTone w)) ((65535 ∷ 65535 ∷ 65535 ∷ 11 ∷ []) ∷ (65536 ∷ 0 ∷ 0 ∷ 0 ∷ []) ∷ (0 ∷ 65536 ∷ 0 ∷ 0 ∷ []) ∷ (0 ∷ 0 ∷ 65536 ∷ 0 ∷ []) ∷ (0 ∷ 0 ∷ 0 ∷ 12 ∷ []) ∷ [])
+    ≡ true ∷ false ∷ false ∷ false ∷ false ∷ []
 unfolding wellTone
 tones-judged = refl
 
@@ -41,10 +41,10 @@ blank-well = refl
 
 -- a block with 19 bytes of a tape of 20 and two tone rows; the table's third row is bad, its fourth broken
 abbrev row : List ℕ
-row = 0 ∷ 2 ∷ 1 ∷ 19 ∷ 855 ∷ 1710 ∷ 8 ∷ 3500000 ∷ 0 ∷ 1 ∷ 0 ∷ 0 ∷ 0 ∷ []
+row = 0 ∷ 2 ∷ 1 ∷ 19 ∷ 855 ∷ 1710 ∷ 8 ∷ 3500000 ∷ 0 ∷ 1 ∷ 0 ∷ 0 ∷ 0 ∷ 0 ∷ 0 ∷ 0 ∷ []
 
 abbrev table : List ℕ
-table = 65535 ∷ 65535 ∷ 65535 ∷ 0 ∷ 0 ∷ 0 ∷ 1 ∷ 1 ∷ 65536 ∷ 1 ∷ []
+table = 65535 ∷ 65535 ∷ 65535 ∷ 0 ∷ 0 ∷ 0 ∷ 0 ∷ 0 ∷ 1 ∷ 1 ∷ 65536 ∷ 0 ∷ 1 ∷ []
 
 -- the row with some words changed
 abbrev changed : List (ℕ × ℕ) → List ℕ
@@ -77,6 +77,13 @@ blocks =
     -- name cases
     ((10, 4) ∷ [], true) ∷
     ((10, 5) ∷ [], false) ∷
+    -- sorts
+    ((13, 1) ∷ [], true) ∷
+    ((13, 2) ∷ [], false) ∷
+    -- levels, also of a document row
+    ((13, 1) ∷ (14, 1) ∷ (15, 1) ∷ [], true) ∷
+    ((14, 2) ∷ [], false) ∷
+    ((15, 2) ∷ [], false) ∷
     -- data range
     ((3, 19) ∷ [], true) ∷
     ((3, 20) ∷ [], false) ∷

@@ -16,12 +16,12 @@ abbrev pub ms : ℕ → ℕ
 ms n = n * 3500
 
 abbrev pub toneOf : ℕ → ℕ → ℕ → Tone
-toneOf num len1 len2 = record { num = num; len1 = len1; len2 = len2 }
+toneOf num len1 len2 = record { num = num; len1 = len1; len2 = len2; wave = 0 }
 
 -- a block's sound: bits of data in the tape, and a finite pause; selectable or not, and nameless at birth
 unfoldable pub born : ℕ → ℕ → ℕ → ℕ → ℕ → ℕ → ℕ → ℕ → ℕ → Block
 born selectable tone tones start size nil one last pause =
-    record { tone = tone; tones = tones; start = start; size = size; zero = nil; one = one; last = last; pause = pause; endless = 0; selectable = selectable; named = 0; text = 0; chars = 0 }
+    record { tone = tone; tones = tones; start = start; size = size; zero = nil; one = one; last = last; pause = pause; endless = 0; selectable = selectable; named = 0; text = 0; chars = 0; sort = 0; level = 0; played = 0 }
 
 -- a standard block is a header if the first byte is below 128 or data is empty
 unfoldable pub isHeader : List ℕ → ℕ → ℕ → Bool

@@ -41,6 +41,9 @@ pub fn born(
         named: 0,
         text: 0,
         chars: 0,
+        sort: 0,
+        level: 0,
+        played: 0,
     }
 }
 
@@ -62,6 +65,9 @@ pub fn stop_row(tone: u64) -> Block
         named: 1,
         text: 0,
         chars: 0,
+        sort: 0,
+        level: 0,
+        played: 0,
     }
 }
 
@@ -129,11 +135,13 @@ pub fn standard_data_block(
         num: standard_cycles(header),
         len1: 2168,
         len2: 2168,
+        wave: 0,
     };
     let sync = Tone {
         num: 1,
         len1: 667,
         len2: 735,
+        wave: 0,
     };
     let r = born(1, s.tones, 2, start, size as u64, 855, 1710, 8, pause);
     two_tones(s, blocks, tones, pilot, sync, r)

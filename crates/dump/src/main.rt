@@ -29,7 +29,7 @@ fn main() {
     let n = io::read_full(0, &mut input);
     let mut one = [0u8; 1];
     let more = io::read_full(0, &mut one);
-    let mut blocks = [0u64; 6656];
-    let mut tones = [0u64; 6144];
+    let mut blocks = [0u64; 8192];
+    let mut tones = [0u64; 8192];
     dump(&input[..n], more, &mut blocks, &mut tones);
 }

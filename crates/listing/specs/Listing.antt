@@ -14,10 +14,10 @@ use Rattle.page.specs.Page.{listingText}
 
 -- 512 block and 2,048 tone rows
 abbrev pub blockWords : ℕ
-blockWords = 6656
+blockWords = 8192
 
 abbrev pub toneWords : ℕ
-toneWords = 6144
+toneWords = 8192
 
 unfoldable pub loadedOf : List ℕ → ℕ → Load
 loadedOf s model = loadNamed (record { blocks = 512; tones = 2048 }) s model

@@ -69,8 +69,8 @@ pub extern "C" fn glyvrask_listing(tape: &[u8], model: u32, out: &mut [u8]) -> u
     if 65535 < tape.len() {
         return 2;
     }
-    let mut blocks = [0u64; 6656];
-    let mut tones = [0u64; 6144];
+    let mut blocks = [0u64; 8192];
+    let mut tones = [0u64; 8192];
     match tape::load(tape, model, &mut blocks, &mut tones) {
         Loaded::Tape {
             format,

@@ -34,7 +34,7 @@ nameOf s r =
 -- the naming pass, in order over blocks: the next non-header block after a header loses selectability
 unfoldable pub unselected : Block → Block
 unselected r =
-    record { tone = r .tone; tones = r .tones; start = r .start; size = r .size; zero = r .zero; one = r .one; last = r .last; pause = r .pause; endless = r .endless; selectable = 0; named = r .named; text = r .text; chars = r .chars }
+    record { tone = r .tone; tones = r .tones; start = r .start; size = r .size; zero = r .zero; one = r .one; last = r .last; pause = r .pause; endless = r .endless; selectable = 0; named = r .named; text = r .text; chars = r .chars; sort = r .sort; level = r .level; played = r .played }
 
 unfoldable pub passed : List ℕ → Bool → Block → Block
 passed s prefixed r = isHeader s r ⇒ r ∣ prefixed ⇒ unselected r ∣ r

@@ -38,7 +38,7 @@ abbrev tones : List Tone → Tape → Out
 tones = addTones 3
 
 abbrev tone : Tone
-tone = record { num = 1; len1 = 2; len2 = 3 }
+tone = record { num = 1; len1 = 2; len2 = 3; wave = 0 }
 
 abbrev after : List (Tape → Out) → Out → Out
 after [] o = o

@@ -38,7 +38,7 @@ _⟫_ (no k) f = no k
 -- a block with another name and selectable mark
 abbrev pub renamed : ℕ → ℕ → ℕ → ℕ → Block → Block
 renamed selectable case text chars r =
-    record { tone = r .tone; tones = r .tones; start = r .start; size = r .size; zero = r .zero; one = r .one; last = r .last; pause = r .pause; endless = r .endless; selectable = selectable; named = case; text = text; chars = chars }
+    record { tone = r .tone; tones = r .tones; start = r .start; size = r .size; zero = r .zero; one = r .one; last = r .last; pause = r .pause; endless = r .endless; selectable = selectable; named = case; text = text; chars = chars; sort = r .sort; level = r .level; played = r .played }
 
 -- each added block takes a pending name: group first (selectable), group later (unselectable), text (selectable)
 abbrev pub named : Pending → Block → Block
@@ -98,7 +98,7 @@ noteText text chars t = on (withPending (noted text chars (t .pending)) t)
 unfoldable pub paused : Block → Block
 paused r =
     (eqb (r .endless) 0 && eqb (r .pause) 0) ⇒
-    record { tone = r .tone; tones = r .tones; start = r .start; size = r .size; zero = r .zero; one = r .one; last = r .last; pause = 3500; endless = r .endless; selectable = r .selectable; named = r .named; text = r .text; chars = r .chars }
+    record { tone = r .tone; tones = r .tones; start = r .start; size = r .size; zero = r .zero; one = r .one; last = r .last; pause = 3500; endless = r .endless; selectable = r .selectable; named = r .named; text = r .text; chars = r .chars; sort = r .sort; level = r .level; played = r .played }
     ∣ r
 
 unfoldable pub lastPaused : List Block → List Block

@@ -28,7 +28,7 @@ use Rattle.views.specs.View.{View, tonesFrom, viewOf, blocksOf, viewsIn, blockL
 use Rattle.promises.specs.Demands.{listOf}
 
 none : Tone
-none = record { num = 0; len1 = 0; len2 = 0 }
+none = record { num = 0; len1 = 0; len2 = 0; wave = 0 }
 
 -- the list from place i on, where it has one more
 drop-next : (ts : List Tone) (i : ℕ) → i < length ts → drop i ts ≡ getD ts i none ∷ drop (suc i) ts

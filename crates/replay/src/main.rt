@@ -7,9 +7,9 @@ ghost use Prim.Native.Nat.{_≤_};
 ghost use lib.ListN.{length};
 
 // More words than 4,096 and 65,536 rows have, so that a table may be longer than its limit.
-const BLOCK_WORDS: usize = 53300;
+const BLOCK_WORDS: usize = 65600;
 
-const TONE_WORDS: usize = 196700;
+const TONE_WORDS: usize = 262200;
 
 // A tape that fills `tape`, and its answer.
 fn answer(tape: &mut [u8], model: u32, blocks: &mut [u64], tones: &mut [u64])

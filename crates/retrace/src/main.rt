@@ -30,7 +30,7 @@ fn main() {
     io::read_full(0, &mut head);
     let n = number_up_to(&head, 0, 4, 1000000);
     let mut bytes = io::large_buffer();
-    let mut blocks = [0u64; 6656];
-    let mut tones = [0u64; 6144];
+    let mut blocks = [0u64; 8192];
+    let mut tones = [0u64; 8192];
     retrace_all(&mut bytes, &mut blocks, &mut tones, n);
 }

@@ -50,6 +50,7 @@ pub fn pulse_blocks(
             num: 1,
             len1: pulse_at(tape, from, i),
             len2: pulse_at(tape, from, i + 1),
+            wave: 0,
         };
         let r = born(0, s.tones, 1, 0, 0, 0, 0, 0, 0);
         match one_tone(s, blocks, tones, pair, r) {

@@ -54,10 +54,10 @@ view s (no k) = refusal k
 
 -- a nameless block's words: tone, tones, start, size, zero, one, last, pause, selectable
 abbrev row : ℕ → ℕ → ℕ → ℕ → ℕ → ℕ → ℕ → ℕ → ℕ → List ℕ
-row t n start size nil one last pause mark = t ∷ n ∷ start ∷ size ∷ nil ∷ one ∷ last ∷ pause ∷ 0 ∷ mark ∷ 0 ∷ 0 ∷ 0 ∷ []
+row t n start size nil one last pause mark = t ∷ n ∷ start ∷ size ∷ nil ∷ one ∷ last ∷ pause ∷ 0 ∷ mark ∷ 0 ∷ 0 ∷ 0 ∷ 0 ∷ 0 ∷ 0 ∷ []
 
 abbrev stop : ℕ → List ℕ
-stop t = t ∷ 0 ∷ 0 ∷ 0 ∷ 0 ∷ 0 ∷ 0 ∷ 0 ∷ 1 ∷ 1 ∷ 1 ∷ 0 ∷ 0 ∷ []
+stop t = t ∷ 0 ∷ 0 ∷ 0 ∷ 0 ∷ 0 ∷ 0 ∷ 0 ∷ 1 ∷ 1 ∷ 1 ∷ 0 ∷ 0 ∷ 0 ∷ 0 ∷ 0 ∷ []
 
 abbrev pause : ℕ → List ℕ
 pause t = row t 0 0 0 0 0 0 3500 0
@@ -71,10 +71,10 @@ stopped = 0x73 ∷ 0x74 ∷ 0x6F ∷ 0x70 ∷ []
 
 -- the tone rows of a standard block: a header's, and another's
 abbrev long : List (List ℕ)
-long = (4032 ∷ 2168 ∷ 2168 ∷ []) ∷ (1 ∷ 667 ∷ 735 ∷ []) ∷ []
+long = (4032 ∷ 2168 ∷ 2168 ∷ 0 ∷ []) ∷ (1 ∷ 667 ∷ 735 ∷ 0 ∷ []) ∷ []
 
 abbrev short : List (List ℕ)
-short = (1612 ∷ 2168 ∷ 2168 ∷ []) ∷ (1 ∷ 667 ∷ 735 ∷ []) ∷ []
+short = (1612 ∷ 2168 ∷ 2168 ∷ 0 ∷ []) ∷ (1 ∷ 667 ∷ 735 ∷ 0 ∷ []) ∷ []
 
 -- the listing's printed tape
 abbrev printed : List ℕ
@@ -119,23 +119,23 @@ examples =
     of 0 (1 ∷ 0 ∷ 0xFF ∷ []) (taken 0 (row 0 2 2 1 855 1710 8 7000000 1 ∷ []) short (sized 1 ∷ [])) ∷
     of 0 (2 ∷ 0 ∷ 0xFF ∷ []) (refusal 3) ∷
     -- 12 with length 100: count 1, count 0
-    of 0 (pieces (0x12 ∷ 100 ∷ 0 ∷ 1 ∷ 0 ∷ [])) (taken 1 (row 0 2 0 0 0 0 0 0 0 ∷ []) ((1 ∷ 0 ∷ 100 ∷ []) ∷ (0 ∷ 100 ∷ 100 ∷ []) ∷ []) (sized 0 ∷ [])) ∷
-    of 0 (pieces (0x12 ∷ 100 ∷ 0 ∷ 0 ∷ 0 ∷ [])) (taken 1 (row 0 1 0 0 0 0 0 0 0 ∷ []) ((0 ∷ 100 ∷ 100 ∷ []) ∷ []) (sized 0 ∷ [])) ∷
+    of 0 (pieces (0x12 ∷ 100 ∷ 0 ∷ 1 ∷ 0 ∷ [])) (taken 1 (row 0 2 0 0 0 0 0 0 0 ∷ []) ((1 ∷ 0 ∷ 100 ∷ 0 ∷ []) ∷ (0 ∷ 100 ∷ 100 ∷ 0 ∷ []) ∷ []) (sized 0 ∷ [])) ∷
+    of 0 (pieces (0x12 ∷ 100 ∷ 0 ∷ 0 ∷ 0 ∷ [])) (taken 1 (row 0 1 0 0 0 0 0 0 0 ∷ []) ((0 ∷ 100 ∷ 100 ∷ 0 ∷ []) ∷ []) (sized 0 ∷ [])) ∷
     -- loop 2 round one pause: three blocks; loop 3: refused 6
     of 0 (pieces (0x24 ∷ 2 ∷ 0 ∷ 0x20 ∷ 1 ∷ 0 ∷ 0x25 ∷ [])) (taken 1 (pause 0 ∷ pause 0 ∷ pause 0 ∷ []) [] (sized 0 ∷ sized 0 ∷ sized 0 ∷ [])) ∷
     of 0 (pieces (0x24 ∷ 3 ∷ 0 ∷ 0x20 ∷ 1 ∷ 0 ∷ 0x25 ∷ [])) (refusal 6) ∷
     -- pure data: last bits 8 accepted, 9 refused 7
-    of 0 (pure 8) (taken 1 (row 0 2 21 1 10 20 8 0 1 ∷ []) ((0 ∷ 0 ∷ 0 ∷ []) ∷ (1 ∷ 0 ∷ 0 ∷ []) ∷ []) (sized 1 ∷ [])) ∷
+    of 0 (pure 8) (taken 1 (row 0 2 21 1 10 20 8 0 1 ∷ []) ((0 ∷ 0 ∷ 0 ∷ 0 ∷ []) ∷ (1 ∷ 0 ∷ 0 ∷ 0 ∷ []) ∷ []) (sized 1 ∷ [])) ∷
     of 0 (pure 9) (refusal 7) ∷
     -- the printed tape on the 48K, and on the others
-    of 0 printed (taken 1 (row 0 1 0 0 0 0 0 0 0 ∷ pause 1 ∷ stop 1 ∷ []) ((2 ∷ 100 ∷ 100 ∷ []) ∷ []) (sized 0 ∷ sized 0 ∷ stopped ∷ [])) ∷
-    of 1 printed (taken 1 (row 0 1 0 0 0 0 0 0 0 ∷ pause 1 ∷ []) ((2 ∷ 100 ∷ 100 ∷ []) ∷ []) (sized 0 ∷ sized 0 ∷ [])) ∷
-    of 2 printed (taken 1 (row 0 1 0 0 0 0 0 0 0 ∷ pause 1 ∷ []) ((2 ∷ 100 ∷ 100 ∷ []) ∷ []) (sized 0 ∷ sized 0 ∷ [])) ∷
+    of 0 printed (taken 1 (row 0 1 0 0 0 0 0 0 0 ∷ pause 1 ∷ stop 1 ∷ []) ((2 ∷ 100 ∷ 100 ∷ 0 ∷ []) ∷ []) (sized 0 ∷ sized 0 ∷ stopped ∷ [])) ∷
+    of 1 printed (taken 1 (row 0 1 0 0 0 0 0 0 0 ∷ pause 1 ∷ []) ((2 ∷ 100 ∷ 100 ∷ 0 ∷ []) ∷ []) (sized 0 ∷ sized 0 ∷ [])) ∷
+    of 2 printed (taken 1 (row 0 1 0 0 0 0 0 0 0 ∷ pause 1 ∷ []) ((2 ∷ 100 ∷ 100 ∷ 0 ∷ []) ∷ []) (sized 0 ∷ sized 0 ∷ [])) ∷
     of 3 printed (refusal 1) ∷
     -- a generalised piece with neither pilot nor data: refused 4, no fallback
     of 0 (pieces (0x19 ∷ replicate 18 0)) (refusal 4) ∷
     -- exactly full; one tone row short: refused 5; one block row short: refused 6; both: 5
-    lending 2 2 two (taken 1 (row 0 2 0 0 0 0 0 0 0 ∷ pause 2 ∷ []) ((1 ∷ 0 ∷ 100 ∷ []) ∷ (0 ∷ 100 ∷ 100 ∷ []) ∷ []) (sized 0 ∷ sized 0 ∷ [])) ∷
+    lending 2 2 two (taken 1 (row 0 2 0 0 0 0 0 0 0 ∷ pause 2 ∷ []) ((1 ∷ 0 ∷ 100 ∷ 0 ∷ []) ∷ (0 ∷ 100 ∷ 100 ∷ 0 ∷ []) ∷ []) (sized 0 ∷ sized 0 ∷ [])) ∷
     lending 2 1 two (refusal 5) ∷
     lending 1 2 two (refusal 6) ∷
     lending 0 1 two (refusal 5) ∷
@@ -155,6 +155,6 @@ unfolding loadNamed naming loadOf
 too-long lent s model h k = rw (lt-leb 3 model h, lt-ltb 1048576 (length s) k)
 
 -- two tapes are accepted and leave different block rows: so a load that refuses all tapes, or has one listing for all, does not meet the contract
-pub two-lists : {a a′ : Answer} {bt bt′ tt tt′ : List ℕ} → Leaves 39 12 (loadNamed (lentOf 39 12) (0 ∷ 0 ∷ []) 0) a bt tt → Leaves 39 12 (loadNamed (lentOf 39 12) (1 ∷ 0 ∷ 0xFF ∷ []) 0) a′ bt′ tt′ → (a ≡ Tape Tap 1 2) × (a′ ≡ Tape Tap 1 2) × (bt ≡ bt′ → ⊥)
+pub two-lists : {a a′ : Answer} {bt bt′ tt tt′ : List ℕ} → Leaves 48 16 (loadNamed (lentOf 48 16) (0 ∷ 0 ∷ []) 0) a bt tt → Leaves 48 16 (loadNamed (lentOf 48 16) (1 ∷ 0 ∷ 0xFF ∷ []) 0) a′ bt′ tt′ → (a ≡ Tape Tap 1 2) × (a′ ≡ Tape Tap 1 2) × (bt ≡ bt′ → ⊥)
 unfolding leAt numberAt fieldAt placeOf times eachAt groupsAt countedAt passAt textsAt wholeAt sealed enclosed fittingAt readAt digits orFull heldIf kind10 kind11 kind12 kind13 kind14 stream19 kind19 kind20 kind21 kind22 kind24 kind25 kind2A kind30 kind31 info32 kind32 kind33 kind35 kind5A kinds kindOf startsAt headAt named cutAt blockOf tapAt pilotOf dataOf withPilot withData generalOf empty _⟫_ addTones addBlock startGroup noteText endGroup openLoop copyRows copies closed closeLoop paused lastPaused isHeader standardCycles standardTones standardPause turboTones pureTones pureToneTones pulseAt addRows rowOf standardSound turboSound pairSounds pureSound pauseSound addSound addSounds generalDeed does deedOf act after seeing foldFrom stopLength tooManyBits judged tzxOf tzxSee headed readTzx tapOf tapSee readTap orTap orElse loadOf decimal digitsOf latin1 each table encoded isHeading typeName namedAs sizeShown sizeName guessed nameOf unselected passed nameAll namedTape naming loadNamed answerOf blocksOf tableOver
 two-lists x y = (x .answer, y .answer, λ e. suc-ne-zero 0 (ap (λ (l : List ℕ). getD l 3 0) (sym (y .blocks) ∙ sym e ∙ x .blocks)))

@@ -18,11 +18,13 @@ pub fn turbo_data_block(s: State, blocks: &mut [u64], tones: &mut [u64], d: Turb
         num: (d.pilots as u64 + 1) / 2,
         len1: d.pilot as u64,
         len2: d.pilot as u64,
+        wave: 0,
     };
     let sync = Tone {
         num: 1,
         len1: d.sync1 as u64,
         len2: d.sync2 as u64,
+        wave: 0,
     };
     let r = born(
         1,
@@ -56,11 +58,13 @@ pub fn pure_data_block(
         num: 0,
         len1: 0,
         len2: 0,
+        wave: 0,
     };
     let sync = Tone {
         num: 1,
         len1: 0,
         len2: 0,
+        wave: 0,
     };
     let r = born(
         1,
@@ -90,6 +94,7 @@ pub fn pure_tone_block(
         num: (count / 2) as u64,
         len1: half as u64,
         len2: half as u64,
+        wave: 0,
     };
     if count % 2 == 0 {
         let r = born(0, s.tones, 1, 0, 0, 0, 0, 0, 0);
@@ -99,6 +104,7 @@ pub fn pure_tone_block(
         num: 1,
         len1: 0,
         len2: half as u64,
+        wave: 0,
     };
     let r = born(0, s.tones, 2, 0, 0, 0, 0, 0, 0);
     two_tones(s, blocks, tones, odd, whole, r)

@@ -12,8 +12,8 @@ pub mod bench {
         fn glyvrask_listing(tape: *const u8, n: usize, model: u32, out: *mut u8, on: usize) -> u32;
     }
 
-    const BLOCK_WORDS: usize = 4096 * 13;
-    const TONE_WORDS: usize = 65536 * 3;
+    const BLOCK_WORDS: usize = 4096 * 16;
+    const TONE_WORDS: usize = 65536 * 4;
     const POSITION_WORDS: usize = 7;
     const ENDED: u64 = 2;
 
@@ -178,8 +178,8 @@ pub mod bench {
         assert_eq!(ours.count as usize, rust.len());
         let r = best(|| rust_load(bytes));
         row(&format!("load {what}, tables of 4,096 and 65,536 rows"), r, best(|| ours.load(BLOCK_WORDS, TONE_WORDS)));
-        if ours.load(512 * 13, 2048 * 3) == 0 {
-            row(&format!("load {what}, tables of 512 and 2,048 rows"), r, best(|| ours.load(512 * 13, 2048 * 3)));
+        if ours.load(512 * 16, 2048 * 4) == 0 {
+            row(&format!("load {what}, tables of 512 and 2,048 rows"), r, best(|| ours.load(512 * 16, 2048 * 4)));
             let mut out = vec![0u8; 300_000];
             let wanted = driver::listing(&driver::Loaded { tzx: true, tape: rust_load(bytes) }, Model::Spec48k);
             let n = ours.list(&mut out) as usize;

@@ -155,30 +155,30 @@ static void lengths(void) {
 
 static void block_rows(void) {
     tap_of(4096);
-    load("4,096 blocks load into 4,096 rows", 1, 4096 * 13, LENT_TONES, 0, 4096, 8192);
+    load("4,096 blocks load into 4,096 rows", 1, 4096 * 16, LENT_TONES, 0, 4096, 8192);
     load("and into a longer table", 1, LENT_BLOCKS - 5, LENT_TONES - 1, 0, 4096, 8192);
-    load("with the last row broken they are refused 6", 1, 4096 * 13 - 1, LENT_TONES, 6, 0, 0);
+    load("with the last row broken they are refused 6", 1, 4096 * 16 - 1, LENT_TONES, 6, 0, 0);
     tap_of(4097);
     load("4,097 blocks are refused 6 in a table of 4,098 rows", 1, LENT_BLOCKS, LENT_TONES, 6, 0, 0);
     tap_of(2);
-    load("two blocks load into two rows and twelve words", 2, 2 * 13 + 12, 4 * 3 + 2, 0, 2, 4);
+    load("two blocks load into two rows and fifteen words", 2, 2 * 16 + 15, 4 * 4 + 3, 0, 2, 4);
     tap_of(3);
-    load("three blocks are refused 6 there", 2, 2 * 13 + 12, LENT_TONES, 6, 0, 0);
+    load("three blocks are refused 6 there", 2, 2 * 16 + 15, LENT_TONES, 6, 0, 0);
     load("and into no words at all", 2, 0, 0, 5, 0, 0);
 }
 
 static void tone_rows(void) {
     generalised(65536);
-    load("65,536 tone rows load into 65,536 rows", 0, 13, 65536 * 3, 0, 1, 65536);
+    load("65,536 tone rows load into 65,536 rows", 0, 16, 65536 * 4, 0, 1, 65536);
     is(answer[0], 1, "  as a TZX");
     is(blocks[GLYVRASK_TONES], 65536, "  all of one block");
-    is(tones[65535 * 3 + GLYVRASK_LEN2], 400, "  the last one too");
+    is(tones[65535 * 4 + GLYVRASK_LEN2], 400, "  the last one too");
     load("and into a longer table", 0, LENT_BLOCKS, LENT_TONES, 0, 1, 65536);
-    load("with the last row broken they are refused 5", 0, 13, 65536 * 3 - 1, 5, 0, 0);
+    load("with the last row broken they are refused 5", 0, 16, 65536 * 4 - 1, 5, 0, 0);
     generalised(65537);
     load("65,537 tone rows are refused 5 in a table of 65,538 rows", 0, LENT_BLOCKS, LENT_TONES, 5, 0, 0);
     tap_of(1);
-    load("a block is refused 5 where a tone row is broken", 0, LENT_BLOCKS, 2 * 3 - 1, 5, 0, 0);
+    load("a block is refused 5 where a tone row is broken", 0, LENT_BLOCKS, 2 * 4 - 1, 5, 0, 0);
 }
 
 static void refused_loads(void) {
@@ -298,13 +298,15 @@ static void refusals(void) {
         word last = values[of_place[c]];
         refused(of_place[c], count, 0, last - 1, 10, "one word too few is refused 10");
         refused(of_place[c], 4097, 0, last, 11, "a count of 4,097 is refused 11");
-        at(0, 4, 0, 0, 0, 0, 0), refused(of_place[c], count, 0, last, 9, "phase 4 is refused 9");
+        at(0, 5, 0, 0, 0, 0, 0), refused(of_place[c], count, 0, last, 9, "phase 5 is refused 9");
         refused(of_place[c], 4097, 0, last, 11, "  but for a count of 4,097, which is 11");
         at(0, 1, 0, 0, 2, 0, 1), refused(of_place[c], count, 0, last, 9, "a last half of 2 is refused 9");
         at(2, 3, 0, 0, 0, 2, 0), refused(of_place[c], count, 0, last, 9, "an endless flag of 2 is refused 9");
         at(2, 3, 0, 0, 0, 1, 1), refused(of_place[c], count, 0, last, 9, "endless with T-states left is refused 9");
         at(0, 0, 1, 0, 0, 0, 0), refused(of_place[c], count, 0, last, 9, "a word that a start doesn't use is refused 9");
         at(0, 3, 0, 1, 0, 0, 0), refused(of_place[c], count, 0, last, 9, "a word that a pause doesn't use is refused 9");
+        at(1, 4, 0, 1, 0, 0, 3500), refused(of_place[c], count, 0, last, 9, "a word that an edge doesn't use is refused 9");
+        at(1, 4, 0, 0, 0, 0, 3500), refused(of_place[c], count, 0, last, 9, "an edge in a source row is refused 9");
         at(0, 1, 0, 2, 0, 0, 1), refused(of_place[c], count, 0, last, 9, "a cycle that isn't there is refused 9");
         at(0, 1, 0, 0, 0, 0, 101), refused(of_place[c], count, 0, last, 9, "more left than the entry lasts is refused 9");
         at(3, 3, 0, 0, 0, 0, 0), refused(of_place[c], count, 0, last, 9, "a pause at the count is refused 9");

@@ -89,7 +89,7 @@ def main(home, out):
             tones = tone_rows(answer, oracle, tape, i % 3)
             for b, t in ((rows, tones), (rows - 1, tones), (rows, tones - 1)):
                 if b >= 0 and t >= 0:
-                    add(tape, i % 3, b, t, (12, 2))
+                    add(tape, i % 3, b, t, (BLOCK_WORDS - 1, TONE_WORDS - 1))
         for i, tape in enumerate(each_kind_cut()):
             add(tape, i % 3, 512, 2048)
         for i, tape in enumerate(too_many_bits()):

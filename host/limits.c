@@ -182,7 +182,7 @@ static void tone_rows(void) {
     generalised(65537);
     load("65,537 tone rows are refused 5 in a table of 65,538 rows", 0, LENT_BLOCKS, LENT_TONES, 5, 0, 0);
     tap_of(1);
-    load("a block is refused 5 where a tone row is broken", 0, LENT_BLOCKS, 2 * 3 - 1, 5, 0, 0);
+    load("a block is refused 5 where a tone row is broken", 0, LENT_BLOCKS, 2 * 4 - 1, 5, 0, 0);
 }
 
 static void refused_loads(void) {
@@ -302,13 +302,15 @@ static void refusals(void) {
         word last = values[of_place[c]];
         refused(of_place[c], count, 0, last - 1, 10, "one word too few is refused 10");
         refused(of_place[c], 4097, 0, last, 11, "a count of 4,097 is refused 11");
-        at(0, 4, 0, 0, 0, 0, 0), refused(of_place[c], count, 0, last, 9, "phase 4 is refused 9");
+        at(0, 5, 0, 0, 0, 0, 0), refused(of_place[c], count, 0, last, 9, "phase 5 is refused 9");
         refused(of_place[c], 4097, 0, last, 11, "  but for a count of 4,097, which is 11");
         at(0, 1, 0, 0, 2, 0, 1), refused(of_place[c], count, 0, last, 9, "a last half of 2 is refused 9");
         at(2, 3, 0, 0, 0, 2, 0), refused(of_place[c], count, 0, last, 9, "an endless flag of 2 is refused 9");
         at(2, 3, 0, 0, 0, 1, 1), refused(of_place[c], count, 0, last, 9, "endless with T-states left is refused 9");
         at(0, 0, 1, 0, 0, 0, 0), refused(of_place[c], count, 0, last, 9, "a word that a start doesn't use is refused 9");
         at(0, 3, 0, 1, 0, 0, 0), refused(of_place[c], count, 0, last, 9, "a word that a pause doesn't use is refused 9");
+        at(1, 4, 0, 1, 0, 0, 3500), refused(of_place[c], count, 0, last, 9, "a word that an edge doesn't use is refused 9");
+        at(1, 4, 0, 0, 0, 0, 3500), refused(of_place[c], count, 0, last, 9, "an edge in a source row is refused 9");
         at(0, 1, 0, 2, 0, 0, 1), refused(of_place[c], count, 0, last, 9, "a cycle that isn't there is refused 9");
         at(0, 1, 0, 0, 0, 0, 101), refused(of_place[c], count, 0, last, 9, "more left than the entry lasts is refused 9");
         at(3, 3, 0, 0, 0, 0, 0), refused(of_place[c], count, 0, last, 9, "a pause at the count is refused 9");

@@ -41,8 +41,8 @@ enum {
 
 /* THE TABLES. Capacity is the whole rows lent, at most 4,096 blocks and 65,536 tones: a broken last row and rows past these
  * limits are never used. After a load every unused word of both tables is zero. A row's words: */
-#define GLYVRASK_BLOCK_WORDS 13
-#define GLYVRASK_TONE_WORDS 3
+#define GLYVRASK_BLOCK_WORDS 16
+#define GLYVRASK_TONE_WORDS 4
 
 /* the words of a block row */
 enum {
@@ -58,21 +58,26 @@ enum {
     GLYVRASK_SELECTABLE = 9, /* 1: offered in a menu */
     GLYVRASK_NAMED = 10,     /* 0 no name given, 1 `stop`, 2 a text, 3 a group's first block, 4 a group's later block */
     GLYVRASK_TEXT = 11,      /* place of the given name in the tape */
-    GLYVRASK_CHARS = 12      /* bytes of the given name */
+    GLYVRASK_CHARS = 12,     /* bytes of the given name */
+    GLYVRASK_SORT = 13,      /* 0 a source row, as every load makes it; 1 a document row, played as TZX 1.20 says */
+    GLYVRASK_ROW_LEVEL = 14, /* document rows: the level at which the first pulse is played, 0 low, 1 high; else 0 */
+    GLYVRASK_ROW_PLAYED = 15 /* document rows: the level last played before it; else 0 */
 };
 
 /* the words of a tone row */
 enum {
-    GLYVRASK_NUM = 0,  /* cycles; 0 plays as one */
+    GLYVRASK_NUM = 0,  /* cycles; in a source row 0 plays as one */
     GLYVRASK_LEN1 = 1, /* T-states of a cycle's first half */
-    GLYVRASK_LEN2 = 2  /* T-states of its second half */
+    GLYVRASK_LEN2 = 2, /* T-states of its second half */
+    GLYVRASK_WAVE = 3  /* document rows: 3 * begin + pulses of a cycle (0, 1, 2), at most 11; else 0. Begin 0: at the current
+                        * level, 1: at the level last played, 2: low, 3: high */
 };
 
 /* A POSITION is seven words. Words that a phase does not use are 0, and so is `left` where `endless` is 1; other words name no
  * position, as does a row shorter than seven. Words past the seventh are not read. */
 enum {
     GLYVRASK_POS_BLOCK = 0,   /* its block number */
-    GLYVRASK_POS_PHASE = 1,   /* 0 the block's start, 1 tones, 2 data, 3 pause */
+    GLYVRASK_POS_PHASE = 1,   /* 0 the block's start, 1 tones, 2 data, 3 pause, 4 a document row's edge: its pause's first millisecond */
     GLYVRASK_POS_ITEM = 2,    /* tones: the tone row, counted from the block's first; data: the byte */
     GLYVRASK_POS_PART = 3,    /* tones: the cycle; data: the bit, from the top */
     GLYVRASK_POS_HALF = 4,    /* tones, data: 1 in the last half */

@@ -53,6 +53,9 @@ fn row(origin: Origin, tone: u64, tones: u64, bits: Bits, ending: Ending, select
         named: ending.named,
         text: 0,
         chars: 0,
+        sort: 0,
+        level: 0,
+        played: 0,
     }
 }
 
@@ -170,11 +173,13 @@ pub fn standard_data_block(
         num: standard_cycles(header),
         len1: 2168,
         len2: 2168,
+        wave: 0,
     };
     let sync = Tone {
         num: 1,
         len1: 667,
         len2: 735,
+        wave: 0,
     };
     let bits = Bits {
         start,

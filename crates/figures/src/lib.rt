@@ -1,6 +1,6 @@
 // The numbers of a view's line, up to the name, written into lent bytes. Our programs alone call it.
 use entries::Duration;
-use phases::pause_of;
+use phases::whole_pause;
 use rows::Block;
 use text::put_all;
 use text::put_decimal;
@@ -10,7 +10,7 @@ ghost use Prim.Native.Nat.{_+_, _^_, _<_};
 ghost use lib.ListN.{length};
 ghost use lib.Dec.{eqb};
 ghost use Rattle.text.specs.Out.{Wrote};
-ghost use Rattle.entries.specs.Entries.{pauseOf};
+ghost use Rattle.entries.specs.Entries.{wholePause};
 ghost use Rattle.views.specs.Dump.{field, markText, bitsText, endText, headText};
 
 // A word and a number.
@@ -55,9 +55,9 @@ fn put_end(out: &mut [u8], at: usize, pause: Duration) -> usize
 // The line's numbers, up to the name.
 pub fn put_head(out: &mut [u8], at: usize, i: u64, r: Block) -> usize
     requires { ⌜ at + 136 < 2 ^ 63 ⌝ }
-    ensures { λ n. ⌜ Wrote (now (out .entry)) at (headText i (eqb (r .selectable) 1) (r .zero) (r .one) (r .last) (pauseOf r)) (now (out .exit)) n ⌝ }
+    ensures { λ n. ⌜ Wrote (now (out .entry)) at (headText i (eqb (r .selectable) 1) (r .zero) (r .one) (r .last) (wholePause r)) (now (out .exit)) n ⌝ }
 {
     let a = put_mark(out, at, i, r.selectable == 1);
     let b = put_bits(out, a, r.zero, r.one, r.last);
-    put_end(out, b, pause_of(r))
+    put_end(out, b, whole_pause(r))
 }

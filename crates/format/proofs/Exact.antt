@@ -15,7 +15,6 @@ use Rattle.rows.specs.Table.{tableOf}
 use Rattle.rows.specs.Rows.{tone}
 use Rattle.rows.specs.declared.Block.{Block}
 use Rattle.rows.specs.declared.Tone.{Tone}
-use Rattle.entries.specs.Entries.{cyclesOf}
 use Rattle.pieces.specs.declared.TurboData.{TurboData}
 use Rattle.pieces.specs.declared.Piece.{Piece}
 use Rattle.pieces.specs.declared.Piece.the-variants.{Standard, Turbo, Tone as PureTone, Pulses, Pure, Generalized, Pause, GroupStart, GroupEnd, LoopStart, LoopEnd, Stop48, Text, Message, Archive, Hardware, Custom, Glue}
@@ -108,7 +107,7 @@ add-differs lent origin s t d bits p ys said b q h =
 
 -- 12: pulses with length, none or one of them
 tone-count : (x count′ : ℕ) → count′ ≤ 1 → count (wavesOf (pureToneTones (suc x) count′) ++ []) ≡ count (again count′ (suc x ∷ [])) → ⊥
-unfolding pureToneTones wavesOf cyclesOf each lasting
+unfolding pureToneTones wavesOf each lasting
 tone-count x zero l e = omega arith
 tone-count x (suc zero) l e = omega arith
 tone-count x (suc (suc n)) l e = omega arith
@@ -136,7 +135,7 @@ pilot-apart w v rest h e = h (omega (arith, count-append w rest, count-append v 
 
 -- two tone rows, the second of one cycle, and data
 two-rows : (num x a b : ℕ) (bits : List ℕ) → wavesOf (toneOf num x x ∷ toneOf 1 a b ∷ []) ++ bits ≡ again (max 1 num) (x ∷ x ∷ []) ++ a ∷ b ∷ bits
-unfolding wavesOf cyclesOf
+unfolding wavesOf
 two-rows num x a b bits =
     ap (λ (l : List ℕ). (again (max 1 num) (x ∷ x ∷ []) ++ (l ++ [])) ++ bits) (once (a ∷ b ∷ [])) ∙ append-assoc (again (max 1 num) (x ∷ x ∷ [])) (a ∷ b ∷ []) bits
 

@@ -9,7 +9,6 @@ use lib.Dec.{ltb, leb, eqb}
 use borrow.Author.Tests.{ltb-true, lt-ltb, lt-leb, eqb-true, eqb-false, eq-eqb, ne-eqb}
 use Rattle.laws.specs.Rules.{_⇒_, _∣_}
 use Rattle.laws.specs.Tests.{first, second, other}
-use Rattle.entries.specs.Entries.{cyclesOf}
 use Rattle.pieces.specs.declared.GeneralizedData.{GeneralizedData}
 use Rattle.pieces.specs.Grammar.{digits, bitsOf}
 use Rattle.pieces.specs.Places.{Places}
@@ -168,7 +167,7 @@ module _ (s : List ℕ) (g : GeneralizedData) where
 
     -- two pulses: symbol i
     single-wave : (i : ℕ) → g .npd ≡ 2 → keptSymbol s g i ≡ true → Waves (singleRow s g i) (symbolPulses s g i)
-    unfolding singleRow symbolPulses keptSymbol cyclesOf each
+    unfolding singleRow symbolPulses keptSymbol each
     single-wave i n e =
         let y = dataNumber s g i in
         let row : ℕ → ℕ → ℕ → Row = λ asd npd b. leb asd b ⇒ Refused ∣ Gives (toneOf 1 (symbolAt s (g .symbols) npd b .first) (symbolAt s (g .symbols) npd b .second)) in
@@ -183,7 +182,7 @@ module _ (s : List ℕ) (g : GeneralizedData) where
 
     -- one pulse: symbols 2 i and 2 i + 1
     pair-wave : (i : ℕ) → g .npd ≡ 1 → Waves (pairRow s g i) (symbolPulses s g (2 * i) ++ symbolPulses s g (2 * i + 1))
-    unfolding pairRow symbolPulses cyclesOf each
+    unfolding pairRow symbolPulses each
     pair-wave i n =
         let y = dataNumber s g (2 * i) in
         let z = dataNumber s g (2 * i + 1) in

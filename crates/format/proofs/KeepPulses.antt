@@ -10,7 +10,6 @@ use borrow.Author.Tests.{eqb-true, eqb-false}
 use Rattle.laws.specs.Tests.{first, other}
 use Rattle.fields.specs.Field.{leAt}
 use Rattle.rows.specs.declared.Tone.{Tone}
-use Rattle.entries.specs.Entries.{cyclesOf}
 use Rattle.parser.specs.Parser.{Tape}
 use Rattle.parser.proofs.Kept.{Sure, sure, sure-also, sure-then}
 use Rattle.blocks.specs.declared.Origin.{Origin}
@@ -29,7 +28,7 @@ abbrev pub pulseIn : List ℕ → ℕ → ℕ → List ℕ
 pulseIn s from i = leAt s (from + i * 2) 2 ∷ []
 
 pair-same : (origin : Origin) (s : List ℕ) (a b n : ℕ) → blockLengths s (toneOf 1 a b ∷ []) (rowOf origin (toneSound (toneOf 1 a b ∷ [])) n) ≡ lasting (map lasts (a ∷ b ∷ []))
-unfolding blockLengths wavesOf cyclesOf each rowOf dataPulses pauseIn lasting
+unfolding blockLengths wavesOf each rowOf dataPulses pauseIn lasting
 pair-same origin s a b n = append-nil (long (a ∷ b ∷ []) ++ []) ∙ append-nil (long (a ∷ b ∷ []))
 
 -- two items more

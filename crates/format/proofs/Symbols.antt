@@ -10,7 +10,6 @@ use Rattle.laws.specs.Rules.{_⇒_, _∣_}
 use Rattle.laws.specs.Tests.{first, second}
 use Rattle.fields.specs.Field.{leAt}
 use Rattle.rows.specs.declared.Tone.{Tone}
-use Rattle.entries.specs.Entries.{cyclesOf}
 use Rattle.general.specs.declared.Row.{Row}
 use Rattle.general.specs.declared.Row.the-variants.{Gives}
 use Rattle.general.specs.General.{symbolAt, toneOf, Part, tones, before, rowsFrom, cycles}
@@ -99,7 +98,7 @@ again-silent n = each-none (λ i. []) 0 n (λ i. refl)
 
 -- an entry of these pulses, n times
 pub times-wave : (a b n : ℕ) → keptTimes a b n ≡ true → Waves (cycles (record { first = a; second = b }) n) (again n (two a b))
-unfolding keptTimes cycles cyclesOf
+unfolding keptTimes cycles
 times-wave zero zero n e =
     let q = not-so (eqb n 65535) e in
     record { tone = toneOf ((n + 1) / 2) 0 0; given = rw q; heard = zeros-none (max 1 ((n + 1) / 2)) ∙ sym (again-silent n) }

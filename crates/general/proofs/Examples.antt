@@ -135,7 +135,7 @@ pub answered : (madeOf 0 refused4 ∷ madeOf 0 stop ∷ madeOf 0 (plain [] 10 20
 unfolding madeOf
 answered = refl
 
-pub written : (leaves 1 (replicate 10 9) 1 two ∷ leaves 2 (replicate 10 9) 1 two ∷ [])
-    ≡ (replicate 10 9 ∷ (9 ∷ 9 ∷ 9 ∷ 1 ∷ 2 ∷ 3 ∷ 4 ∷ 5 ∷ 6 ∷ 9 ∷ []) ∷ [])
+pub written : (leaves 1 (replicate 13 9) 1 two ∷ leaves 2 (replicate 13 9) 1 two ∷ [])
+    ≡ (replicate 13 9 ∷ (9 ∷ 9 ∷ 9 ∷ 9 ∷ 1 ∷ 2 ∷ 3 ∷ 0 ∷ 4 ∷ 5 ∷ 6 ∷ 0 ∷ 9 ∷ []) ∷ [])
 unfolding leaves putAll
 written = refl

@@ -23,7 +23,7 @@ symbolAt s place n i =
     record { first = leAt s at 2; second = ltb 1 n ⇒ leAt s (at + 2) 2 ∣ 0 }
 
 abbrev pub toneOf : ℕ → ℕ → ℕ → Tone
-toneOf num len1 len2 = record { num = num; len1 = len1; len2 = len2 }
+toneOf num len1 len2 = record { num = num; len1 = len1; len2 = len2; wave = 0 }
 
 -- one part's answer: the piece is refused, it is a stop block, or the part is these tones
 pub data Part : Type 0 where

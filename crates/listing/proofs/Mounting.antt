@@ -1,4 +1,4 @@
--- FROM A LOAD TO ITS LISTING: the tables that a load of 6,656 and 6,144 words leaves are ready, and what is listed of them is the listing.
+-- FROM A LOAD TO ITS LISTING: the tables that a load of 8,192 and 8,192 words leaves are ready, and what is listed of them is the listing.
 -- Assumes nothing but that bytes are below 256.
 use Prim.Native.Nat.{ℕ, _≤_, _<_}
 use native.Mathlib.Omega.{arith}

@@ -23,7 +23,7 @@ use Rattle.text.specs.Out.{ascii, decimal, digits, latin1, each}
 use Rattle.encoding.specs.Encoding.{table, encoded}
 use Rattle.headers.specs.Headers.{typeName, headerName}
 use Rattle.names.specs.Names.{isHeader as isHeading, sizeShown, sizeName, guessed, nameOf, unselected, passed, nameAll}
-use Rattle.entries.specs.Entries.{entryOf, cyclesOf, toneOf, tonesOf as toneEntries, bitsAt, halfOf, byteOf, dataOf, pauseOf, soundOf, entriesOf, lastsOf}
+use Rattle.entries.specs.Entries.{entryOf, cyclesOf, isSingle, startLevel, cycleLevel, bitLevel, edged, pauseLevel, toneOf, tonesOf as toneEntries, bitsAt, halfOf, byteOf, dataOf, pauseOf, soundOf, entriesOf, lastsOf}
 use Rattle.entries.specs.Places.{listFrom}
 use Rattle.tape.specs.Load.{namedTape, named, loadNamed, blocksOf, tonesOf}
 use Rattle.shown.specs.Shown.{shown}
@@ -79,5 +79,5 @@ readings =
     []
 
 pub listings-said : map (λ (e : Reading). listingOf (e .tape) (e .model)) readings ≡ map (λ (e : Reading). e .gives) readings
-unfolding leAt numberAt fieldAt placeOf times eachAt groupsAt countedAt passAt textsAt wholeAt sealed enclosed fittingAt readAt bits orFull heldIf kind10 kind11 kind12 kind13 kind14 stream19 kind19 kind20 kind21 kind22 kind24 kind25 kind2A kind30 kind31 info32 kind32 kind33 kind35 kind5A kinds kindOf startsAt headAt kindNamed cutAt blockOf tapAt pilotOf generalData withPilot withData generalOf empty _⟫_ addTones addBlock pend endGroup openLoop copyRows copies closed closeLoop paused lastPaused isHeader standardCycles standardTones standardPause turboTones pureTones pureToneTones pulseAt addRows rowOf standardSound turboSound pairSounds pureSound pauseSound addSound addSounds generalDeed stop48Deed does deedOf act after seeing foldFrom halted tooManyBits judged tzxOf tzxSee headed readTzx tapOf tapSee readTap orTap orElse loadOf decimal digits latin1 each table encoded isHeading typeName headerName sizeShown sizeName guessed nameOf unselected passed nameAll namedTape named loadNamed blocksOf tonesOf over time comesTo run entryOf cyclesOf toneOf toneEntries bitsAt halfOf byteOf dataOf pauseOf soundOf entriesOf lastsOf listFrom shown timeText markText rowText rowsText modelText formatText countText loadingText restText listingText loadedOf mounted listed listingOf
+unfolding leAt numberAt fieldAt placeOf times eachAt groupsAt countedAt passAt textsAt wholeAt sealed enclosed fittingAt readAt bits orFull heldIf kind10 kind11 kind12 kind13 kind14 stream19 kind19 kind20 kind21 kind22 kind24 kind25 kind2A kind30 kind31 info32 kind32 kind33 kind35 kind5A kinds kindOf startsAt headAt kindNamed cutAt blockOf tapAt pilotOf generalData withPilot withData generalOf empty _⟫_ addTones addBlock pend endGroup openLoop copyRows copies closed closeLoop paused lastPaused isHeader standardCycles standardTones standardPause turboTones pureTones pureToneTones pulseAt addRows rowOf standardSound turboSound pairSounds pureSound pauseSound addSound addSounds generalDeed stop48Deed does deedOf act after seeing foldFrom halted tooManyBits judged tzxOf tzxSee headed readTzx tapOf tapSee readTap orTap orElse loadOf decimal digits latin1 each table encoded isHeading typeName headerName sizeShown sizeName guessed nameOf unselected passed nameAll namedTape named loadNamed blocksOf tonesOf over time comesTo run entryOf cyclesOf isSingle startLevel cycleLevel bitLevel edged pauseLevel toneOf toneEntries bitsAt halfOf byteOf dataOf pauseOf soundOf entriesOf lastsOf listFrom shown timeText markText rowText rowsText modelText formatText countText loadingText restText listingText loadedOf mounted listed listingOf
 listings-said = refl

@@ -81,8 +81,8 @@ module _ (s : List ℕ) (b : Bytes s) where
   unfolding cycles
   cycles-fine y n f g h =
       either-row (eqb (y .second) 0)
-      (either-row (eqb n 65535) FineRow.refused (gives (record { num = omega arith; len1 = f; len2 = f })))
-      (gives (record { num = h; len1 = f; len2 = g }))
+      (either-row (eqb n 65535) FineRow.refused (gives (record { num = omega arith; len1 = f; len2 = f; wave = omega arith })))
+      (gives (record { num = h; len1 = f; len2 = g; wave = omega arith }))
 
   module _ (g : GeneralizedData) where
     entry-fine : (i : ℕ) → FineRow (entryRow s g i)
@@ -97,7 +97,7 @@ module _ (s : List ℕ) (b : Bytes s) where
     single-fine i =
         let n = numberAt s g (i * g .nb) 0 in
         either-row (leb (g .asd) n) FineRow.refused
-        (gives (record { num = omega arith; len1 = first-small (g .symbols) (g .npd) n; len2 = second-small (g .symbols) (g .npd) n }))
+        (gives (record { num = omega arith; len1 = first-small (g .symbols) (g .npd) n; len2 = second-small (g .symbols) (g .npd) n; wave = omega arith }))
 
     pair-fine : (i : ℕ) → FineRow (pairRow s g i)
     unfolding pairRow
@@ -106,7 +106,7 @@ module _ (s : List ℕ) (b : Bytes s) where
         let m = numberAt s g (2 * i * g .nb) 1 in
         either-row (leb (g .asd) n) FineRow.refused
         (either-row (leb (g .asd) m) FineRow.refused
-        (gives (record { num = omega arith; len1 = first-small (g .symbols) (g .npd) n; len2 = first-small (g .symbols) (g .npd) m })))
+        (gives (record { num = omega arith; len1 = first-small (g .symbols) (g .npd) n; len2 = first-small (g .symbols) (g .npd) m; wave = omega arith })))
 
     pilot-fine : FinePart (pilotOf s g)
     unfolding pilotOf

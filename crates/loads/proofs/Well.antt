@@ -39,7 +39,7 @@ table-length C rs N h = over-length C rs (zeros N) (rw length-replicate h) ∙ l
 
 tone-well : (t : Tone) → Halves t → wellTone t ≡ true
 unfolding wellTone
-tone-well t h = rw (le-leb (t .num) 65535 (h .num), le-leb (t .len1) 65535 (h .len1), le-leb (t .len2) 65535 (h .len2))
+tone-well t h = rw (le-leb (t .num) 65535 (h .num), le-leb (t .len1) 65535 (h .len1), le-leb (t .len2) 65535 (h .len2), le-leb (t .wave) 11 (h .wave))
 
 -- tone rows that are well formed one by one
 tones-well : (tones : List ℕ) (from n : ℕ) → ((i : ℕ) → i < n → wellTone (get tone tones (from + i)) ≡ true) → wellTones tones from n ≡ true
@@ -72,7 +72,7 @@ module _ (s : List ℕ) (all : List Tone) (N : ℕ) (room : length all ≤ toneR
       let g : d ≡ getD (tonesIn all r) j d = own-tone all r i N j d k in
       ap wellTone g ∙ tone-well (getD (tonesIn all r) j d) (all-get (f .tones) j d (rw (own-count all r i) k))) in
       let c : capacityOf tone toneMost (tableOf tone all N) ≡ toneRoom N = rw n in
-      rw (c, le-leb (r .tone + r .tones) (toneRoom N) (omega arith), le-leb (r .start + r .size) (length s) (f .bytes), le-leb (r .text + r .chars) (length s) (f .name), le-leb (r .zero) 65535 (f .zero), le-leb (r .one) 65535 (f .one), le-leb (r .pause) 229372500 (f .pause), or-true (eqb (r .endless) 1), last-well r b, le-leb (r .endless) 1 (f .endless), le-leb (r .selectable) 1 (f .selectable), le-leb (r .named) 4 (f .named), tones)
+      rw (c, le-leb (r .tone + r .tones) (toneRoom N) (omega arith), le-leb (r .start + r .size) (length s) (f .bytes), le-leb (r .text + r .chars) (length s) (f .name), le-leb (r .zero) 65535 (f .zero), le-leb (r .one) 65535 (f .one), le-leb (r .pause) 229372500 (f .pause), or-true (eqb (r .endless) 1), last-well r b, le-leb (r .endless) 1 (f .endless), le-leb (r .selectable) 1 (f .selectable), f .source .low, f .source .silent, f .source .is, le-leb (r .named) 4 (f .named), tones)
 
 -- a mounted table of rows that are well formed
 module _ (B : ℕ) (s tones : List ℕ) (rows : List Block) where

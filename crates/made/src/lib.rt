@@ -87,6 +87,7 @@ fn one_cycle(len1: u16, len2: u16) -> Tone
         num: 1,
         len1: len1 as u64,
         len2: len2 as u64,
+        wave: 0,
     }
 }
 

@@ -25,6 +25,7 @@ fn gives(num: u32, len1: u16, len2: u16) -> Row
         num: num as u64,
         len1: len1 as u64,
         len2: len2 as u64,
+        wave: 0,
     })
 }
 

@@ -5,7 +5,7 @@ use mathlib.Core.Bool.{Bool}
 use lib.ListN.{length, length-append}
 use Rattle.text.proofs.Writing.{decimal-length}
 use Rattle.entries.specs.declared.Phase.{Phase}
-use Rattle.entries.specs.declared.Phase.the-variants.{Start, Tones, Data, Pause}
+use Rattle.entries.specs.declared.Phase.the-variants.{Start, Tones, Data, Edge, Pause}
 use Rattle.entries.specs.declared.Duration.{Duration}
 use Rattle.values.proofs.Lengths.{flag-length, duration-length}
 use Rattle.walks.specs.declared.Stand.{Stand}
@@ -25,6 +25,7 @@ unfolding phaseText
 phase-length Start = omega arith
 phase-length (Tones i p v) = omega (arith, numbers-length i p v)
 phase-length (Data pos k v) = omega (arith, numbers-length pos k v)
+phase-length Edge = omega arith
 phase-length Pause = omega arith
 
 pub rest-length : (d : Duration) (v : Bool) → length (restText d v) ≤ 34

@@ -4,7 +4,7 @@ use mathlib.Core.Bool.{Bool}
 use mathlib.Core.List.{List, _∷_, _++_}
 use Rattle.text.specs.Out.{ascii, decimal}
 use Rattle.entries.specs.declared.Phase.{Phase}
-use Rattle.entries.specs.declared.Phase.the-variants.{Start, Tones, Data, Pause}
+use Rattle.entries.specs.declared.Phase.the-variants.{Start, Tones, Data, Edge, Pause}
 use Rattle.entries.specs.declared.Duration.{Duration}
 use Rattle.values.specs.Values.{flag, durationText}
 use Rattle.walks.specs.declared.Stand.{Stand}
@@ -17,11 +17,12 @@ spaced n = 0x20 ∷ decimal n
 unfoldable pub numbers : ℕ → ℕ → Bool → List ℕ
 numbers n m last = spaced n ++ spaced m ++ (0x20 ∷ flag last)
 
--- `start`; `tone` with row, cycle and half; `data` with byte, bit and half; `pause`
+-- `start`; `tone` with row, cycle and half; `data` with byte, bit and half; `edge`; `pause`
 unfoldable pub phaseText : Phase → List ℕ
 phaseText Start = ascii "start"
 phaseText (Tones i p last) = ascii "tone" ++ numbers i p last
 phaseText (Data pos k last) = ascii "data" ++ numbers pos k last
+phaseText Edge = ascii "edge"
 phaseText Pause = ascii "pause"
 
 -- ` left LEFT level LEVEL`

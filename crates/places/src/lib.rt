@@ -54,6 +54,7 @@ fn put_phase(out: &mut [u8], at: usize, f: Phase) -> usize
             let a = put_all(out, at, b"data");
             put_numbers(out, a, pos, bit, last_half)
         }
+        Phase::Edge => put_all(out, at, b"edge"),
         Phase::Pause => put_all(out, at, b"pause"),
     }
 }

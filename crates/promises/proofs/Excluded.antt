@@ -24,13 +24,13 @@ use Rattle.names.specs.Names.{isHeader as isHeading, sizeShown, sizeName, guess
 use Rattle.entries.specs.declared.Phase.the-variants.{Tones}
 use Rattle.entries.specs.declared.Duration.{Duration}
 use Rattle.entries.specs.declared.Duration.the-variants.{T, Endless}
-use Rattle.entries.specs.Entries.{entryOf, cyclesOf, toneOf, tonesOf as toneEntries, dataOf, pauseOf, soundOf, entriesOf, lastsOf}
-use Rattle.entries.specs.Places.{Tape, listFrom, fromPause, fromByte, fromTone, fromCycle, leftAt, hasEntry, lengthAt, remains, valid, headOf, leftOf}
+use Rattle.entries.specs.Entries.{entryOf, cyclesOf, isSingle, startLevel, cycleLevel, bitLevel, edged, pauseLevel, toneOf, tonesOf as toneEntries, dataOf, pauseOf, soundOf, entriesOf, lastsOf}
+use Rattle.entries.specs.Places.{Tape, listFrom, levelAt, fromPause, fromEdge, fromSecond, fromByte, fromTone, fromCycle, leftAt, hasEntry, lengthAt, remains, valid, headOf, leftOf}
 use Rattle.entries.specs.Mounted.{wellRow, firstBad, formed, tapeOf}
 use Rattle.tape.specs.Load.{namedTape, named, loadNamed, blocksOf, tonesOf}
 use Rattle.walks.specs.declared.Position.{Position}
 use Rattle.walks.specs.declared.Reached.the-variants.{At, Ended}
-use Rattle.walks.specs.Heads.{startAt, stand, placed, levelHere, toldAs, told, walked, walkFrom}
+use Rattle.walks.specs.Heads.{startAt, stand, placed, levelHere, restLevel, toldAs, told, walked, walkFrom}
 use Rattle.deck.specs.Deck.{ruledOut, illFormed, judged, unless, playMeasured}
 use Rattle.deck.proofs.Answers.{positionIn, passedIn}
 use Rattle.shown.specs.Shown.{shown}
@@ -40,7 +40,7 @@ use Rattle.listing.specs.Listing.{loadedOf, Listing, mounted, listed, listingOf
 
 -- an empty tape is listed in 37 bytes, and `00 00` in 67
 lists : (answerTo (listingOf [] 0) (replicate 99 0) ≡ 37) × (answerTo (listingOf (0 ∷ 0 ∷ []) 0) (replicate 99 0) ≡ 67)
-unfolding countedAt comesTo leAt numberAt fieldAt placeOf startsAt headAt blockOf tapAt empty _⟫_ addTones addBlock rowOf isHeader standardCycles standardTones standardSound standardPause addRows addSound after seeing foldFrom headed readTzx tapOf tapSee readTap orTap orElse loadOf decimal digits isHeading sizeShown sizeName guessed nameOf unselected passed nameAll namedTape named loadNamed blocksOf tonesOf tableOver time run entryOf cyclesOf toneOf toneEntries dataOf pauseOf soundOf entriesOf lastsOf listFrom shown timeText markText rowText rowsText modelText formatText countText loadingText restText listingText loadedOf mounted listed listingOf answerTo
+unfolding countedAt comesTo leAt numberAt fieldAt placeOf startsAt headAt blockOf tapAt empty _⟫_ addTones addBlock rowOf isHeader standardCycles standardTones standardSound standardPause addRows addSound after seeing foldFrom headed readTzx tapOf tapSee readTap orTap orElse loadOf decimal digits isHeading sizeShown sizeName guessed nameOf unselected passed nameAll namedTape named loadNamed blocksOf tonesOf tableOver time run entryOf cyclesOf isSingle startLevel cycleLevel bitLevel edged pauseLevel toneOf toneEntries dataOf pauseOf soundOf entriesOf lastsOf listFrom shown timeText markText rowText rowsText modelText formatText countText loadingText restText listingText loadedOf mounted listed listingOf answerTo
 lists = (refl, refl)
 
 -- refusing all tapes
@@ -55,13 +55,13 @@ no-one-listing l one =
 
 -- two cycles of 100 and 100, no data, no pause
 abbrev two : Tape
-two = tapeOf [] (2 ∷ 100 ∷ 100 ∷ []) (rowWords (0 ∷ 1 ∷ [])) 1
+two = tapeOf [] (2 ∷ 100 ∷ 100 ∷ 0 ∷ []) (rowWords (0 ∷ 1 ∷ 0 ∷ 0 ∷ 0 ∷ [])) 1
 
 -- from its start 99 leaves 1 of the first half, 1 more the second half full; past its count nothing is passed
 plays : (playMeasured two (startAt 0) 99 ≡ At (stand (placed 0 (Tones 0 0 false) (T 1)) 1 low))
     × (playMeasured two (placed 0 (Tones 0 0 false) (T 1)) 1 ≡ At (stand (placed 0 (Tones 0 0 true) (T 100)) 1 high))
     × (playMeasured two (startAt 7) 99 ≡ Ended (stand (startAt 1) 0 low))
-unfolding playMeasured unless judged ruledOut illFormed wellRow wellBlock wellRanges wellNumbers wellCases wellTones wellTone valid hasEntry remains lengthAt walkFrom walked formed firstBad told toldAs levelHere headOf leftOf answer rest over shownAt status leftAt fromCycle fromTone fromByte fromPause listFrom entriesOf soundOf toneEntries toneOf cyclesOf dataOf pauseOf entryOf run
+unfolding playMeasured unless judged ruledOut illFormed wellRow wellBlock wellRanges wellNumbers wellCases wellTones wellTone valid hasEntry remains lengthAt walkFrom walked formed firstBad told toldAs levelHere restLevel headOf leftOf answer rest over shownAt status leftAt fromCycle fromTone fromByte levelAt fromPause fromEdge fromSecond listFrom entriesOf soundOf toneEntries toneOf cyclesOf isSingle startLevel cycleLevel bitLevel edged pauseLevel dataOf pauseOf entryOf run
 plays = (refl, refl, refl)
 
 leftIn : Duration → ℕ

@@ -138,7 +138,7 @@ module _ (w : Tape) (q : Position) (n : ℕ) (a : Answer Spot) where
   unfolding stays
   stays-none = told-none _ _
 
-  told-a : numberOf (told (formed w (q .block)) a) ≡ 0
+  told-a : numberOf (told w (formed w (q .block)) a) ≡ 0
   unfolding told
   told-a = told-none _ _
 
@@ -146,7 +146,7 @@ module _ (w : Tape) (q : Position) (n : ℕ) (a : Answer Spot) where
   unfolding walked numberOf
   walk-11 = (λ e. of (eqb n 0) reaches refl refl e, λ h. rw (ne-eqb n 0 (λ z. omega (arith, h .0, z)), h .1 .over, lt-ltb (formed w (q .block) .count) (w .count) (h .1 .cut)))
     where
-      of : (z b : Bool) → eqb n 0 ≡ z → reaches ≡ b → numberOf (z ⇒ stays w q ∣ b ⇒ reached.NotFormed ∣ told (formed w (q .block)) a) ≡ badRow → (0 < n) × Runs w (q .block) (a .tells)
+      of : (z b : Bool) → eqb n 0 ≡ z → reaches ≡ b → numberOf (z ⇒ stays w q ∣ b ⇒ reached.NotFormed ∣ told w (formed w (q .block)) a) ≡ badRow → (0 < n) × Runs w (q .block) (a .tells)
       of true b y f e = absurd (omega (arith, stays-none, e))
       of false true y f e =
           let p : (n ≡ 0 → ⊥) = eqb-false n 0 y in
@@ -157,7 +157,7 @@ module _ (w : Tape) (q : Position) (n : ℕ) (a : Answer Spot) where
   unfolding walked numberOf
   walk-9 e = of (eqb n 0) reaches e
     where
-      of : (z b : Bool) → numberOf (z ⇒ stays w q ∣ b ⇒ reached.NotFormed ∣ told (formed w (q .block)) a) ≡ noPosition → ⊥
+      of : (z b : Bool) → numberOf (z ⇒ stays w q ∣ b ⇒ reached.NotFormed ∣ told w (formed w (q .block)) a) ≡ noPosition → ⊥
       of true b f = absurd (omega (arith, stays-none, f))
       of false true f = absurd (omega arith)
       of false false f = absurd (omega (arith, told-a, f))

@@ -32,11 +32,11 @@ use Rattle.tape.specs.Load.{namedTape, named as naming, loadNamed, blocksOf, to
 use Rattle.entries.specs.declared.Phase.the-variants.{Tones}
 use Rattle.entries.specs.declared.Duration.{Duration}
 use Rattle.entries.specs.declared.Duration.the-variants.{T}
-use Rattle.entries.specs.Entries.{entryOf, cyclesOf, toneOf, tonesOf as tonesIn, bitsAt, halfOf, byteOf, dataOf, pauseOf, soundOf, entriesOf, lastsOf}
-use Rattle.entries.specs.Places.{Tape, blockIn, listFrom, leftAt, hasEntry, lengthAt, remains, valid, headOf, leftOf}
+use Rattle.entries.specs.Entries.{entryOf, cyclesOf, isSingle, startLevel, cycleLevel, bitLevel, edged, pauseLevel, toneOf, tonesOf as tonesIn, bitsAt, halfOf, byteOf, dataOf, pauseOf, soundOf, entriesOf, lastsOf}
+use Rattle.entries.specs.Places.{Tape, blockIn, listFrom, levelAt, fromEdge, fromSecond, leftAt, hasEntry, lengthAt, remains, valid, headOf, leftOf}
 use Rattle.entries.specs.Mounted.{wellRow, firstBad, formed, tapeOf}
 use Rattle.walks.specs.declared.Reached.the-variants.{At, Ended}
-use Rattle.walks.specs.Heads.{placed, startAt, stand, levelHere, toldAs, told, walked, walkFrom}
+use Rattle.walks.specs.Heads.{placed, startAt, stand, levelHere, restLevel, toldAs, told, walked, walkFrom}
 use Rattle.deck.specs.Deck.{ruledOut, illFormed, judged as checked, unless, playMeasured, sourceAnswer, sourceFrom, playSource}
 
 -- what is said of a block: the cycles of its first tone row, its pause, its T-states, its name
@@ -110,7 +110,7 @@ readings =
     ∷ []
 
 pub readings-read : map (λ e. reads (e .0) (loadNamed (lentOf blockWords toneWords) (e .0) 0)) readings ≡ map (λ e. e .1) readings
-unfolding loadNamed naming namedTape loadOf orElse orTap readTzx readTap headed headAt startsAt judged tooManyBits foldFrom seeing after tzxSee tzxOf tapSee tapOf tapAt blockOf cutAt named kindOf kinds kind10 kind11 kind12 kind13 kind14 stream19 kind19 kind20 kind21 kind22 kind24 kind25 kind2A kind30 kind31 info32 kind32 kind33 kind35 kind5A readAt countedAt passAt textsAt wholeAt sealed enclosed fittingAt digits orFull heldIf fieldAt numberAt leAt placeOf times eachAt groupsAt halted rowOf standardSound turboSound pairSounds pureSound pauseSound addSound addSounds generalDeed stop48Deed does deedOf act addRows addTones addBlock _⟫_ empty pend endGroup openLoop copyRows copies closed closeLoop paused lastPaused isHeader standardCycles standardTones standardPause turboTones pureTones pureToneTones pulseAt nameAll passed unselected isHeading nameOf guessed sizeName sizeShown decimal digitsOf blocksOf tonesOf tableOver lastsOf comesTo time entriesOf soundOf tonesIn toneOf cyclesOf dataOf byteOf bitsAt halfOf pauseOf entryOf run
+unfolding loadNamed naming namedTape loadOf orElse orTap readTzx readTap headed headAt startsAt judged tooManyBits foldFrom seeing after tzxSee tzxOf tapSee tapOf tapAt blockOf cutAt named kindOf kinds kind10 kind11 kind12 kind13 kind14 stream19 kind19 kind20 kind21 kind22 kind24 kind25 kind2A kind30 kind31 info32 kind32 kind33 kind35 kind5A readAt countedAt passAt textsAt wholeAt sealed enclosed fittingAt digits orFull heldIf fieldAt numberAt leAt placeOf times eachAt groupsAt halted rowOf standardSound turboSound pairSounds pureSound pauseSound addSound addSounds generalDeed stop48Deed does deedOf act addRows addTones addBlock _⟫_ empty pend endGroup openLoop copyRows copies closed closeLoop paused lastPaused isHeader standardCycles standardTones standardPause turboTones pureTones pureToneTones pulseAt nameAll passed unselected isHeading nameOf guessed sizeName sizeShown decimal digitsOf blocksOf tonesOf tableOver lastsOf comesTo time entriesOf soundOf tonesIn toneOf cyclesOf isSingle startLevel cycleLevel bitLevel edged pauseLevel dataOf byteOf bitsAt halfOf pauseOf entryOf run
 readings-read = refl
 
 -- a sole 12 of 100 and 4, loaded
@@ -124,5 +124,5 @@ sole = mounted soleBytes (loadNamed (lentOf blockWords toneWords) soleBytes 0) 1
 pub players-read :
     (map (λ n. playMeasured sole (startAt 0) n) (99 ∷ 100 ∷ []) ≡ At (stand (placed 0 (Tones 0 0 false) (T 1)) 1 low) ∷ At (stand (placed 0 (Tones 0 0 true) (T 100)) 2 high) ∷ [])
     × (map (λ n. playSource sole (startAt 0) n) (99 ∷ 100 ∷ []) ≡ At (stand (placed 0 (Tones 0 0 false) (T 1)) 1 low) ∷ Ended (stand (startAt 1) 6 low) ∷ [])
-unfolding loadNamed naming namedTape loadOf orElse orTap readTzx readTap headed headAt startsAt judged tooManyBits foldFrom seeing after tzxSee tzxOf cutAt named kindOf kinds kind12 readAt wholeAt fieldAt numberAt leAt placeOf halted rowOf standardSound turboSound pairSounds pureSound pauseSound addSound addSounds generalDeed stop48Deed does deedOf act addRows addTones addBlock _⟫_ empty pureToneTones nameAll passed unselected isHeading blocksOf tonesOf tableOver playMeasured playSource unless checked ruledOut illFormed wellRow wellBlock wellRanges wellNumbers wellCases wellTones wellTone valid hasEntry remains lengthAt walkFrom sourceFrom sourceAnswer sourced turns turn afterTurn reached walked formed firstBad told toldAs levelHere headOf leftOf answer rest over shown status leftAt listFrom entriesOf soundOf tonesIn toneOf cyclesOf dataOf pauseOf entryOf run
+unfolding loadNamed naming namedTape loadOf orElse orTap readTzx readTap headed headAt startsAt judged tooManyBits foldFrom seeing after tzxSee tzxOf cutAt named kindOf kinds kind12 readAt wholeAt fieldAt numberAt leAt placeOf halted rowOf standardSound turboSound pairSounds pureSound pauseSound addSound addSounds generalDeed stop48Deed does deedOf act addRows addTones addBlock _⟫_ empty pureToneTones nameAll passed unselected isHeading blocksOf tonesOf tableOver playMeasured playSource unless checked ruledOut illFormed wellRow wellBlock wellRanges wellNumbers wellCases wellTones wellTone valid hasEntry remains lengthAt walkFrom sourceFrom sourceAnswer sourced turns turn afterTurn reached walked formed firstBad told toldAs levelHere restLevel headOf leftOf answer rest over shown status levelAt fromEdge fromSecond leftAt listFrom entriesOf soundOf tonesIn toneOf cyclesOf isSingle startLevel cycleLevel bitLevel edged pauseLevel dataOf pauseOf entryOf run
 players-read = (refl, refl)

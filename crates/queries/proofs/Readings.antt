@@ -12,7 +12,7 @@ use Rattle.text.specs.Out.{digits, decimal, told}
 use Rattle.names.specs.Names.{isHeader, sizeShown, sizeName, guessed, nameOf}
 use Rattle.entries.specs.declared.Duration.{Duration}
 use Rattle.entries.specs.declared.Duration.the-variants.{T, Endless}
-use Rattle.entries.specs.Entries.{entryOf, cyclesOf, toneOf, tonesOf, bitsAt, halfOf, byteOf, dataOf, pauseOf, soundOf, entriesOf, lastsOf}
+use Rattle.entries.specs.Entries.{entryOf, cyclesOf, isSingle, startLevel, cycleLevel, bitLevel, edged, pauseLevel, toneOf, tonesOf, bitsAt, halfOf, byteOf, dataOf, pauseOf, soundOf, entriesOf, lastsOf}
 use Rattle.entries.specs.Places.{Tape, listFrom}
 use Rattle.entries.specs.Mounted.{tapeOf, wellRow, firstBad, formed}
 use Rattle.queries.specs.declared.Number.{Number}
@@ -81,17 +81,17 @@ pureTone rows n = tapeOf [] rows (sound 0 n 0 0 0 0) 1
 
 -- the tape of the printed listing
 abbrev printed : Tape
-printed = tapeOf [] (2 ∷ 100 ∷ 100 ∷ []) (sound 0 1 0 0 0 0 ++ sound 1 0 3500 0 0 0 ++ stopRow) 3
+printed = tapeOf [] (2 ∷ 100 ∷ 100 ∷ 0 ∷ []) (sound 0 1 0 0 0 0 ++ sound 1 0 3500 0 0 0 ++ stopRow) 3
 
 abbrev pub readings : List (Tape × ℕ × List ℕ × Answers)
 readings =
     -- `00 00`: 4,032 cycles, `0 bytes`
-    (tapeOf (0 ∷ 0 ∷ []) (4032 ∷ 2168 ∷ 2168 ∷ 1 ∷ 667 ∷ 735 ∷ []) (rowWords (0 ∷ 2 ∷ 2 ∷ 0 ∷ 855 ∷ 1710 ∷ 8 ∷ 3500000 ∷ 0 ∷ 1 ∷ [])) 1, 0, nine, says 0 starred (T 20984154) 7 (0x30 ∷ bytesWord ++ (8 ∷ 9 ∷ [])) 20984154) ∷
+    (tapeOf (0 ∷ 0 ∷ []) (4032 ∷ 2168 ∷ 2168 ∷ 0 ∷ 1 ∷ 667 ∷ 735 ∷ 0 ∷ []) (rowWords (0 ∷ 2 ∷ 2 ∷ 0 ∷ 855 ∷ 1710 ∷ 8 ∷ 3500000 ∷ 0 ∷ 1 ∷ [])) 1, 0, nine, says 0 starred (T 20984154) 7 (0x30 ∷ bytesWord ++ (8 ∷ 9 ∷ [])) 20984154) ∷
     -- 12 with length 100, count 1, and with count 0
-    (pureTone (1 ∷ 0 ∷ 100 ∷ 0 ∷ 100 ∷ 100 ∷ []) 2, 0, nine, says 0 plain (T 300) 7 (0x30 ∷ bytesWord ++ (8 ∷ 9 ∷ [])) 300) ∷
-    (pureTone (0 ∷ 100 ∷ 100 ∷ []) 1, 0, nine, says 0 plain (T 200) 7 (0x30 ∷ bytesWord ++ (8 ∷ 9 ∷ [])) 200) ∷
+    (pureTone (1 ∷ 0 ∷ 100 ∷ 0 ∷ 0 ∷ 100 ∷ 100 ∷ 0 ∷ []) 2, 0, nine, says 0 plain (T 300) 7 (0x30 ∷ bytesWord ++ (8 ∷ 9 ∷ [])) 300) ∷
+    (pureTone (0 ∷ 100 ∷ 100 ∷ 0 ∷ []) 1, 0, nine, says 0 plain (T 200) 7 (0x30 ∷ bytesWord ++ (8 ∷ 9 ∷ [])) 200) ∷
     -- pure data byte 80, zero 10, one 20, last bits 0, pause 0
-    (tapeOf (0x80 ∷ []) (0 ∷ 0 ∷ 0 ∷ 1 ∷ 0 ∷ 0 ∷ []) (rowWords (0 ∷ 2 ∷ 0 ∷ 1 ∷ 10 ∷ 20 ∷ 0 ∷ 0 ∷ 0 ∷ 1 ∷ [])) 1, 0, nine, says 1 starred (T 40) 7 (0x31 ∷ bytesWord ++ (8 ∷ 9 ∷ [])) 40) ∷
+    (tapeOf (0x80 ∷ []) (0 ∷ 0 ∷ 0 ∷ 0 ∷ 1 ∷ 0 ∷ 0 ∷ 0 ∷ []) (rowWords (0 ∷ 2 ∷ 0 ∷ 1 ∷ 10 ∷ 20 ∷ 0 ∷ 0 ∷ 0 ∷ 1 ∷ [])) 1, 0, nine, says 1 starred (T 40) 7 (0x31 ∷ bytesWord ++ (8 ∷ 9 ∷ [])) 40) ∷
     -- the printed listing, line by line
     (printed, 0, nine, says 0 plain (T 400) 7 (0x30 ∷ bytesWord ++ (8 ∷ 9 ∷ [])) 3900) ∷
     (printed, 1, nine, says 0 plain (T 3500) 7 (0x30 ∷ bytesWord ++ (8 ∷ 9 ∷ [])) 3900) ∷
@@ -109,5 +109,5 @@ readings =
     []
 
 pub readings-said : map (λ e. answered (e .0) (e .1) (e .2)) readings ≡ map (λ e. e .3) readings
-unfolding refusalOf numberUnless markUnless timeUnless sizeOf selectableOf timeOf lengthOrNoRoom nameAnswer nameBytes told loadingOf loadingIn formed firstBad wellRow wellBlock wellRanges wellNumbers wellCases wellTones wellTone nameOf guessed isHeader sizeName sizeShown decimal digits lastsOf comesTo time listFrom entriesOf soundOf tonesOf toneOf cyclesOf dataOf byteOf bitsAt halfOf pauseOf entryOf run
+unfolding refusalOf numberUnless markUnless timeUnless sizeOf selectableOf timeOf lengthOrNoRoom nameAnswer nameBytes told loadingOf loadingIn formed firstBad wellRow wellBlock wellRanges wellNumbers wellCases wellTones wellTone nameOf guessed isHeader sizeName sizeShown decimal digits lastsOf comesTo time listFrom entriesOf soundOf tonesOf toneOf cyclesOf isSingle startLevel cycleLevel bitLevel edged pauseLevel dataOf byteOf bitsAt halfOf pauseOf entryOf run
 readings-said = refl

@@ -15,14 +15,14 @@ upFrom k zero = []
 upFrom k (suc n) = k ∷ upFrom (suc k) n
 
 -- the words of a tone and of a block, read and written back
-tone-words : encodeTone (decodeTone (7 ∷ 8 ∷ 9 ∷ [])) ≡ 7 ∷ 8 ∷ 9 ∷ []
+tone-words : encodeTone (decodeTone (7 ∷ 8 ∷ 9 ∷ 6 ∷ [])) ≡ 7 ∷ 8 ∷ 9 ∷ 6 ∷ []
 tone-words = refl
 
 block-words : encodeBlock (decodeBlock (upFrom 1 (block .width))) ≡ upFrom 1 (block .width)
 block-words = refl
 
--- eight words are two tone rows and a broken one: row 1 is appended, row 2 is not
-appends : map (λ n. appended tone toneMost (zeros 8) n (decodeTone (7 ∷ 8 ∷ 9 ∷ []))) (1 ∷ 2 ∷ []) ≡ (0 ∷ 0 ∷ 0 ∷ 7 ∷ 8 ∷ 9 ∷ 0 ∷ 0 ∷ []) ∷ zeros 8 ∷ []
+-- ten words are two tone rows and a broken one: row 1 is appended, row 2 is not
+appends : map (λ n. appended tone toneMost (zeros 10) n (decodeTone (7 ∷ 8 ∷ 9 ∷ 6 ∷ []))) (1 ∷ 2 ∷ []) ≡ (0 ∷ 0 ∷ 0 ∷ 0 ∷ 7 ∷ 8 ∷ 9 ∷ 6 ∷ 0 ∷ 0 ∷ []) ∷ zeros 10 ∷ []
 appends = refl
 
 -- whole rows alone count, and no more than the limit
@@ -34,8 +34,8 @@ tone-capacities = refl
 
 -- tones, and whether they are well formed
 tones-judged :
-    map (λ w. wellTone (decodeTone w)) ((65535 ∷ 65535 ∷ 65535 ∷ []) ∷ (65536 ∷ 0 ∷ 0 ∷ []) ∷ (0 ∷ 65536 ∷ 0 ∷ []) ∷ (0 ∷ 0 ∷ 65536 ∷ []) ∷ [])
-    ≡ true ∷ false ∷ false ∷ false ∷ []
+    map (λ w. wellTone (decodeTone w)) ((65535 ∷ 65535 ∷ 65535 ∷ 11 ∷ []) ∷ (65536 ∷ 0 ∷ 0 ∷ 0 ∷ []) ∷ (0 ∷ 65536 ∷ 0 ∷ 0 ∷ []) ∷ (0 ∷ 0 ∷ 65536 ∷ 0 ∷ []) ∷ (0 ∷ 0 ∷ 0 ∷ 12 ∷ []) ∷ [])
+    ≡ true ∷ false ∷ false ∷ false ∷ false ∷ []
 unfolding wellTone
 tones-judged = refl
 
@@ -46,10 +46,10 @@ blank-well = refl
 
 -- a block with 19 bytes of a tape of 20 and two tone rows; the table's third row is bad, its fourth broken
 abbrev row : List ℕ
-row = 0 ∷ 2 ∷ 1 ∷ 19 ∷ 855 ∷ 1710 ∷ 8 ∷ 3500000 ∷ 0 ∷ 1 ∷ 0 ∷ 0 ∷ 0 ∷ []
+row = 0 ∷ 2 ∷ 1 ∷ 19 ∷ 855 ∷ 1710 ∷ 8 ∷ 3500000 ∷ 0 ∷ 1 ∷ 0 ∷ 0 ∷ 0 ∷ 0 ∷ 0 ∷ 0 ∷ []
 
 abbrev table : List ℕ
-table = 65535 ∷ 65535 ∷ 65535 ∷ 0 ∷ 0 ∷ 0 ∷ 1 ∷ 1 ∷ 65536 ∷ 1 ∷ []
+table = 65535 ∷ 65535 ∷ 65535 ∷ 0 ∷ 0 ∷ 0 ∷ 0 ∷ 0 ∷ 1 ∷ 1 ∷ 65536 ∷ 0 ∷ 1 ∷ []
 
 -- the row with some words changed
 abbrev changed : List (ℕ × ℕ) → List ℕ
@@ -82,6 +82,13 @@ blocks =
     -- name cases
     ((10, 4) ∷ [], true) ∷
     ((10, 5) ∷ [], false) ∷
+    -- sorts
+    ((13, 1) ∷ [], true) ∷
+    ((13, 2) ∷ [], false) ∷
+    -- levels, also of a document row
+    ((13, 1) ∷ (14, 1) ∷ (15, 1) ∷ [], true) ∷
+    ((14, 2) ∷ [], false) ∷
+    ((15, 2) ∷ [], false) ∷
     -- data range
     ((3, 19) ∷ [], true) ∷
     ((3, 20) ∷ [], false) ∷

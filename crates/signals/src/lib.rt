@@ -58,6 +58,7 @@ pub fn pulse_blocks(
             num: 1,
             len1: pulse_at(tape, from, i),
             len2: pulse_at(tape, from, i + 1),
+            wave: 0,
         };
         let r = bare_row(origin, s.tones, 1, 0);
         match one_tone(s, blocks, tones, pair, r) {

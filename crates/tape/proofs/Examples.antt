@@ -81,10 +81,10 @@ stopped = 0x73 ∷ 0x74 ∷ 0x6F ∷ 0x70 ∷ []
 
 -- the tone rows of a standard block: a header's, and another's
 abbrev long : List (List ℕ)
-long = (4032 ∷ 2168 ∷ 2168 ∷ []) ∷ (1 ∷ 667 ∷ 735 ∷ []) ∷ []
+long = (4032 ∷ 2168 ∷ 2168 ∷ 0 ∷ []) ∷ (1 ∷ 667 ∷ 735 ∷ 0 ∷ []) ∷ []
 
 abbrev short : List (List ℕ)
-short = (1612 ∷ 2168 ∷ 2168 ∷ []) ∷ (1 ∷ 667 ∷ 735 ∷ []) ∷ []
+short = (1612 ∷ 2168 ∷ 2168 ∷ 0 ∷ []) ∷ (1 ∷ 667 ∷ 735 ∷ 0 ∷ []) ∷ []
 
 -- the listing's printed tape
 abbrev printed : List ℕ
@@ -129,23 +129,23 @@ examples =
     of 0 (1 ∷ 0 ∷ 0xFF ∷ []) (taken 0 (row 0 2 2 1 855 1710 8 7000000 1 ∷ []) short (sized 1 ∷ [])) ∷
     of 0 (2 ∷ 0 ∷ 0xFF ∷ []) (refusal tapeBad) ∷
     -- 12 with length 100: count 1, count 0
-    of 0 (pieces (0x12 ∷ 100 ∷ 0 ∷ 1 ∷ 0 ∷ [])) (taken 1 (row 0 2 0 0 0 0 0 0 0 ∷ []) ((1 ∷ 0 ∷ 100 ∷ []) ∷ (0 ∷ 100 ∷ 100 ∷ []) ∷ []) (sized 0 ∷ [])) ∷
-    of 0 (pieces (0x12 ∷ 100 ∷ 0 ∷ 0 ∷ 0 ∷ [])) (taken 1 (row 0 1 0 0 0 0 0 0 0 ∷ []) ((0 ∷ 100 ∷ 100 ∷ []) ∷ []) (sized 0 ∷ [])) ∷
+    of 0 (pieces (0x12 ∷ 100 ∷ 0 ∷ 1 ∷ 0 ∷ [])) (taken 1 (row 0 2 0 0 0 0 0 0 0 ∷ []) ((1 ∷ 0 ∷ 100 ∷ 0 ∷ []) ∷ (0 ∷ 100 ∷ 100 ∷ 0 ∷ []) ∷ []) (sized 0 ∷ [])) ∷
+    of 0 (pieces (0x12 ∷ 100 ∷ 0 ∷ 0 ∷ 0 ∷ [])) (taken 1 (row 0 1 0 0 0 0 0 0 0 ∷ []) ((0 ∷ 100 ∷ 100 ∷ 0 ∷ []) ∷ []) (sized 0 ∷ [])) ∷
     -- loop 2 round one pause: three blocks; loop 3: refused 6
     of 0 (pieces (0x24 ∷ 2 ∷ 0 ∷ 0x20 ∷ 1 ∷ 0 ∷ 0x25 ∷ [])) (taken 1 (pause 0 ∷ pause 0 ∷ pause 0 ∷ []) [] (sized 0 ∷ sized 0 ∷ sized 0 ∷ [])) ∷
     of 0 (pieces (0x24 ∷ 3 ∷ 0 ∷ 0x20 ∷ 1 ∷ 0 ∷ 0x25 ∷ [])) (refusal blocksFull) ∷
     -- pure data: last bits 8 accepted, 9 refused 7
-    of 0 (pure 8) (taken 1 (row 0 2 21 1 10 20 8 0 1 ∷ []) ((0 ∷ 0 ∷ 0 ∷ []) ∷ (1 ∷ 0 ∷ 0 ∷ []) ∷ []) (sized 1 ∷ [])) ∷
+    of 0 (pure 8) (taken 1 (row 0 2 21 1 10 20 8 0 1 ∷ []) ((0 ∷ 0 ∷ 0 ∷ 0 ∷ []) ∷ (1 ∷ 0 ∷ 0 ∷ 0 ∷ []) ∷ []) (sized 1 ∷ [])) ∷
     of 0 (pure 9) (refusal lastBits) ∷
     -- the printed tape on the 48K, and on the others
-    of 0 printed (taken 1 (row 0 1 0 0 0 0 0 0 0 ∷ pause 1 ∷ stop 1 ∷ []) ((2 ∷ 100 ∷ 100 ∷ []) ∷ []) (sized 0 ∷ sized 0 ∷ stopped ∷ [])) ∷
-    of 1 printed (taken 1 (row 0 1 0 0 0 0 0 0 0 ∷ pause 1 ∷ []) ((2 ∷ 100 ∷ 100 ∷ []) ∷ []) (sized 0 ∷ sized 0 ∷ [])) ∷
-    of 2 printed (taken 1 (row 0 1 0 0 0 0 0 0 0 ∷ pause 1 ∷ []) ((2 ∷ 100 ∷ 100 ∷ []) ∷ []) (sized 0 ∷ sized 0 ∷ [])) ∷
+    of 0 printed (taken 1 (row 0 1 0 0 0 0 0 0 0 ∷ pause 1 ∷ stop 1 ∷ []) ((2 ∷ 100 ∷ 100 ∷ 0 ∷ []) ∷ []) (sized 0 ∷ sized 0 ∷ stopped ∷ [])) ∷
+    of 1 printed (taken 1 (row 0 1 0 0 0 0 0 0 0 ∷ pause 1 ∷ []) ((2 ∷ 100 ∷ 100 ∷ 0 ∷ []) ∷ []) (sized 0 ∷ sized 0 ∷ [])) ∷
+    of 2 printed (taken 1 (row 0 1 0 0 0 0 0 0 0 ∷ pause 1 ∷ []) ((2 ∷ 100 ∷ 100 ∷ 0 ∷ []) ∷ []) (sized 0 ∷ sized 0 ∷ [])) ∷
     of 3 printed (refusal badModel) ∷
     -- a generalised piece with neither pilot nor data: refused 4, no fallback
     of 0 (pieces (0x19 ∷ replicate 18 0)) (refusal generalised) ∷
     -- exactly full; one tone row short: refused 5; one block row short: refused 6; both: 5
-    lending 2 2 two (taken 1 (row 0 2 0 0 0 0 0 0 0 ∷ pause 2 ∷ []) ((1 ∷ 0 ∷ 100 ∷ []) ∷ (0 ∷ 100 ∷ 100 ∷ []) ∷ []) (sized 0 ∷ sized 0 ∷ [])) ∷
+    lending 2 2 two (taken 1 (row 0 2 0 0 0 0 0 0 0 ∷ pause 2 ∷ []) ((1 ∷ 0 ∷ 100 ∷ 0 ∷ []) ∷ (0 ∷ 100 ∷ 100 ∷ 0 ∷ []) ∷ []) (sized 0 ∷ sized 0 ∷ [])) ∷
     lending 2 1 two (refusal tonesFull) ∷
     lending 1 2 two (refusal blocksFull) ∷
     lending 0 1 two (refusal tonesFull) ∷

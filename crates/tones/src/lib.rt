@@ -27,11 +27,13 @@ pub fn turbo_data_block(
         num: (d.pilots as u64 + 1) / 2,
         len1: d.pilot as u64,
         len2: d.pilot as u64,
+        wave: 0,
     };
     let sync = Tone {
         num: 1,
         len1: d.sync1 as u64,
         len2: d.sync2 as u64,
+        wave: 0,
     };
     let bits = Bits {
         start: d.from,
@@ -59,11 +61,13 @@ pub fn pure_data_block(
         num: 0,
         len1: 0,
         len2: 0,
+        wave: 0,
     };
     let sync = Tone {
         num: 1,
         len1: 0,
         len2: 0,
+        wave: 0,
     };
     let r = data_row(origin, s.tones, 2, bits, pause as u64 * 3500);
     two_tones(s, blocks, tones, pilot, sync, r)
@@ -84,6 +88,7 @@ pub fn pure_tone_block(
         num: (count / 2) as u64,
         len1: half as u64,
         len2: half as u64,
+        wave: 0,
     };
     if count % 2 == 0 {
         let r = bare_row(origin, s.tones, 1, 0);
@@ -93,6 +98,7 @@ pub fn pure_tone_block(
         num: 1,
         len1: 0,
         len2: half as u64,
+        wave: 0,
     };
     let r = bare_row(origin, s.tones, 2, 0);
     two_tones(s, blocks, tones, odd, whole, r)

@@ -9,11 +9,11 @@ use Rattle.pulses.specs.Source.{after, turn, turns, sourced, reached}
 use Rattle.rows.specs.Well.{wellRanges, wellTone, wellNumbers, wellCases, wellTones, wellBlock}
 use Rattle.rows.proofs.Samples.{rowWords}
 use Rattle.text.specs.Out.{ascii, digits, decimal}
-use Rattle.entries.specs.Entries.{entryOf, cyclesOf, toneOf, tonesOf, bitsAt, halfOf, byteOf, dataOf, pauseOf, soundOf, entriesOf}
-use Rattle.entries.specs.Places.{Tape, listFrom, fromPause, fromByte, fromBit, fromTone, fromCycle, leftAt, hasEntry, lengthAt, remains, valid, headOf, leftOf}
+use Rattle.entries.specs.Entries.{entryOf, cyclesOf, isSingle, startLevel, cycleLevel, bitLevel, edged, pauseLevel, toneOf, tonesOf, bitsAt, halfOf, byteOf, dataOf, pauseOf, soundOf, entriesOf}
+use Rattle.entries.specs.Places.{Tape, listFrom, levelAt, fromPause, fromEdge, fromSecond, fromByte, fromBit, fromTone, fromCycle, leftAt, hasEntry, lengthAt, remains, valid, headOf, leftOf}
 use Rattle.entries.specs.Mounted.{wellRow, firstBad, formed, tapeOf}
 use Rattle.walks.specs.declared.Position.{Position}
-use Rattle.walks.specs.Heads.{startAt, levelHere, toldAs, told, walked, walkFrom}
+use Rattle.walks.specs.Heads.{startAt, levelHere, restLevel, toldAs, told, walked, walkFrom}
 use Rattle.deck.specs.Deck.{ruledOut, illFormed, judged, unless, playMeasured, sourceAnswer, sourceFrom, playSource, backTo, blockOf, blockAt}
 use Rattle.deck.proofs.Answers.{positionIn}
 use Rattle.tracing.specs.Lines as lines
@@ -38,7 +38,7 @@ measures w q (n ∷ ns) =
 abbrev stopping : Tape
 stopping =
     tapeOf (90 ∷ 88 ∷ 84 ∷ 97 ∷ 112 ∷ 101 ∷ 33 ∷ 26 ∷ 1 ∷ 20 ∷ 18 ∷ 100 ∷ 0 ∷ 4 ∷ 0 ∷ 20 ∷ 10 ∷ 0 ∷ 20 ∷ 0 ∷ 2 ∷ 1 ∷ 0 ∷ 2 ∷ 0 ∷ 0 ∷ 128 ∷ 192 ∷ 32 ∷ 0 ∷ 0 ∷ [])
-    (2 ∷ 100 ∷ 100 ∷ 0 ∷ 0 ∷ 0 ∷ 1 ∷ 0 ∷ 0 ∷ [])
+    (2 ∷ 100 ∷ 100 ∷ 0 ∷ 0 ∷ 0 ∷ 0 ∷ 0 ∷ 1 ∷ 0 ∷ 0 ∷ 0 ∷ [])
     (rowWords (0 ∷ 1 ∷ []) ++ rowWords (1 ∷ 2 ∷ 26 ∷ 2 ∷ 10 ∷ 20 ∷ 2 ∷ 3500 ∷ 0 ∷ 1 ∷ []) ++ rowWords (3 ∷ 0 ∷ 0 ∷ 0 ∷ 0 ∷ 0 ∷ 0 ∷ 0 ∷ 1 ∷ 1 ∷ 1 ∷ []))
     3
 
@@ -46,7 +46,7 @@ stopping =
 abbrev ending : Tape
 ending =
     tapeOf (90 ∷ 88 ∷ 84 ∷ 97 ∷ 112 ∷ 101 ∷ 33 ∷ 26 ∷ 1 ∷ 20 ∷ 18 ∷ 100 ∷ 0 ∷ 5 ∷ 0 ∷ 32 ∷ 1 ∷ 0 ∷ [])
-    (1 ∷ 0 ∷ 100 ∷ 2 ∷ 100 ∷ 100 ∷ [])
+    (1 ∷ 0 ∷ 100 ∷ 0 ∷ 2 ∷ 100 ∷ 100 ∷ 0 ∷ [])
     (rowWords (0 ∷ 2 ∷ []) ++ rowWords (2 ∷ 0 ∷ 0 ∷ 0 ∷ 0 ∷ 0 ∷ 0 ∷ 3500 ∷ []))
     2
 
@@ -59,7 +59,7 @@ data-said : sources stopping (startAt 1) (5 ∷ 11 ∷ 9 ∷ 7 ∷ 12 ∷ 3 ∷ 
     ++ ascii "1 data 0 1 0 left 6 level 0 selected 1\n"
     ++ ascii "1 data 0 1 0 left 3 level 0 selected 1\n"
     ++ ascii "2 pause left endless level 0 selected 2\n"
-unfolding sources playSource unless judged ruledOut illFormed wellRow wellBlock wellRanges wellNumbers wellCases wellTones wellTone valid hasEntry remains lengthAt sourceFrom sourceAnswer sourced turns turn after reached walked formed firstBad told toldAs levelHere headOf leftOf shown leftAt listFrom fromPause fromByte fromBit fromTone fromCycle entriesOf soundOf tonesOf toneOf cyclesOf dataOf byteOf bitsAt halfOf pauseOf entryOf run positionIn blockOf backTo lineOf sourceLine lines.shown placeText restText durationText phaseText numbers spaced flag selectedText decimal digits
+unfolding sources playSource unless judged ruledOut illFormed wellRow wellBlock wellRanges wellNumbers wellCases wellTones wellTone valid hasEntry remains lengthAt sourceFrom sourceAnswer sourced turns turn after reached walked formed firstBad told toldAs levelHere restLevel headOf leftOf shown leftAt listFrom levelAt fromPause fromEdge fromSecond fromByte fromBit fromTone fromCycle entriesOf soundOf tonesOf toneOf cyclesOf isSingle startLevel cycleLevel bitLevel edged pauseLevel dataOf byteOf bitsAt halfOf pauseOf entryOf run positionIn blockOf backTo lineOf sourceLine lines.shown placeText restText durationText phaseText numbers spaced flag selectedText decimal digits
 data-said = refl
 
 -- oracle play 4 FILE 0 50 100 130 1000 5000: entries dropped, and the endless pause
@@ -69,7 +69,7 @@ stop-said : sources stopping (startAt 0) (50 ∷ 100 ∷ 130 ∷ 1000 ∷ 5000 �
     ++ ascii "0 tone 0 1 0 left 20 level 0 selected 0\n"
     ++ ascii "1 pause left 2520 level 0 selected 1\n"
     ++ ascii "2 pause left endless level 0 selected 2\n"
-unfolding sources playSource unless judged ruledOut illFormed wellRow wellBlock wellRanges wellNumbers wellCases wellTones wellTone valid hasEntry remains lengthAt sourceFrom sourceAnswer sourced turns turn after reached walked formed firstBad told toldAs levelHere headOf leftOf shown leftAt listFrom fromPause fromByte fromBit fromTone fromCycle entriesOf soundOf tonesOf toneOf cyclesOf dataOf byteOf bitsAt halfOf pauseOf entryOf run positionIn blockOf backTo lineOf sourceLine lines.shown placeText restText durationText phaseText numbers spaced flag selectedText decimal digits
+unfolding sources playSource unless judged ruledOut illFormed wellRow wellBlock wellRanges wellNumbers wellCases wellTones wellTone valid hasEntry remains lengthAt sourceFrom sourceAnswer sourced turns turn after reached walked formed firstBad told toldAs levelHere restLevel headOf leftOf shown leftAt listFrom levelAt fromPause fromEdge fromSecond fromByte fromBit fromTone fromCycle entriesOf soundOf tonesOf toneOf cyclesOf isSingle startLevel cycleLevel bitLevel edged pauseLevel dataOf byteOf bitsAt halfOf pauseOf entryOf run positionIn blockOf backTo lineOf sourceLine lines.shown placeText restText durationText phaseText numbers spaced flag selectedText decimal digits
 stop-said = refl
 
 -- oracle play 4 FILE 0 1 99 500 3000 600: to the end
@@ -79,7 +79,7 @@ end-said : sources ending (startAt 0) (1 ∷ 99 ∷ 500 ∷ 3000 ∷ 600 ∷ [])
     ++ ascii "1 pause left 3100 level 0 selected 0\n"
     ++ ascii "1 pause left 100 level 0 selected 0\n"
     ++ ascii "ended\n"
-unfolding sources playSource unless judged ruledOut illFormed wellRow wellBlock wellRanges wellNumbers wellCases wellTones wellTone valid hasEntry remains lengthAt sourceFrom sourceAnswer sourced turns turn after reached walked formed firstBad told toldAs levelHere headOf leftOf shown leftAt listFrom fromPause fromByte fromBit fromTone fromCycle entriesOf soundOf tonesOf toneOf cyclesOf dataOf byteOf bitsAt halfOf pauseOf entryOf run positionIn blockOf backTo lineOf sourceLine lines.shown placeText restText durationText phaseText numbers spaced flag selectedText decimal digits
+unfolding sources playSource unless judged ruledOut illFormed wellRow wellBlock wellRanges wellNumbers wellCases wellTones wellTone valid hasEntry remains lengthAt sourceFrom sourceAnswer sourced turns turn after reached walked formed firstBad told toldAs levelHere restLevel headOf leftOf shown leftAt listFrom levelAt fromPause fromEdge fromSecond fromByte fromBit fromTone fromCycle entriesOf soundOf tonesOf toneOf cyclesOf isSingle startLevel cycleLevel bitLevel edged pauseLevel dataOf byteOf bitsAt halfOf pauseOf entryOf run positionIn blockOf backTo lineOf sourceLine lines.shown placeText restText durationText phaseText numbers spaced flag selectedText decimal digits
 end-said = refl
 
 -- the measured player, the same tape: no entry is dropped, and it goes on after the end
@@ -89,5 +89,5 @@ measured-said : measures ending (startAt 0) (1 ∷ 99 ∷ 500 ∷ 3401 ∷ 1 ∷
     ++ ascii "stands passed 6 at 1 pause left 3400 level 0 selected 0\n"
     ++ ascii "ended passed 1 at 2 start left 0 level 0 selected 4294967295\n"
     ++ ascii "ended passed 0 at 2 start left 0 level 0 selected 4294967295\n"
-unfolding measures playMeasured unless judged ruledOut illFormed wellRow wellBlock wellRanges wellNumbers wellCases wellTones wellTone valid hasEntry remains lengthAt walkFrom walked formed firstBad told toldAs levelHere headOf leftOf answer rest over shown status leftAt listFrom fromPause fromByte fromBit fromTone fromCycle entriesOf soundOf tonesOf toneOf cyclesOf dataOf byteOf bitsAt halfOf pauseOf entryOf run positionIn blockOf backTo lineOf measuredLine lines.told lines.shown placeText restText durationText phaseText numbers spaced flag selectedText decimal digits
+unfolding measures playMeasured unless judged ruledOut illFormed wellRow wellBlock wellRanges wellNumbers wellCases wellTones wellTone valid hasEntry remains lengthAt walkFrom walked formed firstBad told toldAs levelHere restLevel headOf leftOf answer rest over shown status leftAt listFrom levelAt fromPause fromEdge fromSecond fromByte fromBit fromTone fromCycle entriesOf soundOf tonesOf toneOf cyclesOf isSingle startLevel cycleLevel bitLevel edged pauseLevel dataOf byteOf bitsAt halfOf pauseOf entryOf run positionIn blockOf backTo lineOf measuredLine lines.told lines.shown placeText restText durationText phaseText numbers spaced flag selectedText decimal digits
 measured-said = refl

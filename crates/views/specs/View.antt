@@ -9,7 +9,7 @@ use Rattle.rows.specs.Rows.{block, tone}
 use Rattle.rows.specs.declared.Tone.{Tone}
 use Rattle.rows.specs.declared.Block.{Block}
 use Rattle.entries.specs.declared.Duration.{Duration}
-use Rattle.entries.specs.Entries.{pauseOf}
+use Rattle.entries.specs.Entries.{wholePause}
 use Rattle.entries.specs.Places.{Tape}
 use Rattle.names.specs.Names.{nameOf}
 
@@ -34,7 +34,7 @@ ownTones ts r = take (r .tones) (drop (r .tone) ts)
 
 abbrev pub viewOf : List ℕ → List Tone → Block → View
 viewOf tape ts r =
-    record { name = nameOf tape r; selectable = eqb (r .selectable) 1; tones = ts; zero = r .zero; one = r .one; last = r .last; pause = pauseOf r; bytes = take (r .size) (drop (r .start) tape) }
+    record { name = nameOf tape r; selectable = eqb (r .selectable) 1; tones = ts; zero = r .zero; one = r .one; last = r .last; pause = wholePause r; bytes = take (r .size) (drop (r .start) tape) }
 
 -- A ROW'S BLOCK, over a tape's bytes and a tone table
 abbrev pub blockOf : List ℕ → List ℕ → Block → View

@@ -7,7 +7,7 @@ ghost use mathlib.Core.Path.{_≡_};
 ghost use Prim.Native.Nat.{_+_, _*_, _≤_};
 ghost use lib.ListN.{length};
 ghost use Rattle.rows.specs.Rows.{tone};
-ghost use Rattle.rows.specs.Well.{inside, wellTone, wellTones, wellRanges, wellPause, wellLast, wellNumbers, wellCases, wellBlock};
+ghost use Rattle.rows.specs.Well.{inside, wellTone, wellTones, wellRanges, wellPause, wellLast, wellNumbers, wellLevels, wellCases, wellBlock};
 
 // Whether `n` places from `from` on lie among the first `most`.
 fn ranges(from: u64, n: u64, most: u64) -> bool
@@ -26,7 +26,10 @@ pub fn tone_well(r: Tone) -> bool
     if 65535 < r.len1 {
         return false;
     }
-    r.len2 <= 65535
+    if 65535 < r.len2 {
+        return false;
+    }
+    r.wave <= 11
 }
 
 // Whether n tone rows from row `from` on are well formed; its callers know the rows to be lent.
@@ -89,7 +92,14 @@ fn numbers_well(r: Block) -> bool
     last_well(r)
 }
 
-// Whether a block's flags are 0 or 1 and its case number a named one.
+// Whether a block's levels are 0 or 1.
+fn levels_well(r: Block) -> bool
+    ensures { λ b. ⌜ b ≡ wellLevels r ⌝ }
+{
+    r.level <= 1 && r.played <= 1
+}
+
+// Whether a block's flags are 0 or 1 and its case numbers named ones.
 fn cases_well(r: Block) -> bool
     ensures { λ b. ⌜ b ≡ wellCases r ⌝ }
 {
@@ -99,7 +109,13 @@ fn cases_well(r: Block) -> bool
     if 1 < r.selectable {
         return false;
     }
-    r.named <= 4
+    if !levels_well(r) {
+        return false;
+    }
+    if 4 < r.named {
+        return false;
+    }
+    r.sort <= 1
 }
 
 // Whether a block's row is well formed, with its tone rows, over a tape of `tape` bytes.

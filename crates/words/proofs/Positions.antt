@@ -10,7 +10,7 @@ use borrow.Author.Tests.{le-ltb, eqb-true}
 use Rattle.laws.specs.Rules.{_⇒_, _∣_}
 use Rattle.laws.specs.Tests.{first, second}
 use Rattle.entries.specs.declared.Phase.{Phase}
-use Rattle.entries.specs.declared.Phase.the-variants.{Start, Tones, Data, Pause}
+use Rattle.entries.specs.declared.Phase.the-variants.{Start, Tones, Data, Edge, Pause}
 use Rattle.entries.specs.declared.Duration.{Duration}
 use Rattle.entries.specs.declared.Duration.the-variants.{T, Endless}
 use Rattle.walks.specs.declared.Position.{Position}
@@ -29,6 +29,7 @@ phase-back (Tones i p false) = refl
 phase-back (Tones i p true) = refl
 phase-back (Data i k false) = refl
 phase-back (Data i k true) = refl
+phase-back Edge = refl
 phase-back Pause = refl
 
 span-back : (d : Duration) → spanFrom (spanOf d .endless) (spanOf d .left) ≡ spanned.Is d
@@ -75,7 +76,9 @@ phase-words f a b h g e =
     (λ t q. halved-spot (Data a b) g 2 a b h (λ v. refl) q ∙ as-number f 2 t)
     (λ _ e3. either (eqb f 3) _ _ e3
     (λ t q. bare-spot Pause g 3 a b h refl q ∙ as-number f 3 t)
-    (λ _ e4. cc))))
+    (λ _ e4. either (eqb f 4) _ _ e4
+    (λ t q. bare-spot Edge g 4 a b h refl q ∙ as-number f 4 t)
+    (λ _ e5. cc)))))
   where
     as-number : (m n : ℕ) → eqb m n ≡ true → spot n a b h ≡ spot m a b h
     as-number m n t = ap (λ (k : ℕ). spot k a b h) (sym (eqb-true m n t))

@@ -6,7 +6,7 @@ use lib.Dec.{ltb, eqb}
 use lib.ListN.{length, getD}
 use Rattle.laws.specs.Rules.{_⇒_, _∣_}
 use Rattle.entries.specs.declared.Phase.{Phase}
-use Rattle.entries.specs.declared.Phase.the-variants.{Start, Tones, Data, Pause}
+use Rattle.entries.specs.declared.Phase.the-variants.{Start, Tones, Data, Edge, Pause}
 use Rattle.entries.specs.declared.Duration.{Duration}
 use Rattle.entries.specs.declared.Duration.the-variants.{T, Endless}
 use Rattle.walks.specs.declared.Position.{Position}
@@ -33,6 +33,7 @@ unfoldable pub spotOf : Phase → Spot
 spotOf Start = spot 0 0 0 0
 spotOf (Tones i p h) = spot 1 i p (flagOf h)
 spotOf (Data i k h) = spot 2 i k (flagOf h)
+spotOf Edge = spot 4 0 0 0
 spotOf Pause = spot 3 0 0 0
 
 abbrev pub span : ℕ → ℕ → Span
@@ -65,6 +66,7 @@ phaseFrom f a b h =
     ∣ eqb f 1 ⇒ halved (Tones a b) h
     ∣ eqb f 2 ⇒ halved (Data a b) h
     ∣ eqb f 3 ⇒ bare Pause a b h
+    ∣ eqb f 4 ⇒ bare Edge a b h
     ∣ phased.Not
 
 -- WORDS AS A DURATION, where they name one

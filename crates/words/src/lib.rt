@@ -73,6 +73,12 @@ pub fn spot_of(f: Phase) -> Spot
             part: bit,
             half: flag(last_half),
         },
+        Phase::Edge => Spot {
+            phase: 4,
+            item: 0,
+            part: 0,
+            half: 0,
+        },
         Phase::Pause => Spot {
             phase: 3,
             item: 0,
@@ -167,6 +173,9 @@ fn phase_from(f: u64, a: u64, b: u64, half: u64) -> Phased
     }
     if f == 3 {
         return bare_phase(Phase::Pause, a, b, half);
+    }
+    if f == 4 {
+        return bare_phase(Phase::Edge, a, b, half);
     }
     Phased::Not
 }

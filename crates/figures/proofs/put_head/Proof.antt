@@ -14,8 +14,8 @@ put-bits-requires : tie.Need-put-bits-requires
 put-bits-requires c κs =
     omega (arith, mark-next _ _ (c .before .before .before .put-mark .ensures))
 
-pause-of-requires : tie.Need-pause-of-requires
-pause-of-requires c κs = search needs
+whole-pause-requires : tie.Need-whole-pause-requires
+whole-pause-requires c κs = search needs
 
 put-end-requires : tie.Need-put-end-requires
 put-end-requires c κs =
@@ -27,7 +27,7 @@ same-length c = search needs
 returns : tie.Need-returns
 unfolding headText
 returns c =
-    rw (← c .before .before .before .pause-of .ensures) (then (then (c .before .before .before .before .before .before .before .before .before .before .before .put-mark .ensures) (c .before .before .before .before .before .before .before .put-bits .ensures)) (c .before .before .put-end .ensures))
+    rw (← c .before .before .before .whole-pause .ensures) (then (then (c .before .before .before .before .before .before .before .before .before .before .before .put-mark .ensures) (c .before .before .before .before .before .before .before .put-bits .ensures)) (c .before .before .put-end .ensures))
 
 pub put-head-spec : {M : Type 1} → statement M
 put-head-spec =
@@ -35,7 +35,7 @@ put-head-spec =
     (tie.spec
     put-mark-requires
     put-bits-requires
-    pause-of-requires
+    whole-pause-requires
     put-end-requires
     same-length
     returns)

@@ -47,6 +47,15 @@ slice-aggregate-put-all-4 c = search needs
 put-all-requires-4 : tie.Need-put-all-requires-4
 put-all-requires-4 c κs = search needs
 
+enum-told-3 : tie.Need-enum-told-3
+enum-told-3 c = search needs
+
+slice-aggregate-put-all-5 : tie.Need-slice-aggregate-put-all-5
+slice-aggregate-put-all-5 c = search needs
+
+put-all-requires-5 : tie.Need-put-all-requires-5
+put-all-requires-5 c κs = search needs
+
 same-length : tie.Need-same-length
 same-length c = search needs
 
@@ -79,6 +88,14 @@ unfolding phaseText
 returns-4 c =
     rw (c .before .before .before .before .before .enum-told2 .given .1) (c .before .before .put-all4 .ensures)
 
+same-length-5 : tie.Need-same-length-5
+same-length-5 c = search needs
+
+returns-5 : tie.Need-returns-5
+unfolding phaseText
+returns-5 c =
+    rw (c .before .before .before .before .before .enum-told3 .given .1) (c .before .before .put-all5 .ensures)
+
 pub put-phase-spec : {M : Type 1} → statement M
 put-phase-spec =
     tie.close
@@ -97,6 +114,9 @@ put-phase-spec =
     enum-told-2
     slice-aggregate-put-all-4
     put-all-requires-4
+    enum-told-3
+    slice-aggregate-put-all-5
+    put-all-requires-5
     same-length
     returns
     same-length-2
@@ -104,4 +124,6 @@ put-phase-spec =
     same-length-3
     returns-3
     same-length-4
-    returns-4)
+    returns-4
+    same-length-5
+    returns-5)

@@ -37,10 +37,20 @@ unfolding phaseFrom
 returns-4 c =
     rw (ne-eqb _ _ (c .before .before .before .before .if1 .left), ne-eqb _ _ (c .before .before .before .if2 .left), ne-eqb _ _ (c .before .before .if3 .left), eq-eqb _ _ (c .before .if4 .taken)) (c .bare-phase2 .ensures)
 
+bare-phase-requires-3 : tie.Need-bare-phase-requires-3
+bare-phase-requires-3 c κs = search needs
+
 returns-5 : tie.Need-returns-5
 unfolding phaseFrom
 returns-5 c =
-    rw (ne-eqb _ _ (c .before .before .before .if1 .left), ne-eqb _ _ (c .before .before .if2 .left), ne-eqb _ _ (c .before .if3 .left), ne-eqb _ _ (c .if4 .left))
+    let p = c .before .before in
+    rw (ne-eqb _ _ (p .before .before .before .if1 .left), ne-eqb _ _ (p .before .before .if2 .left), ne-eqb _ _ (p .before .if3 .left), ne-eqb _ _ (p .if4 .left), eq-eqb _ _ (c .before .if5 .taken)) (c .bare-phase3 .ensures)
+
+returns-6 : tie.Need-returns-6
+unfolding phaseFrom
+returns-6 c =
+    let p = c .before in
+    rw (ne-eqb _ _ (p .before .before .before .if1 .left), ne-eqb _ _ (p .before .before .if2 .left), ne-eqb _ _ (p .before .if3 .left), ne-eqb _ _ (p .if4 .left), ne-eqb _ _ (c .if5 .left))
 
 pub phase-from-spec : {M : Type 1} → statement M
 phase-from-spec =
@@ -54,4 +64,6 @@ phase-from-spec =
     returns-3
     bare-phase-requires-2
     returns-4
-    returns-5)
+    bare-phase-requires-3
+    returns-5
+    returns-6)

@@ -22,6 +22,9 @@ flag-requires-2 c κs = search needs
 enum-told-2 : tie.Need-enum-told-2
 enum-told-2 c = search needs
 
+enum-told-3 : tie.Need-enum-told-3
+enum-told-3 c = search needs
+
 returns : tie.Need-returns
 unfolding spotOf
 returns c =
@@ -42,6 +45,11 @@ unfolding spotOf
 returns-4 c =
     rw (c .enum-told2 .given .1)
 
+returns-5 : tie.Need-returns-5
+unfolding spotOf
+returns-5 c =
+    rw (c .enum-told3 .given .1)
+
 pub spot-of-spec : {M : Type 1} → statement M
 spot-of-spec =
     tie.close
@@ -52,7 +60,9 @@ spot-of-spec =
     enum-known-f-2
     flag-requires-2
     enum-told-2
+    enum-told-3
     returns
     returns-2
     returns-3
-    returns-4)
+    returns-4
+    returns-5)

@@ -41,7 +41,7 @@ _⟫_ (no k) f = no k
 
 -- a block with another name and selectable mark
 abbrev pub renamed : ℕ → ℕ → ℕ → ℕ → Block → Block
-renamed selectable case text chars r = withMark selectable (withName case text chars; sort = r .sort; level = r .level; played = r .played r)
+renamed selectable case text chars r = withMark selectable (withName case text chars r)
 
 -- each added block takes a pending name: group first (selectable), group later (unselectable), text (selectable)
 abbrev pub named : Pending → Block → Block

@@ -1,6 +1,7 @@
 pub mod Layouts
 pub mod Cutting
 pub mod Others
+pub mod Sorts
 pub mod Places
 pub mod PulsePlaces
 pub mod CuttingTap

@@ -23,33 +23,14 @@ use Rattle.pieces.specs.declared.Piece.the-variants as piece
 use Rattle.pieces.specs.declared.Body.{Body}
 use Rattle.pieces.specs.declared.Body.the-variants.{Whole, Short, Overflow}
 use Rattle.pieces.specs.declared.Taken.the-variants as taken
-use Rattle.pieces.specs.Grammar.{Layout, unknown, passAt, wholeAt, fittingAt, readAt, bitsOf, orFull, heldIf}
-use Rattle.pieces.specs.Kinds.{kind10, kind11, kind12, kind13, kind14, stream19, kind19, kind20, kind21, kind22, kind24, kind25, kind2A, kind30, kind31, info32, kind32, kind33, kind35, kind5A, unread, kinds, kindOf}
+use Rattle.pieces.specs.Grammar.{Layout, passAt, wholeAt, fittingAt, readAt, bitsOf, orFull, heldIf}
+use Rattle.pieces.specs.Kinds.{kind13, stream19, kind19}
 use Rattle.pieces.specs.Cut.{cutAt}
 use Rattle.pieces.specs.Steps.{head19}
 use Rattle.pieces.specs.Places.{Places}
 use Rattle.pieces.proofs.Cutting.{cut-there, cut-inside, cut-forward}
-use Rattle.pieces.proofs.Others.{Other, other-none, Every, no-more, _&_, found-every, unnamed}
-
-unfoldable isGeneral : Piece → Bool
-isGeneral (piece.Standard a b d) = false
-isGeneral (piece.Turbo a) = false
-isGeneral (piece.Tone a b) = false
-isGeneral (piece.Pulses a b) = false
-isGeneral (piece.Pure a b d x y z) = false
-isGeneral (piece.Generalized g) = true
-isGeneral (piece.Pause a) = false
-isGeneral (piece.GroupStart a b) = false
-isGeneral piece.GroupEnd = false
-isGeneral (piece.LoopStart a) = false
-isGeneral piece.LoopEnd = false
-isGeneral (piece.Stop48 a) = false
-isGeneral (piece.Text a b) = false
-isGeneral (piece.Message a b d) = false
-isGeneral (piece.Archive a b) = false
-isGeneral (piece.Hardware a b) = false
-isGeneral (piece.Custom a b d) = false
-isGeneral piece.Glue = false
+use Rattle.pieces.proofs.Others.{Other, other-none, unnamed}
+use Rattle.pieces.proofs.Sorts.{sortOf, isGeneral, isListed, Row, pulses, general, other, row-of}
 
 -- the end of 19: its data bytes are there, and their bits fit
 record Streamed (s : List ℕ) (bits : ℕ) (g₀ g : GeneralizedData) (c : Cursor) (next : ℕ) : Type 0 where
@@ -89,9 +70,8 @@ pub record Found (full : ℕ) (s : List ℕ) (g : GeneralizedData) (next : ℕ) 
 abbrev Placed : ℕ → List ℕ → Body → Type 0
 Placed full s b = (g : GeneralizedData) (next : ℕ) → b ≡ Whole (piece.Generalized g) next → next ≤ length s → Found full s g next
 
-other-placed : {full : ℕ} (l : Layout) → Other isGeneral l → (s : List ℕ) (c : Cursor) → Placed full s (readAt l s c)
-unfolding isGeneral
-other-placed l o s c g next e h = absurd (other-none isGeneral l o s c (piece.Generalized g) next refl e)
+other-placed : {full : ℕ} (is : Piece → Bool) → ((g : GeneralizedData) → is (piece.Generalized g) ≡ true) → (l : Layout) → Other is l → (s : List ℕ) (c : Cursor) → Placed full s (readAt l s c)
+other-placed is i l o s c g next e h = absurd (other-none is l o s c (piece.Generalized g) next (i g) e)
 
 -- an alphabet's size
 byte-small : (s : List ℕ) → ((i : ℕ) → getD s i 0 < 256) → (c : Cursor) → fieldAt s c 1 .value ≤ 255
@@ -142,42 +122,13 @@ unfolding readAt kind19 passAt head19
 general-placed full s c = tables full s _ _ _ (head19 s c .cursor) _ _ _ refl refl refl refl refl refl refl refl refl refl refl
 
 -- of all rows, that of 19 alone gives a 19
-module _ (full : ℕ) where
-  abbrev Row : Layout → Type 0
-  Row l = (s : List ℕ) (c : Cursor) → Placed full s (readAt l s c)
-
-  each-placed : Every Row (kinds full)
-  unfolding isGeneral kinds kind10 kind11 kind12 kind13 kind14 kind20 kind21 kind22 kind24 kind25 kind2A kind30 kind31 info32 kind32 kind33 kind35 kind5A
-  each-placed =
-      other-placed kind10 (λ _ _ _. refl) &
-      other-placed kind11 (λ _ _ _ _ _ _ _ _ _ _. refl) &
-      other-placed kind12 (λ _ _. refl) &
-      other-placed kind13 (λ _ _. refl) &
-      other-placed kind14 (λ _ _ _ _ _ _. refl) &
-      general-placed full &
-      other-placed kind20 (λ _. refl) &
-      other-placed kind21 (λ _ _. refl) &
-      other-placed kind22 refl &
-      other-placed unread tt &
-      other-placed kind24 (λ _. refl) &
-      other-placed kind25 refl &
-      other-placed kind2A (λ _. refl) &
-      other-placed unread tt &
-      other-placed kind30 (λ _ _. refl) &
-      other-placed kind31 (λ _ _ _. refl) &
-      other-placed kind32 (λ _ _ _. refl) &
-      other-placed kind33 (λ _ _. refl) &
-      other-placed unread tt &
-      other-placed kind35 (λ _ _ _. refl) &
-      other-placed unread tt &
-      other-placed kind5A refl &
-      no-more
-
-  rows-placed : (kind : ℕ) → Row (kindOf full kind)
-  unfolding kindOf
-  rows-placed kind = found-every Row (kinds full) kind (unknown _) each-placed (other-placed (unknown _) tt)
+rows-placed : {full : ℕ} {l : Layout} → Row full l → (s : List ℕ) (c : Cursor) → Placed full s (readAt l s c)
+unfolding sortOf kind13
+rows-placed pulses s c = other-placed isGeneral (λ _. refl) kind13 (λ _ _. refl) s c
+rows-placed {full} general s c = general-placed full s c
+rows-placed (other l o) s c = other-placed isListed (λ _. refl) l o s c
 
 -- a whole 19 has its tables where its places say
 pub cut-places : (s : List ℕ) (at full : ℕ) {k a next : ℕ} {g : GeneralizedData} → cutAt s at full ≡ taken.Whole k a next (piece.Generalized g) → Found full s g next
 cut-places s at full {next = next} {g = g} e =
-    rows-placed full (getD s at 0) s (At (at + 1)) g next (unnamed (getD s at 0) at _ (sym (cut-there s at full (cut-inside s at full e)) ∙ e)) (cut-forward s at full e .1)
+    rows-placed (row-of full (getD s at 0)) s (At (at + 1)) g next (unnamed (getD s at 0) at _ (sym (cut-there s at full (cut-inside s at full e)) ∙ e)) (cut-forward s at full e .1)

@@ -1,6 +1,6 @@
 -- What is left of a reading gives its answer: the invariant of both loops. Assumes nothing.
 use Prim.Native.Nat.{ℕ, zero, suc, _+_, _-_, _≤_, _<_}
-use mathlib.Core.Path.{_≡_, refl, sym, subst, _∙_}
+use mathlib.Core.Path.{_≡_, refl, sym, ap, subst, _∙_}
 use mathlib.Core.List.{List}
 use native.Mathlib.Omega.{arith}
 use lib.ListN.{length, getD}
@@ -14,7 +14,6 @@ use Rattle.parser.specs.Holds.{Holds, Gives}
 use Rattle.parser.proofs.Laws.{went-on, refused}
 use Rattle.rows.specs.Table.{zeros}
 use Rattle.pieces.specs.declared.Piece.{Piece}
-use Rattle.pieces.specs.declared.Piece.the-variants.{Standard, Turbo, Tone, Pulses, Pure, Generalized, Pause, GroupStart, GroupEnd, LoopStart, LoopEnd, Stop48, Text, Message, Archive, Hardware, Custom, Glue}
 use Rattle.pieces.proofs.PulsePlaces.{cut-pulses}
 use Rattle.general.proofs.Holding.{cut-held}
 use Rattle.pieces.specs.declared.Taken.{Taken}
@@ -102,21 +101,8 @@ blank-holds {s} {bt} {tt} b t h =
 
 -- what is cut from bytes is a piece as the code takes it
 pub cut-fit : (s : List ℕ) (at : ℕ) {k a next : ℕ} (piece : Piece) → ((i : ℕ) → getD s i 0 < 256) → cutAt s at full ≡ Whole k a next piece → Fit s piece
-cut-fit s at (Standard pause from size) b e = tt
-cut-fit s at (Turbo d) b e = tt
-cut-fit s at (Tone half count) b e = tt
-cut-fit s at (Pulses count from) b e = cut-pulses s at full e
-cut-fit s at (Pure nil one last pause from size) b e = tt
-cut-fit s at (Generalized g) b e = cut-held s at b e
-cut-fit s at (Pause n) b e = tt
-cut-fit s at (GroupStart from size) b e = tt
-cut-fit s at GroupEnd b e = tt
-cut-fit s at (LoopStart times) b e = tt
-cut-fit s at LoopEnd b e = tt
-cut-fit s at (Stop48 length) b e = tt
-cut-fit s at (Text from size) b e = tt
-cut-fit s at (Message seconds from size) b e = tt
-cut-fit s at (Archive count from) b e = tt
-cut-fit s at (Hardware count from) b e = tt
-cut-fit s at (Custom id from size) b e = tt
-cut-fit s at Glue b e = tt
+cut-fit s at {k} {a} {next} piece b e =
+    record {
+      pulses = λ count from q. cut-pulses s at full (e ∙ ap (λ (x : Piece). Whole k a next x) q);
+      general = λ g q. cut-held s at b (e ∙ ap (λ (x : Piece). Whole k a next x) q);
+    }

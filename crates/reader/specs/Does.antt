@@ -5,8 +5,9 @@ use mathlib.Core.List.{List}
 use lib.ListN.{length}
 use Rattle.rows.specs.Table.{zeros}
 use Rattle.general.specs.Held.{Held}
+use Rattle.pieces.specs.declared.GeneralizedData.{GeneralizedData}
 use Rattle.pieces.specs.declared.Piece.{Piece}
-use Rattle.pieces.specs.declared.Piece.the-variants.{Standard, Turbo, Tone, Pulses, Pure, Generalized, Pause, GroupStart, GroupEnd, LoopStart, LoopEnd, Stop48, Text, Message, Archive, Hardware, Custom, Glue}
+use Rattle.pieces.specs.declared.Piece.the-variants.{Pulses, Generalized}
 use Rattle.parser.specs.declared.State.{State}
 use Rattle.parser.specs.Parser.{Tape}
 use Rattle.parser.specs.Holds.{Holds}
@@ -16,25 +17,9 @@ use Rattle.reader.specs.declared.Reading.the-variants.{Done, Failed, Ref
 use Rattle.reader.specs.Source.{Read, done, failed, refused}
 
 -- what the code takes a piece of this tape to be: its pulses inside the tape, a 19 as `Held` says
-abbrev pub Fit : List ℕ → Piece → Type 0
-Fit s (Standard pause from size) = Unit {0}
-Fit s (Turbo d) = Unit {0}
-Fit s (Tone half count) = Unit {0}
-Fit s (Pulses count from) = from + count * 2 ≤ length s
-Fit s (Pure nil one last pause from size) = Unit {0}
-Fit s (Generalized g) = Held s g
-Fit s (Pause n) = Unit {0}
-Fit s (GroupStart from size) = Unit {0}
-Fit s GroupEnd = Unit {0}
-Fit s (LoopStart times) = Unit {0}
-Fit s LoopEnd = Unit {0}
-Fit s (Stop48 length) = Unit {0}
-Fit s (Text from size) = Unit {0}
-Fit s (Message seconds from size) = Unit {0}
-Fit s (Archive count from) = Unit {0}
-Fit s (Hardware count from) = Unit {0}
-Fit s (Custom id from size) = Unit {0}
-Fit s Glue = Unit {0}
+pub record Fit (s : List ℕ) (p : Piece) : Type 0 where
+  pub pulses : (count from : ℕ) → p ≡ Pulses count from → from + count * 2 ≤ length s
+  pub general : (g : GeneralizedData) → p ≡ Generalized g → Held s g
 
 -- a table not yet written
 abbrev pub Blank : List ℕ → Type 0

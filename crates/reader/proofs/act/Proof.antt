@@ -45,7 +45,7 @@ cast-pulse-blocks c = search needs
 
 pulse-blocks-requires : tie.Need-pulse-blocks-requires
 pulse-blocks-requires c κs =
-    let f = rw (c .before .before .before .piece4 .given .1) at (c .before .before .before .before .before .before .before .before .pre) in omega (arith, f)
+    let f = c .before .before .before .before .before .before .before .before .pre .pulses _ _ (c .before .before .before .piece4 .given .1) in omega (arith, f)
 
 enum-known-piece-5 : tie.Need-enum-known-piece-5
 enum-known-piece-5 c = search needs
@@ -70,7 +70,7 @@ enum-known-piece-6 c = search needs
 
 generalized-data-block-requires : tie.Need-generalized-data-block-requires
 generalized-data-block-requires c κs =
-    rw (c .before .before .before .piece6 .given .1) at (c .before .before .before .before .before .before .before .before .pre)
+    c .before .before .before .before .before .before .before .before .pre .general _ (c .before .before .before .piece6 .given .1)
 
 enum-known-piece-7 : tie.Need-enum-known-piece-7
 enum-known-piece-7 c = search needs

@@ -40,7 +40,7 @@ abbrev tones : List Tone → Tape → Out
 tones = addTones 3
 
 abbrev tone : Tone
-tone = decodeTone (1 ∷ 2 ∷ 3; wave = 0 ∷ [])
+tone = decodeTone (1 ∷ 2 ∷ 3 ∷ [])
 
 abbrev after : List (Tape → Out) → Out → Out
 after [] o = o

@@ -1,4 +1,4 @@
-/* A host that makes its tables itself: plays the runs of a file through glyvrask_play_measured, and prints the lines that the program `rehear` prints of them.
+/* A host that makes its tables itself: plays the runs of a file through both players, and prints the lines that the program `rehear` prints of them.
  *   rows FILE
  * crates/rehear/src/main.rt says what stands in such a file. */
 #include "glyvrask.h"
@@ -12,7 +12,7 @@ extern void exit(int);
 typedef unsigned char byte;
 typedef glyvrask_word word;
 
-enum { MOST = 4 << 20, BLOCKS = 512, TONES = 2048, HEAD = 14 };
+enum { MOST = 4 << 20, BLOCKS = 512, TONES = 2048, HEAD = 15 };
 
 static byte file[MOST];
 static glyvrask_size used;
@@ -53,6 +53,7 @@ struct run {
     const byte *tape;
     glyvrask_size tape_len, blocks_len, tones_len;
     word count, position[GLYVRASK_POS_WORDS];
+    int measured;
 };
 
 static void print_phase(const word *p) {
@@ -69,38 +70,52 @@ static void print_selected(struct run *r) {
     else printf(" selected %lu\n", answer);
 }
 
-static void call(struct run *r, unsigned n) {
+static unsigned ask(struct run *r, unsigned n, word *answer) {
+    if (r->measured)
+        return glyvrask_play_measured(r->tape, r->tape_len, blocks, r->blocks_len, tones, r->tones_len, r->count, r->position, GLYVRASK_POS_WORDS, n, answer, GLYVRASK_PLAYED_WORDS);
+    return glyvrask_play(r->tape, r->tape_len, blocks, r->blocks_len, tones, r->tones_len, r->count, r->position, GLYVRASK_POS_WORDS, n, answer, GLYVRASK_PLAYED_WORDS);
+}
+
+/* one call and its line; whether the run goes on */
+static int call(struct run *r, unsigned n) {
     static const char *const how[] = {"stands", "stopped", "ended"};
     word a[GLYVRASK_PLAYED_WORDS], *at = a + GLYVRASK_AT;
-    unsigned no = glyvrask_play_measured(r->tape, r->tape_len, blocks, r->blocks_len, tones, r->tones_len, r->count, r->position, GLYVRASK_POS_WORDS, n, a, GLYVRASK_PLAYED_WORDS);
+    unsigned no = ask(r, n, a);
     if (no) {
         printf("refused %u\n", no);
-        return;
+        return 1;
     }
     for (unsigned k = 0; k < GLYVRASK_POS_WORDS; k++) r->position[k] = at[k];
-    printf("%s passed %lu at %lu ", how[a[GLYVRASK_HOW]], a[GLYVRASK_PASSED], at[GLYVRASK_POS_BLOCK]);
+    if (!r->measured && a[GLYVRASK_HOW] == 2) {
+        printf("ended\n");
+        return 0;
+    }
+    if (r->measured) printf("%s passed %lu at ", how[a[GLYVRASK_HOW]], a[GLYVRASK_PASSED]);
+    printf("%lu ", at[GLYVRASK_POS_BLOCK]);
     print_phase(at);
     if (at[GLYVRASK_POS_ENDLESS]) printf(" left endless");
     else printf(" left %lu", at[GLYVRASK_POS_LEFT]);
     printf(" level %lu", a[GLYVRASK_LEVEL]);
     print_selected(r);
+    return 1;
 }
 
 /* the run at a place; the place behind it */
 static glyvrask_size play(glyvrask_size at) {
     static struct run r;
-    word calls = number(at + 8, 2);
+    word calls = number(at + 9, 2);
     glyvrask_size counts = at + HEAD, rows = counts + 4 * calls;
-    r.count = number(at, 2);
+    r.measured = number(at, 1) == 'm';
+    r.count = number(at + 1, 2);
     r.blocks_len = r.count * GLYVRASK_BLOCK_WORDS;
-    r.tones_len = number(at + 2, 2) * GLYVRASK_TONE_WORDS;
+    r.tones_len = number(at + 3, 2) * GLYVRASK_TONE_WORDS;
     rows = take_words(blocks, r.blocks_len, sizeof blocks / sizeof *blocks, rows);
     rows = take_words(tones, r.tones_len, sizeof tones / sizeof *tones, rows);
     r.tape = file + rows;
-    r.tape_len = number(at + 10, 4);
+    r.tape_len = number(at + 11, 4);
     if (used - rows < r.tape_len) fail("the file is short");
-    if (glyvrask_new_at_block(number(at + 4, 4), r.position, GLYVRASK_POS_WORDS)) fail("no start");
-    for (word i = 0; i < calls; i++) call(&r, number(counts + 4 * i, 4));
+    if (glyvrask_new_at_block(number(at + 5, 4), r.position, GLYVRASK_POS_WORDS)) fail("no start");
+    for (word i = 0; i < calls && call(&r, number(counts + 4 * i, 4)); i++) {}
     return rows + r.tape_len;
 }
 

@@ -1,4 +1,4 @@
-"""Rows in tables, played a second time: written from the format's text over an explicit list of entries, for the runs that `rehear` prints in the gate.
+"""Rows in tables, played a second time: written from the format's text and document 01's over an explicit list of entries, for the runs that `rehear` prints in the gate.
 
 A document row's pulses are voiced one by one from two levels that run along: the current one, at which the next pulse is played, and the one last played."""
 
@@ -93,40 +93,50 @@ def selected(blocks, bad, number):
         number -= 1
 
 
-def play(blocks, tones, tape, bad, start, counts):
-    """The lines of the measured player's calls from a block's start; `bad` are the numbers of the rows that are not well formed."""
+def measured(lengths, head, left, n):
+    """Each entry is charged in turn; what is left of n found none."""
+    while head < len(lengths) and left is not ENDLESS and n > 0 and n >= left:
+        n -= left
+        head += 1
+        left = lengths[head] if head < len(lengths) else 0
+    if head == len(lengths):
+        return head, 0, n
+    return head, ENDLESS if left is ENDLESS else left - n, 0
+
+
+def source(lengths, head, left, n):
+    """As the Rust turns: an entry that ends hands the rest of n to the next one, which is dropped uncharged if it is no longer than that."""
+    while head < len(lengths) and left is not ENDLESS and n > 0:
+        if n < left:
+            return head, left - n, 0
+        n -= left
+        head += 1
+        left = lengths[head] if head < len(lengths) else 0
+        if left is not ENDLESS:
+            left, n = (left - n, 0) if n < left else (0, n)
+    return head, left, n if head == len(lengths) else 0
+
+
+def play(blocks, tones, tape, bad, start, player, counts):
+    """The lines of calls from a block's start, of player `m` (measured) or `s` (the source's, which ends with the tape); `bad` are the numbers of the rows that are not well formed."""
     entries = [(i, *e) for i, block in enumerate(blocks) for e in entries_of(block, tones, tape, i in bad)]
+    lengths = [e[3] for e in entries]
     head = next((k for k, e in enumerate(entries) if e[0] == start), len(entries))
     left = 0
-    past = start if start >= len(blocks) else None  # a start past the count keeps its number until it is played
-
-    def is_bad(k):
-        return k < len(entries) and entries[k][3] == BAD
-
+    past = start if start >= len(blocks) else len(blocks)  # a start past the count keeps its number until it is played
     for count in counts:
-        old = head, left
-        if not is_bad(head):
-            spend, status = count, "stands"
-            if count > 0:
-                past = None
-            while head < len(entries) and not is_bad(head) and left is not ENDLESS and spend > 0 and spend >= left:
-                spend -= left
-                head += 1
-                left = entries[head][3] if head < len(entries) and not is_bad(head) else 0
-            if is_bad(head) and spend > 0:
-                head, left = old
-                yield "refused 11"
-                continue
-            if head == len(entries):
-                if spend > 0:
-                    status = "ended"
-            elif left is ENDLESS:
-                status = "stopped"
-            else:
-                left -= spend
-        else:
+        wall = next((k for k in range(head, len(entries)) if lengths[k] == BAD), len(entries))
+        at, rest, over = (measured if player == "m" else source)(lengths[:wall], head, left, count)
+        if wall < len(entries) and (over > 0 or head == wall):
             yield "refused 11"
             continue
-        number, phase, level, _ = entries[head] if head < len(entries) else (len(blocks) if past is None else past, "start", 0, 0)
-        shown = "endless" if left is ENDLESS else left
-        yield f"{status} passed {head - old[0]} at {number} {phase} left {shown} level {level} selected {selected(blocks, bad, number)}"
+        passed, head, left = at - head, at, rest
+        if count > 0:
+            past = len(blocks)
+        if player == "s" and over > 0:
+            yield "ended"
+            return
+        number, phase, level, _ = entries[head] if head < len(entries) else (past, "start", 0, 0)
+        status = "ended" if over > 0 else "stopped" if left is ENDLESS else "stands"
+        place = f"{number} {phase} left {'endless' if left is ENDLESS else left} level {level} selected {selected(blocks, bad, number)}"
+        yield f"{status} passed {passed} at {place}" if player == "m" else place

@@ -40,8 +40,8 @@ def worked():
         # both sorts beside each other
         yield [row(tones=1, pause=5000), row(**line, tones=1, pause=5000), row(tones=1)], [tone(2, 8, 6, 2)], b"", ()
         # a head that comes to rest at a start: of a well formed row, and of others, which it does not reach
-        for change in ({"endless": 2}, {"sort": 2}, {"level": 2}, {"tones": 9}):
-            yield [row(**line, tones=1), {**row(**line, tones=1), **change}, row(**line, tones=1)], [tone(1, 5, 0, 1)], b"", (1,)
+        for change in ({"endless": 2}, {"sort": 2}, {"level": 2}, {"played": 2}, {"tones": 9}, {"tone": 1}):
+            yield [row(**line, tones=1), {**row(**line, tones=1), **change}, row(**line, tones=1)], [tone(1, 5, 0, 1), tone(1, 5, 0, 12)], b"", (1,)
 
 
 def some(r):
@@ -96,9 +96,10 @@ def main(out):
         blocks, tones, tape, bad = run
         for way in ways:
             counts = way(r, run)
-            head = struct.pack("<HHIHI", len(blocks), len(tones), start, len(counts), len(tape))
-            runs.append(head + struct.pack(f"<{len(counts)}I", *counts) + words(BLOCK, blocks) + words(TONE, tones) + tape)
-            lines.extend(play(blocks, tones, tape, bad, start, counts))
+            body = struct.pack(f"<HHIHI{len(counts)}I", len(blocks), len(tones), start, len(counts), len(tape), *counts) + words(BLOCK, blocks) + words(TONE, tones) + tape
+            for player in "ms" if r.random() < 0.3 else "m":
+                runs.append(player.encode() + body)
+                lines.extend(play(blocks, tones, tape, bad, start, player, counts))
     out = Path(out)
     (out / "stdin").write_bytes(struct.pack("<I", len(runs)) + b"".join(runs))
     (out / "stdout").write_text("".join(line + "\n" for line in lines))

@@ -1,6 +1,6 @@
-// Plays rows that stand in tables, the runs on standard input one after the other: 4 bytes give how many there are; each has how many block rows and tone rows (2 bytes
-// each), the block that is started from (4 bytes), how many calls (2 bytes, at most 1,000), the tape's length (4 bytes), each call's count (4 bytes), the words of the block
-// rows and of the tone rows (4 bytes each), and the tape. Numbers are little-endian.
+// Plays rows that stand in tables, the runs on standard input one after the other: 4 bytes give how many there are; each has `m` (the measured player) or `s` (the
+// source's), how many block rows and tone rows (2 bytes each), the block that is started from (4 bytes), how many calls (2 bytes, at most 1,000), the tape's length
+// (4 bytes), each call's count (4 bytes), the words of the block rows and of the tone rows (4 bytes each), and the tape. Numbers are little-endian.
 use fields::number_up_to;
 use playback::print_calls;
 use rows::BLOCK_TABLE;
@@ -29,6 +29,7 @@ fn run(
     blocks: &mut [u64],
     tones: &mut [u64],
     count: usize,
+    measured: bool,
     from: usize,
     calls: usize,
 )
@@ -44,7 +45,7 @@ fn run(
         tones,
         blocks,
         count as u64,
-        true,
+        measured,
         from as u64,
         &counts,
         calls as u64,
@@ -53,18 +54,19 @@ fn run(
 
 // One run.
 fn rehear(bytes: &mut [u8], blocks: &mut [u64], tones: &mut [u64]) {
-    let mut head = [0u8; 14];
+    let mut head = [0u8; 15];
     io::read_full(0, &mut head);
-    let count = number_up_to(&head, 0, 2, blocks.len() / BLOCK_WORDS);
-    let others = number_up_to(&head, 2, 2, tones.len() / TONE_WORDS);
-    let from = number_up_to(&head, 4, 4, LARGEST);
-    let calls = number_up_to(&head, 8, 2, 1000);
-    let n = number_up_to(&head, 10, 4, bytes.len());
+    let count = number_up_to(&head, 1, 2, blocks.len() / BLOCK_WORDS);
+    let others = number_up_to(&head, 3, 2, tones.len() / TONE_WORDS);
+    let from = number_up_to(&head, 5, 4, LARGEST);
+    let calls = number_up_to(&head, 9, 2, 1000);
+    let n = number_up_to(&head, 11, 4, bytes.len());
     run(
         &mut bytes[..n],
         &mut blocks[..BLOCK_WORDS * count],
         &mut tones[..TONE_WORDS * others],
         count,
+        head[0] == b'm',
         from,
         calls,
     );

@@ -13,6 +13,7 @@ from pathlib import Path
 from document import BAD, BLOCK, ENDLESS, TONE, entries_of, play, row, tone, wave
 
 PAUSES = (0, 1, 2, 3499, 3500, 3501, 7000)
+ENDINGS = [{"pause": n} for n in PAUSES] + [{"endless": 1}]
 LINES = [(level, played) for level in (0, 1) for played in (0, 1)]
 
 
@@ -27,14 +28,14 @@ def worked():
         for pulses in range(3):
             for level, played in LINES:
                 tones = [tone(3, 9, 4, wave(begin, pulses)), tone(0, 7, 5, wave(begin, pulses)), tone(1, 6, 0, wave(0, 1))]
-                for pause in PAUSES:
-                    first = row(tones=3, pause=pause, sort=1, level=level, played=played, selectable=1)
+                for ending in ENDINGS:
+                    first = row(tones=3, **ending, sort=1, level=level, played=played, selectable=1)
                     behind = row(tone=2, tones=1, sort=1, level=1 - level, played=played)
                     yield [first, behind], tones, b"", ()
     for level, played in LINES:
         line = {"sort": 1, "level": level, "played": played}
-        # no pulse at all, before each ending; a stop; data of one to eight bits behind an odd pulse
-        yield [row(**line, pause=pause) for pause in PAUSES] + [row(**line, endless=1), row(**line)], [], b"", ()
+        # no pulse at all, before each ending; data of one to eight bits behind an odd pulse
+        yield [row(**line, **ending) for ending in ENDINGS], [], b"", ()
         for last in range(9):
             yield [row(**line, tones=1, size=2, zero=10, one=20, last=last, pause=3600), row(**line)], [tone(1, 5, 0, 1)], b"\xa5\x80", ()
         # both sorts beside each other

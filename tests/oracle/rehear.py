@@ -90,7 +90,7 @@ def main(out):
     r = random.Random(1982)
     runs, lines = [], []
     plans = [(run, 0, (in_turn, few)) for run in worked()]
-    for _ in range(300):
+    for _ in range(200):
         run = some(r)
         plans.append((run, r.choice((0, 0, 0, 0, 1, len(run[0]), 9)), (in_turn, near, at_once, few)))
     for run, start, ways in plans:

@@ -12,19 +12,25 @@ ghost use Prim.Native.Nat.{_≤_};
 // The largest number of 4 bytes.
 const LARGEST: usize = 4294967295;
 
+// The next word.
+fn read_word() -> u64 {
+    let mut four = [0u8; 4];
+    io::read_full(0, &mut four);
+    number_up_to(&four, 0, 4, LARGEST) as u64
+}
+
 // The words of a table's rows.
 fn read_words(words: &mut [u64]) {
-    let mut four = [0u8; 4];
     let mut i = 0;
     while i < words.len() {
-        io::read_full(0, &mut four);
-        words[i] = number_up_to(&four, 0, 4, LARGEST) as u64;
+        words[i] = read_word();
         i += 1;
     }
 }
 
-// A run over the rows and the tape that fill what is lent.
+// A run over the counts, rows and tape that fill what is lent.
 fn run(
+    counts: &mut [u8],
     tape: &mut [u8],
     blocks: &mut [u64],
     tones: &mut [u64],
@@ -35,8 +41,7 @@ fn run(
 )
     requires { ⌜ calls ≤ 1000 ⌝ }
 {
-    let mut counts = [0u8; 4000];
-    io::read_full(0, &mut counts[..4 * calls]);
+    io::read_full(0, counts);
     read_words(blocks);
     read_words(tones);
     io::read_full(0, tape);
@@ -47,13 +52,14 @@ fn run(
         count as u64,
         measured,
         from as u64,
-        &counts,
+        counts,
         calls as u64,
     );
 }
 
 // One run.
 fn rehear(bytes: &mut [u8], blocks: &mut [u64], tones: &mut [u64]) {
+    let mut counts = io::buffer();
     let mut head = [0u8; 15];
     io::read_full(0, &mut head);
     let count = number_up_to(&head, 1, 2, blocks.len() / BLOCK_WORDS);
@@ -62,6 +68,7 @@ fn rehear(bytes: &mut [u8], blocks: &mut [u64], tones: &mut [u64]) {
     let calls = number_up_to(&head, 9, 2, 1000);
     let n = number_up_to(&head, 11, 4, bytes.len());
     run(
+        &mut counts[..4 * calls],
         &mut bytes[..n],
         &mut blocks[..BLOCK_WORDS * count],
         &mut tones[..TONE_WORDS * others],

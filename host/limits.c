@@ -182,7 +182,7 @@ static void tone_rows(void) {
     generalised(65537);
     load("65,537 tone rows are refused 5 in a table of 65,538 rows", 0, LENT_BLOCKS, LENT_TONES, 5, 0, 0);
     tap_of(1);
-    load("a block is refused 5 where a tone row is broken", 0, LENT_BLOCKS, 2 * 4 - 1, 5, 0, 0);
+    load("a block is refused 5 where a tone row is broken", 0, LENT_BLOCKS, TONE_ROWS(2) - 1, 5, 0, 0);
 }
 
 static void refused_loads(void) {

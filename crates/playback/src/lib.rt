@@ -82,7 +82,7 @@ fn call(
 }
 
 // The calls from a block's start; the source's end with the tape.
-fn print_calls(
+pub fn print_calls(
     tape: &[u8],
     tones: &[u64],
     blocks: &[u64],

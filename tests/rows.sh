@@ -18,9 +18,9 @@ fields() { # STRUCT
     sed -n "/^pub struct $1 {/,/^}/s/^    pub \([a-z0-9]*\): u64,\$/\1/p" crates/rows/src/lib.rt
 }
 
-# The words that the header numbers from 0 under a heading.
+# The words that the header numbers from 0 under a heading; ROW_ stands before a name that an answer has too.
 header() { # HEADING
-    sed -n "/^\/\* $1 \*\//,/^};/s/^    GLYVRASK_\([A-Z0-9]*\) = \([0-9]*\).*/\2 \1/p" include/glyvrask.h | tr '[:upper:]' '[:lower:]'
+    sed -n "/^\/\* $1 \*\//,/^};/s/^    GLYVRASK_\(ROW_\)\{0,1\}\([A-Z0-9]*\) = \([0-9]*\).*/\3 \2/p" include/glyvrask.h | tr '[:upper:]' '[:lower:]'
 }
 
 # The words that README.md numbers from 0 in a table.

@@ -18,11 +18,7 @@ fields() { # STRUCT
     sed -n "/^pub struct $1 {/,/^}/s/^    pub \([a-z0-9]*\): u64,\$/\1/p" crates/rows/src/lib.rt
 }
 
-<<<<<<< HEAD
 # The words that the header numbers from 0 under a heading; ROW_ stands where an answer has a word of that name.
-=======
-# The words that the header numbers from 0 under a heading; ROW_ stands before a name that an answer has too.
->>>>>>> h5
 header() { # HEADING
     sed -n "/^\/\* $1 \*\//,/^};/s/^    GLYVRASK_\(ROW_\)\{0,1\}\([A-Z0-9]*\) = \([0-9]*\).*/\3 \2/p" include/glyvrask.h | tr '[:upper:]' '[:lower:]'
 }

@@ -1,6 +1,6 @@
 /* A host that makes its tables itself: plays the runs of a file through both players, and prints the lines that the program `rehear` prints of them.
  *   rows FILE
- * crates/rehear/src/main.rt says what stands in such a file. */
+ * crates/gate_rehear/src/main.rt says what stands in such a file. */
 #include "glyvrask.h"
 
 /* The kit's compiler has no header files. */

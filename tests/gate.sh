@@ -6,8 +6,8 @@ room=$(mktemp -d)
 trap 'rm -rf "$room"' EXIT
 mkdir "$room/crates"
 cp "$here/test" "$room/test"
-cp -R "$here/crates/laws" "$room/crates/laws"
-echo 'laws:' > "$room/crates.txt"
+cp -R "$here/crates/law_base" "$room/crates/law_base"
+echo 'law_base:' > "$room/crates.txt"
 
 # gate WANTS SAYS: the gate's exit status is WANTS, and its last line is rt's count where it passes
 gate() {

@@ -7,6 +7,6 @@ host/build export
 room=$(mktemp -d)
 trap 'rm -rf "$room"' EXIT
 link_host "$room/rows" host/rows.c target/staticlib/libexport.a
-run_host "$room/rows" crates/rehear/stdin > "$room/got"
-cmp "$room/got" crates/rehear/stdout
-echo "rows.sh: $(wc -l < crates/rehear/stdout) lines alike"
+run_host "$room/rows" crates/gate_rehear/stdin > "$room/got"
+cmp "$room/got" crates/gate_rehear/stdout
+echo "rows.sh: $(wc -l < crates/gate_rehear/stdout) lines alike"

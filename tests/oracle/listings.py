@@ -3,7 +3,7 @@
 
     tests/oracle/listings.py ORACLE OUT
 
-ORACLE is the folder with the oracle's `build` and `corpus.py`; OUT gets `stdin` and `stdout` (crates/listings). The same files come out each time.
+ORACLE is the folder with the oracle's `build` and `corpus.py`; OUT gets `stdin` and `stdout` (crates/gate_listings). The same files come out each time.
 zmakebas and fuse-emulator-utils of Debian are to be installed.
 """
 import struct

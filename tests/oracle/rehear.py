@@ -3,7 +3,7 @@
 
     tests/oracle/rehear.py OUT
 
-OUT gets `stdin` and `stdout` (crates/rehear). The same files come out each time.
+OUT gets `stdin` and `stdout` (crates/gate_rehear). The same files come out each time.
 """
 import random
 import struct

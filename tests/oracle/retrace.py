@@ -3,7 +3,7 @@
 
     tests/oracle/retrace.py ORACLE OUT
 
-ORACLE is the folder with the oracle's `build` and `corpus.py`; OUT gets `stdin` and `stdout` (crates/retrace). The same files come out each time.
+ORACLE is the folder with the oracle's `build` and `corpus.py`; OUT gets `stdin` and `stdout` (crates/gate_retrace). The same files come out each time.
 """
 import random
 import struct

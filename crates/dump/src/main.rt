@@ -1,12 +1,12 @@
 // Reads a model byte (`4`, `1`, `3`) and up to 65,535 tape bytes from standard input, and prints every block whole, or `refused n`.
-use models::model_of;
-use printing::print_loaded;
-use printing::print_refused;
+use load_tape::load;
+use prog_model::model_of;
+use prog_tape::print_loaded;
+use prog_tape::print_refused;
 use refusals::BAD_MODEL;
 use refusals::TAPE_LONG;
 use rows::BLOCK_TABLE;
 use rows::TONE_TABLE;
-use tape::load;
 
 // What is printed of the input, and whether more input followed.
 fn dump(input: &[u8], more: usize, blocks: &mut [u64], tones: &mut [u64]) {

@@ -5,14 +5,14 @@ use mathlib.Core.List.{List}
 use lib.ListN.{length}
 use borrow.Author.Tests.{le-leb, lt-leb, le-ltb, lt-ltb}
 use Rattle.refusals.specs.Refusals.{noRoom}
-use Rattle.text.specs.Out.{told}
-use Rattle.reader.specs.Source.{Loaded as Load}
-use Rattle.tape.specs.declared.Loaded.{Loaded}
-use Rattle.tape.specs.declared.Loaded.the-variants.{Tape, Refused}
-use Rattle.tape.specs.Load.{Leaves, answerOf, blocksOf, tonesOf}
-use Rattle.answers.specs.Answers.{numberOf, valuesOf, ofLoaded}
+use Rattle.text_out.specs.Out.{told}
+use Rattle.load_source.specs.Source.{Loaded as Load}
+use Rattle.load_tape.specs.declared.Loaded.{Loaded}
+use Rattle.load_tape.specs.declared.Loaded.the-variants.{Tape, Refused}
+use Rattle.load_tape.specs.Load.{Leaves, answerOf, blocksOf, tonesOf}
+use Rattle.host_answers.specs.Answers.{numberOf, valuesOf, ofLoaded}
 use Rattle.export.specs.Export.{loadNumber, loadTable}
-use Rattle.answers.proofs.Telling.{tell-refused}
+use Rattle.host_answers.proofs.Telling.{tell-refused}
 
 -- three words hold any answer
 whole : (a : Loaded) (row : List ℕ) → 3 ≤ length row → numberOf (ofLoaded a) row ≡ ofLoaded a .no

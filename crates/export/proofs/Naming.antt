@@ -5,16 +5,16 @@ use mathlib.Core.Bool.{Bool, true, false}
 use mathlib.Core.List.{List}
 use lib.ListN.{length}
 use borrow.Author.Tests.{le-ltb, lt-ltb, lt-leb}
-use Rattle.laws.specs.Rules.{_⇒_, _∣_}
+use Rattle.law_base.specs.Rules.{_⇒_, _∣_}
 use Rattle.refusals.specs.Refusals.{noRoom}
-use Rattle.text.specs.Out.{fits, told}
-use Rattle.entries.specs.Places.{Tape, blockIn}
-use Rattle.queries.specs.declared.Number.{Number}
-use Rattle.queries.specs.declared.Number.the-variants.{Is, Refused}
-use Rattle.queries.specs.Queries.{refusalOf, numberUnless, sizeOf, nameIn, lengthOrNoRoom, nameAnswer, nameBytes}
-use Rattle.answers.specs.Answers.{numberOf, valuesOf, ofNumber}
+use Rattle.text_out.specs.Out.{fits, told}
+use Rattle.play_entries.specs.Places.{Tape, blockIn}
+use Rattle.ask_block.specs.declared.Number.{Number}
+use Rattle.ask_block.specs.declared.Number.the-variants.{Is, Refused}
+use Rattle.ask_block.specs.Queries.{refusalOf, numberUnless, sizeOf, nameIn, lengthOrNoRoom, nameAnswer, nameBytes}
+use Rattle.host_answers.specs.Answers.{numberOf, valuesOf, ofNumber}
 use Rattle.export.specs.Export.{nameLeft}
-use Rattle.answers.proofs.Telling.{tell-refused}
+use Rattle.host_answers.proofs.Telling.{tell-refused}
 
 -- a number for which there is no word
 no-word : (n : ℕ) (row : List ℕ) → length row < 1 → (numberOf (ofNumber (Is n)) row ≡ noRoom) × (valuesOf (ofNumber (Is n)) row ≡ row)

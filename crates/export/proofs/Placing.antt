@@ -3,18 +3,18 @@ use Prim.Native.Nat.{ℕ}
 use mathlib.Core.Path.{_≡_, sym, _∙_}
 use mathlib.Core.List.{List}
 use mathlib.Core.Bool.{Bool, true, false}
-use Rattle.laws.specs.Rules.{_⇒_, _∣_}
+use Rattle.law_base.specs.Rules.{_⇒_, _∣_}
 use Rattle.refusals.specs.Refusals.{noPosition, badRow}
-use Rattle.entries.specs.Places.{Tape}
-use Rattle.entries.specs.Mounted.{overfull}
-use Rattle.queries.specs.declared.Number.{Number}
-use Rattle.queries.specs.declared.Number.the-variants.{Is, Refused}
-use Rattle.queries.specs.Queries.{lenOf}
-use Rattle.walks.specs.declared.Position.{Position}
-use Rattle.words.specs.declared.Placed.the-variants.{Not}
-use Rattle.answers.specs.Answers.{Answer, refused, numberOf, valuesOf}
+use Rattle.play_entries.specs.Places.{Tape}
+use Rattle.play_entries.specs.Mounted.{overfull}
+use Rattle.ask_block.specs.declared.Number.{Number}
+use Rattle.ask_block.specs.declared.Number.the-variants.{Is, Refused}
+use Rattle.ask_block.specs.Queries.{lenOf}
+use Rattle.play_walk.specs.declared.Position.{Position}
+use Rattle.host_words.specs.declared.Placed.the-variants.{Not}
+use Rattle.host_answers.specs.Answers.{Answer, refused, numberOf, valuesOf}
 use Rattle.export.specs.Export.{withPlace}
-use Rattle.answers.proofs.Telling.{tell-refused}
+use Rattle.host_answers.proofs.Telling.{tell-refused}
 
 by-none : (t : Bool) (n m : ℕ) → Is n ≡ (t ⇒ Refused badRow ∣ Is m) → _≡_ {A = ℕ} noPosition (t ⇒ badRow ∣ noPosition)
 by-none true n m e = cc

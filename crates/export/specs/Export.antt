@@ -3,21 +3,21 @@ use Prim.Native.Nat.{ℕ}
 use mathlib.Core.List.{List}
 use lib.Dec.{ltb}
 use lib.ListN.{length}
-use Rattle.laws.specs.Rules.{_⇒_, _∣_}
+use Rattle.law_base.specs.Rules.{_⇒_, _∣_}
 use Rattle.refusals.specs.Refusals.{noPosition, noRoom, badRow}
-use Rattle.entries.specs.Places.{Tape}
-use Rattle.entries.specs.Mounted.{overfull}
-use Rattle.walks.specs.declared.Position.{Position}
-use Rattle.queries.specs.Queries.{nameBytes}
-use Rattle.deck.specs.Deck.{playMeasured, playSource, blockAt}
-use Rattle.blocks.specs.Does.{lentOf}
-use Rattle.reader.specs.Source.{Loaded as Load}
-use Rattle.tape.specs.Load.{loadNamed}
-use Rattle.tape.specs.declared.Loaded.{Loaded}
-use Rattle.words.specs.declared.Placed.{Placed}
-use Rattle.words.specs.declared.Placed.the-variants as place
-use Rattle.words.specs.Words.{positionFrom}
-use Rattle.answers.specs.Answers.{Answer, refused, ofSelected, ofReached, ofLoaded}
+use Rattle.play_entries.specs.Places.{Tape}
+use Rattle.play_entries.specs.Mounted.{overfull}
+use Rattle.play_walk.specs.declared.Position.{Position}
+use Rattle.ask_block.specs.Queries.{nameBytes}
+use Rattle.play_deck.specs.Deck.{playMeasured, playSource, blockAt}
+use Rattle.load_blocks.specs.Does.{lentOf}
+use Rattle.load_source.specs.Source.{Loaded as Load}
+use Rattle.load_tape.specs.Load.{loadNamed}
+use Rattle.load_tape.specs.declared.Loaded.{Loaded}
+use Rattle.host_words.specs.declared.Placed.{Placed}
+use Rattle.host_words.specs.declared.Placed.the-variants as place
+use Rattle.host_words.specs.Words.{positionFrom}
+use Rattle.host_answers.specs.Answers.{Answer, refused, ofSelected, ofReached, ofLoaded}
 
 -- WITH A POSITION as words: 11 for the count, then 9 where they name none; else what f says of it
 unfoldable pub withPlace : (Position → Answer) → Tape → Placed → Answer

@@ -1,35 +1,35 @@
 // Thin functions that a C host calls over tables of its own: include/glyvrask.h says what each takes and which words it answers.
-use answers::tell_loaded;
-use answers::tell_mark;
-use answers::tell_number;
-use answers::tell_position;
-use answers::tell_reached;
-use answers::tell_selected;
-use answers::tell_time;
-use queries::Number;
+use ask_block::Number;
+use host_answers::tell_loaded;
+use host_answers::tell_mark;
+use host_answers::tell_number;
+use host_answers::tell_position;
+use host_answers::tell_reached;
+use host_answers::tell_selected;
+use host_answers::tell_time;
+use host_words::Placed;
+use host_words::position_from;
+use play_walk::Position;
 use refusals::NO_POSITION;
 use refusals::NO_ROOM;
-use walks::Position;
-use words::Placed;
-use words::position_from;
 ghost use mathlib.Core.Path.{_≡_};
 ghost use mathlib.Core.List.{List};
 ghost use Prim.Native.Nat.{ℕ};
 ghost use lib.ListN.{length};
-ghost use Rattle.laws.specs.Rules.{_⇒_, _∣_};
+ghost use Rattle.law_base.specs.Rules.{_⇒_, _∣_};
 ghost use Rattle.refusals.specs.Refusals.{noPosition, badRow};
-ghost use Rattle.entries.specs.Mounted.{overfull, tapeOf};
-ghost use Rattle.walks.specs.Heads.{startAt};
-ghost use Rattle.queries.specs.Queries.{lenOf, sizeOf, selectableOf, timeOf, nameAnswer, loadingOf};
-ghost use Rattle.tape.specs.Load.{answerOf, blocksOf, tonesOf};
-ghost use Rattle.answers.specs.Answers.{numberOf, valuesOf, ofNumber, ofMark, ofTime, ofPosition, ofLoaded};
+ghost use Rattle.play_entries.specs.Mounted.{overfull, tapeOf};
+ghost use Rattle.play_walk.specs.Heads.{startAt};
+ghost use Rattle.ask_block.specs.Queries.{lenOf, sizeOf, selectableOf, timeOf, nameAnswer, loadingOf};
+ghost use Rattle.load_tape.specs.Load.{answerOf, blocksOf, tonesOf};
+ghost use Rattle.host_answers.specs.Answers.{numberOf, valuesOf, ofNumber, ofMark, ofTime, ofPosition, ofLoaded};
 ghost use Rattle.export.specs.Export.{loadIn, selectedAt, sourceAt, measuredAt, loadNumber, loadTable, nameLeft};
 
 // Words that name no position: 11 for the count, then 9.
 fn misplaced(blocks: &[u64], count: u64) -> u32
     ensures { λ k. ⌜ ((bytes tones : List ℕ) → k ≡ (overfull (tapeOf bytes tones (now (blocks .entry)) count) ⇒ badRow ∣ noPosition)) ⌝ }
 {
-    match queries::len(blocks, count) {
+    match ask_block::len(blocks, count) {
         Number::Is(_) => NO_POSITION,
         Number::Refused(k) => k,
     }
@@ -52,7 +52,7 @@ pub extern "C" fn glyvrask_load(
     if answer.len() < 3 {
         return NO_ROOM;
     }
-    tell_loaded(tape::load(tape, model, blocks, tones), answer)
+    tell_loaded(load_tape::load(tape, model, blocks, tones), answer)
 }
 
 // How many blocks the tape has.
@@ -61,7 +61,7 @@ pub extern "C" fn glyvrask_len(blocks: &[u64], count: u64, answer: &mut [u64]) -
     ensures { λ k. ⌜ ((bytes tones : List ℕ) → k ≡ numberOf (ofNumber (lenOf (tapeOf bytes tones (now (blocks .entry)) count))) (now (answer .entry))) ⌝ }
     ensures { λ _. ⌜ ((bytes tones : List ℕ) → now (answer .exit) ≡ valuesOf (ofNumber (lenOf (tapeOf bytes tones (now (blocks .entry)) count))) (now (answer .entry))) ⌝ }
 {
-    tell_number(queries::len(blocks, count), answer)
+    tell_number(ask_block::len(blocks, count), answer)
 }
 
 // A block's name as UTF-8 into `out`; answers its length.
@@ -80,10 +80,10 @@ pub extern "C" fn glyvrask_block_name(
     ensures { λ _. ⌜ now (answer .exit) ≡ valuesOf (ofNumber (nameAnswer (tapeOf (now (tape .entry)) (now (tones .entry)) (now (blocks .entry)) count) i (now (out .entry)))) (now (answer .entry)) ⌝ }
 {
     if answer.len() < 1 {
-        return tell_number(queries::block_size(tape, tones, blocks, count, i), answer); // the name's refusals, and no byte written
+        return tell_number(ask_block::block_size(tape, tones, blocks, count, i), answer); // the name's refusals, and no byte written
     }
     tell_number(
-        naming::block_name(tape, tones, blocks, count, i, out),
+        ask_name::block_name(tape, tones, blocks, count, i, out),
         answer,
     )
 }
@@ -101,7 +101,7 @@ pub extern "C" fn glyvrask_block_size(
     ensures { λ k. ⌜ k ≡ numberOf (ofNumber (sizeOf (tapeOf (now (tape .entry)) (now (tones .entry)) (now (blocks .entry)) count) i)) (now (answer .entry)) ⌝ }
     ensures { λ _. ⌜ now (answer .exit) ≡ valuesOf (ofNumber (sizeOf (tapeOf (now (tape .entry)) (now (tones .entry)) (now (blocks .entry)) count) i)) (now (answer .entry)) ⌝ }
 {
-    tell_number(queries::block_size(tape, tones, blocks, count, i), answer)
+    tell_number(ask_block::block_size(tape, tones, blocks, count, i), answer)
 }
 
 // Its selectable mark.
@@ -118,7 +118,7 @@ pub extern "C" fn glyvrask_block_selectable(
     ensures { λ _. ⌜ now (answer .exit) ≡ valuesOf (ofMark (selectableOf (tapeOf (now (tape .entry)) (now (tones .entry)) (now (blocks .entry)) count) i)) (now (answer .entry)) ⌝ }
 {
     tell_mark(
-        queries::block_selectable(tape, tones, blocks, count, i),
+        ask_block::block_selectable(tape, tones, blocks, count, i),
         answer,
     )
 }
@@ -136,7 +136,7 @@ pub extern "C" fn glyvrask_block_time(
     ensures { λ k. ⌜ k ≡ numberOf (ofTime (timeOf (tapeOf (now (tape .entry)) (now (tones .entry)) (now (blocks .entry)) count) i)) (now (answer .entry)) ⌝ }
     ensures { λ _. ⌜ now (answer .exit) ≡ valuesOf (ofTime (timeOf (tapeOf (now (tape .entry)) (now (tones .entry)) (now (blocks .entry)) count) i)) (now (answer .entry)) ⌝ }
 {
-    tell_time(queries::block_time(tape, tones, blocks, count, i), answer)
+    tell_time(ask_block::block_time(tape, tones, blocks, count, i), answer)
 }
 
 // T-states of all entries up to the first stop or the end.
@@ -151,7 +151,7 @@ pub extern "C" fn glyvrask_loading_time(
     ensures { λ k. ⌜ k ≡ numberOf (ofNumber (loadingOf (tapeOf (now (tape .entry)) (now (tones .entry)) (now (blocks .entry)) count))) (now (answer .entry)) ⌝ }
     ensures { λ _. ⌜ now (answer .exit) ≡ valuesOf (ofNumber (loadingOf (tapeOf (now (tape .entry)) (now (tones .entry)) (now (blocks .entry)) count))) (now (answer .entry)) ⌝ }
 {
-    tell_number(loading::loading_time(tape, tones, blocks, count), answer)
+    tell_number(ask_time::loading_time(tape, tones, blocks, count), answer)
 }
 
 // A block's start, as a position's words.
@@ -177,7 +177,7 @@ pub extern "C" fn glyvrask_position_block(
     ensures { λ _. ⌜ now (answer .exit) ≡ valuesOf (selectedAt (tapeOf (now (tape .entry)) (now (tones .entry)) (now (blocks .entry)) count) (now (position .entry))) (now (answer .entry)) ⌝ }
 {
     match position_from(position) {
-        Placed::Is(pos) => tell_selected(menu::block(tape, tones, blocks, count, pos), answer),
+        Placed::Is(pos) => tell_selected(play_menu::block(tape, tones, blocks, count, pos), answer),
         Placed::Not => misplaced(blocks, count),
     }
 }
@@ -197,7 +197,10 @@ pub extern "C" fn glyvrask_play(
     ensures { λ _. ⌜ now (answer .exit) ≡ valuesOf (sourceAt (tapeOf (now (tape .entry)) (now (tones .entry)) (now (blocks .entry)) count) (now (position .entry)) n) (now (answer .entry)) ⌝ }
 {
     match position_from(position) {
-        Placed::Is(pos) => tell_reached(deck::play(tape, tones, blocks, count, pos, n), answer),
+        Placed::Is(pos) => tell_reached(
+            play_deck::play(tape, tones, blocks, count, pos, n),
+            answer,
+        ),
         Placed::Not => misplaced(blocks, count),
     }
 }
@@ -218,7 +221,7 @@ pub extern "C" fn glyvrask_play_measured(
 {
     match position_from(position) {
         Placed::Is(pos) => {
-            let r = deck::play_measured(tape, tones, blocks, count, pos, n);
+            let r = play_deck::play_measured(tape, tones, blocks, count, pos, n);
             tell_reached(r, answer)
         }
         Placed::Not => misplaced(blocks, count),

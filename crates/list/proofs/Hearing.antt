@@ -11,7 +11,7 @@ use Rattle.refusals.specs.Refusals.{badModel, tapeLong}
 use Rattle.io.specs.Counts.{Counts}
 use Rattle.listing.specs.Listing.{refused, listingOf}
 use Rattle.listing.specs.Printed.{refusedText, printedOf, Says}
-use Rattle.models.specs.Models.{modelOf}
+use Rattle.prog_model.specs.Models.{modelOf}
 use Rattle.list.specs.Heard.{heard}
 
 heard-none : (input : List ℕ) (more : Bool) → length input ≤ 0 → heard input more ≡ refused badModel

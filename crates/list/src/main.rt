@@ -1,7 +1,7 @@
 // Lists the tape on standard input: `4`, `1` or `3`, then up to 65,535 bytes; prints the listing, or `refused n`.
 use listing::say;
 use listing::say_refused;
-use models::model_of;
+use prog_model::model_of;
 use refusals::BAD_MODEL;
 use refusals::TAPE_LONG;
 ghost use mathlib.Core.Path.{_≡_};

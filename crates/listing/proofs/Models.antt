@@ -9,16 +9,16 @@ use mathlib.Core.Logic.{⊎-elim}
 use lib.ListN.{length, length-append}
 use lib.Dec.{ltb}
 use borrow.Author.Tests.{lt-leb, le-leb}
-use Rattle.laws.specs.Rules.{_⇒_, _∣_}
-use Rattle.laws.specs.Numbers.{lt-or-ge}
+use Rattle.law_base.specs.Rules.{_⇒_, _∣_}
+use Rattle.law_base.specs.Numbers.{lt-or-ge}
 use Rattle.refusals.specs.Refusals.{tapeLong}
-use Rattle.text.specs.Out.{fits}
-use Rattle.blocks.specs.Adds.{Lent}
-use Rattle.reader.specs.Source.{Loaded as Load, tzx, tapped, no}
-use Rattle.reader.specs.Reached.{reaches2A}
-use Rattle.reader.proofs.Models.{models-equal, models-agree}
-use Rattle.tape.specs.Load.{named, loadNamed}
-use Rattle.page.specs.Page.{modelText, listingText}
+use Rattle.text_out.specs.Out.{fits}
+use Rattle.load_blocks.specs.Adds.{Lent}
+use Rattle.load_source.specs.Source.{Loaded as Load, tzx, tapped, no}
+use Rattle.load_source.specs.Reached.{reaches2A}
+use Rattle.load_source.proofs.Models.{models-equal, models-agree}
+use Rattle.load_tape.specs.Load.{named, loadNamed}
+use Rattle.text_page.specs.Page.{modelText, listingText}
 use Rattle.listing.specs.Listing.{loadedOf, Listing, text, refused, listed, listingOf}
 
 abbrev lent : Lent

@@ -10,26 +10,26 @@ use borrow.Author.Tests.{le-leb, lt-leb, lt-ltb, le-ltb}
 use Rattle.refusals.specs.Refusals.{badModel, tapeLong}
 use Rattle.rows.specs.Table.{tableOf}
 use Rattle.rows.specs.Rows.{block, tone}
-use Rattle.parser.specs.Parser.{Tape as Rows}
-use Rattle.blocks.specs.Does.{lentOf}
-use Rattle.reader.specs.Source.{Loaded as Load, tzx, tapped, no, loadOf}
-use Rattle.names.specs.Names.{nameAll}
-use Rattle.names.proofs.Selecting.{name-all-length}
-use Rattle.entries.specs.Places.{Tape}
-use Rattle.entries.specs.Mounted.{tapeOf, wellRow}
-use Rattle.tape.specs.declared.Format.{Format}
-use Rattle.tape.specs.declared.Format.the-variants.{Tap, Tzx}
-use Rattle.tape.specs.declared.Loaded.{Loaded}
-use Rattle.tape.specs.Load.{namedTape, named, loadNamed, answerOf, blocksOf, tonesOf, Leaves}
-use Rattle.loads.specs.Sizes.{Bytes}
-use Rattle.loads.specs.OfSource.{Reads, as-tzx, as-tap}
-use Rattle.loads.proofs.Room.{load-within}
-use Rattle.loads.proofs.Well.{table-length, loaded-well}
-use Rattle.loads.proofs.Left.{mounted}
-use Rattle.loads.proofs.Names.{loaded-names}
-use Rattle.tape.specs.declared.Loaded.the-variants as loaded
-use Rattle.lines.specs.Inner.{Ready}
-use Rattle.page.specs.Page.{listingText}
+use Rattle.load_state.specs.Parser.{Tape as Rows}
+use Rattle.load_blocks.specs.Does.{lentOf}
+use Rattle.load_source.specs.Source.{Loaded as Load, tzx, tapped, no, loadOf}
+use Rattle.text_name.specs.Names.{nameAll}
+use Rattle.text_name.proofs.Selecting.{name-all-length}
+use Rattle.play_entries.specs.Places.{Tape}
+use Rattle.play_entries.specs.Mounted.{tapeOf, wellRow}
+use Rattle.load_tape.specs.declared.Format.{Format}
+use Rattle.load_tape.specs.declared.Format.the-variants.{Tap, Tzx}
+use Rattle.load_tape.specs.declared.Loaded.{Loaded}
+use Rattle.load_tape.specs.Load.{namedTape, named, loadNamed, answerOf, blocksOf, tonesOf, Leaves}
+use Rattle.law_every_load.specs.Sizes.{Bytes}
+use Rattle.law_every_load.specs.OfSource.{Reads, as-tzx, as-tap}
+use Rattle.law_every_load.proofs.Room.{load-within}
+use Rattle.law_every_load.proofs.Well.{table-length, loaded-well}
+use Rattle.law_every_load.proofs.Left.{mounted}
+use Rattle.law_every_load.proofs.Names.{loaded-names}
+use Rattle.load_tape.specs.declared.Loaded.the-variants as loaded
+use Rattle.text_lines.specs.Inner.{Ready}
+use Rattle.text_page.specs.Page.{listingText}
 use Rattle.listing.specs.Listing.{blockWords, toneWords, loadedOf, text, refused, mounted as mountedOf, listed, Listing, listingOf, answerTo, bytesAfter}
 
 -- the load in the words that are lent

@@ -7,15 +7,15 @@ use mathlib.Core.List.{List, _++_}
 use lib.ListN.{length, drop}
 use lib.Dec.{leb, ltb}
 use borrow.Author.Tests.{leb-true, leb-false}
-use Rattle.laws.specs.Rules.{_⇒_, _∣_}
+use Rattle.law_base.specs.Rules.{_⇒_, _∣_}
 use Rattle.refusals.specs.Refusals.{badModel, tapeLong, lastBits, noRoom}
-use Rattle.text.specs.Out.{fits, told}
-use Rattle.reader.specs.Source.{Loaded as Load}
-use Rattle.tape.specs.Load.{loadNamed}
-use Rattle.tape.specs.declared.Format.the-variants.{Tap, Tzx}
-use Rattle.loads.proofs.Refusals.{Numbered, as-tzx, as-tap, by, load-numbered, named-numbered}
+use Rattle.text_out.specs.Out.{fits, told}
+use Rattle.load_source.specs.Source.{Loaded as Load}
+use Rattle.load_tape.specs.Load.{loadNamed}
+use Rattle.load_tape.specs.declared.Format.the-variants.{Tap, Tzx}
+use Rattle.law_every_load.proofs.Refusals.{Numbered, as-tzx, as-tap, by, load-numbered, named-numbered}
 use Rattle.listing.specs.Listing.{loadedOf, Listing, text, refused, listed, listingOf, answerTo, bytesAfter}
-use Rattle.page.proofs.Texts.{text-least}
+use Rattle.text_page.proofs.Texts.{text-least}
 
 -- a text of 37 bytes at least, or a refusal by a number from 1 to 7
 pub data Sized : Listing → Type 0 where

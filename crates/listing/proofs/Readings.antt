@@ -3,32 +3,32 @@ use Prim.Native.Nat.{ℕ}
 use mathlib.Core.Path.{_≡_, refl}
 use mathlib.Core.List.{List, [], _∷_, _++_, map}
 use Rattle.refusals.specs.Refusals.{badModel, tapeBad, generalised, lastBits}
-use Rattle.pulses.specs.Play.{time, comesTo}
-use Rattle.pulses.specs.Runs.{run}
-use Rattle.fields.specs.Field.{leAt, numberAt, fieldAt, placeOf}
-use Rattle.fields.specs.Run.{times, eachAt, groupsAt}
+use Rattle.law_pulses.specs.Play.{time, comesTo}
+use Rattle.law_pulses.specs.Runs.{run}
+use Rattle.cut_fields.specs.Field.{leAt, numberAt, fieldAt, placeOf}
+use Rattle.cut_fields.specs.Run.{times, eachAt, groupsAt}
 use Rattle.rows.specs.Table.{over}
-use Rattle.pieces.specs.Grammar.{countedAt, passAt, textsAt, wholeAt, sealed, enclosed, fittingAt, readAt, digits as bits, orFull, heldIf}
-use Rattle.pieces.specs.Kinds.{kind10, kind11, kind12, kind13, kind14, stream19, kind19, kind20, kind21, kind22, kind24, kind25, kind2A, kind30, kind31, info32, kind32, kind33, kind35, kind5A, kinds, kindOf}
-use Rattle.pieces.specs.Cut.{signature, startsAt, headAt, named as kindNamed, cutAt, blockOf, tapAt}
-use Rattle.general.specs.General.{pilotOf, dataOf as generalData, withPilot, withData, generalOf}
-use Rattle.parser.specs.Parser.{empty, _⟫_, addTones, addBlock, pend, endGroup, openLoop, copyRows, copies, closed, closeLoop, paused, lastPaused}
-use Rattle.blocks.specs.Sounds.{rowOf, addSound, addSounds}
-use Rattle.blocks.specs.Blocks.{isHeader, standardCycles, standardTones, standardPause, turboTones, pureTones, pureToneTones, pulseAt, standardSound, turboSound, pairSounds, pureSound, pauseSound}
-use Rattle.blocks.specs.Adds.{addRows}
-use Rattle.blocks.specs.Deeds.{generalDeed, stop48Deed, does}
-use Rattle.reader.specs.Meaning.{deedOf}
-use Rattle.reader.specs.Source.{act, after, seeing, foldFrom, halted, tooManyBits, judged, tzxOf, tzxSee, headed, readTzx, tapOf, tapSee, readTap, orTap, orElse, loadOf}
-use Rattle.text.specs.Out.{ascii, decimal, digits, latin1, each}
-use Rattle.encoding.specs.Encoding.{table, encoded}
-use Rattle.headers.specs.Headers.{typeName, headerName}
-use Rattle.names.specs.Names.{isHeader as isHeading, sizeShown, sizeName, guessed, nameOf, unselected, passed, nameAll}
-use Rattle.entries.specs.Entries.{entryOf, cyclesOf, isSingle, startLevel, cycleLevel, bitLevel, edged, pauseLevel, toneOf, tonesOf as toneEntries, bitsAt, halfOf, byteOf, dataOf, pauseOf, soundOf, entriesOf, lastsOf}
-use Rattle.entries.specs.Places.{listFrom}
-use Rattle.tape.specs.Load.{namedTape, named, loadNamed, blocksOf, tonesOf}
-use Rattle.shown.specs.Shown.{shown}
-use Rattle.lines.specs.Lines.{timeText, markText, rowText, rowsText}
-use Rattle.page.specs.Page.{modelText, formatText, countText, loadingText, restText, listingText}
+use Rattle.cut_grammar.specs.Grammar.{countedAt, passAt, textsAt, wholeAt, sealed, enclosed, fittingAt, readAt, digits as bits, orFull, heldIf}
+use Rattle.cut_grammar.specs.Kinds.{kind10, kind11, kind12, kind13, kind14, stream19, kind19, kind20, kind21, kind22, kind24, kind25, kind2A, kind30, kind31, info32, kind32, kind33, kind35, kind5A, kinds, kindOf}
+use Rattle.cut_grammar.specs.Cut.{signature, startsAt, headAt, named as kindNamed, cutAt, blockOf, tapAt}
+use Rattle.load_general.specs.General.{pilotOf, dataOf as generalData, withPilot, withData, generalOf}
+use Rattle.load_state.specs.Parser.{empty, _⟫_, addTones, addBlock, pend, endGroup, openLoop, copyRows, copies, closed, closeLoop, paused, lastPaused}
+use Rattle.load_blocks.specs.Sounds.{rowOf, addSound, addSounds}
+use Rattle.load_blocks.specs.Blocks.{isHeader, standardCycles, standardTones, standardPause, turboTones, pureTones, pureToneTones, pulseAt, standardSound, turboSound, pairSounds, pureSound, pauseSound}
+use Rattle.load_blocks.specs.Adds.{addRows}
+use Rattle.load_blocks.specs.Deeds.{generalDeed, stop48Deed, does}
+use Rattle.load_source.specs.Meaning.{deedOf}
+use Rattle.load_source.specs.Source.{act, after, seeing, foldFrom, halted, tooManyBits, judged, tzxOf, tzxSee, headed, readTzx, tapOf, tapSee, readTap, orTap, orElse, loadOf}
+use Rattle.text_out.specs.Out.{ascii, decimal, digits, latin1, each}
+use Rattle.text_codes.specs.Encoding.{table, encoded}
+use Rattle.text_header.specs.Headers.{typeName, headerName}
+use Rattle.text_name.specs.Names.{isHeader as isHeading, sizeShown, sizeName, guessed, nameOf, unselected, passed, nameAll}
+use Rattle.play_entries.specs.Entries.{entryOf, cyclesOf, isSingle, startLevel, cycleLevel, bitLevel, edged, pauseLevel, toneOf, tonesOf as toneEntries, bitsAt, halfOf, byteOf, dataOf, pauseOf, soundOf, entriesOf, lastsOf}
+use Rattle.play_entries.specs.Places.{listFrom}
+use Rattle.load_tape.specs.Load.{namedTape, named, loadNamed, blocksOf, tonesOf}
+use Rattle.text_shown.specs.Shown.{shown}
+use Rattle.text_lines.specs.Lines.{timeText, markText, rowText, rowsText}
+use Rattle.text_page.specs.Page.{modelText, formatText, countText, loadingText, restText, listingText}
 use Rattle.listing.specs.Listing.{loadedOf, Listing, text, refused, mounted, listed, listingOf}
 
 -- a TZX of these pieces

@@ -7,19 +7,19 @@ use mathlib.Core.List.{List}
 use lib.ListN.{length, length-append, drop}
 use lib.Seq.{take-length, take-append-le}
 use lib.Dec.{leb, ltb}
-use Rattle.laws.specs.Rules.{_⇒_, _∣_}
+use Rattle.law_base.specs.Rules.{_⇒_, _∣_}
 use Rattle.refusals.specs.Refusals.{badModel, tapeLong}
-use Rattle.text.specs.Out.{Wrote}
-use Rattle.text.proofs.Writing.{counted, same-len}
-use Rattle.reader.specs.Source.{Loaded as Load, tzx, tapped, no}
-use Rattle.tape.specs.declared.Format.the-variants.{Tap, Tzx}
-use Rattle.tape.specs.Load.{answerOf, blocksOf, tonesOf, Leaves}
-use Rattle.loads.specs.Sizes.{Bytes}
+use Rattle.text_out.specs.Out.{Wrote}
+use Rattle.text_out.proofs.Writing.{counted, same-len}
+use Rattle.load_source.specs.Source.{Loaded as Load, tzx, tapped, no}
+use Rattle.load_tape.specs.declared.Format.the-variants.{Tap, Tzx}
+use Rattle.load_tape.specs.Load.{answerOf, blocksOf, tonesOf, Leaves}
+use Rattle.law_every_load.specs.Sizes.{Bytes}
 use Rattle.listing.specs.Listing.{blockWords, toneWords, loadedOf, Listing, text, refused, mounted, listed, listingOf, answerTo, bytesAfter}
 use Rattle.listing.specs.Printed.{refusedText, printedOf, Says}
-use Rattle.shown.proofs.Shown.{name-part}
-use Rattle.lines.proofs.Texts.{decimal-long}
-use Rattle.page.proofs.Texts.{text-most}
+use Rattle.text_shown.proofs.Shown.{name-part}
+use Rattle.text_lines.proofs.Texts.{decimal-long}
+use Rattle.text_page.proofs.Texts.{text-most}
 use Rattle.listing.proofs.Mounting.{load-ready}
 use Rattle.listing.proofs.Numbers.{Tells, refusal, no-room, listing, listing-sized, tells-number}
 

@@ -5,8 +5,8 @@ use mathlib.Core.List.{List}
 use lib.ListN.{length}
 use borrow.Author.Tests.{lt-leb, le-leb}
 use Rattle.refusals.specs.Refusals.{noRoom}
-use Rattle.text.specs.Out.{Wrote, told}
-use Rattle.text.proofs.Writing.{whole, counted}
+use Rattle.text_out.specs.Out.{Wrote, told}
+use Rattle.text_out.proofs.Writing.{whole, counted}
 use Rattle.listing.specs.Listing.{text, answerTo, bytesAfter}
 
 -- what is told of a text that has no room, and of one that has

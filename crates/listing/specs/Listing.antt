@@ -3,16 +3,16 @@ use Prim.Native.Nat.{ℕ, _*_}
 use mathlib.Core.List.{List}
 use lib.Dec.{ltb, leb}
 use lib.ListN.{length}
-use Rattle.laws.specs.Rules.{_⇒_, _∣_}
+use Rattle.law_base.specs.Rules.{_⇒_, _∣_}
 use Rattle.refusals.specs.Refusals.{badModel, tapeLong, noRoom}
-use Rattle.text.specs.Out.{fits, told}
+use Rattle.text_out.specs.Out.{fits, told}
 use Rattle.rows.specs.Rows.{block, tone}
-use Rattle.entries.specs.Places.{Tape}
-use Rattle.entries.specs.Mounted.{tapeOf}
-use Rattle.reader.specs.Source.{Loaded as Load, tzx, tapped, no}
-use Rattle.tape.specs.declared.Format.the-variants.{Tap, Tzx}
-use Rattle.tape.specs.Load.{loadNamed, blocksOf, tonesOf}
-use Rattle.page.specs.Page.{listingText}
+use Rattle.play_entries.specs.Places.{Tape}
+use Rattle.play_entries.specs.Mounted.{tapeOf}
+use Rattle.load_source.specs.Source.{Loaded as Load, tzx, tapped, no}
+use Rattle.load_tape.specs.declared.Format.the-variants.{Tap, Tzx}
+use Rattle.load_tape.specs.Load.{loadNamed, blocksOf, tonesOf}
+use Rattle.text_page.specs.Page.{listingText}
 
 -- the words of 512 block and 2,048 tone rows
 abbrev pub blockWords : ℕ

@@ -3,7 +3,7 @@ use Prim.Native.Nat.{ℕ, _≤_}
 use mathlib.Core.Path.{_≡_}
 use mathlib.Core.List.{List, _++_}
 use lib.ListN.{length, take}
-use Rattle.text.specs.Out.{ascii, decimal}
+use Rattle.text_out.specs.Out.{ascii, decimal}
 use Rattle.listing.specs.Listing.{Listing, text, refused}
 
 unfoldable pub refusedText : ℕ → List ℕ

@@ -1,21 +1,21 @@
 // The listing: a loaded tape as text, and the function that our catalogue host calls.
-use page::put_listing;
+use load_tape::Format;
+use load_tape::Loaded;
 use refusals::BAD_MODEL;
 use refusals::NO_ROOM;
 use refusals::TAPE_LONG;
 use rows::BLOCK_TABLE;
 use rows::TONE_TABLE;
-use tape::Format;
-use tape::Loaded;
-use text::put;
-use text::put_all;
-use text::put_decimal;
+use text_out::put;
+use text_out::put_all;
+use text_out::put_decimal;
+use text_page::put_listing;
 ghost use mathlib.Core.Path.{_≡_};
 ghost use Prim.Native.Nat.{_<_, _≤_};
 ghost use lib.ListN.{length};
-ghost use Rattle.entries.specs.Mounted.{tapeOf};
-ghost use Rattle.lines.specs.Inner.{Ready};
-ghost use Rattle.page.specs.Page.{listingText};
+ghost use Rattle.play_entries.specs.Mounted.{tapeOf};
+ghost use Rattle.text_lines.specs.Inner.{Ready};
+ghost use Rattle.text_page.specs.Page.{listingText};
 ghost use Rattle.listing.specs.Printed.{refusedText, printedOf, Says};
 ghost use Rattle.listing.specs.Listing.{text, listingOf, answerTo, bytesAfter};
 
@@ -76,7 +76,7 @@ pub extern "C" fn glyvrask_listing(tape: &[u8], model: u32, out: &mut [u8]) -> u
     }
     let mut blocks = [0u64; BLOCK_TABLE];
     let mut tones = [0u64; TONE_TABLE];
-    match tape::load(tape, model, &mut blocks, &mut tones) {
+    match load_tape::load(tape, model, &mut blocks, &mut tones) {
         Loaded::Tape {
             format,
             blocks: n,

@@ -1,5 +1,5 @@
 // Reads a run's description and its tape from standard input, and prints a line for each call.
-use playback::print_trace;
+use prog_calls::print_trace;
 use rows::BLOCK_TABLE;
 use rows::TONE_TABLE;
 

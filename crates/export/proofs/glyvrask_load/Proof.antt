@@ -1,8 +1,8 @@
 -- `export::glyvrask_load` meets its contract: 10 first, else the load. Assumes nothing.
 use native.Mathlib.Omega.{arith}
 use lib.ListN.{length}
-use Rattle.blocks.specs.Does.{lentOf}
-use Rattle.tape.specs.Load.{loadNamed}
+use Rattle.load_blocks.specs.Does.{lentOf}
+use Rattle.load_tape.specs.Load.{loadNamed}
 use Rattle.export.proofs.Loading.{load-short, load-told}
 use borrow.Author.Needs.{needs}
 use Rattle.export.proofs.glyvrask_load.Statement.{statement}

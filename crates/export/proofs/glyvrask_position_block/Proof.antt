@@ -1,6 +1,6 @@
 -- `export::glyvrask_position_block` meets its contract: the words are read as a position, and its block told. Assumes nothing.
 use Rattle.export.specs.Export.{withPlace}
-use Rattle.entries.specs.Mounted.{tapeOf}
+use Rattle.play_entries.specs.Mounted.{tapeOf}
 use Rattle.export.proofs.Placing.{tell-misplaced}
 use borrow.Author.Needs.{needs}
 use Rattle.export.proofs.glyvrask_position_block.Statement.{statement}

@@ -1,9 +1,9 @@
 -- `listing::say_refused` meets its contract: three writes into bytes that have room. Assumes nothing.
 use native.Mathlib.Omega.{arith}
 use borrow.Author.Needs.{needs}
-use Rattle.text.proofs.Writing.{then}
+use Rattle.text_out.proofs.Writing.{then}
 use Rattle.listing.proofs.Saying.{refused-most, says-written}
-use Rattle.lines.proofs.Texts.{decimal-long}
+use Rattle.text_lines.proofs.Texts.{decimal-long}
 use Rattle.listing.specs.Printed.{refusedText}
 use Rattle.listing.proofs.say_refused.Statement.{statement}
 use Rattle.listing.proofs.say_refused.Tie as tie

@@ -1,10 +1,10 @@
 -- `listing::tell` meets its contract: the text is written where it has room. Assumes nothing.
 use native.Mathlib.Omega.{arith}
 use borrow.Author.Needs.{needs}
-use Rattle.entries.specs.Mounted.{tapeOf}
-use Rattle.text.proofs.Writing.{counted}
-use Rattle.page.specs.Page.{listingText}
-use Rattle.page.proofs.Texts.{text-most}
+use Rattle.play_entries.specs.Mounted.{tapeOf}
+use Rattle.text_out.proofs.Writing.{counted}
+use Rattle.text_page.specs.Page.{listingText}
+use Rattle.text_page.proofs.Texts.{text-most}
 use Rattle.listing.proofs.Texts.{tells-short, tells}
 use Rattle.listing.proofs.tell.Statement.{statement}
 use Rattle.listing.proofs.tell.Tie as tie

@@ -1,0 +1,96 @@
+-- ON A WHOLE TAPE, whose counted rows are all lent and well formed, no query answers 8, 9 or 11: each answer without its refusals. Assumes nothing.
+use Prim.Native.Nat.{ℕ, _<_}
+use borrow.Author.Tests.{le-ltb}
+use mathlib.Core.Path.{_≡_, refl, ap, _∙_}
+use mathlib.Core.Bool.{Bool, true, false, _&&_}
+use mathlib.Core.List.{List}
+use lib.Dec.{eqb}
+use native.Mathlib.Omega.{arith}
+use Rattle.law_base.specs.Rules.{_⇒_, _∣_}
+use Rattle.refusals.specs.Refusals.{noRoom}
+use Rattle.law_pulses.specs.Play.{time, comesTo}
+use Rattle.law_pulses.specs.Source.{isEnded}
+use Rattle.text_out.specs.Out.{fits, told}
+use Rattle.play_entries.specs.Entries.{entriesOf, lastsOf}
+use Rattle.play_entries.specs.Places.{Tape, blockIn, listFrom}
+use Rattle.play_entries.specs.Mounted.{overfull}
+use Rattle.play_entries.proofs.Formed.{Whole, whole-formed}
+use Rattle.ask_block.specs.declared.Number.the-variants as number
+use Rattle.ask_block.specs.declared.Mark.the-variants as mark
+use Rattle.ask_block.specs.declared.Time.the-variants as lasting
+use Rattle.ask_block.specs.Queries.{numberNo, markNo, timeNo, refusalOf, numberUnless, markUnless, timeUnless, lenOf, sizeOf, selectableOf, timeOf, nameIn, lengthOrNoRoom, nameAnswer, nameBytes, loadingIn, loadingOf}
+use Rattle.ask_block.proofs.Refusals.{refusal-none}
+
+-- a rule whose second test fails
+never : {A : Type 0} (t : Bool) (x y : A) → ((t && false) ⇒ x ∣ y) ≡ y
+never true x y = refl
+never false x y = refl
+
+module _ (w : Tape) (whole : Whole w) where
+  not-over : overfull w ≡ false
+  not-over = le-ltb _ _ (whole .lent)
+
+  pub len-whole : lenOf w ≡ number.Is (w .count)
+  unfolding lenOf
+  len-whole = rw not-over
+
+  -- none of it is cut
+  uncut : loadingIn w w ≡ number.Is (time (listFrom w 0))
+  unfolding loadingIn
+  uncut = rw (le-ltb (w .count) (w .count) (omega arith)) (never (isEnded (comesTo (listFrom w 0))) _ _)
+
+  pub loading-whole : loadingOf w ≡ number.Is (time (listFrom w 0))
+  unfolding loadingOf
+  loading-whole = rw not-over (ap (loadingIn w) (whole-formed w whole 0) ∙ uncut)
+
+  module _ (i : ℕ) (h : i < w .count) where
+    none : refusalOf w i ≡ 0
+    none = refusal-none w i not-over h (whole .rows i h)
+
+    pub size-whole : sizeOf w i ≡ number.Is (blockIn w i .size)
+    unfolding sizeOf numberUnless
+    size-whole = rw none
+
+    pub selectable-whole : selectableOf w i ≡ mark.Is (eqb (blockIn w i .selectable) 1)
+    unfolding selectableOf markUnless
+    selectable-whole = rw none
+
+    pub time-whole : timeOf w i ≡ lasting.Lasts (lastsOf (entriesOf (w .bytes) (w .tones) i (blockIn w i)))
+    unfolding timeOf timeUnless
+    time-whole = rw none
+
+    pub name-whole : (out : List ℕ) → nameAnswer w i out ≡ lengthOrNoRoom (nameIn w i) out
+    unfolding nameAnswer numberUnless
+    name-whole out = rw none
+
+    pub bytes-whole : (out : List ℕ) → nameBytes w i out ≡ told (nameIn w i) out
+    unfolding nameBytes
+    bytes-whole out = rw none
+
+-- document 01's number for no is 0 in each answer, but for a name's where the lent bytes are shorter than it: 10
+pub record Answered (w : Tape) (i : ℕ) : Type 0 where
+  pub len : numberNo (lenOf w) ≡ 0
+  pub size : numberNo (sizeOf w i) ≡ 0
+  pub selectable : markNo (selectableOf w i) ≡ 0
+  pub lasts : timeNo (timeOf w i) ≡ 0
+  pub name : (out : List ℕ) → numberNo (nameAnswer w i out) ≡ (fits (nameIn w i) out ⇒ 0 ∣ noRoom)
+  pub loading : numberNo (loadingOf w) ≡ 0
+
+pub whole-answered : (w : Tape) → Whole w → (i : ℕ) → i < w .count → Answered w i
+unfolding numberNo markNo timeNo lengthOrNoRoom
+whole-answered w whole i h =
+    record {
+      len = ap numberNo (len-whole w whole);
+      size = ap numberNo (size-whole w whole i h);
+      selectable = ap markNo (selectable-whole w whole i h);
+      lasts = ap timeNo (time-whole w whole i h);
+      name = λ out. ap numberNo (name-whole w whole i h out) ∙ length-no (nameIn w i) out;
+      loading = ap numberNo (loading-whole w whole);
+    }
+  where
+    by-room : (t : Bool) (n : ℕ) → numberNo (t ⇒ number.Is n ∣ number.Refused noRoom) ≡ (t ⇒ 0 ∣ noRoom)
+    by-room true n = refl
+    by-room false n = refl
+
+    length-no : (text out : List ℕ) → numberNo (lengthOrNoRoom text out) ≡ (fits text out ⇒ 0 ∣ noRoom)
+    length-no text out = by-room (fits text out) _

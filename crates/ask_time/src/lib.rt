@@ -1,0 +1,33 @@
+// The query of the loading time.
+use ask_block::Number;
+use ask_block::overfull;
+use play_phases::row_well;
+use refusals::BAD_ROW;
+use rows::block_at;
+ghost use mathlib.Core.Path.{_≡_};
+ghost use Rattle.play_entries.specs.Mounted.{tapeOf};
+ghost use Rattle.ask_block.specs.Queries.{loadingOf};
+
+// All entries up to the first stop or the end.
+pub fn loading_time(tape: &[u8], tones: &[u64], blocks: &[u64], count: u64) -> Number
+    ensures { λ r. ⌜ r ≡ loadingOf (tapeOf (now (tape .entry)) (now (tones .entry)) (now (blocks .entry)) count) ⌝ }
+{
+    if overfull(blocks, count) {
+        return Number::Refused(BAD_ROW);
+    }
+    let mut sum = 0;
+    let mut b = 0;
+    while b < count {
+        if !row_well(tape, tones, blocks, b) {
+            return Number::Refused(BAD_ROW);
+        }
+        let r = block_at(blocks, b as usize);
+        sum += play_times::sound_time(tape, tones, r);
+        if r.endless == 1 {
+            return Number::Is(sum);
+        }
+        sum += r.pause;
+        b += 1;
+    }
+    Number::Is(sum)
+}

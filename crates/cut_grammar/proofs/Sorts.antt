@@ -1,0 +1,77 @@
+-- Of all rows of the grammar's table, 13's alone gives pulses and 19's alone a generalised piece: the one list of kinds that says so. Assumes nothing.
+use Prim.Native.Nat.{ℕ}
+use mathlib.Core.Path.{refl}
+use mathlib.Core.Bool.{Bool, not}
+use lib.Dec.{eqb}
+use Rattle.cut_grammar.specs.declared.Piece.{Piece}
+use Rattle.cut_grammar.specs.declared.Piece.the-variants as piece
+use Rattle.cut_grammar.specs.Grammar.{Layout, unknown}
+use Rattle.cut_grammar.specs.Kinds.{kind10, kind11, kind12, kind13, kind14, kind19, kind20, kind21, kind22, kind24, kind25, kind2A, kind30, kind31, info32, kind32, kind33, kind35, kind5A, unread, kinds, kindOf}
+use Rattle.cut_grammar.proofs.Others.{Other, Every, no-more, _&_, found-every}
+
+-- 1 for pulses, 2 for a generalised piece, 0 for any other
+unfoldable pub sortOf : Piece → ℕ
+sortOf (piece.Standard a b d) = 0
+sortOf (piece.Turbo a) = 0
+sortOf (piece.Tone a b) = 0
+sortOf (piece.Pulses a b) = 1
+sortOf (piece.Pure a b d x y z) = 0
+sortOf (piece.Generalized g) = 2
+sortOf (piece.Pause a) = 0
+sortOf (piece.GroupStart a b) = 0
+sortOf piece.GroupEnd = 0
+sortOf (piece.LoopStart a) = 0
+sortOf piece.LoopEnd = 0
+sortOf (piece.Stop48 a) = 0
+sortOf (piece.Text a b) = 0
+sortOf (piece.Message a b d) = 0
+sortOf (piece.Archive a b) = 0
+sortOf (piece.Hardware a b) = 0
+sortOf (piece.Custom a b d) = 0
+sortOf piece.Glue = 0
+
+abbrev pub isPulses : Piece → Bool
+isPulses p = eqb (sortOf p) 1
+
+abbrev pub isGeneral : Piece → Bool
+isGeneral p = eqb (sortOf p) 2
+
+-- either of the two
+abbrev pub isListed : Piece → Bool
+isListed p = not (eqb (sortOf p) 0)
+
+pub data Row (full : ℕ) : Layout → Type 0 where
+  pulses : Row full kind13
+  general : Row full (kind19 full)
+  other : (l : Layout) → Other isListed l → Row full l
+
+each-row : (full : ℕ) → Every (Row full) (kinds full)
+unfolding sortOf kinds kind10 kind11 kind12 kind14 kind20 kind21 kind22 kind24 kind25 kind2A kind30 kind31 info32 kind32 kind33 kind35 kind5A
+each-row full =
+    other kind10 (λ _ _ _. refl) &
+    other kind11 (λ _ _ _ _ _ _ _ _ _ _. refl) &
+    other kind12 (λ _ _. refl) &
+    pulses &
+    other kind14 (λ _ _ _ _ _ _. refl) &
+    general &
+    other kind20 (λ _. refl) &
+    other kind21 (λ _ _. refl) &
+    other kind22 refl &
+    other unread tt &
+    other kind24 (λ _. refl) &
+    other kind25 refl &
+    other kind2A (λ _. refl) &
+    other unread tt &
+    other kind30 (λ _ _. refl) &
+    other kind31 (λ _ _ _. refl) &
+    other kind32 (λ _ _ _. refl) &
+    other kind33 (λ _ _. refl) &
+    other unread tt &
+    other kind35 (λ _ _ _. refl) &
+    other unread tt &
+    other kind5A refl &
+    no-more
+
+pub row-of : (full kind : ℕ) → Row full (kindOf full kind)
+unfolding kindOf
+row-of full kind = found-every (Row full) (kinds full) kind (unknown _) (each-row full) (other (unknown _) tt)

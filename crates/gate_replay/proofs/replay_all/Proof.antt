@@ -1,0 +1,65 @@
+-- `replay_all` meets its contract. Assumes nothing.
+use borrow.Author.Needs.{needs}
+use native.Mathlib.Omega.{arith}
+use lib.ListN.{length}
+use mathlib.Core.Path.{_≡_}
+use Rattle.gate_replay.proofs.replay_all.Statement.{statement}
+use Rattle.gate_replay.proofs.replay_all.Tie as tie
+
+abbrev Inv-loop : tie.InvT-loop
+Inv-loop bytes₀ blocks₀ tones₀ n left₀ bytes blocks tones left = ((length bytes ≡ length bytes₀) × (length blocks ≡ length blocks₀)) × (length tones ≡ length tones₀)
+
+abbrev μ-loop : tie.MeasureT-loop
+μ-loop bytes₀ blocks₀ tones₀ n left₀ bytes blocks tones left = left
+
+loop-holds : tie.Need-loop-holds Inv-loop μ-loop
+loop-holds c =
+    search needs
+
+replay-requires : tie.Need-replay-requires Inv-loop μ-loop
+replay-requires c κs =
+    omega (arith, c .before .before .before .before .before .before .before .before .pre, c .before .before .before .before .loop .inv .0 .0)
+
+sub-left : tie.Need-sub-left Inv-loop μ-loop
+sub-left c =
+    search needs
+
+loop-less : tie.Need-loop-less Inv-loop μ-loop
+loop-less c =
+    omega arith
+
+loop-again : tie.Need-loop-again Inv-loop μ-loop
+loop-again c =
+    search needs
+
+same-length : tie.Need-same-length Inv-loop μ-loop
+same-length c =
+    search needs
+
+same-length-2 : tie.Need-same-length-2 Inv-loop μ-loop
+same-length-2 c =
+    search needs
+
+same-length-3 : tie.Need-same-length-3 Inv-loop μ-loop
+same-length-3 c =
+    search needs
+
+returns : tie.Need-returns Inv-loop μ-loop
+returns c =
+    search needs
+
+pub replay-all-spec : {M : Type 1} → statement M
+replay-all-spec =
+    tie.close
+    (tie.spec
+    Inv-loop
+    μ-loop
+    loop-holds
+    replay-requires
+    sub-left
+    loop-less
+    loop-again
+    same-length
+    same-length-2
+    same-length-3
+    returns)

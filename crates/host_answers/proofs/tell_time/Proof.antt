@@ -1,0 +1,47 @@
+-- `answers::tell_time` meets its contract: the duration as words, or the refusal. Assumes nothing.
+use Rattle.host_answers.specs.Answers.{numberOf, valuesOf, ofTime}
+use Rattle.host_answers.proofs.Telling.{tell-refused}
+use borrow.Author.Needs.{needs}
+use Rattle.host_answers.proofs.tell_time.Statement.{statement}
+use Rattle.host_answers.proofs.tell_time.Tie as tie
+
+enum-known-a : tie.Need-enum-known-a
+enum-known-a c = search needs
+
+span-of-requires : tie.Need-span-of-requires
+span-of-requires c κs = search needs
+
+slice-aggregate-tell : tie.Need-slice-aggregate-tell
+slice-aggregate-tell c = search needs
+
+tell-requires : tie.Need-tell-requires
+tell-requires c κs = search needs
+
+enum-known-a-2 : tie.Need-enum-known-a-2
+enum-known-a-2 c = search needs
+
+same-length : tie.Need-same-length
+same-length c = search needs
+
+returns : tie.Need-returns
+unfolding numberOf valuesOf ofTime
+returns c =
+    rw (c .before .before .before .before .before .before .before .a .given .1, ← c .before .before .before .before .before .span-of .ensures) (c .before .before .tell .ensures)
+
+returns-2 : tie.Need-returns-2
+unfolding ofTime
+returns-2 c =
+    rw (c .before .a2 .given .1) (tell-refused _ _)
+
+pub tell-time-spec : {M : Type 1} → statement M
+tell-time-spec =
+    tie.close
+    (tie.spec
+    enum-known-a
+    span-of-requires
+    slice-aggregate-tell
+    tell-requires
+    enum-known-a-2
+    same-length
+    returns
+    returns-2)

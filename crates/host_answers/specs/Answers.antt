@@ -1,0 +1,90 @@
+-- An answer as a C host gets it: document 01's number and values for each, and what is left of the lent row. Definitions alone; assumes nothing.
+use Prim.Native.Nat.{ℕ}
+use mathlib.Core.List.{List, [], _∷_}
+use Rattle.law_base.specs.Rules.{_⇒_, _∣_}
+use Rattle.refusals.specs.Refusals.{noPosition, noRoom, badRow}
+use Rattle.text_out.specs.Out.{fits, told}
+use Rattle.play_walk.specs.declared.Position.{Position}
+use Rattle.play_walk.specs.declared.Stand.{Stand}
+use Rattle.play_walk.specs.declared.Reached.{Reached}
+use Rattle.play_walk.specs.declared.Reached.the-variants as reached
+use Rattle.play_deck.specs.declared.Selected.{Selected}
+use Rattle.play_deck.specs.declared.Selected.the-variants as selected
+use Rattle.ask_block.specs.declared.Number.{Number}
+use Rattle.ask_block.specs.declared.Number.the-variants as number
+use Rattle.ask_block.specs.declared.Mark.{Mark}
+use Rattle.ask_block.specs.declared.Mark.the-variants as mark
+use Rattle.ask_block.specs.declared.Time.{Time}
+use Rattle.ask_block.specs.declared.Time.the-variants as lasting
+use Rattle.load_tape.specs.declared.Format.{Format}
+use Rattle.load_tape.specs.declared.Format.the-variants.{Tap, Tzx}
+use Rattle.load_tape.specs.declared.Loaded.{Loaded}
+use Rattle.load_tape.specs.declared.Loaded.the-variants as loaded
+use Rattle.host_words.specs.Words.{flagOf, spanOf, wordsOf}
+
+-- an answer as a host gets it: document 01's number, 0 for none, and its values as words
+pub record Answer : Type 0 where
+  pub no : ℕ
+  pub values : List ℕ
+
+abbrev pub given : List ℕ → Answer
+given ws = record { no = 0; values = ws }
+
+-- a refusal is its number alone
+abbrev pub refused : ℕ → Answer
+refused k = record { no = k; values = [] }
+
+-- WHAT IS RETURNED: the number; 10 where the lent row is shorter than the values
+unfoldable pub numberOf : Answer → List ℕ → ℕ
+numberOf a row = fits (a .values) row ⇒ a .no ∣ noRoom
+
+-- WHAT IS LEFT OF THE LENT ROW: the values, then the words that were there; all of them where nothing is told
+unfoldable pub valuesOf : Answer → List ℕ → List ℕ
+valuesOf a row = told (a .values) row
+
+-- a number of the queries
+unfoldable pub ofNumber : Number → Answer
+ofNumber (number.Is n) = given (n ∷ [])
+ofNumber (number.Refused k) = refused k
+
+-- a selectable mark: 0 or 1
+unfoldable pub ofMark : Mark → Answer
+ofMark (mark.Is b) = given (flagOf b ∷ [])
+ofMark (mark.Refused k) = refused k
+
+-- what a block lasts: whether it never ends, and its T-states
+unfoldable pub ofTime : Time → Answer
+ofTime (lasting.Lasts d) = given (spanOf d .endless ∷ spanOf d .left ∷ [])
+ofTime (lasting.Refused k) = refused k
+
+-- a position
+unfoldable pub ofPosition : Position → Answer
+ofPosition q = given (wordsOf q)
+
+-- a block for a menu
+unfoldable pub ofSelected : Selected → Answer
+ofSelected (selected.Block b) = given (b ∷ [])
+ofSelected selected.BadPosition = refused noPosition
+ofSelected selected.BadRow = refused badRow
+
+-- where a call leaves the head: how it stands, the entries passed, the level, the position
+unfoldable pub standWords : ℕ → Stand → List ℕ
+standWords how s = how ∷ s .passed ∷ flagOf (s .level) ∷ wordsOf (s .position)
+
+-- a player's answer: 0 it stands, 1 it has stopped at an endless pause, 2 it has ended
+unfoldable pub ofReached : Reached → Answer
+ofReached (reached.At s) = given (standWords 0 s)
+ofReached (reached.Stopped s) = given (standWords 1 s)
+ofReached (reached.Ended s) = given (standWords 2 s)
+ofReached reached.NotValid = refused noPosition
+ofReached reached.NotFormed = refused badRow
+
+-- a tape's format: 0 TAP, 1 TZX
+unfoldable pub formatOf : Format → ℕ
+formatOf Tap = 0
+formatOf Tzx = 1
+
+-- a load's answer: the format, how many blocks, how many tone rows
+unfoldable pub ofLoaded : Loaded → Answer
+ofLoaded (loaded.Tape f b t) = given (formatOf f ∷ b ∷ t ∷ [])
+ofLoaded (loaded.Refused k) = refused k

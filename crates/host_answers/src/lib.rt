@@ -1,0 +1,174 @@
+// Each answer of the load, the queries and the players as words, told into a lent row.
+use ask_block::Mark;
+use ask_block::Number;
+use ask_block::Time;
+use host_words::flag;
+use host_words::span_of;
+use host_words::spot_of;
+use load_tape::Format;
+use load_tape::Loaded;
+use play_deck::Selected;
+use play_walk::Position;
+use play_walk::Reached;
+use play_walk::Stand;
+use refusals::BAD_ROW;
+use refusals::NO_POSITION;
+use refusals::NO_ROOM;
+ghost use mathlib.Core.Path.{_≡_};
+ghost use Rattle.law_base.specs.Rules.{_⇒_, _∣_};
+ghost use Rattle.refusals.specs.Refusals.{noRoom};
+ghost use Rattle.text_out.specs.Out.{fits, told};
+ghost use Rattle.host_answers.specs.Answers.{numberOf, valuesOf, ofNumber, ofMark, ofTime, ofPosition, ofSelected, standWords, ofReached, formatOf, ofLoaded};
+
+// The words into a row that holds them, and 0; else 10, and nothing is written.
+fn tell(words: &[u64], answer: &mut [u64]) -> u32
+    ensures { λ k. ⌜ k ≡ (fits (now (words .entry)) (now (answer .entry)) ⇒ 0 ∣ noRoom) ⌝ }
+    ensures { λ _. ⌜ now (answer .exit) ≡ told (now (words .entry)) (now (answer .entry)) ⌝ }
+{
+    if answer.len() < words.len() {
+        return NO_ROOM;
+    }
+    let mut j = 0;
+    while j < words.len() {
+        answer[j] = words[j];
+        j += 1;
+    }
+    0
+}
+
+pub fn tell_number(a: Number, answer: &mut [u64]) -> u32
+    ensures { λ k. ⌜ k ≡ numberOf (ofNumber a) (now (answer .entry)) ⌝ }
+    ensures { λ _. ⌜ now (answer .exit) ≡ valuesOf (ofNumber a) (now (answer .entry)) ⌝ }
+{
+    match a {
+        Number::Is(n) => {
+            let w = [n];
+            tell(&w, answer)
+        }
+        Number::Refused(k) => k,
+    }
+}
+
+pub fn tell_mark(a: Mark, answer: &mut [u64]) -> u32
+    ensures { λ k. ⌜ k ≡ numberOf (ofMark a) (now (answer .entry)) ⌝ }
+    ensures { λ _. ⌜ now (answer .exit) ≡ valuesOf (ofMark a) (now (answer .entry)) ⌝ }
+{
+    match a {
+        Mark::Is(b) => {
+            let w = [flag(b)];
+            tell(&w, answer)
+        }
+        Mark::Refused(k) => k,
+    }
+}
+
+pub fn tell_time(a: Time, answer: &mut [u64]) -> u32
+    ensures { λ k. ⌜ k ≡ numberOf (ofTime a) (now (answer .entry)) ⌝ }
+    ensures { λ _. ⌜ now (answer .exit) ≡ valuesOf (ofTime a) (now (answer .entry)) ⌝ }
+{
+    match a {
+        Time::Lasts(d) => {
+            let s = span_of(d);
+            let w = [s.endless, s.left];
+            tell(&w, answer)
+        }
+        Time::Refused(k) => k,
+    }
+}
+
+pub fn tell_position(pos: Position, answer: &mut [u64]) -> u32
+    ensures { λ k. ⌜ k ≡ numberOf (ofPosition pos) (now (answer .entry)) ⌝ }
+    ensures { λ _. ⌜ now (answer .exit) ≡ valuesOf (ofPosition pos) (now (answer .entry)) ⌝ }
+{
+    let phase = pos.phase;
+    let left = pos.left;
+    let f = spot_of(phase);
+    let d = span_of(left);
+    let w = [
+        pos.block,
+        f.phase,
+        f.item,
+        f.part,
+        f.half,
+        d.endless,
+        d.left,
+    ];
+    tell(&w, answer)
+}
+
+pub fn tell_selected(a: Selected, answer: &mut [u64]) -> u32
+    ensures { λ k. ⌜ k ≡ numberOf (ofSelected a) (now (answer .entry)) ⌝ }
+    ensures { λ _. ⌜ now (answer .exit) ≡ valuesOf (ofSelected a) (now (answer .entry)) ⌝ }
+{
+    match a {
+        Selected::Block(b) => {
+            let w = [b];
+            tell(&w, answer)
+        }
+        Selected::BadPosition => NO_POSITION,
+        Selected::BadRow => BAD_ROW,
+    }
+}
+
+fn tell_stand(how: u64, s: Stand, answer: &mut [u64]) -> u32
+    ensures { λ k. ⌜ k ≡ (fits (standWords how s) (now (answer .entry)) ⇒ 0 ∣ noRoom) ⌝ }
+    ensures { λ _. ⌜ now (answer .exit) ≡ told (standWords how s) (now (answer .entry)) ⌝ }
+{
+    let pos = s.position;
+    let phase = pos.phase;
+    let left = pos.left;
+    let f = spot_of(phase);
+    let d = span_of(left);
+    let w = [
+        how,
+        s.passed,
+        flag(s.level),
+        pos.block,
+        f.phase,
+        f.item,
+        f.part,
+        f.half,
+        d.endless,
+        d.left,
+    ];
+    tell(&w, answer)
+}
+
+pub fn tell_reached(a: Reached, answer: &mut [u64]) -> u32
+    ensures { λ k. ⌜ k ≡ numberOf (ofReached a) (now (answer .entry)) ⌝ }
+    ensures { λ _. ⌜ now (answer .exit) ≡ valuesOf (ofReached a) (now (answer .entry)) ⌝ }
+{
+    match a {
+        Reached::At(s) => tell_stand(0, s, answer),
+        Reached::Stopped(s) => tell_stand(1, s, answer),
+        Reached::Ended(s) => tell_stand(2, s, answer),
+        Reached::NotValid => NO_POSITION,
+        Reached::NotFormed => BAD_ROW,
+    }
+}
+
+fn format_number(f: Format) -> u64
+    ensures { λ n. ⌜ n ≡ formatOf f ⌝ }
+{
+    match f {
+        Format::Tap => 0,
+        Format::Tzx => 1,
+    }
+}
+
+pub fn tell_loaded(a: Loaded, answer: &mut [u64]) -> u32
+    ensures { λ k. ⌜ k ≡ numberOf (ofLoaded a) (now (answer .entry)) ⌝ }
+    ensures { λ _. ⌜ now (answer .exit) ≡ valuesOf (ofLoaded a) (now (answer .entry)) ⌝ }
+{
+    match a {
+        Loaded::Tape {
+            format,
+            blocks,
+            tones,
+        } => {
+            let w = [format_number(format), blocks, tones];
+            tell(&w, answer)
+        }
+        Loaded::Refused(k) => k,
+    }
+}

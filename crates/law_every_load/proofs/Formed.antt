@@ -1,0 +1,95 @@
+-- Every row of every load is formed: its data and its name lie in the tape, its numbers are small, and so are its tones'.
+-- Of 'well formed' this leaves the last bits (refusal 7) and the table. Assumes nothing but that bytes are below 256.
+use Prim.Native.Nat.{ℕ, _+_, _≤_}
+use native.Mathlib.Omega.{arith}
+use mathlib.Core.Path.{_≡_, refl, subst}
+use mathlib.Core.Bool.{Bool, true, false, _&&_}
+use mathlib.Core.List.{List}
+use lib.ListN.{length}
+use lib.Dec.{eqb}
+use Rattle.law_base.specs.Rules.{_⇒_, _∣_}
+use Rattle.rows.specs.declared.Block.{Block}
+use Rattle.rows.specs.declared.Tone.{Tone}
+use Rattle.rows.specs.Rows.{withPause}
+use Rattle.rows.proofs.WellLaws.{Halves}
+use Rattle.load_state.specs.declared.Pending.{Pending}
+use Rattle.load_state.specs.Parser.{renamed, paused}
+use Rattle.load_state.proofs.Kept.{All, all-at}
+use Rattle.load_blocks.specs.declared.Origin.{Origin}
+use Rattle.load_blocks.specs.Sounds.{Sound, rowOf}
+use Rattle.text_name.specs.Names.{unselected}
+use Rattle.law_every_load.specs.Sizes.{Bytes, Range}
+use Rattle.law_every_load.specs.Made.{Brought, Given, of, Births}
+use Rattle.law_every_load.specs.OfSource.{sourceTable, Everywhere}
+use Rattle.law_every_load.proofs.Fine.{FineSound, FineName, deed-fine, tap-fine}
+
+-- what a source row has of a document row's words: 0s
+pub record Sourced (sort level played : ℕ) : Type 0 where
+  pub is : sort ≡ 0
+  pub low : level ≡ 0
+  pub silent : played ≡ 0
+
+pub record Formed (s : List ℕ) (ts : List Tone) (r : Block) : Type 0 where
+  pub bytes : r .start + r .size ≤ length s
+  pub name : r .text + r .chars ≤ length s
+  pub zero : r .zero ≤ 65535
+  pub one : r .one ≤ 65535
+  pub pause : r .pause ≤ 229372500
+  pub endless : r .endless ≤ 1
+  pub selectable : r .selectable ≤ 1
+  pub named : r .named ≤ 4
+  pub tones : All Halves ts
+  pub source : Sourced (r .sort) (r .level) (r .played)
+
+-- a name that is given
+pub record Named (s : List ℕ) (mark case text chars : ℕ) : Type 0 where
+  pub name : Range (length s) 256 text chars
+  pub small : mark ≤ 1
+  pub told : case ≤ 4
+
+brought-fine : {s : List ℕ} {p : Pending} → Bytes s → Brought (sourceTable s) p → FineName s p
+brought-fine {s} {p} b q = subst (FineName s) (q .is) (deed-fine s b (q .piece) (q .cut .sized) .name)
+
+pub given-small : {s : List ℕ} {mark case text chars : ℕ} → Bytes s → Given (sourceTable s) mark case text chars → Named s mark case text chars
+given-small b Given.none = record { name = record { inside = omega arith; small = omega arith }; small = omega arith; told = omega arith }
+given-small b (Given.first q) = record { name = brought-fine b q; small = omega arith; told = omega arith }
+given-small b (Given.later q) = record { name = brought-fine b q; small = omega arith; told = omega arith }
+given-small b (Given.text q) = record { name = brought-fine b q; small = omega arith; told = omega arith }
+
+-- 22's pause
+paused-formed : {s : List ℕ} (ts : List Tone) (r : Block) → Formed s ts r → Formed s ts (paused r)
+unfolding paused
+paused-formed {s} ts r h = by-cases (eqb (r .endless) 0 && eqb (r .pause) 0)
+  where
+    by-cases : (b : Bool) → Formed s ts (b ⇒ withPause 3500 r ∣ r)
+    by-cases true = record { bytes = h .bytes; name = h .name; zero = h .zero; one = h .one; pause = omega arith; endless = h .endless; selectable = h .selectable; named = h .named; tones = h .tones; source = h .source }
+    by-cases false = h
+
+-- a row at birth
+row-formed : {s : List ℕ} (origin : Origin) (d : Sound) (tone : ℕ) → FineSound s d → Formed s (d .tones) (rowOf origin d tone)
+unfolding rowOf
+row-formed origin d tone h = record { bytes = h .bytes; name = omega arith; zero = h .zero; one = h .one; pause = h .pause; endless = h .endless; selectable = h .mark; named = h .named; tones = h .tones; source = record { is = refl; low = refl; silent = refl } }
+
+module _ (s : List ℕ) (b : Bytes s) where
+  piece-formed : Births (sourceTable s) (Formed s)
+  piece-formed origin d tone (of {piece = piece} f m) = row-formed origin d tone (all-at (deed-fine s b piece (f .sized) .sounds) m)
+
+  named-formed : {mark case text chars : ℕ} (ts : List Tone) (r : Block) → Given (sourceTable s) mark case text chars → Formed s ts r → Formed s ts (renamed mark case text chars r)
+  named-formed {mark} {case} {text} {chars} ts r g h =
+      let n = given-small b g in
+      record { bytes = h .bytes; name = n .name .inside; zero = h .zero; one = h .one; pause = h .pause; endless = h .endless; selectable = n .small; named = n .told; tones = h .tones; source = h .source }
+
+  -- EVERY ROW IS FORMED
+  pub formed : Everywhere s (Formed s)
+  unfolding unselected
+  formed =
+      record {
+        pieces = piece-formed;
+        taps = λ origin d tone m. row-formed origin d tone (tap-fine s b d m);
+        lasts = record {
+          naming = λ mark case text chars ts r g h. named-formed ts r g h;
+          pausing = λ ts r h. paused-formed ts r h;
+          passing = λ ts r h.
+              record { bytes = h .bytes; name = h .name; zero = h .zero; one = h .one; pause = h .pause; endless = h .endless; selectable = omega arith; named = h .named; tones = h .tones; source = h .source };
+        };
+      }

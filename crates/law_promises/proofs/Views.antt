@@ -1,0 +1,76 @@
+-- DEMAND 2 ON VIEWS: the blocks in the tables that a load leaves are the block list of the definition. Assumes nothing but that bytes are below 256.
+use Prim.Native.Nat.{ℕ, zero, suc, _+_, _≤_, _<_}
+use native.Mathlib.Numerals.{add-one}
+use native.Mathlib.Omega.{arith}
+use mathlib.Core.Path.{_≡_, refl, sym, ap, ap₂, _∙_}
+use mathlib.Core.Bool.{false}
+use mathlib.Core.List.{List, [], _∷_}
+use lib.ListN.{length, take, drop, getD}
+use Rattle.rows.specs.Table.{rowsOf, tableOf, zeros}
+use Rattle.rows.specs.Rows.{block, tone, decodeTone}
+use Rattle.rows.specs.declared.Block.{Block}
+use Rattle.rows.specs.declared.Tone.{Tone}
+use Rattle.rows.proofs.Tables.{get-row, rows-over}
+use Rattle.load_blocks.specs.Does.{lentOf}
+use Rattle.load_state.proofs.Kept.{All, nil, cons}
+use Rattle.load_source.specs.Source.{Loaded}
+use Rattle.load_tape.specs.declared.Format.{Format}
+use Rattle.load_tape.specs.declared.Loaded.the-variants as loaded
+use Rattle.load_tape.specs.Load.{namedTape, named, loadNamed, Leaves}
+use Rattle.text_name.specs.Names.{nameAll}
+use Rattle.text_name.proofs.Selecting.{name-all-length}
+use Rattle.play_entries.specs.Mounted.{tapeOf}
+use Rattle.law_every_load.specs.Sizes.{Bytes}
+use Rattle.law_every_load.specs.OfSource.{Reads, as-tzx, as-tap}
+use Rattle.law_every_load.proofs.Left.{left}
+use Rattle.law_every_load.proofs.Within.{rows-within}
+use Rattle.text_view.specs.View.{View, tonesFrom, viewOf, blocksOf, viewsIn, blockList}
+use Rattle.law_promises.specs.Demands.{listOf}
+
+none : Tone
+none = decodeTone []
+
+-- the list from place i on, where it has one more
+drop-next : (ts : List Tone) (i : ℕ) → i < length ts → drop i ts ≡ getD ts i none ∷ drop (suc i) ts
+drop-next [] i h = absurd (omega arith)
+drop-next (t ∷ ts) zero h = refl
+drop-next (t ∷ ts) (suc i) h = drop-next ts i (omega arith)
+
+-- n tone rows of a table are the n tones that it was made of
+tones-read : (ts : List Tone) (N from n : ℕ) → from + n ≤ length ts → tonesFrom (tableOf tone ts N) from n ≡ take n (drop from ts)
+unfolding tonesFrom
+tones-read ts N from zero h = refl
+tones-read ts N from (suc n) h =
+    let i : from < length ts = omega arith in
+    ap₂ (λ (a : Tone) (l : List Tone). a ∷ l) (get-row tone ts (zeros N) from none i) (tones-read ts N (from + 1) n (omega arith))
+    ∙ ap (λ (j : ℕ). getD ts from none ∷ take n (drop j ts)) (add-one from)
+    ∙ sym (ap (take (suc n)) (drop-next ts from i))
+
+-- a row whose tones were read
+abbrev Has : List Tone → Block → Type 0
+Has ts r = r .tone + r .tones ≤ length ts
+
+list-read : (s : List ℕ) (ts : List Tone) (N : ℕ) {rs : List Block} → All (Has ts) rs → blocksOf s (tableOf tone ts N) rs ≡ blockList s ts rs
+unfolding blocksOf blockList
+list-read s ts N nil = refl
+list-read s ts N (cons {x = r} h hs) =
+    ap₂ (λ (a : List Tone) (l : List View). viewOf s a r ∷ l) (tones-read ts N (r .tone) (r .tones) h) (list-read s ts N hs)
+
+-- what a named load lists
+list-named : (s : List ℕ) {a : Loaded} {t : _} → Reads a t → listOf s (named s a) ≡ blockList s (t .tones) (nameAll s false (t .blocks))
+unfolding listOf named namedTape
+list-named s as-tzx = refl
+list-named s as-tap = refl
+
+module _ (B N : ℕ) (s : List ℕ) (model : ℕ) {f : Format} {n k : ℕ} {bt tt : List ℕ} (b : Bytes s) (l : Leaves B N (loadNamed (lentOf B N) s model) (loaded.Tape f n k) bt tt) where
+  -- DEMAND 2
+  pub demand-2 : viewsIn (tapeOf s tt bt n) ≡ listOf s (loadNamed (lentOf B N) s model)
+  unfolding loadNamed
+  demand-2 =
+      let q = left B N s model b l in
+      let t = q .tape in
+      let rs = nameAll s false (t .blocks) in
+      ap₂ (λ (x y : List ℕ). blocksOf s x (rowsOf block y n)) (q .tones) (q .blocks)
+      ∙ ap (blocksOf s (tableOf tone (t .tones) N)) (rows-over block rs (zeros B) n (name-all-length s false (t .blocks) ∙ sym (q .count)))
+      ∙ list-read s (t .tones) N (rows-within (lentOf B N) s model b (q .reads))
+      ∙ sym (list-named s (q .reads))

@@ -1,0 +1,161 @@
+-- Where the source reading keeps to the format, kind by kind, and what keeping is. Definitions alone; assumes nothing.
+use Prim.Native.Nat.{ℕ, _+_, _*_, _-_, _%_}
+use mathlib.Core.Path.{_≡_}
+use mathlib.Core.Bool.{Bool, true, false, _&&_, _||_, not}
+use mathlib.Core.List.{List, [], _∷_, _++_, map}
+use lib.ListN.{length, getD}
+use lib.Dec.{ltb, eqb}
+use Rattle.law_base.specs.Rules.{_⇒_, _∣_}
+use Rattle.cut_fields.specs.Field.{leAt}
+use Rattle.law_pulses.specs.Play.{Entry, pulse, endless}
+use Rattle.rows.specs.Table.{tableOf}
+use Rattle.rows.specs.Rows.{tone}
+use Rattle.rows.specs.declared.Block.{Block}
+use Rattle.rows.specs.declared.Tone.{Tone as ToneRow}
+use Rattle.play_entries.specs.Entries.{Spot, entriesOf}
+use Rattle.load_state.specs.Parser.{Tape}
+use Rattle.cut_grammar.specs.declared.GeneralizedData.{GeneralizedData}
+use Rattle.cut_grammar.specs.Places.{Places}
+use Rattle.cut_grammar.specs.declared.TurboData.{TurboData}
+use Rattle.cut_grammar.specs.declared.Piece.{Piece}
+use Rattle.cut_grammar.specs.declared.Piece.the-variants.{Standard, Turbo, Tone, Pulses, Pure, Generalized, Pause, GroupStart, GroupEnd, LoopStart, LoopEnd, Stop48, Text, Message, Archive, Hardware, Custom, Glue}
+use Rattle.law_tzx.specs.Format.{Length, lasts, forever, Sound, Said, sounds, lengthsOf, lasting, bitsSaid, every, symbolPulse, pilotSymbol, repetitions, dataNumber}
+
+-- 2, 4, 6 ..
+unfoldable pub evenCount : ℕ → Bool
+evenCount n = ltb 0 n && eqb (n % 2) 0
+
+-- 11: a pilot is played in cycles, one at the least; last bits as the format says them
+unfoldable pub kept11 : TurboData → Bool
+kept11 d = (eqb (d .pilot) 0 || evenCount (d .pilots)) && bitsSaid (d .last) (d .size)
+
+-- 12: an odd pulse goes before the cycles, of which there is one at the least
+unfoldable pub kept12 : ℕ → ℕ → Bool
+kept12 half count = eqb half 0 || ltb 1 count
+
+-- 13: an odd last pulse is dropped
+unfoldable pub kept13 : List ℕ → ℕ → ℕ → Bool
+kept13 s count from = eqb (count % 2) 0 || eqb (leAt s (from + (count - 1) * 2) 2) 0
+
+-- 19: a symbol's first pulse, and its second, 0 where it has one alone
+unfoldable pub firstPulse : List ℕ → ℕ → ℕ → ℕ → ℕ
+firstPulse s place n i = symbolPulse s place n i 0
+
+unfoldable pub secondPulse : List ℕ → ℕ → ℕ → ℕ → ℕ
+secondPulse s place n i = ltb 1 n ⇒ symbolPulse s place n i 1 ∣ 0
+
+-- a second pulse behind a first of 0 is played
+unfoldable pub wholeWave : ℕ → ℕ → Bool
+wholeWave a b = ltb 0 a || eqb b 0
+
+-- n times: none is played once, and one pulse alone in cycles, for which one is added to n in 16 bits
+unfoldable pub keptTimes : ℕ → ℕ → ℕ → Bool
+keptTimes a b n = eqb a 0 ⇒ (eqb b 0 && not (eqb n 65535)) ∣ eqb b 0 ⇒ evenCount n ∣ ltb 0 n
+
+unfoldable pub keptEntry : List ℕ → GeneralizedData → ℕ → Bool
+keptEntry s g i =
+    let y = pilotSymbol s g i in
+    ltb y (g .asp) && keptTimes (firstPulse s (g .pilot) (g .npp) y) (secondPulse s (g .pilot) (g .npp) y) (repetitions s g i)
+
+-- an alphabet's size of 0 in the tape is read as 255; other than one or two pulses a symbol make a stop
+unfoldable pub keptPilot : List ℕ → GeneralizedData → Bool
+keptPilot s g =
+    eqb (g .totp) 0
+    || (not (eqb (getD s (g .pilot - 7) 0) 0) && ((eqb (g .npp) 1 || eqb (g .npp) 2) && every (keptEntry s g) 0 (g .totp)))
+
+-- symbol i of the data
+unfoldable pub keptSymbol : List ℕ → GeneralizedData → ℕ → Bool
+keptSymbol s g i = wholeWave (firstPulse s (g .symbols) 2 (dataNumber s g i)) (secondPulse s (g .symbols) 2 (dataNumber s g i))
+
+-- one pulse each: an odd last one is dropped
+unfoldable pub keptPairs : List ℕ → GeneralizedData → Bool
+keptPairs s g = eqb (g .totd % 2) 0 || eqb (firstPulse s (g .symbols) 1 (dataNumber s g (g .totd - 1))) 0
+
+-- no data is refused; groups of one bit alone are read as they stand
+unfoldable pub keptData : List ℕ → GeneralizedData → Bool
+keptData s g =
+    ltb 0 (g .totd)
+    && (eqb (g .asd) 2 && (eqb (g .npd) 2 ⇒ every (keptSymbol s g) 0 (g .totd) ∣ (eqb (g .npd) 1 && keptPairs s g)))
+
+unfoldable pub kept19 : List ℕ → GeneralizedData → Bool
+kept19 s g = keptPilot s g && keptData s g
+
+-- KEPT: the piece is played as the format says, in lengths
+unfoldable pub kept : List ℕ → Piece → Bool
+-- one pilot pulse more: 8,064 or 3,224
+kept s (Standard pause from size) = false
+kept s (Turbo d) = kept11 d
+kept s (Tone half count) = kept12 half count
+kept s (Pulses count from) = kept13 s count from
+-- as 11: the tones in front have no length
+kept s (Pure nil one last pause from size) = bitsSaid last size
+kept s (Generalized g) = kept19 s g
+-- the same pause, the same stop
+kept s (Pause n) = true
+-- no sound of its own, and no block
+kept s (GroupStart from size) = true
+-- the block before it may be given a pause
+kept s GroupEnd = false
+-- no sound of its own; the copies come at the loop's end
+kept s (LoopStart times) = true
+-- one body more
+kept s LoopEnd = false
+-- another length errs
+kept s (Stop48 length) = eqb length 0
+-- no sound of their own, and no block
+kept s (Text from size) = true
+kept s (Message seconds from size) = true
+kept s (Archive count from) = true
+kept s (Hardware count from) = true
+kept s (Custom id from size) = true
+kept s Glue = true
+
+-- the kinds of which `kept` is exact
+unfoldable pub told : Piece → Bool
+told (Standard pause from size) = true
+told (Turbo d) = true
+told (Tone half count) = true
+told (Pulses count from) = true
+told (Pure nil one last pause from size) = true
+told (Generalized g) = false
+told (Pause n) = true
+told (GroupStart from size) = true
+told GroupEnd = false
+told (LoopStart times) = true
+told LoopEnd = false
+told (Stop48 length) = true
+told (Text from size) = true
+told (Message seconds from size) = true
+told (Archive count from) = true
+told (Hardware count from) = true
+told (Custom id from size) = true
+told Glue = true
+
+-- an entry's length
+unfoldable pub lengthOf : {A : Type 0} → Entry A → Length
+lengthOf (pulse a v t) = lasts t
+lengthOf (endless a v) = forever
+
+abbrev pub lengths : {A : Type 0} → List (Entry A) → List Length
+lengths es = map lengthOf es
+
+-- the entries of blocks from block b on
+unfoldable pub listOf : List ℕ → List ℕ → ℕ → List Block → List (Entry Spot)
+listOf s tones b [] = []
+listOf s tones b (r ∷ rs) = entriesOf s tones b r ++ listOf s tones (b + 1) rs
+
+-- from t to t′ blocks and tone rows were added that play these lengths: in any table that holds them, whatever stands behind
+pub record Plays (s : List ℕ) (ls : List Length) (t t′ : Tape) : Type 0 where
+  pub blocks : List Block
+  pub tones : List ToneRow
+  pub added : t′ .blocks ≡ t .blocks ++ blocks
+  pub under : t′ .tones ≡ t .tones ++ tones
+  pub plays : (more : List ToneRow) (N b : ℕ) → lasting (lengths (listOf s (tableOf tone (t′ .tones ++ more) N) b blocks)) ≡ lasting ls
+
+-- so of what the format says of a piece
+pub data Keeps (s : List ℕ) (t t′ : Tape) : Said → Type 0 where
+  as-said : {x : Sound} → Plays s (lengthsOf x) t t′ → Keeps s t t′ (sounds x)
+
+-- a 19's tables are where its numbers say
+abbrev pub Tables : List ℕ → Piece → Type 0
+Tables s piece = (g : GeneralizedData) → piece ≡ Generalized g → Places s g

@@ -1,0 +1,68 @@
+-- Tone rows and a block, call by call. Assumes nothing.
+use Prim.Native.Nat.{ℕ, zero, suc, _+_, _-_, _≤_, _<_}
+use mathlib.Core.Path.{_≡_, refl, ap, _∙_}
+use mathlib.Core.List.{List, [], _∷_, append-nil}
+use native.Mathlib.Omega.{arith}
+use lib.ListN.{length}
+use borrow.Author.Tests.{le-leb}
+use Rattle.rows.specs.declared.Block.{Block}
+use Rattle.rows.specs.declared.Tone.{Tone}
+use Rattle.load_state.specs.declared.State.{State}
+use Rattle.load_state.specs.declared.Step.{Step}
+use Rattle.load_state.specs.Parser.{Tape, Out, on, no, _⟫_, addTones, addBlock}
+use Rattle.load_state.specs.Holds.{Holds, toneRoom, blockRoom}
+use Rattle.load_state.proofs.Laws.{chain-assoc, tones-append}
+use Rattle.load_blocks.specs.Adds.{Lent, addRows}
+use Rattle.load_blocks.specs.declared.Origin.{Origin}
+use Rattle.load_blocks.specs.Sounds.{Sound, rowOf, addSound, addSounds}
+use Rattle.load_blocks.specs.Blocks.{pairSound, pairSounds}
+use Rattle.load_blocks.specs.Deeds.{adds, does}
+use Rattle.load_blocks.specs.Does.{lentOf, Does}
+
+-- no tone rows: the block alone
+pub rows-none : {B N : ℕ} {s : State} {bt tt : List ℕ} (r : Block) (t : Tape) → Holds B N s bt tt t → addRows (lentOf B N) [] r t ≡ addBlock (blockRoom B) r t
+unfolding addRows addTones _⟫_
+rows-none {N = N} r t h =
+    let k : length (t .tones) + 0 ≤ toneRoom N = omega (arith, h .roomT) in
+    rw (le-leb (length (t .tones) + 0) (toneRoom N) k, append-nil (t .tones))
+
+-- one tone row, then the others
+pub rows-more : (lent : Lent) (a : Tone) (ts : List Tone) (r : Block) (t : Tape) → addRows lent (a ∷ ts) r t ≡ addTones (lent .tones) (a ∷ []) t ⟫ addRows lent ts r
+unfolding addRows
+rows-more lent a ts r t =
+    ap (λ (o : Out). o ⟫ addBlock (lent .blocks) r) (tones-append (lent .tones) (a ∷ []) ts t)
+    ∙ chain-assoc (addTones (lent .tones) (a ∷ []) t) (addTones (lent .tones) ts) (addBlock (lent .blocks) r)
+
+-- a row made of the state's count of tones is the row over the tape's tones
+pub does-sound : {s : State} {x : Step} {bt tt bt′ tt′ : List ℕ} {r : Block} (origin : Origin) (d : Sound) → r ≡ rowOf origin d (s .tones)
+    → Does (λ lent. addRows lent (d .tones) r) s x bt tt bt′ tt′ → Does (λ lent. addSound lent origin d) s x bt tt bt′ tt′
+unfolding addSound
+does-sound origin d e f B N t h = rw (← h .nt, ← e) (f B N t h)
+
+-- a step and nothing behind it is the step
+then-nothing : (o : Out) → o ⟫ on ≡ o
+unfolding _⟫_
+then-nothing (on t) = refl
+then-nothing (no k) = refl
+
+-- one block
+pub one-sound : (lent : Lent) (origin : Origin) (d : Sound) (t : Tape) → addSounds lent origin (d ∷ []) t ≡ addSound lent origin d t
+unfolding addSounds
+one-sound lent origin d t = then-nothing (addSound lent origin d t)
+
+-- a deed of one block
+pub does-one : (model : ℕ) (origin : Origin) (d : Sound) {s : State} {x : Step} {bt tt bt′ tt′ : List ℕ}
+    → Does (λ lent. addSound lent origin d) s x bt tt bt′ tt′ → Does (λ lent. does lent model origin (adds (d ∷ []))) s x bt tt bt′ tt′
+unfolding does
+does-one model origin d f B N t h = rw (one-sound (lentOf B N) origin d t) (f B N t h)
+
+-- what a loop that keeps nothing more knows of its tape
+abbrev pub Any : Tape → Type 0
+Any t = Unit {0}
+
+-- one pair, then the others
+pub pairs-more : (lent : Lent) (origin : Origin) (s : List ℕ) (from i n : ℕ) (t : Tape) → 0 < n
+    → addSounds lent origin (pairSounds s from i n) t ≡ addSound lent origin (pairSound s from i) t ⟫ addSounds lent origin (pairSounds s from (i + 2) (n - 1))
+unfolding addSounds pairSounds
+pairs-more lent origin s from i zero t h = absurd (omega arith)
+pairs-more lent origin s from i (suc n) t h = let e : suc n - 1 ≡ n = omega arith in rw e

@@ -1,0 +1,88 @@
+-- What each outcome of the two readings leaves of a load, and that a load leaves one thing. Assumes nothing.
+use Prim.Native.Nat.{ℕ}
+use mathlib.Core.Path.{_≡_, refl, sym, ap, subst, _∙_}
+use mathlib.Core.Bool.{false}
+use mathlib.Core.List.{List}
+use lib.ListN.{length, length-replicate}
+use lib.Dec.{leb, ltb}
+use Rattle.refusals.specs.Refusals.{tapeBad}
+use Rattle.rows.specs.Table.{zeros}
+use Rattle.load_state.specs.declared.State.{State}
+use Rattle.load_source.specs.declared.Failure.{Failure}
+use Rattle.load_source.specs.declared.Reading.{Reading}
+use Rattle.load_source.specs.declared.Reading.the-variants.{Done, Failed, Refused}
+use Rattle.load_blocks.specs.Adds.{Lent}
+use Rattle.load_source.specs.Source.{Read, Loaded as Load, no, orTap, orElse, readTzx, readTap, loadOf}
+use Rattle.load_blocks.specs.Does.{lentOf}
+use Rattle.load_source.specs.Does.{Blank, Finds}
+use Rattle.load_source.proofs.Judged.{found-done, found-failed, found-refused}
+use Rattle.load_tape.specs.declared.Format.the-variants.{Tap, Tzx}
+use Rattle.load_tape.specs.declared.Loaded.{Loaded}
+use Rattle.load_tape.specs.declared.Loaded.the-variants.{Tape, Refused as No}
+use Rattle.load_tape.specs.Load.{answerOf, blocksOf, tonesOf, Leaves}
+
+-- any two outcomes that the contract permits are equal
+pub one-outcome : {B N : ℕ} {l : Load} {a a′ : Loaded} {bt bt′ tt tt′ : List ℕ} → Leaves B N l a bt tt → Leaves B N l a′ bt′ tt′ → (a ≡ a′) × (bt ≡ bt′) × (tt ≡ tt′)
+one-outcome x y = (x .answer ∙ sym (y .answer), x .blocks ∙ sym (y .blocks), x .tones ∙ sym (y .tones))
+
+pub blanked : {t : List ℕ} (n : ℕ) → t ≡ zeros n → Blank t
+blanked n e = e ∙ ap zeros (sym (ap length e ∙ length-replicate n 0))
+
+pub no-leaves : {B N k : ℕ} {bt tt : List ℕ} → bt ≡ zeros B → tt ≡ zeros N → Leaves B N (no k) (No k) bt tt
+unfolding answerOf blocksOf tonesOf
+no-leaves b t = record { answer = refl; blocks = b; tones = t }
+
+module _ {B N : ℕ} {r : Reading} {bt tt : List ℕ} {o : Read} (f : Finds B N r bt tt o) where
+  pub tap-leaves : {s : State} → r ≡ Done s → Leaves B N (orTap o) (Tape Tap (s .blocks) (s .tones)) bt tt
+  unfolding orTap answerOf blocksOf tonesOf
+  tap-leaves {s} e =
+      let d = found-done f e in
+      let n : Tape Tap (s .blocks) (s .tones) ≡ Tape Tap (length (d .0 .blocks)) (length (d .0 .tones)) =
+      ap (λ (x : ℕ). Tape Tap x (s .tones)) (d .2 .nb) ∙ ap (λ (x : ℕ). Tape Tap (length (d .0 .blocks)) x) (d .2 .nt) in
+      rw (d .1) (record { answer = n; blocks = d .2 .isB; tones = d .2 .isT })
+
+  pub tap-fails : {x : Failure} → r ≡ Failed x → orTap o ≡ no tapeBad
+  unfolding orTap
+  tap-fails e = rw (found-failed f e)
+
+  pub tap-refuses : {k : ℕ} → r ≡ Refused k → orTap o ≡ no k
+  unfolding orTap
+  tap-refuses e = rw (found-refused f e)
+
+  pub tzx-leaves : (other : Read) {s : State} → r ≡ Done s → Leaves B N (orElse o other) (Tape Tzx (s .blocks) (s .tones)) bt tt
+  unfolding orElse answerOf blocksOf tonesOf
+  tzx-leaves other {s} e =
+      let d = found-done f e in
+      let n : Tape Tzx (s .blocks) (s .tones) ≡ Tape Tzx (length (d .0 .blocks)) (length (d .0 .tones)) =
+      ap (λ (x : ℕ). Tape Tzx x (s .tones)) (d .2 .nb) ∙ ap (λ (x : ℕ). Tape Tzx (length (d .0 .blocks)) x) (d .2 .nt) in
+      rw (d .1) (record { answer = n; blocks = d .2 .isB; tones = d .2 .isT })
+
+  pub tzx-fails : (other : Read) {x : Failure} → r ≡ Failed x → orElse o other ≡ orTap other
+  unfolding orElse
+  tzx-fails other e = rw (found-failed f e)
+
+  pub tzx-refuses : (other : Read) {k : ℕ} → r ≡ Refused k → orElse o other ≡ no k
+  unfolding orElse
+  tzx-refuses other e = rw (found-refused f e)
+
+-- both checks passed
+pub load-reads : (lent : Lent) (s : List ℕ) (model : ℕ) → leb 3 model ≡ false → ltb 1048576 (length s) ≡ false → loadOf lent s model ≡ orElse (readTzx lent s model) (readTap lent s)
+unfolding loadOf
+load-reads lent s model a b = rw (a, b)
+
+-- lengths that calls in between kept
+module _ {B N B′ N′ : ℕ} (b : B ≡ B′) (n : N ≡ N′) where
+  moved : (P : ℕ → ℕ → Type 0) → P B N → P B′ N′
+  moved P x = subst (λ (i : ℕ). P i N′) b (subst (λ (i : ℕ). P B i) n x)
+
+  pub finds-tap : (s : List ℕ) {r : Reading} {bt tt : List ℕ} → Finds B N r bt tt (readTap (lentOf B N) s) → Finds B′ N′ r bt tt (readTap (lentOf B′ N′) s)
+  finds-tap s {r} {bt} {tt} f = moved (λ x y. Finds x y r bt tt (readTap (lentOf x y) s)) f
+
+  pub finds-tzx : (s : List ℕ) (model : ℕ) {r : Reading} {bt tt : List ℕ} → Finds B N r bt tt (readTzx (lentOf B N) s model) → Finds B′ N′ r bt tt (readTzx (lentOf B′ N′) s model)
+  finds-tzx s model {r} {bt} {tt} f = moved (λ x y. Finds x y r bt tt (readTzx (lentOf x y) s model)) f
+
+  pub leaves-no : {k : ℕ} {a : Loaded} {bt tt : List ℕ} → Leaves B N (no k) a bt tt → Leaves B′ N′ (no k) a bt tt
+  leaves-no {k} {a} {bt} {tt} l = moved (λ x y. Leaves x y (no k) a bt tt) l
+
+  pub leaves-tap : (s : List ℕ) {a : Loaded} {bt tt : List ℕ} → Leaves B N (orTap (readTap (lentOf B N) s)) a bt tt → Leaves B′ N′ (orTap (readTap (lentOf B′ N′) s)) a bt tt
+  leaves-tap s {a} {bt} {tt} l = moved (λ x y. Leaves x y (orTap (readTap (lentOf x y) s)) a bt tt) l

@@ -1,0 +1,403 @@
+// A block's entries by their phases: which there are, how long each is, its level; and whether a row is well formed.
+use play_entries::Duration;
+use play_entries::Phase;
+use play_levels::Line;
+use play_levels::first_level;
+use play_levels::is_one;
+use play_levels::line_after;
+use play_levels::times_of;
+use rows::Block;
+use rows::Tone;
+use rows::block_at;
+use rows::tone_at;
+use rows_well::block_well;
+ghost use mathlib.Core.Path.{_≡_};
+ghost use mathlib.Core.Bool.{true, false, not, _&&_};
+ghost use mathlib.Core.List.{List};
+ghost use Prim.Native.Nat.{ℕ, _+_, _*_, _<_, _≤_, max, min};
+ghost use lib.Dec.{leb, ltb};
+ghost use lib.ListN.{length};
+ghost use Rattle.rows.specs.Table.{get, capacityOf};
+ghost use Rattle.rows.specs.Rows.{tone, block, toneMost};
+ghost use Rattle.rows.specs.Well.{wellTone, wellNumbers, wellBlock};
+ghost use Rattle.play_levels.specs.Closed.{flipped};
+ghost use Rattle.play_entries.specs.Entries.{toneAt, isSource, cyclesOf, isSingle, cyclePulses, cycleTime, lineStart, lineAt, startLevel, cycleLevel, bitLevel, edged, bitsAt, bitOf, halfOf, edgeTime, restOf, wholePause, pauseOf, pauseLevel};
+ghost use Rattle.play_entries.specs.Sounds.{lineData, lineBehind};
+ghost use Rattle.play_entries.specs.Places.{cycleHalf, hasEntry, lengthAt, levelAt, remains};
+ghost use Rattle.play_entries.specs.Source.{levelOf};
+ghost use Rattle.play_entries.specs.Mounted.{sizeOf};
+
+// A count of cycles or bits, 0 as one.
+pub fn at_least_one(n: u64) -> u64
+    ensures { λ r. ⌜ r ≡ max 1 n ⌝ }
+{
+    if n == 0 { 1 } else { n }
+}
+
+// The repetitions of a tone row: in a source row, 0 as one.
+pub fn cycles_of(r: Block, t: Tone) -> u64
+    ensures { λ n. ⌜ n ≡ cyclesOf r t ⌝ }
+{
+    if r.sort == 0 {
+        return at_least_one(t.num);
+    }
+    times_of(t)
+}
+
+// Whether a repetition is one pulse.
+pub fn is_single(r: Block, t: Tone) -> bool
+    ensures { λ b. ⌜ b ≡ isSingle r t ⌝ }
+{
+    if r.sort == 0 {
+        return false;
+    }
+    is_one(t)
+}
+
+// How many pulses a repetition has.
+pub fn cycle_pulses(r: Block, t: Tone) -> u64
+    ensures { λ n. ⌜ n ≡ cyclePulses r t ⌝ }
+{
+    if is_single(r, t) {
+        return 1;
+    }
+    2
+}
+
+// T-states of a repetition of a tone row, which its callers know to be well formed.
+pub fn cycle_time(r: Block, t: Tone) -> u64
+    requires { ⌜ wellTone t ≡ true ⌝ }
+    ensures { λ n. ⌜ n ≡ cycleTime r t ⌝ }
+{
+    if is_single(r, t) {
+        return t.len1;
+    }
+    t.len1 + t.len2
+}
+
+// A block's tone row, which its callers know to be one of those lent.
+pub fn row_tone(tones: &[u64], r: Block, index: u64) -> Tone
+    requires { ⌜ (r .tone + r .tones ≤ capacityOf tone toneMost (now tones)) × (index < r .tones) ⌝ }
+    ensures { λ t. ⌜ t ≡ toneAt (now (tones .entry)) r index ⌝ }
+{
+    tone_at(tones, (r.tone + index) as usize)
+}
+
+// The bits of a block's data byte at pos, which its callers know to be one.
+pub fn bits_at(r: Block, pos: u64) -> u64
+    requires { ⌜ pos < r .size ⌝ }
+    ensures { λ n. ⌜ n ≡ bitsAt r pos ⌝ }
+{
+    if pos + 1 == r.size {
+        at_least_one(r.last)
+    } else {
+        8
+    }
+}
+
+// Whether an edge stands before the pause.
+pub fn is_edged(r: Block) -> bool
+    ensures { λ b. ⌜ b ≡ edged r ⌝ }
+{
+    if r.sort == 0 {
+        return false;
+    }
+    if r.endless == 1 {
+        return false;
+    }
+    r.pause != 0
+}
+
+// The edge's T-states.
+pub fn edge_time(r: Block) -> u64
+    ensures { λ n. ⌜ n ≡ edgeTime r ⌝ }
+{
+    if 3500 <= r.pause { 3500 } else { r.pause }
+}
+
+// What the edge leaves of a pause.
+fn rest_of(r: Block) -> u64
+    ensures { λ n. ⌜ n ≡ restOf r ⌝ }
+{
+    if is_edged(r) {
+        return r.pause - edge_time(r);
+    }
+    r.pause
+}
+
+// A row's whole pause, endless for a stop.
+pub fn whole_pause(r: Block) -> Duration
+    ensures { λ d. ⌜ d ≡ wholePause r ⌝ }
+{
+    if r.endless == 1 {
+        Duration::Endless
+    } else {
+        Duration::T(r.pause)
+    }
+}
+
+// A block's pause, endless for a stop; without the edge.
+pub fn pause_of(r: Block) -> Duration
+    ensures { λ d. ⌜ d ≡ pauseOf r ⌝ }
+{
+    if r.endless == 1 {
+        Duration::Endless
+    } else {
+        Duration::T(rest_of(r))
+    }
+}
+
+// T-states of either half of bit k, one of 8, of a byte; our crates alone call it.
+pub fn half_of(v: u8, k: u64, r: Block) -> u64
+    requires { ⌜ k < 8 ⌝ }
+    ensures { λ n. ⌜ n ≡ halfOf r (bitOf v k) ⌝ }
+{
+    if (v >> (7 - k)) % 2 == 0 {
+        r.zero
+    } else {
+        r.one
+    }
+}
+
+// T-states of a half of a tone row's cycle.
+pub fn cycle_half(t: Tone, last: bool) -> u64
+    ensures { λ n. ⌜ n ≡ cycleHalf t last ⌝ }
+{
+    if last { t.len2 } else { t.len1 }
+}
+
+// Whether a tone row has this pulse.
+fn has_pulse(r: Block, t: Tone, p: u64, last: bool) -> bool
+    ensures { λ b. ⌜ b ≡ (ltb p (cyclesOf r t) && not (last && isSingle r t)) ⌝ }
+{
+    if p < cycles_of(r, t) {
+        if last {
+            return !is_single(r, t);
+        }
+        return true;
+    }
+    false
+}
+
+// Whether a block has an entry of this phase. Our crates alone call it: its tone rows are lent.
+pub fn has_entry(tones: &[u64], r: Block, f: Phase) -> bool
+    requires { ⌜ r .tone + r .tones ≤ capacityOf tone toneMost (now tones) ⌝ }
+    ensures { λ b. ⌜ b ≡ hasEntry (now (tones .entry)) r f ⌝ }
+{
+    match f {
+        Phase::Start => true,
+        Phase::Tones {
+            index,
+            pulse,
+            last_half,
+        } => index < r.tones && has_pulse(r, row_tone(tones, r, index), pulse, last_half),
+        Phase::Data { pos, bit, .. } => pos < r.size && bit < bits_at(r, pos),
+        Phase::Edge => is_edged(r),
+        Phase::Pause => true,
+    }
+}
+
+// The length of a block's entry. Our crates alone call it: its data and tone rows are lent, its numbers well formed, the entry one of it.
+pub fn length_at(tape: &[u8], tones: &[u64], r: Block, f: Phase) -> Duration
+    requires { ⌜ (r .start + r .size ≤ length (now tape)) × (r .tone + r .tones ≤ capacityOf tone toneMost (now tones)) ⌝ }
+    requires { ⌜ wellNumbers r ≡ true ⌝ }
+    requires { ⌜ hasEntry (now tones) r f ≡ true ⌝ }
+    ensures { λ d. ⌜ d ≡ lengthAt (now (tape .entry)) (now (tones .entry)) r f ⌝ }
+{
+    match f {
+        Phase::Start => Duration::T(0),
+        Phase::Tones {
+            index,
+            last_half,
+            ..
+        } => Duration::T(cycle_half(row_tone(tones, r, index), last_half)),
+        Phase::Data { pos, bit, .. } => {
+            let at = (r.start + pos) as usize;
+            Duration::T(half_of(tape[at], bit, r))
+        }
+        Phase::Edge => Duration::T(edge_time(r)),
+        Phase::Pause => pause_of(r),
+    }
+}
+
+// A tape's bytes, at most 1,048,576.
+pub fn size_of(tape: &[u8]) -> u64
+    ensures { λ n. ⌜ n ≡ sizeOf (now (tape .entry)) ⌝ }
+{
+    let n = tape.len() as u64;
+    if 1048576 <= n { 1048576 } else { n }
+}
+
+// Whether block b's row is well formed; its callers know the row to be lent.
+pub fn row_well(tape: &[u8], tones: &[u64], blocks: &[u64], b: u64) -> bool
+    requires { ⌜ b * block .width + block .width ≤ length (now blocks) ⌝ }
+    ensures { λ v. ⌜ v ≡ wellBlock (sizeOf (now (tape .entry))) (now (tones .entry)) (get block (now (blocks .entry)) b) ⌝ }
+{
+    block_well(size_of(tape), tones, block_at(blocks, b as usize))
+}
+
+// Whether so much may be left of an entry of this length.
+pub fn may_remain(left: Duration, length: Duration) -> bool
+    ensures { λ b. ⌜ b ≡ remains left length ⌝ }
+{
+    match left {
+        Duration::T(n) => match length {
+            Duration::T(t) => within(n, t),
+            Duration::Endless => false,
+        },
+        Duration::Endless => match length {
+            Duration::T(_) => false,
+            Duration::Endless => true,
+        },
+    }
+}
+
+// Whether n is 1 to t, or 0 where t is.
+fn within(n: u64, t: u64) -> bool
+    ensures { λ b. ⌜ b ≡ (leb (min 1 t) n && leb n t) ⌝ }
+{
+    if n == 0 { t == 0 } else { n <= t }
+}
+
+// The level of a source row's entry.
+pub fn mic(f: Phase) -> bool
+    ensures { λ v. ⌜ v ≡ levelOf f ⌝ }
+{
+    match f {
+        Phase::Start => false,
+        Phase::Tones { last_half, .. } => last_half,
+        Phase::Data { last_half, .. } => last_half,
+        Phase::Edge => false,
+        Phase::Pause => false,
+    }
+}
+
+// The line at a row's start.
+pub fn line_start(r: Block) -> Line
+    ensures { λ l. ⌜ l ≡ lineStart r ⌝ }
+{
+    Line {
+        current: r.level == 1,
+        played: r.played == 1,
+    }
+}
+
+// The line before a block's tone row n, or behind the last; a step a tone row. Its callers know the tone rows to be lent.
+pub fn line_at(tones: &[u64], r: Block, n: u64) -> Line
+    requires { ⌜ (r .tone + r .tones ≤ capacityOf tone toneMost (now tones)) × (n ≤ r .tones) ⌝ }
+    ensures { λ l. ⌜ l ≡ lineAt (now (tones .entry)) r n ⌝ }
+{
+    let mut l = line_start(r);
+    let mut i = 0;
+    while i < n {
+        l = line_after(row_tone(tones, r, i), l);
+        i += 1;
+    }
+    l
+}
+
+// The level of the first pulse of repetition p of tone row i.
+fn cycle_level(tones: &[u64], r: Block, i: u64, p: u64) -> bool
+    requires { ⌜ (r .tone + r .tones ≤ capacityOf tone toneMost (now tones)) × (i < r .tones) ⌝ }
+    ensures { λ v. ⌜ v ≡ cycleLevel (now (tones .entry)) r i p ⌝ }
+{
+    if r.sort == 0 {
+        return false;
+    }
+    first_level(row_tone(tones, r, i), line_at(tones, r, i), p)
+}
+
+// The level of the first half of a block's bits.
+fn bit_level(tones: &[u64], r: Block) -> bool
+    requires { ⌜ r .tone + r .tones ≤ capacityOf tone toneMost (now tones) ⌝ }
+    ensures { λ v. ⌜ v ≡ bitLevel (now (tones .entry)) r ⌝ }
+{
+    if r.sort == 0 {
+        return false;
+    }
+    let l = line_at(tones, r, r.tones);
+    l.current
+}
+
+// The level of a block's start.
+pub fn start_level(r: Block) -> bool
+    ensures { λ v. ⌜ v ≡ startLevel r ⌝ }
+{
+    if r.sort == 0 {
+        return false;
+    }
+    r.level == 1
+}
+
+// The level of a block's pause.
+fn pause_level(tones: &[u64], r: Block) -> bool
+    requires { ⌜ r .tone + r .tones ≤ capacityOf tone toneMost (now tones) ⌝ }
+    ensures { λ v. ⌜ v ≡ pauseLevel (now (tones .entry)) r ⌝ }
+{
+    if r.endless == 1 {
+        return false;
+    }
+    if r.pause == 0 {
+        return bit_level(tones, r);
+    }
+    false
+}
+
+// A level, turned where h is true.
+fn flip(h: bool, v: bool) -> bool
+    ensures { λ x. ⌜ x ≡ flipped h v ⌝ }
+{
+    if h { !v } else { v }
+}
+
+// The level of a block's entry. Our crates alone call it: its tone rows are lent, the entry one of it.
+pub fn level_at(tones: &[u64], r: Block, f: Phase) -> bool
+    requires { ⌜ r .tone + r .tones ≤ capacityOf tone toneMost (now tones) ⌝ }
+    requires { ⌜ hasEntry (now tones) r f ≡ true ⌝ }
+    ensures { λ v. ⌜ v ≡ levelAt (now (tones .entry)) r f ⌝ }
+{
+    match f {
+        Phase::Start => start_level(r),
+        Phase::Tones {
+            index,
+            pulse,
+            last_half,
+        } => flip(last_half, cycle_level(tones, r, index, pulse)),
+        Phase::Data { last_half, .. } => flip(last_half, bit_level(tones, r)),
+        Phase::Edge => bit_level(tones, r),
+        Phase::Pause => pause_level(tones, r),
+    }
+}
+
+// The line behind a document row's data.
+fn line_data(tones: &[u64], r: Block) -> Line
+    requires { ⌜ r .tone + r .tones ≤ capacityOf tone toneMost (now tones) ⌝ }
+    ensures { λ l. ⌜ l ≡ lineData (now (tones .entry)) r ⌝ }
+{
+    let l = line_at(tones, r, r.tones);
+    if r.size == 0 {
+        return l;
+    }
+    Line {
+        current: l.current,
+        played: !l.current,
+    }
+}
+
+// The line behind a document row, whose tone rows its callers know to be lent.
+pub fn line_behind(tones: &[u64], r: Block) -> Line
+    requires { ⌜ r .tone + r .tones ≤ capacityOf tone toneMost (now tones) ⌝ }
+    ensures { λ l. ⌜ l ≡ lineBehind (now (tones .entry)) r ⌝ }
+{
+    let quiet = Line {
+        current: false,
+        played: false,
+    };
+    if r.endless == 1 {
+        return quiet;
+    }
+    if r.pause == 0 {
+        return line_data(tones, r);
+    }
+    quiet
+}

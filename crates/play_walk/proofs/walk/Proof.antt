@@ -1,0 +1,327 @@
+-- `walk` meets its contract. Assumes nothing.
+use borrow.Author.Needs.{needs}
+use Rattle.play_entries.proofs.Lent.{row-lent}
+use Prim.Native.Nat.{ℕ, _+_, _-_, _≤_}
+use native.Mathlib.Omega.{arith}
+use mathlib.Core.Path.{_≡_, sym, ap, _∙_}
+use mathlib.Core.Logic.{inl, inr}
+use lib.ListN.{length}
+use Rattle.law_pulses.specs.Lead.{Leads, lead-here, lead-on}
+use Rattle.rows.specs.declared.Block.{Block}
+use Rattle.play_entries.specs.Places.{leftAt, lengthAt}
+use Rattle.play_walk.specs.declared.Position.{Position}
+use Rattle.play_walk.proofs.Needed.{well-before}
+use Rattle.play_walk.proofs.Turns.{cutOf, rows-of, On, on-has, on-first, on-start, asks, asks-has, leaves-at, leaves-stopped, less-none, step-most, step-few, step-has, turn-lead, turn-on, turn-less, turn-out, next-into, next-left}
+use Rattle.play_walk.specs.Heads.{walkFrom}
+use Rattle.play_entries.specs.Mounted.{firstBad, cutTo, formed, tapeOf}
+use Rattle.play_walk.proofs.walk.Statement.{statement}
+use Rattle.play_walk.proofs.walk.Tie as tie
+
+abbrev Inv-entries : tie.InvT-entries
+Inv-entries tape tones blocks count n block phase₀ left₀ full₀ d₀ passed₀ r phase left full d passed =
+    (k : ℕ) → On (tapeOf tape tones blocks count) k block phase₀ left₀ full₀ passed₀
+    → Leads (leftAt (cutTo (tapeOf tape tones blocks count) k) block phase₀ left₀) d₀ passed₀ (leftAt (cutTo (tapeOf tape tones blocks count) k) block phase left) d passed
+    × On (tapeOf tape tones blocks count) k block phase left full passed
+
+abbrev μ-entries : tie.MeasureT-entries
+μ-entries tape tones blocks count n block phase₀ left₀ full₀ d₀ passed₀ r phase left full d passed =
+    length (leftAt (cutTo (tapeOf tape tones blocks count) (block + 1)) block phase left)
+
+abbrev Inv-blocks2 : tie.InvT-blocks2
+Inv-blocks2 tape tones blocks count n block₀ phase₀ left₀ full₀ d₀ passed₀ block phase left full d passed =
+    Leads (leftAt (cutTo (tapeOf tape tones blocks count) (firstBad (tapeOf tape tones blocks count) block₀ (count - block₀))) block₀ phase₀ left₀) d₀ passed₀ (leftAt (cutTo (tapeOf tape tones blocks count) (firstBad (tapeOf tape tones blocks count) block₀ (count - block₀))) block phase left) d passed
+    × (On (tapeOf tape tones blocks count) (firstBad (tapeOf tape tones blocks count) block₀ (count - block₀)) block phase left full passed × block₀ ≤ block)
+
+abbrev μ-blocks2 : tie.MeasureT-blocks2
+μ-blocks2 tape tones blocks count n block₀ phase₀ left₀ full₀ d₀ passed₀ block phase left full d passed =
+    count - block
+
+blocks2-holds : tie.Need-blocks2-holds Inv-entries μ-entries Inv-blocks2 μ-blocks2
+blocks2-holds c =
+    let s = c .before .before .before in
+    let a = s .args in
+    let w = tapeOf (a .tape .now) (a .tones .now) (a .blocks .now) (a .count) in
+    let q : Position = a .pos in
+    let k = cutOf w q in
+    let x = rows-of w q (s .pre) in
+    (lead-here _ _ _, (on-first w q k (s .pre) x, omega arith))
+
+block-at-requires : tie.Need-block-at-requires Inv-entries μ-entries Inv-blocks2 μ-blocks2
+block-at-requires c κs =
+    let s = c .before .before .before .before in
+    let a = s .args in
+    let w = tapeOf (a .tape .now) (a .tones .now) (a .blocks .now) (a .count) in
+    let x = rows-of w (a .pos) (s .pre) in
+    let B = c .blocks2 in
+    omega (arith, B .inv .1 .0 .below, x .most, s .pre .lent)
+
+entries-holds : tie.Need-entries-holds Inv-entries μ-entries Inv-blocks2 μ-blocks2
+entries-holds c =
+    λ k o. (lead-here _ _ _, o)
+
+enum-known-left : tie.Need-enum-known-left Inv-entries μ-entries Inv-blocks2 μ-blocks2
+enum-known-left c = search needs
+
+enum-told : tie.Need-enum-told Inv-entries μ-entries Inv-blocks2 μ-blocks2
+enum-told c = search needs
+
+stops-requires : tie.Need-stops-requires Inv-entries μ-entries Inv-blocks2 μ-blocks2
+stops-requires c κs =
+    let e = c .before .before in
+    let u = e .before in
+    let s = u .before .before .before .before .before in
+    let a = s .args in
+    let w = tapeOf (a .tape .now) (a .tones .now) (a .blocks .now) (a .count) in
+    let k = cutOf w (a .pos) in
+    let x = rows-of w (a .pos) (s .pre) in
+    let B = u .before .blocks2 in
+    let E = e .entries in
+    let i = E .inv k (B .inv .1 .0) in
+    let g = asks x (B .block) (B .inv .1 .1) (i .1 .below) (u .block-at .result) (u .block-at .ensures) in
+    (row-lent (a .tape .now) (a .tones .now) (u .block-at .result) g .rows, asks-has w (B .block) (E .phase) (u .block-at .result) (u .block-at .ensures) (on-has (i .1)))
+
+stands-requires : tie.Need-stands-requires Inv-entries μ-entries Inv-blocks2 μ-blocks2
+stands-requires c κs =
+    let e = c .before .before .before .before in
+    let u = e .before in
+    let s = u .before .before .before .before .before in
+    let a = s .args in
+    let w = tapeOf (a .tape .now) (a .tones .now) (a .blocks .now) (a .count) in
+    let k = cutOf w (a .pos) in
+    let x = rows-of w (a .pos) (s .pre) in
+    let B = u .before .blocks2 in
+    let E = e .entries in
+    let i = E .inv k (B .inv .1 .0) in
+    let g = asks x (B .block) (B .inv .1 .1) (i .1 .below) (u .block-at .result) (u .block-at .ensures) in
+    (row-lent (a .tape .now) (a .tones .now) (u .block-at .result) g .rows, asks-has w (B .block) (E .phase) (u .block-at .result) (u .block-at .ensures) (on-has (i .1)))
+
+sub-stands : tie.Need-sub-stands Inv-entries μ-entries Inv-blocks2 μ-blocks2
+sub-stands c =
+    omega (arith, c .if2 .taken)
+
+stands-requires-2 : tie.Need-stands-requires-2 Inv-entries μ-entries Inv-blocks2 μ-blocks2
+stands-requires-2 c κs =
+    let e = c .before .before .before .before .before in
+    let u = e .before in
+    let s = u .before .before .before .before .before in
+    let a = s .args in
+    let w = tapeOf (a .tape .now) (a .tones .now) (a .blocks .now) (a .count) in
+    let k = cutOf w (a .pos) in
+    let x = rows-of w (a .pos) (s .pre) in
+    let B = u .before .blocks2 in
+    let E = e .entries in
+    let i = E .inv k (B .inv .1 .0) in
+    let g = asks x (B .block) (B .inv .1 .1) (i .1 .below) (u .block-at .result) (u .block-at .ensures) in
+    (row-lent (a .tape .now) (a .tones .now) (u .block-at .result) g .rows, asks-has w (B .block) (E .phase) (u .block-at .result) (u .block-at .ensures) (on-has (i .1)))
+
+take-requires : tie.Need-take-requires Inv-entries μ-entries Inv-blocks2 μ-blocks2
+take-requires c κs =
+    let s = c .before .before .before .before .before .before .before .before .before .before .before in
+    let a = s .args in
+    let w = tapeOf (a .tape .now) (a .tones .now) (a .blocks .now) (a .count) in
+    let k = cutOf w (a .pos) in
+    let x = rows-of w (a .pos) (s .pre) in
+    let B = c .before .before .before .before .before .before .before .blocks2 in
+    let E = c .before .before .before .before .before .entries in
+    let i = E .inv k (B .inv .1 .0) in
+    (asks x (B .block) (B .inv .1 .1) (i .1 .below) (c .before .before .before .before .before .before .block-at .result) (c .before .before .before .before .before .before .block-at .ensures), (asks-has w (B .block) (E .phase) (c .before .before .before .before .before .before .block-at .result) (c .before .before .before .before .before .before .block-at .ensures) (on-has (i .1)), omega (arith, c .before .if1 .left)))
+
+sub-d : tie.Need-sub-d Inv-entries μ-entries Inv-blocks2 μ-blocks2
+sub-d c =
+    let s = c .before .before .before .before .before .before .before .before .before .before .before .before .before in
+    let a = s .args in
+    let w = tapeOf (a .tape .now) (a .tones .now) (a .blocks .now) (a .count) in
+    let k = cutOf w (a .pos) in
+    let B = c .before .before .before .before .before .before .before .before .before .blocks2 in
+    let E = c .before .before .before .before .before .before .before .entries in
+    let i = E .inv k (B .inv .1 .0) in
+    step-most w k (B .block) (E .phase) (E .left) (E .full) (E .passed) (i .1) (E .d) _ (c .before .before .before .before .before .left .given .1) (omega (arith, c .before .before .before .if1 .left)) (omega (arith, c .before .before .if2 .left)) (c .before .before .before .before .before .before .before .before .block-at .result) (c .before .before .before .before .before .before .before .before .block-at .ensures) (c .before .take .result) (c .before .take .ensures)
+
+add-passed : tie.Need-add-passed Inv-entries μ-entries Inv-blocks2 μ-blocks2
+add-passed c =
+    let s = c .before .before .before .before .before .before .before .before .before .before .before .before .before .before in
+    let a = s .args in
+    let w = tapeOf (a .tape .now) (a .tones .now) (a .blocks .now) (a .count) in
+    let k = cutOf w (a .pos) in
+    let B = c .before .before .before .before .before .before .before .before .before .before .blocks2 in
+    let E = c .before .before .before .before .before .before .before .before .entries in
+    let i = E .inv k (B .inv .1 .0) in
+    omega (arith, step-few w k (B .block) (E .phase) (E .left) (E .full) (E .passed) (i .1) (E .d) _ (c .before .before .before .before .before .before .left .given .1) (omega (arith, c .before .before .before .before .if1 .left)) (omega (arith, c .before .before .before .if2 .left)) (c .before .before .before .before .before .before .before .before .before .block-at .result) (c .before .before .before .before .before .before .before .before .before .block-at .ensures) (c .before .before .take .result) (c .before .before .take .ensures))
+
+length-at-requires : tie.Need-length-at-requires Inv-entries μ-entries Inv-blocks2 μ-blocks2
+length-at-requires c κs =
+    let s = c .before .before .before .before .before .before .before .before .before .before .before .before .before .before .before in
+    let a = s .args in
+    let w = tapeOf (a .tape .now) (a .tones .now) (a .blocks .now) (a .count) in
+    let k = cutOf w (a .pos) in
+    let x = rows-of w (a .pos) (s .pre) in
+    let B = c .before .before .before .before .before .before .before .before .before .before .before .blocks2 in
+    let E = c .before .before .before .before .before .before .before .before .before .entries in
+    let i = E .inv k (B .inv .1 .0) in
+    let g = row-lent (a .tape .now) (a .tones .now) (c .before .before .before .before .before .before .before .before .before .before .block-at .result) (asks x (B .block) (B .inv .1 .1) (i .1 .below) (c .before .before .before .before .before .before .before .before .before .before .block-at .result) (c .before .before .before .before .before .before .before .before .before .before .block-at .ensures)) in
+    ((g .bytes, g .rows), (g .numbers, asks-has w (B .block) (c .before .before .before .take .result .phase) (c .before .before .before .before .before .before .before .before .before .before .block-at .result) (c .before .before .before .before .before .before .before .before .before .before .block-at .ensures) (step-has w k (B .block) (E .phase) (E .left) (E .full) (E .passed) (i .1) (E .d) _ (c .before .before .before .before .before .before .before .left .given .1) (omega (arith, c .before .before .before .before .before .if1 .left)) (omega (arith, c .before .before .before .before .if2 .left)) (c .before .before .before .before .before .before .before .before .before .before .block-at .result) (c .before .before .before .before .before .before .before .before .before .before .block-at .ensures) (c .before .before .before .take .result) (c .before .before .before .take .ensures) (c .if3 .left))))
+
+entries-less : tie.Need-entries-less Inv-entries μ-entries Inv-blocks2 μ-blocks2
+entries-less c =
+    let s = c .before .before .before .before .before .before .before .before .before .before .before .before .before .before .before .before in
+    let a = s .args in
+    let w = tapeOf (a .tape .now) (a .tones .now) (a .blocks .now) (a .count) in
+    let k = cutOf w (a .pos) in
+    let B = c .before .before .before .before .before .before .before .before .before .before .before .before .blocks2 in
+    let E = c .before .before .before .before .before .before .before .before .before .before .entries in
+    let i = E .inv k (B .inv .1 .0) in
+    turn-less w k (B .block) (E .phase) (E .left) (E .full) (E .passed) (i .1) (E .d) _ (c .before .before .before .before .before .before .before .before .left .given .1) (omega (arith, c .before .before .before .before .before .before .if1 .left)) (omega (arith, c .before .before .before .before .before .if2 .left)) (c .before .before .before .before .before .before .before .before .before .before .before .block-at .result) (c .before .before .before .before .before .before .before .before .before .before .before .block-at .ensures) (c .before .before .before .before .take .result) (c .before .before .before .before .take .ensures) (c .before .if3 .left) (c .length-at .result) (c .length-at .ensures ∙ ap (λ (y : Block). lengthAt (w .bytes) (w .tones) y (c .before .before .before .before .take .result .phase)) (c .before .before .before .before .before .before .before .before .before .before .before .block-at .ensures))
+
+entries-again : tie.Need-entries-again Inv-entries μ-entries Inv-blocks2 μ-blocks2
+entries-again c =
+    let s = c .before .before .before .before .before .before .before .before .before .before .before .before .before .before .before .before in
+    let a = s .args in
+    let w = tapeOf (a .tape .now) (a .tones .now) (a .blocks .now) (a .count) in
+    let B = c .before .before .before .before .before .before .before .before .before .before .before .before .blocks2 in
+    let E = c .before .before .before .before .before .before .before .before .before .before .entries in
+    λ j o.
+    let g = E .inv j o in
+    (lead-on (g .0) (turn-lead w j (B .block) (E .phase) (E .left) (E .full) (E .passed) (g .1) (E .d) _ (c .before .before .before .before .before .before .before .before .left .given .1) (omega (arith, c .before .before .before .before .before .before .if1 .left)) (omega (arith, c .before .before .before .before .before .if2 .left)) (c .before .before .before .before .before .before .before .before .before .before .before .block-at .result) (c .before .before .before .before .before .before .before .before .before .before .before .block-at .ensures) (c .before .before .before .before .take .result) (c .before .before .before .before .take .ensures) j (g .1 .below) (c .before .if3 .left) (c .length-at .result) (c .length-at .ensures ∙ ap (λ (y : Block). lengthAt (w .bytes) (w .tones) y (c .before .before .before .before .take .result .phase)) (c .before .before .before .before .before .before .before .before .before .before .before .block-at .ensures))), turn-on w j (B .block) (E .phase) (E .left) (E .full) (E .passed) (g .1) (E .d) _ (c .before .before .before .before .before .before .before .before .left .given .1) (omega (arith, c .before .before .before .before .before .before .if1 .left)) (omega (arith, c .before .before .before .before .before .if2 .left)) (c .before .before .before .before .before .before .before .before .before .before .before .block-at .result) (c .before .before .before .before .before .before .before .before .before .before .before .block-at .ensures) (c .before .before .before .before .take .result) (c .before .before .before .before .take .ensures) (c .before .if3 .left) (c .length-at .result) (c .length-at .ensures ∙ ap (λ (y : Block). lengthAt (w .bytes) (w .tones) y (c .before .before .before .before .take .result .phase)) (c .before .before .before .before .before .before .before .before .before .before .before .block-at .ensures)))
+
+add-block : tie.Need-add-block Inv-entries μ-entries Inv-blocks2 μ-blocks2
+add-block c =
+    let s = c .before .before .before .before .before .before .before .before .before .before .before .before .before .before .before in
+    let a = s .args in
+    let w = tapeOf (a .tape .now) (a .tones .now) (a .blocks .now) (a .count) in
+    let k = cutOf w (a .pos) in
+    let x = rows-of w (a .pos) (s .pre) in
+    let B = c .before .before .before .before .before .before .before .before .before .before .before .blocks2 in
+    let E = c .before .before .before .before .before .before .before .before .before .entries in
+    let i = E .inv k (B .inv .1 .0) in
+    omega (arith, i .1 .below, x .most, s .pre .lent)
+
+next-block-requires : tie.Need-next-block-requires Inv-entries μ-entries Inv-blocks2 μ-blocks2
+next-block-requires c κs =
+    let s = c .before .before .before .before .before .before .before .before .before .before .before .before .before .before .before in
+    let a = s .args in
+    let w = tapeOf (a .tape .now) (a .tones .now) (a .blocks .now) (a .count) in
+    let k = cutOf w (a .pos) in
+    let x = rows-of w (a .pos) (s .pre) in
+    let B = c .before .before .before .before .before .before .before .before .before .before .before .blocks2 in
+    let E = c .before .before .before .before .before .before .before .before .before .entries in
+    let i = E .inv k (B .inv .1 .0) in
+    (omega (arith, i .1 .below, x .most), s .pre .lent)
+
+enum-known-next : tie.Need-enum-known-next Inv-entries μ-entries Inv-blocks2 μ-blocks2
+enum-known-next c = search needs
+
+enum-told-2 : tie.Need-enum-told-2 Inv-entries μ-entries Inv-blocks2 μ-blocks2
+enum-told-2 c = search needs
+
+blocks2-less : tie.Need-blocks2-less Inv-entries μ-entries Inv-blocks2 μ-blocks2
+blocks2-less c =
+    let s = c .before .before .before .before .before .before .before .before .before .before .before .before .before .before .before .before .before .before in
+    let a = s .args in
+    let w = tapeOf (a .tape .now) (a .tones .now) (a .blocks .now) (a .count) in
+    let k = cutOf w (a .pos) in
+    let x = rows-of w (a .pos) (s .pre) in
+    let B = c .before .before .before .before .before .before .before .before .before .before .before .before .before .before .blocks2 in
+    let E = c .before .before .before .before .before .before .before .before .before .before .before .before .entries in
+    let i = E .inv k (B .inv .1 .0) in
+    omega (arith, i .1 .below, x .most)
+
+blocks2-again : tie.Need-blocks2-again Inv-entries μ-entries Inv-blocks2 μ-blocks2
+unfolding leftAt
+blocks2-again c =
+    let s = c .before .before .before .before .before .before .before .before .before .before .before .before .before .before .before .before .before .before in
+    let a = s .args in
+    let w = tapeOf (a .tape .now) (a .tones .now) (a .blocks .now) (a .count) in
+    let k = cutOf w (a .pos) in
+    let x = rows-of w (a .pos) (s .pre) in
+    let B = c .before .before .before .before .before .before .before .before .before .before .before .before .before .before .blocks2 in
+    let E = c .before .before .before .before .before .before .before .before .before .before .before .before .entries in
+    let i = E .inv k (B .inv .1 .0) in
+    let l = turn-out w k (B .block) (E .phase) (E .left) (E .full) (E .passed) (i .1) (E .d) _ (c .before .before .before .before .before .before .before .before .before .before .left .given .1) (omega (arith, c .before .before .before .before .before .before .before .before .if1 .left)) (omega (arith, c .before .before .before .before .before .before .before .if2 .left)) (c .before .before .before .before .before .before .before .before .before .before .before .before .before .block-at .result) (c .before .before .before .before .before .before .before .before .before .before .before .before .before .block-at .ensures) (c .before .before .before .before .before .before .take .result) (c .before .before .before .before .before .before .take .ensures) (c .before .before .before .if3 .taken) in
+    let g = next-into w (B .block + 1) _ _ (sym (c .before .before .next-block .ensures) ∙ c .enum-told2 .given .1) in
+    let o = on-start w k (B .block + 1) (E .passed + c .before .before .before .before .before .before .take .result .passed) (well-before x (B .block + 1) (omega (arith, i .1 .below)) (omega (arith, i .1 .below, x .most, g .0)) (g .1)) (omega (arith, l .counts, i .1 .few)) in
+    (lead-on (lead-on (B .inv .0) (i .0)) l, (o, omega (arith, B .inv .1 .1)))
+
+returns : tie.Need-returns Inv-entries μ-entries Inv-blocks2 μ-blocks2
+unfolding walkFrom formed
+returns c =
+    let s = c .before .before .before .before .before .before .before .before .before in
+    let a = s .args in
+    let w = tapeOf (a .tape .now) (a .tones .now) (a .blocks .now) (a .count) in
+    let k = cutOf w (a .pos) in
+    let B = c .before .before .before .before .before .blocks2 in
+    let E = c .before .before .before .entries in
+    let i = E .inv k (B .inv .1 .0) in
+    rw (c .before .before .before .before .block-at .ensures) at (c .stops .ensures) ∙ sym (leaves-stopped w k (B .block) (E .phase) (E .left) (E .full) (E .passed) (i .1) (lead-on (B .inv .0) (i .0)) (c .before .enum-told .given .1))
+
+returns-2 : tie.Need-returns-2 Inv-entries μ-entries Inv-blocks2 μ-blocks2
+unfolding walkFrom formed
+returns-2 c =
+    let s = c .before .before .before .before .before .before .before .before .before .before .before in
+    let a = s .args in
+    let w = tapeOf (a .tape .now) (a .tones .now) (a .blocks .now) (a .count) in
+    let k = cutOf w (a .pos) in
+    let B = c .before .before .before .before .before .before .before .blocks2 in
+    let E = c .before .before .before .before .before .entries in
+    let i = E .inv k (B .inv .1 .0) in
+    let z : _ ≡ _ = leaves-at w k (B .block) (E .phase) (E .left) (E .full) (E .passed) (i .1) (lead-on (B .inv .0) (i .0)) _ (c .before .before .before .left .given .1) (inl (c .before .if1 .taken)) in
+    rw (c .before .before .before .before .before .before .block-at .ensures) at (c .stands .ensures) ∙ less-none _ _ _ _ (c .before .if1 .taken) ∙ sym z
+
+returns-3 : tie.Need-returns-3 Inv-entries μ-entries Inv-blocks2 μ-blocks2
+unfolding walkFrom formed
+returns-3 c =
+    let s = c .before .before .before .before .before .before .before .before .before .before .before .before in
+    let a = s .args in
+    let w = tapeOf (a .tape .now) (a .tones .now) (a .blocks .now) (a .count) in
+    let k = cutOf w (a .pos) in
+    let B = c .before .before .before .before .before .before .before .before .blocks2 in
+    let E = c .before .before .before .before .before .before .entries in
+    let i = E .inv k (B .inv .1 .0) in
+    rw (c .before .before .before .before .before .before .before .block-at .ensures) at (c .stands2 .ensures) ∙ sym (leaves-at w k (B .block) (E .phase) (E .left) (E .full) (E .passed) (i .1) (lead-on (B .inv .0) (i .0)) _ (c .before .before .before .before .left .given .1) (inr (c .before .if2 .taken)))
+
+returns-4 : tie.Need-returns-4 Inv-entries μ-entries Inv-blocks2 μ-blocks2
+unfolding walkFrom formed
+returns-4 c =
+    let s = c .before .before .before .before .before .before .before .before .before .before .before .before .before .before .before .before .before .before .before in
+    let a = s .args in
+    let w = tapeOf (a .tape .now) (a .tones .now) (a .blocks .now) (a .count) in
+    let k = cutOf w (a .pos) in
+    let x = rows-of w (a .pos) (s .pre) in
+    let B = c .before .before .before .before .before .before .before .before .before .before .before .before .before .before .before .blocks2 in
+    let E = c .before .before .before .before .before .before .before .before .before .before .before .before .before .entries in
+    let i = E .inv k (B .inv .1 .0) in
+    let l = turn-out w k (B .block) (E .phase) (E .left) (E .full) (E .passed) (i .1) (E .d) _ (c .before .before .before .before .before .before .before .before .before .before .before .left .given .1) (omega (arith, c .before .before .before .before .before .before .before .before .before .if1 .left)) (omega (arith, c .before .before .before .before .before .before .before .before .if2 .left)) (c .before .before .before .before .before .before .before .before .before .before .before .before .before .before .block-at .result) (c .before .before .before .before .before .before .before .before .before .before .before .before .before .before .block-at .ensures) (c .before .before .before .before .before .before .before .take .result) (c .before .before .before .before .before .before .before .take .ensures) (c .before .before .before .before .if3 .taken) in
+    next-left x (B .block) _ _ _ (sym (c .before .before .before .next-block .ensures) ∙ c .before .next .given .1) (lead-on (lead-on (B .inv .0) (i .0)) l) (B .inv .1 .1) (i .1 .below)
+
+pub walk-spec : {M : Type 1} → statement M
+walk-spec =
+    tie.close
+    (tie.spec
+    Inv-entries
+    μ-entries
+    Inv-blocks2
+    μ-blocks2
+    blocks2-holds
+    block-at-requires
+    entries-holds
+    enum-known-left
+    enum-told
+    stops-requires
+    stands-requires
+    sub-stands
+    stands-requires-2
+    take-requires
+    sub-d
+    add-passed
+    length-at-requires
+    entries-less
+    entries-again
+    add-block
+    next-block-requires
+    enum-known-next
+    enum-told-2
+    blocks2-less
+    blocks2-again
+    returns
+    returns-2
+    returns-3
+    returns-4)

@@ -1,0 +1,49 @@
+-- `put_bits` meets its contract. Assumes nothing.
+use Rattle.text_view.proofs.Parts.{field-next}
+use Rattle.text_view.specs.Dump.{bitsText}
+use Rattle.text_out.proofs.Writing.{then}
+use native.Mathlib.Omega.{arith}
+use borrow.Author.Needs.{needs}
+use Rattle.text_figures.proofs.put_bits.Statement.{statement}
+use Rattle.text_figures.proofs.put_bits.Tie as tie
+
+slice-aggregate-put-field : tie.Need-slice-aggregate-put-field
+slice-aggregate-put-field c = search needs
+
+put-field-requires : tie.Need-put-field-requires
+put-field-requires c κs = search needs
+
+slice-aggregate-put-field-2 : tie.Need-slice-aggregate-put-field-2
+slice-aggregate-put-field-2 c = search needs
+
+put-field-requires-2 : tie.Need-put-field-requires-2
+put-field-requires-2 c κs =
+    omega (arith, field-next _ _ (c .before .before .before .before .put-field .ensures))
+
+slice-aggregate-put-field-3 : tie.Need-slice-aggregate-put-field-3
+slice-aggregate-put-field-3 c = search needs
+
+put-field-requires-3 : tie.Need-put-field-requires-3
+put-field-requires-3 c κs =
+    omega (arith, field-next _ _ (c .before .before .before .before .before .before .before .before .before .put-field .ensures), field-next _ _ (c .before .before .before .before .put-field2 .ensures))
+
+same-length : tie.Need-same-length
+same-length c = search needs
+
+returns : tie.Need-returns
+unfolding bitsText
+returns c =
+    then (then (c .before .before .before .before .before .before .before .before .before .before .before .before .put-field .ensures) (c .before .before .before .before .before .before .before .put-field2 .ensures)) (c .before .before .put-field3 .ensures)
+
+pub put-bits-spec : {M : Type 1} → statement M
+put-bits-spec =
+    tie.close
+    (tie.spec
+    slice-aggregate-put-field
+    put-field-requires
+    slice-aggregate-put-field-2
+    put-field-requires-2
+    slice-aggregate-put-field-3
+    put-field-requires-3
+    same-length
+    returns)

@@ -1,0 +1,41 @@
+-- `put_head` meets its contract. Assumes nothing.
+use Rattle.text_view.proofs.Parts.{mark-next, bits-next}
+use Rattle.text_view.specs.Dump.{headText}
+use Rattle.text_out.proofs.Writing.{then}
+use native.Mathlib.Omega.{arith}
+use borrow.Author.Needs.{needs}
+use Rattle.text_figures.proofs.put_head.Statement.{statement}
+use Rattle.text_figures.proofs.put_head.Tie as tie
+
+put-mark-requires : tie.Need-put-mark-requires
+put-mark-requires c κs = search needs
+
+put-bits-requires : tie.Need-put-bits-requires
+put-bits-requires c κs =
+    omega (arith, mark-next _ _ (c .before .before .before .put-mark .ensures))
+
+whole-pause-requires : tie.Need-whole-pause-requires
+whole-pause-requires c κs = search needs
+
+put-end-requires : tie.Need-put-end-requires
+put-end-requires c κs =
+    omega (arith, mark-next _ _ (c .before .before .before .before .before .before .before .before .put-mark .ensures), bits-next _ _ _ (c .before .before .before .before .put-bits .ensures))
+
+same-length : tie.Need-same-length
+same-length c = search needs
+
+returns : tie.Need-returns
+unfolding headText
+returns c =
+    rw (← c .before .before .before .whole-pause .ensures) (then (then (c .before .before .before .before .before .before .before .before .before .before .before .put-mark .ensures) (c .before .before .before .before .before .before .before .put-bits .ensures)) (c .before .before .put-end .ensures))
+
+pub put-head-spec : {M : Type 1} → statement M
+put-head-spec =
+    tie.close
+    (tie.spec
+    put-mark-requires
+    put-bits-requires
+    whole-pause-requires
+    put-end-requires
+    same-length
+    returns)

@@ -1,0 +1,41 @@
+-- `put_mark` meets its contract. Assumes nothing.
+use Rattle.text_view.proofs.Parts.{decimal-next}
+use Rattle.text_view.specs.Dump.{markText}
+use Rattle.text_out.proofs.Writing.{then}
+use native.Mathlib.Omega.{arith}
+use borrow.Author.Needs.{needs}
+use Rattle.text_figures.proofs.put_mark.Statement.{statement}
+use Rattle.text_figures.proofs.put_mark.Tie as tie
+
+put-decimal-requires : tie.Need-put-decimal-requires
+put-decimal-requires c κs = search needs
+
+slice-aggregate-put-all : tie.Need-slice-aggregate-put-all
+slice-aggregate-put-all c = search needs
+
+put-all-requires : tie.Need-put-all-requires
+put-all-requires c κs =
+    omega (arith, decimal-next _ (c .before .before .before .before .put-decimal .ensures))
+
+put-flag-requires : tie.Need-put-flag-requires
+put-flag-requires c κs =
+    omega (arith, decimal-next _ (c .before .before .before .before .before .before .before .before .put-decimal .ensures), c .before .before .before .put-all .ensures .count)
+
+same-length : tie.Need-same-length
+same-length c = search needs
+
+returns : tie.Need-returns
+unfolding markText
+returns c =
+    then (then (c .before .before .before .before .before .before .before .before .before .before .before .put-decimal .ensures) (c .before .before .before .before .before .before .put-all .ensures)) (c .before .before .put-flag .ensures)
+
+pub put-mark-spec : {M : Type 1} → statement M
+put-mark-spec =
+    tie.close
+    (tie.spec
+    put-decimal-requires
+    slice-aggregate-put-all
+    put-all-requires
+    put-flag-requires
+    same-length
+    returns)

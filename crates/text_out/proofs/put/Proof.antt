@@ -1,0 +1,26 @@
+-- `text::put` meets its contract: a store past the end would alter nothing. Assumes nothing.
+use mathlib.Core.Path.{refl, sym, ap, _∙_}
+use mathlib.Core.Logic.{⊎-elim}
+use lib.ListN.{length, length-set}
+use lib.Seq.{set-out}
+use borrow.Author.Needs.{needs}
+use Rattle.text_out.proofs.put.Statement.{statement}
+use Rattle.text_out.proofs.put.Tie as tie
+
+slice-write-out : tie.Need-slice-write-out
+slice-write-out c = search needs
+
+add-result : tie.Need-add-result
+add-result c = search needs
+
+same-length : tie.Need-same-length
+same-length c = ⊎-elim (λ w. ap length (w .1) ∙ simp length-set) (λ w. ap length (w .1)) (c .if1 .came)
+
+returns : tie.Need-returns
+returns c = ⊎-elim
+    (λ w. record { count = refl; bytes = w .1 })
+    (λ w. record { count = refl; bytes = w .1 ∙ sym (set-out _ _ _ (w .0 .left)) })
+    (c .if1 .came)
+
+pub put-spec : {M : Type 1} → statement M
+put-spec = tie.close (tie.spec slice-write-out add-result same-length returns)

@@ -1,0 +1,59 @@
+-- `text::put_all` meets its contract: each turn writes one byte more of s. Assumes nothing.
+use mathlib.Core.Path.{_≡_}
+use Prim.Native.Nat.{_-_, _≤_}
+use native.Mathlib.Omega.{arith}
+use lib.ListN.{length, take}
+use lib.Seq.{take-length, length-take-le}
+use Rattle.text_out.specs.Out.{Wrote}
+use Rattle.text_out.proofs.Writing.{nothing, then, same-len, take-one-more}
+use Rattle.text_out.proofs.put_all.Statement.{statement}
+use Rattle.text_out.proofs.put_all.Tie as tie
+
+abbrev Inv-loop : tie.InvT-loop
+Inv-loop out₀ at s o₀ i₀ out o i = (i ≤ length s) × Wrote out₀ at (take i s) out o
+
+abbrev μ-loop : tie.MeasureT-loop
+μ-loop out₀ at s o₀ i₀ out o i = length s - i
+
+loop-holds : tie.Need-loop-holds Inv-loop μ-loop
+loop-holds c = (omega arith, nothing _ _)
+
+shared-slice-read-put : tie.Need-shared-slice-read-put Inv-loop μ-loop
+shared-slice-read-put c = omega arith
+
+put-requires : tie.Need-put-requires Inv-loop μ-loop
+put-requires c κs = omega (arith, c .before .before .before .loop .inv .1 .count, length-take-le (c .before .before .before .loop .i) (c .before .before .before .before .before .before .args .s .now) (omega arith))
+
+add-i : tie.Need-add-i Inv-loop μ-loop
+add-i c = omega arith
+
+loop-less : tie.Need-loop-less Inv-loop μ-loop
+loop-less c = omega arith
+
+loop-again : tie.Need-loop-again Inv-loop μ-loop
+loop-again c =
+    let w = c .before .before .before .before .before .before .loop .inv .1 in
+    (omega arith, rw (take-one-more _ _ (c .before .before .before .before .before .loop-test .taken)) (then w (c .before .before .put .ensures)))
+
+same-length : tie.Need-same-length Inv-loop μ-loop
+same-length c = same-len (c .before .loop .inv .1)
+
+returns : tie.Need-returns Inv-loop μ-loop
+returns c =
+    let e : length (c .before .before .before .before .args .s .now) ≡ c .before .loop .i = omega arith in
+    rw (← take-length (c .before .before .before .before .args .s .now), e) (c .before .loop .inv .1)
+
+pub put-all-spec : {M : Type 1} → statement M
+put-all-spec =
+    tie.close
+    (tie.spec
+    Inv-loop
+    μ-loop
+    loop-holds
+    shared-slice-read-put
+    put-requires
+    add-i
+    loop-less
+    loop-again
+    same-length
+    returns)

@@ -1,0 +1,54 @@
+-- `page::put_count` meets its contract: five writes, one after the other. Assumes nothing.
+use native.Mathlib.Omega.{arith}
+use borrow.Author.Needs.{needs}
+use Rattle.text_out.proofs.Writing.{decimal-length, then}
+use Rattle.text_page.proofs.Texts.{format-long}
+use Rattle.text_page.specs.Page.{countText}
+use Rattle.text_page.proofs.put_count.Statement.{statement}
+use Rattle.text_page.proofs.put_count.Tie as tie
+
+slice-aggregate-put-all : tie.Need-slice-aggregate-put-all
+slice-aggregate-put-all c = search needs
+
+put-all-requires : tie.Need-put-all-requires
+put-all-requires c κs = search needs
+
+put-format-requires : tie.Need-put-format-requires
+put-format-requires c κs = search needs
+
+slice-aggregate-put-all-2 : tie.Need-slice-aggregate-put-all-2
+slice-aggregate-put-all-2 c = search needs
+
+put-all-requires-2 : tie.Need-put-all-requires-2
+put-all-requires-2 c κs =
+    omega (arith, c .before .before .before .before .before .before .before .before .before .before .before .before .pre, c .before .before .before .before .before .before .before .before .put-all .ensures .count, c .before .before .before .before .put-format .ensures .count, format-long (c .before .before .before .before .before .before .before .before .before .before .before .before .args .format))
+
+put-decimal-requires : tie.Need-put-decimal-requires
+put-decimal-requires c κs =
+    omega (arith, c .before .before .before .before .before .before .before .before .before .before .before .before .before .before .before .before .pre, c .before .before .before .before .before .before .before .before .before .before .before .before .put-all .ensures .count, c .before .before .before .before .before .before .before .before .put-format .ensures .count, format-long (c .before .before .before .before .before .before .before .before .before .before .before .before .before .before .before .before .args .format), c .before .before .before .put-all2 .ensures .count)
+
+put-requires : tie.Need-put-requires
+put-requires c κs =
+    omega (arith, c .before .before .before .before .before .before .before .before .before .before .before .before .before .before .before .before .before .before .before .before .pre, c .before .before .before .before .before .before .before .before .before .before .before .before .before .before .before .before .put-all .ensures .count, c .before .before .before .before .before .before .before .before .before .before .before .before .put-format .ensures .count, format-long (c .before .before .before .before .before .before .before .before .before .before .before .before .before .before .before .before .before .before .before .before .args .format), c .before .before .before .before .before .before .before .put-all2 .ensures .count, c .before .before .before .put-decimal .ensures .count, decimal-length (c .before .before .before .before .before .before .before .before .before .before .before .before .before .before .before .before .before .before .before .before .args .n))
+
+same-length : tie.Need-same-length
+same-length c = search needs
+
+returns : tie.Need-returns
+unfolding countText
+returns c =
+    then (then (then (then (c .before .before .before .before .before .before .before .before .before .before .before .before .before .before .before .before .before .before .before .put-all .ensures) (c .before .before .before .before .before .before .before .before .before .before .before .before .before .before .before .put-format .ensures)) (c .before .before .before .before .before .before .before .before .before .before .put-all2 .ensures)) (c .before .before .before .before .before .before .put-decimal .ensures)) (c .before .before .put .ensures)
+
+pub put-count-spec : {M : Type 1} → statement M
+put-count-spec =
+    tie.close
+    (tie.spec
+    slice-aggregate-put-all
+    put-all-requires
+    put-format-requires
+    slice-aggregate-put-all-2
+    put-all-requires-2
+    put-decimal-requires
+    put-requires
+    same-length
+    returns)

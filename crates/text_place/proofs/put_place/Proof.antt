@@ -1,0 +1,44 @@
+-- `put_place` meets its contract. Assumes nothing.
+use Rattle.text_place.specs.Places.{placeText}
+use Rattle.text_place.proofs.Lengths.{phase-length}
+use Rattle.text_out.proofs.Writing.{decimal-length}
+use native.Mathlib.Omega.{arith}
+use Rattle.text_out.proofs.Writing.{then}
+use borrow.Author.Needs.{needs}
+use Rattle.text_place.proofs.put_place.Statement.{statement}
+use Rattle.text_place.proofs.put_place.Tie as tie
+
+put-decimal-requires : tie.Need-put-decimal-requires
+put-decimal-requires c κs = search needs
+
+put-requires : tie.Need-put-requires
+put-requires c κs =
+    omega (arith, c .before .before .before .put-decimal .ensures .count, decimal-length (c .before .before .before .before .before .before .before .args .s .position .block))
+
+put-phase-requires : tie.Need-put-phase-requires
+put-phase-requires c κs =
+    omega (arith, c .before .before .before .before .before .before .before .put-decimal .ensures .count, decimal-length (c .before .before .before .before .before .before .before .before .before .before .before .args .s .position .block), c .before .before .before .put .ensures .count)
+
+put-rest-requires : tie.Need-put-rest-requires
+put-rest-requires c κs =
+    let s = c .before .before .before .before .before .before .before .before .before .before .before .before .before .before .before in
+    omega (arith, c .before .before .before .before .before .before .before .before .before .before .before .put-decimal .ensures .count, decimal-length (s .args .s .position .block), c .before .before .before .before .before .before .before .put .ensures .count, c .before .before .before .put-phase .ensures .count, phase-length (s .args .s .position .phase))
+
+same-length : tie.Need-same-length
+same-length c = search needs
+
+returns : tie.Need-returns
+unfolding placeText
+returns c =
+    then (then (then (c .before .before .before .before .before .before .before .before .before .before .before .before .before .before .put-decimal .ensures) (c .before .before .before .before .before .before .before .before .before .before .put .ensures)) (c .before .before .before .before .before .before .put-phase .ensures)) (c .before .before .put-rest .ensures)
+
+pub put-place-spec : {M : Type 1} → statement M
+put-place-spec =
+    tie.close
+    (tie.spec
+    put-decimal-requires
+    put-requires
+    put-phase-requires
+    put-rest-requires
+    same-length
+    returns)

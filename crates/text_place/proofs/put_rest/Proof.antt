@@ -1,0 +1,49 @@
+-- `put_rest` meets its contract. Assumes nothing.
+use Rattle.text_place.specs.Places.{restText}
+use Rattle.text_value.proofs.Lengths.{duration-length}
+use native.Mathlib.Omega.{arith}
+use Rattle.text_out.proofs.Writing.{then}
+use borrow.Author.Needs.{needs}
+use Rattle.text_place.proofs.put_rest.Statement.{statement}
+use Rattle.text_place.proofs.put_rest.Tie as tie
+
+slice-aggregate-put-all : tie.Need-slice-aggregate-put-all
+slice-aggregate-put-all c = search needs
+
+put-all-requires : tie.Need-put-all-requires
+put-all-requires c κs = search needs
+
+put-duration-requires : tie.Need-put-duration-requires
+put-duration-requires c κs = search needs
+
+slice-aggregate-put-all-2 : tie.Need-slice-aggregate-put-all-2
+slice-aggregate-put-all-2 c = search needs
+
+put-all-requires-2 : tie.Need-put-all-requires-2
+put-all-requires-2 c κs =
+    omega (arith, c .before .before .before .before .before .before .before .before .put-all .ensures .count, c .before .before .before .before .put-duration .ensures .count, duration-length (c .before .before .before .before .before .before .before .before .before .before .before .before .args .left))
+
+put-flag-requires : tie.Need-put-flag-requires
+put-flag-requires c κs =
+    omega (arith, c .before .before .before .before .before .before .before .before .before .before .before .before .put-all .ensures .count, c .before .before .before .before .before .before .before .before .put-duration .ensures .count, duration-length (c .before .before .before .before .before .before .before .before .before .before .before .before .before .before .before .before .args .left), c .before .before .before .put-all2 .ensures .count)
+
+same-length : tie.Need-same-length
+same-length c = search needs
+
+returns : tie.Need-returns
+unfolding restText
+returns c =
+    then (then (then (c .before .before .before .before .before .before .before .before .before .before .before .before .before .before .before .put-all .ensures) (c .before .before .before .before .before .before .before .before .before .before .before .put-duration .ensures)) (c .before .before .before .before .before .before .put-all2 .ensures)) (c .before .before .put-flag .ensures)
+
+pub put-rest-spec : {M : Type 1} → statement M
+put-rest-spec =
+    tie.close
+    (tie.spec
+    slice-aggregate-put-all
+    put-all-requires
+    put-duration-requires
+    slice-aggregate-put-all-2
+    put-all-requires-2
+    put-flag-requires
+    same-length
+    returns)

@@ -1,0 +1,48 @@
+-- `put_shown` meets its contract. Assumes nothing.
+use Rattle.text_trace.specs.Lines.{shown}
+use Rattle.text_place.proofs.Lengths.{place-length}
+use Rattle.text_trace.proofs.Lengths.{selected-length}
+use native.Mathlib.Omega.{arith}
+use Rattle.text_out.proofs.Writing.{then}
+use borrow.Author.Needs.{needs}
+use Rattle.text_trace.proofs.put_shown.Statement.{statement}
+use Rattle.text_trace.proofs.put_shown.Tie as tie
+
+put-place-requires : tie.Need-put-place-requires
+put-place-requires c κs = search needs
+
+slice-aggregate-put-all : tie.Need-slice-aggregate-put-all
+slice-aggregate-put-all c = search needs
+
+put-all-requires : tie.Need-put-all-requires
+put-all-requires c κs =
+    omega (arith, c .before .before .before .before .put-place .ensures .count, place-length (c .before .before .before .before .before .before .before .args .s))
+
+put-selected-requires : tie.Need-put-selected-requires
+put-selected-requires c κs =
+    omega (arith, c .before .before .before .before .before .before .before .before .put-place .ensures .count, place-length (c .before .before .before .before .before .before .before .before .before .before .before .args .s), c .before .before .before .put-all .ensures .count)
+
+put-requires : tie.Need-put-requires
+put-requires c κs =
+    let s = c .before .before .before .before .before .before .before .before .before .before .before .before .before .before .before in
+    omega (arith, c .before .before .before .before .before .before .before .before .before .before .before .before .put-place .ensures .count, place-length (s .args .s), c .before .before .before .before .before .before .before .put-all .ensures .count, c .before .before .before .put-selected .ensures .count, selected-length (s .args .b))
+
+same-length : tie.Need-same-length
+same-length c = search needs
+
+returns : tie.Need-returns
+unfolding shown
+returns c =
+    then (then (then (c .before .before .before .before .before .before .before .before .before .before .before .before .before .before .before .put-place .ensures) (c .before .before .before .before .before .before .before .before .before .before .put-all .ensures)) (c .before .before .before .before .before .before .put-selected .ensures)) (c .before .before .put .ensures)
+
+pub put-shown-spec : {M : Type 1} → statement M
+put-shown-spec =
+    tie.close
+    (tie.spec
+    put-place-requires
+    slice-aggregate-put-all
+    put-all-requires
+    put-selected-requires
+    put-requires
+    same-length
+    returns)

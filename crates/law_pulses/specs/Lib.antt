@@ -1,12 +1,3 @@
 pub mod Play
-pub mod Steps
-pub mod Joined
-pub mod Demand
-pub mod Impossible
-pub mod Lead
 pub mod Runs
 pub mod Source
-pub mod Ahead
-pub mod Agreement
-pub mod Dropped
-pub mod Examples

@@ -10,10 +10,10 @@ use lib.ListN.{length}
 use Rattle.law_base.specs.Numbers.{lt-or-ge}
 use Rattle.law_base.specs.Rules.{_⇒_, _∣_}
 use Rattle.law_pulses.specs.Play.{Entry, pulse, endless, time}
-use Rattle.law_pulses.specs.Joined.{time-append}
+use Rattle.law_pulses.proofs.Joined.{time-append}
 use Rattle.law_pulses.specs.Runs.{run}
-use Rattle.law_pulses.specs.Ahead.{drops, drops-here, drops-past, runsAhead, ahead-here, ahead-past}
-use Rattle.law_pulses.specs.Agreement.{dropped-ahead}
+use Rattle.law_pulses.proofs.Ahead.{drops, drops-here, drops-past, runsAhead, ahead-here, ahead-past}
+use Rattle.law_pulses.proofs.Agreement.{dropped-ahead}
 use Rattle.rows.specs.declared.Block.{Block}
 use Rattle.play_entries.specs.declared.Phase.{Phase}
 use Rattle.play_entries.specs.declared.Phase.the-variants.{Start, Tones, Data, Edge, Pause}

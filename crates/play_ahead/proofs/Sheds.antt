@@ -11,8 +11,8 @@ use mathlib.Core.List.{List, [], _∷_}
 use lib.ListN.{length, length-append}
 use Rattle.law_base.specs.Numbers.{lt-or-ge}
 use Rattle.law_pulses.specs.Play.{Level, Entry, pulse, time}
-use Rattle.law_pulses.specs.Ahead.{drops, drops-here, drops-past}
-use Rattle.law_pulses.specs.Dropped.{Within, drops-run, run-within}
+use Rattle.law_pulses.proofs.Ahead.{drops, drops-here, drops-past}
+use Rattle.law_pulses.proofs.Dropped.{Within, drops-run, run-within}
 use Rattle.rows.specs.declared.Tone.{Tone}
 use Rattle.rows.specs.declared.Block.{Block}
 use Rattle.play_entries.specs.declared.Phase.{Phase}

@@ -6,8 +6,8 @@ use mathlib.Core.Bool.{Bool, true}
 use mathlib.Core.List.{List, _∷_}
 use Rattle.law_pulses.specs.Play.{Entry, Answer, answer, calls, sum, Positive}
 use Rattle.law_pulses.specs.Source.{Outcome, isEnded, sources, heard, Short, Agrees}
-use Rattle.law_pulses.specs.Demand.{any-cut}
-use Rattle.law_pulses.specs.Agreement.{agrees-short}
+use Rattle.law_pulses.proofs.Demand.{any-cut}
+use Rattle.law_pulses.proofs.Agreement.{agrees-short}
 use Rattle.play_entries.specs.Entries.{Spot}
 use Rattle.play_entries.specs.Places.{Tape}
 use Rattle.play_entries.proofs.Formed.{Whole}

@@ -10,7 +10,7 @@ use Rattle.law_base.specs.Numbers.{lt-or-ge}
 use Rattle.law_base.specs.Rules.{_⇒_, _∣_}
 use Rattle.law_base.specs.Tests.{first, second}
 use Rattle.law_pulses.specs.Play.{low, Entry, shown}
-use Rattle.law_pulses.specs.Lead.{lead-here, lead-by}
+use Rattle.law_pulses.proofs.Lead.{lead-here, lead-by}
 use Rattle.rows.specs.Table.{capacityOf}
 use Rattle.rows.specs.Rows.{tone, toneMost, block, blockMost}
 use Rattle.play_entries.specs.declared.Phase.{Phase}

@@ -6,7 +6,7 @@ use mathlib.Core.Path.{_≡_, refl, sym, ap, _∙_}
 use mathlib.Core.Bool.{Bool, true, false}
 use mathlib.Core.Logic.{inr}
 use Rattle.law_base.specs.Rules.{_⇒_, _∣_}
-use Rattle.law_pulses.specs.Lead.{lead-here}
+use Rattle.law_pulses.proofs.Lead.{lead-here}
 use Rattle.play_entries.specs.declared.Duration.{Duration}
 use Rattle.play_entries.specs.declared.Duration.the-variants.{T, Endless}
 use Rattle.play_entries.specs.Places.{Tape, levelIn}

@@ -9,8 +9,8 @@ use mathlib.Core.List.{List, [], _∷_}
 use Rattle.law_pulses.specs.Play.{Level, low, Entry, pulse, endless, Status, rest, over, answer, counted, calls, sum, Positive, time, Demanded}
 use native.Mathlib.Nat.{eq-zero-or-pos}
 use lib.ListN.{length}
-use Rattle.law_pulses.specs.Steps.{over-zero, over-rest}
-use Rattle.law_pulses.specs.Demand.{status-over, conserved, any-cut, demanded}
+use Rattle.law_pulses.proofs.Steps.{over-zero, over-rest}
+use Rattle.law_pulses.proofs.Demand.{status-over, conserved, any-cut, demanded}
 use Rattle.rows.specs.Rows.{block}
 use Rattle.play_entries.specs.declared.Phase.{Phase}
 use Rattle.play_entries.specs.Entries.{Spot}

@@ -10,9 +10,9 @@ use mathlib.Core.List.{List, [], _∷_}
 use lib.ListN.{length}
 use Rattle.law_base.specs.Rules.{_⇒_, _∣_}
 use Rattle.law_pulses.specs.Play.{Entry, pulse, endless, Status, ended, Answer, made, rest, over, shown, status, answer}
-use Rattle.law_pulses.specs.Demand.{status-left, status-over}
+use Rattle.law_pulses.proofs.Demand.{status-left, status-over}
 use Rattle.law_pulses.specs.Source.{Outcome, isEnded, dropped, heard}
-use Rattle.law_pulses.specs.Agreement.{source-heard}
+use Rattle.law_pulses.proofs.Agreement.{source-heard}
 use Rattle.play_entries.specs.Entries.{Spot}
 use Rattle.play_entries.specs.Places.{Tape, blockIn}
 use Rattle.play_walk.specs.declared.Position.{Position}

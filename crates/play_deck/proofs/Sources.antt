@@ -7,7 +7,7 @@ use mathlib.Core.Bool.{true}
 use mathlib.Core.List.{List, [], _∷_}
 use Rattle.law_pulses.specs.Play.{Entry, answer, calls, Positive}
 use Rattle.law_pulses.specs.Source.{Outcome, source, dropped, sources, heard, Short, Agrees}
-use Rattle.law_pulses.specs.Agreement.{source-heard, agrees, agrees-short}
+use Rattle.law_pulses.proofs.Agreement.{source-heard, agrees, agrees-short}
 use Rattle.rows.specs.Rows.{block}
 use Rattle.play_entries.specs.Entries.{Spot}
 use Rattle.play_entries.specs.Places.{Tape}

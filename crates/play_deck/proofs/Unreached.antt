@@ -10,9 +10,10 @@ use lib.Dec.{ltb}
 use lib.ListN.{length, length-append}
 use Rattle.law_base.specs.Numbers.{lt-or-ge}
 use Rattle.law_pulses.specs.Play.{Entry, pulse, endless, Status, rest, over, shown, answer}
-use Rattle.law_pulses.specs.Steps.{rest-nil, rest-stop, rest-zero, rest-here, rest-past, rest-ways, over-zero, length-rest}
-use Rattle.law_pulses.specs.Demand.{status-left}
-use Rattle.law_pulses.specs.Runs.{run, run-split}
+use Rattle.law_pulses.proofs.Steps.{rest-nil, rest-stop, rest-zero, rest-here, rest-past, rest-ways, over-zero, length-rest}
+use Rattle.law_pulses.proofs.Demand.{status-left}
+use Rattle.law_pulses.specs.Runs.{run}
+use Rattle.law_pulses.proofs.Runs.{run-split}
 use Rattle.law_pulses.specs.Source.{isEnded}
 use Rattle.play_entries.specs.declared.Phase.{Phase}
 use Rattle.play_entries.specs.declared.Phase.the-variants.{Start, Tones, Data, Edge, Pause}

@@ -10,8 +10,9 @@ use lib.Dec.{eqb}
 use Rattle.law_base.specs.Rules.{_⇒_, _∣_}
 use mathlib.Core.List.{List, [], _∷_}
 use Rattle.law_pulses.specs.Play.{Level, time}
-use Rattle.law_pulses.specs.Joined.{time-append}
-use Rattle.law_pulses.specs.Runs.{run, run-time-most}
+use Rattle.law_pulses.proofs.Joined.{time-append}
+use Rattle.law_pulses.specs.Runs.{run}
+use Rattle.law_pulses.proofs.Runs.{run-time-most}
 use Rattle.rows.specs.declared.Tone.{Tone}
 use Rattle.rows.specs.declared.Block.{Block}
 use Rattle.rows.specs.Rows.{tone}

@@ -9,7 +9,8 @@ use mathlib.Core.List.{List}
 use lib.Count.{ones, ones-le}
 use lib.ListN.{getD}
 use Rattle.law_pulses.specs.Play.{Level, time}
-use Rattle.law_pulses.specs.Runs.{run, run-time-next}
+use Rattle.law_pulses.specs.Runs.{run}
+use Rattle.law_pulses.proofs.Runs.{run-time-next}
 use Rattle.rows.specs.declared.Block.{Block}
 use Rattle.play_entries.specs.Counted.{onesFrom, bitsTime}
 use Rattle.play_entries.specs.Entries.{bitsAt, byteOf, byteAt, byteEntries, dataOf}

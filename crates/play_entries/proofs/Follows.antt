@@ -7,7 +7,8 @@ use mathlib.Core.List.{List, [], _∷_, _++_, append-assoc}
 use mathlib.Core.Bool.{true, false, not}
 use Rattle.law_base.specs.Rules.{_⇒_, _∣_}
 use Rattle.law_pulses.specs.Play.{Entry, pulse}
-use Rattle.law_pulses.specs.Runs.{run, run-split, run-next, run-none}
+use Rattle.law_pulses.specs.Runs.{run}
+use Rattle.law_pulses.proofs.Runs.{run-split, run-next, run-none}
 use Rattle.play_entries.specs.declared.Phase.the-variants.{Tones, Edge}
 use Rattle.play_entries.specs.Entries.{Spot, spot, isSingle, edged, edgeTime, startOf, toneOf, rowOf, tonesOf, bitsAt, bitEntries, byteOf, byteEntries, dataOf, edgeOf, pauseEntry, soundOf, entriesOf}
 use Rattle.play_entries.specs.Places.{Tape, blockIn, toneIn, byteIn, bitIn, cycleIn, cyclesIn, cycleItem, listFrom, fromPause, fromEdge, fromByte, fromBit, fromTone, fromCycle, fromSecond}

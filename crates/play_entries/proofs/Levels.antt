@@ -5,7 +5,7 @@ use mathlib.Core.Bool.{Bool, true, false, not}
 use Rattle.law_base.specs.Rules.{_⇒_, _∣_}
 use mathlib.Core.List.{List, [], _∷_, _++_}
 use Rattle.law_pulses.specs.Play.{Entry, pulse, endless, rest}
-use Rattle.law_pulses.specs.Steps.{rest-nil, rest-stop, rest-ways}
+use Rattle.law_pulses.proofs.Steps.{rest-nil, rest-stop, rest-ways}
 use Rattle.law_pulses.specs.Runs.{run}
 use Rattle.rows.specs.declared.Tone.{Tone}
 use Rattle.rows.specs.declared.Block.{Block}

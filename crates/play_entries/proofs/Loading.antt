@@ -5,8 +5,8 @@ use native.Mathlib.Omega.{arith}
 use mathlib.Core.Path.{_≡_, ap, _∙_}
 use mathlib.Core.List.{List, [], _∷_, _++_, append-assoc}
 use Rattle.law_pulses.specs.Play.{Entry, stopped, ended, time, comesTo}
-use Rattle.law_pulses.specs.Joined.{time-append, comes-append}
-use Rattle.law_pulses.specs.Runs.{run-next}
+use Rattle.law_pulses.proofs.Joined.{time-append, comes-append}
+use Rattle.law_pulses.proofs.Runs.{run-next}
 use Rattle.play_entries.specs.Entries.{Spot, edgeOf, pauseEntry, soundOf, entriesOf}
 use Rattle.play_entries.specs.Places.{Tape, blockIn, listFrom, fromPause, fromEdge}
 use Rattle.play_entries.proofs.Runs.{sound-finite}

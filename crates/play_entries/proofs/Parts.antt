@@ -6,8 +6,9 @@ use mathlib.Core.Bool.{Bool, true, false}
 use Rattle.law_base.specs.Rules.{_⇒_, _∣_}
 use mathlib.Core.List.{List, [], _∷_, _++_, append-assoc}
 use Rattle.law_pulses.specs.Play.{Level, Entry, pulse, Finite}
-use Rattle.law_pulses.specs.Joined.{finite-append}
-use Rattle.law_pulses.specs.Runs.{run, run-finite}
+use Rattle.law_pulses.proofs.Joined.{finite-append}
+use Rattle.law_pulses.specs.Runs.{run}
+use Rattle.law_pulses.proofs.Runs.{run-finite}
 use Rattle.play_entries.specs.declared.Phase.{Phase}
 use Rattle.play_entries.specs.declared.Phase.the-variants.{Start, Tones, Data, Edge, Pause}
 use Rattle.play_entries.specs.declared.Duration.{Duration}

@@ -11,9 +11,10 @@ use lib.Count.{ones, ones-step, ones-le}
 use lib.Pow.{shr-shr, shr-lt}
 use lib.ListN.{length}
 use Rattle.law_pulses.specs.Play.{Level, Entry, pulse, time, comesTo, Finite}
-use Rattle.law_pulses.specs.Steps.{time-pulse}
-use Rattle.law_pulses.specs.Joined.{time-append, finite-append, comes-append}
-use Rattle.law_pulses.specs.Runs.{run, run-length, run-finite, run-time, run-time-next}
+use Rattle.law_pulses.proofs.Steps.{time-pulse}
+use Rattle.law_pulses.proofs.Joined.{time-append, finite-append, comes-append}
+use Rattle.law_pulses.specs.Runs.{run}
+use Rattle.law_pulses.proofs.Runs.{run-length, run-finite, run-time, run-time-next}
 use Rattle.rows.specs.declared.Tone.{Tone}
 use Rattle.rows.specs.declared.Block.{Block}
 use Rattle.play_entries.specs.declared.Duration.the-variants.{T, Endless}

@@ -7,7 +7,7 @@ use mathlib.Core.Logic.{⊎-elim}
 use mathlib.Core.List.{List, [], _∷_}
 use Rattle.law_base.specs.Numbers.{lt-or-ge}
 use Rattle.law_pulses.specs.Play.{Level, Entry, pulse, endless, rest}
-use Rattle.law_pulses.specs.Steps.{rest-nil, rest-stop, rest-ways}
+use Rattle.law_pulses.proofs.Steps.{rest-nil, rest-stop, rest-ways}
 use Rattle.play_entries.specs.declared.Phase.{Phase}
 use Rattle.play_entries.specs.declared.Phase.the-variants.{Start, Tones, Data, Edge, Pause}
 use Rattle.play_entries.specs.declared.Duration.{Duration}

@@ -9,9 +9,9 @@ use mathlib.Core.List.{List, [], _∷_}
 use lib.ListN.{length}
 use Rattle.law_base.specs.Numbers.{lt-or-ge}
 use Rattle.law_pulses.specs.Play.{Level, Entry, pulse, endless, Status, standing, stopped, made, rest, over, shown, status, answer}
-use Rattle.law_pulses.specs.Steps.{rest-nil, rest-stop, rest-zero, rest-here, over-zero, over-pulse}
-use Rattle.law_pulses.specs.Demand.{status-left, status-over}
-use Rattle.law_pulses.specs.Lead.{Leads, lead-by, lead-as}
+use Rattle.law_pulses.proofs.Steps.{rest-nil, rest-stop, rest-zero, rest-here, over-zero, over-pulse}
+use Rattle.law_pulses.proofs.Demand.{status-left, status-over}
+use Rattle.law_pulses.proofs.Lead.{Leads, lead-by, lead-as}
 use Rattle.play_entries.specs.declared.Phase.{Phase}
 use Rattle.play_entries.specs.declared.Phase.the-variants.{Start}
 use Rattle.play_entries.specs.declared.Duration.the-variants.{T, Endless}

@@ -10,7 +10,7 @@ use lib.Dec.{eqb}
 use lib.ListN.{length}
 use Rattle.law_base.specs.Rules.{_⇒_, _∣_}
 use Rattle.law_pulses.specs.Play.{Entry, answer}
-use Rattle.law_pulses.specs.Lead.{Leads, lead-by}
+use Rattle.law_pulses.proofs.Lead.{Leads, lead-by}
 use Rattle.rows.specs.declared.Block.{Block}
 use Rattle.rows.specs.Well.{wellBlock}
 use Rattle.play_entries.specs.declared.Phase.{Phase}

@@ -6,7 +6,7 @@ use Prim.Native.Nat.{ℕ, _+_, _-_, _≤_}
 use native.Mathlib.Omega.{arith}
 use mathlib.Core.Path.{_≡_, refl, sym, ap, _∙_}
 use lib.ListN.{length}
-use Rattle.law_pulses.specs.Ahead.{drops}
+use Rattle.law_pulses.proofs.Ahead.{drops}
 use Rattle.play_entries.proofs.Follows.{list-out}
 use Rattle.play_walk.specs.declared.Position.{Position}
 use Rattle.play_entries.specs.Mounted.{wellRow, firstBad, cutTo, tapeOf}

@@ -4,7 +4,8 @@ use native.Mathlib.Omega.{arith}
 use mathlib.Core.Bool.{true, false}
 use mathlib.Core.Path.{_≡_, refl, ap, _∙_}
 use Rattle.law_pulses.specs.Play.{time}
-use Rattle.law_pulses.specs.Runs.{run, run-time-next}
+use Rattle.law_pulses.specs.Runs.{run}
+use Rattle.law_pulses.proofs.Runs.{run-time-next}
 use Rattle.rows.proofs.WellLaws.{tones-each}
 use Rattle.rows.specs.Well.{wellTone}
 use Rattle.play_entries.specs.Entries.{cycleLevel, toneOf, rowOf, tonesOf}

@@ -6,7 +6,7 @@ use native.Mathlib.Omega.{arith}
 use mathlib.Core.Path.{_≡_, sym, ap, _∙_}
 use mathlib.Core.Logic.{inl, inr}
 use lib.ListN.{length}
-use Rattle.law_pulses.specs.Lead.{Leads, lead-here, lead-on}
+use Rattle.law_pulses.proofs.Lead.{Leads, lead-here, lead-on}
 use Rattle.rows.specs.declared.Block.{Block}
 use Rattle.play_entries.specs.Places.{leftAt, lengthAt}
 use Rattle.play_walk.specs.declared.Position.{Position}

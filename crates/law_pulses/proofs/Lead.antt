@@ -5,8 +5,8 @@ use Prim.Native.Nat.{ℕ, _+_, _-_, _≤_, _<_}
 use native.Mathlib.Omega.{arith}
 use lib.ListN.{length, length-append}
 use Rattle.law_pulses.specs.Play.{Level, Entry, pulse, rest, over, time, Finite}
-use Rattle.law_pulses.specs.Steps.{rest-past, over-pulse}
-use Rattle.law_pulses.specs.Joined.{rest-after, over-after}
+use Rattle.law_pulses.proofs.Steps.{rest-past, over-pulse}
+use Rattle.law_pulses.proofs.Joined.{rest-after, over-after}
 
 -- n T-states from es, j entries counted before, are m from fs, i counted before
 pub record Leads {A : Type 0} (es : List (Entry A)) (n j : ℕ) (fs : List (Entry A)) (m i : ℕ) : Type 0 where

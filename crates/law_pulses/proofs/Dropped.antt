@@ -5,7 +5,7 @@ use Prim.Native.Nat.{ℕ, zero, suc, _+_, _≤_, _<_}
 use native.Mathlib.Omega.{arith}
 use Rattle.law_pulses.specs.Play.{Entry, pulse, endless, time}
 use Rattle.law_pulses.specs.Runs.{run}
-use Rattle.law_pulses.specs.Ahead.{drops, drops-past}
+use Rattle.law_pulses.proofs.Ahead.{drops, drops-past}
 
 module _ {A : Type 0} where
   -- each entry is a pulse no longer than d

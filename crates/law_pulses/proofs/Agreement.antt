@@ -11,9 +11,9 @@ use lib.ListN.{length}
 use borrow.Author.Tests.{lt-ltb, le-ltb}
 use Rattle.law_base.specs.Numbers.{lt-or-ge}
 use Rattle.law_pulses.specs.Play.{Entry, pulse, endless, rest, over, shown, status, answer, counted, calls}
-use Rattle.law_pulses.specs.Steps.{rest-nil, rest-stop, rest-ways}
+use Rattle.law_pulses.proofs.Steps.{rest-nil, rest-stop, rest-ways}
 use Rattle.law_pulses.specs.Source.{Outcome, isEnded, sourced, reached, sumDropped, source, dropped, sources, whole, heard, lasting, Below, Behind, Short, Agrees}
-use Rattle.law_pulses.specs.Ahead.{drops, drops-here, drops-past, runsAhead, ahead-here, ahead-past, source-turns}
+use Rattle.law_pulses.proofs.Ahead.{drops, drops-here, drops-past, runsAhead, ahead-here, ahead-past, source-turns}
 
 short-none : {t d : ℕ} → (0 < t → d < t) → t ≤ d → t ≡ 0
 short-none {t} {d} f h = ⊎-elim (λ z. z) (λ p. absurd (omega (arith, f p))) (eq-zero-or-pos t)

@@ -11,7 +11,7 @@ use borrow.Author.Tests.{lt-ltb, le-ltb, eq-eqb, ne-eqb}
 use Rattle.law_base.specs.Numbers.{lt-or-ge}
 use Rattle.law_base.specs.Rules.{_⇒_, _∣_}
 use Rattle.law_pulses.specs.Play.{Level, Entry, pulse, endless, rest, over}
-use Rattle.law_pulses.specs.Steps.{rest-zero, rest-here, rest-past, over-zero, over-pulse}
+use Rattle.law_pulses.proofs.Steps.{rest-zero, rest-here, rest-past, over-zero, over-pulse}
 use Rattle.law_pulses.specs.Source.{Turned, turned, after, turn, turns, sourced}
 
 module _ {A : Type 0} where

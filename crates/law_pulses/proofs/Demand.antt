@@ -9,8 +9,8 @@ use lib.ListN.{length}
 use borrow.Author.Tests.{lt-ltb, le-ltb}
 use Rattle.law_base.specs.Numbers.{lt-or-ge}
 use Rattle.law_pulses.specs.Play.{Entry, pulse, endless, Status, standing, ended, Answer, made, rest, over, shown, status, answer, counted, calls, time, final, comesTo, Finite, sum, Positive, Spent, AtSum, Demanded, Meets}
-use Rattle.law_pulses.specs.Steps.{rest-nil, rest-stop, rest-zero, rest-here, rest-past, rest-ways, over-zero, over-rest, time-pulse, length-rest, rest-cut, over-cut}
-use Rattle.law_pulses.specs.Joined.{time-append, rest-after}
+use Rattle.law_pulses.proofs.Steps.{rest-nil, rest-stop, rest-zero, rest-here, rest-past, rest-ways, over-zero, over-rest, time-pulse, length-rest, rest-cut, over-cut}
+use Rattle.law_pulses.proofs.Joined.{time-append, rest-after}
 
 module _ {A : Type 0} where
   -- CONSERVATION: up to the stop or the end, time gone and the listed time left are what was listed

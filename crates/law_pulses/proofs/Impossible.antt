@@ -5,7 +5,7 @@ use Prim.Native.Nat.{ℕ}
 use native.Mathlib.Omega.{arith}
 use lib.ListN.{length}
 use Rattle.law_pulses.specs.Play.{Entry, pulse, low, Answer, rest, answer, counted, calls, Positive, Meets}
-use Rattle.law_pulses.specs.Demand.{meets-one}
+use Rattle.law_pulses.proofs.Demand.{meets-one}
 
 module _ {A : Type 0} (a : A) (run : List (Entry A) → ℕ → List ℕ → Answer A) (meets : Meets run) where
   -- a player that stays put

@@ -1,0 +1,10 @@
+pub mod Steps
+pub mod Joined
+pub mod Demand
+pub mod Impossible
+pub mod Lead
+pub mod Runs
+pub mod Ahead
+pub mod Agreement
+pub mod Dropped
+pub mod Examples

@@ -13,12 +13,12 @@ use Rattle.law_pulses.specs.Source.{isEnded}
 use Rattle.text_out.specs.Out.{fits, told}
 use Rattle.play_entries.specs.Entries.{entriesOf, lastsOf}
 use Rattle.play_entries.specs.Places.{Tape, blockIn, listFrom}
-use Rattle.play_entries.specs.Mounted.{overfull}
-use Rattle.play_entries.proofs.Formed.{Whole, whole-formed}
+use Rattle.play_entries.specs.Mounted.{overfull, WholeTape}
+use Rattle.play_entries.proofs.Formed.{whole-formed}
 use Rattle.ask_block.specs.declared.Number.the-variants as number
 use Rattle.ask_block.specs.declared.Mark.the-variants as mark
 use Rattle.ask_block.specs.declared.Time.the-variants as lasting
-use Rattle.ask_block.specs.Queries.{numberNo, markNo, timeNo, refusalOf, numberUnless, markUnless, timeUnless, lenOf, sizeOf, selectableOf, timeOf, nameIn, lengthOrNoRoom, nameAnswer, nameBytes, loadingIn, loadingOf}
+use Rattle.ask_block.specs.Queries.{numberNo, markNo, timeNo, refusalOf, numberUnless, markUnless, timeUnless, lenOf, sizeOf, selectableOf, timeOf, nameIn, lengthOrNoRoom, nameAnswer, nameBytes, loadingIn, loadingOf, EachAnswered}
 use Rattle.ask_block.proofs.Refusals.{refusal-none}
 
 -- a rule whose second test fails
@@ -26,7 +26,7 @@ never : {A : Type 0} (t : Bool) (x y : A) → ((t && false) ⇒ x ∣ y) ≡ y
 never true x y = refl
 never false x y = refl
 
-module _ (w : Tape) (whole : Whole w) where
+module _ (w : Tape) (whole : WholeTape w) where
   not-over : overfull w ≡ false
   not-over = le-ltb _ _ (whole .lent)
 
@@ -67,16 +67,7 @@ module _ (w : Tape) (whole : Whole w) where
     unfolding nameBytes
     bytes-whole out = rw none
 
--- document 01's number for no is 0 in each answer, but for a name's where the lent bytes are shorter than it: 10
-pub record Answered (w : Tape) (i : ℕ) : Type 0 where
-  pub len : numberNo (lenOf w) ≡ 0
-  pub size : numberNo (sizeOf w i) ≡ 0
-  pub selectable : markNo (selectableOf w i) ≡ 0
-  pub lasts : timeNo (timeOf w i) ≡ 0
-  pub name : (out : List ℕ) → numberNo (nameAnswer w i out) ≡ (fits (nameIn w i) out ⇒ 0 ∣ noRoom)
-  pub loading : numberNo (loadingOf w) ≡ 0
-
-pub whole-answered : (w : Tape) → Whole w → (i : ℕ) → i < w .count → Answered w i
+pub whole-answered : (w : Tape) → WholeTape w → (i : ℕ) → i < w .count → EachAnswered w i
 unfolding numberNo markNo timeNo lengthOrNoRoom
 whole-answered w whole i h =
     record {

@@ -30,20 +30,20 @@ all-passed false false true e = passed refl refl refl
 all-passed false false false e = absurd (omega arith)
 
 -- a query about block i that is not refused: the count is lent, the block is one of it, and its row is well formed
-pub record Asked (w : Tape) (i : ℕ) : Type 0 where
+pub record Answerable (w : Tape) (i : ℕ) : Type 0 where
   pub few : w .count ≤ capacityOf block blockMost (w .blocks)
   pub there : i < w .count
   pub well : wellRow w i ≡ true
 
 module _ (w : Tape) (i : ℕ) where
-  none-refused : refusalOf w i ≡ 0 → Asked w i
+  none-refused : refusalOf w i ≡ 0 → Answerable w i
   unfolding refusalOf
   none-refused e = by-tests (all-passed (overfull w) (leb (w .count) i) (wellRow w i) e)
     where
-      by-tests : Tests (overfull w) (leb (w .count) i) (wellRow w i) → Asked w i
+      by-tests : Tests (overfull w) (leb (w .count) i) (wellRow w i) → Answerable w i
       by-tests (passed f g h) = record { few = ltb-false _ _ f; there = leb-false _ _ g; well = h }
 
-  pub asked : (k : ℕ) → k ≡ refusalOf w i → k ≡ 0 → Asked w i
+  pub asked : (k : ℕ) → k ≡ refusalOf w i → k ≡ 0 → Answerable w i
   asked k e z = none-refused (sym e ∙ z)
 
   pub refusal-none : overfull w ≡ false → i < w .count → wellRow w i ≡ true → refusalOf w i ≡ 0

@@ -2,6 +2,7 @@
 use Prim.Native.Nat.{ℕ, zero, suc}
 use mathlib.Core.Bool.{_&&_}
 use mathlib.Core.List.{List}
+use mathlib.Core.Path.{_≡_}
 use lib.Dec.{ltb, leb, eqb}
 use lib.ListN.{length}
 use Rattle.law_base.specs.Rules.{_⇒_, _∣_}
@@ -90,3 +91,12 @@ loadingIn w v =
 
 unfoldable pub loadingOf : Tape → Number
 loadingOf w = overfull w ⇒ number.Refused badRow ∣ loadingIn w (formed w 0)
+
+-- document 01's number for no is 0 in each answer, but for a name's where the lent bytes are shorter than it: 10
+pub record EachAnswered (w : Tape) (i : ℕ) : Type 0 where
+  pub len : numberNo (lenOf w) ≡ 0
+  pub size : numberNo (sizeOf w i) ≡ 0
+  pub selectable : markNo (selectableOf w i) ≡ 0
+  pub lasts : timeNo (timeOf w i) ≡ 0
+  pub name : (out : List ℕ) → numberNo (nameAnswer w i out) ≡ (fits (nameIn w i) out ⇒ 0 ∣ noRoom)
+  pub loading : numberNo (loadingOf w) ≡ 0

@@ -10,9 +10,9 @@ use Rattle.rows.specs.declared.Block.{Block}
 use Rattle.rows.proofs.WellLaws.{block-clauses, numbers-most}
 use Rattle.play_entries.specs.Entries.{soundOf}
 use Rattle.play_entries.specs.Places.{Tape, blockIn, listFrom}
-use Rattle.play_entries.specs.Mounted.{sizeOf, wellRow, formed}
+use Rattle.play_entries.specs.Mounted.{tapeSize, wellRow, formed}
 use Rattle.play_entries.proofs.Bounds.{sound-most}
-use Rattle.play_entries.proofs.Formed.{Needs, needed, well-before, bad-there}
+use Rattle.play_entries.proofs.Formed.{WellUpTo, needed, well-before, bad-there}
 use Rattle.play_entries.proofs.Loading.{loading-out, loading-stop, loading-on, comes-out, comes-stop, comes-on}
 use Rattle.ask_block.specs.declared.Number.the-variants as number
 use Rattle.ask_block.specs.Queries.{loadingIn}
@@ -28,7 +28,7 @@ pub loads-none : (w : Tape) → Loads w 0 0
 loads-none w = record { from = omega arith; lasts = omega arith; comes = refl; few = omega arith }
 
 module _ {w : Tape} {b sum : ℕ} (l : Loads w b sum) where
-  needs : Needs w 0 (formed w 0 .count)
+  needs : WellUpTo w 0 (formed w 0 .count)
   unfolding formed
   needs = needed w 0 (omega arith)
 
@@ -57,7 +57,7 @@ module _ {w : Tape} {b sum : ℕ} (l : Loads w b sum) where
 
     pub sound-few : s ≤ 564032268533760
     unfolding wellRow
-    sound-few = omega (arith, sounds, sound-most (sizeOf (w .bytes)) (w .bytes) (w .tones) b (blockIn w b) g (omega arith))
+    sound-few = omega (arith, sounds, sound-most (tapeSize (w .bytes)) (w .bytes) (w .tones) b (blockIn w b) g (omega arith))
 
     -- out: a stop
     pub loads-stop : r .endless ≡ 1 → number.Is (sum + s) ≡ loadingIn w (formed w 0)
@@ -77,7 +77,7 @@ module _ {w : Tape} {b sum : ℕ} (l : Loads w b sum) where
       pub pause-few : r .pause ≤ 229372500
       unfolding wellRow
       pause-few =
-          let n = numbers-most (blockIn w b) (block-clauses (sizeOf (w .bytes)) (w .tones) (blockIn w b) g .numbers) in
+          let n = numbers-most (blockIn w b) (block-clauses (tapeSize (w .bytes)) (w .tones) (blockIn w b) g .numbers) in
           omega (arith, n .pause ends, pauses)
 
       pub loads-on : Loads w (b + 1) (sum + s + r .pause)

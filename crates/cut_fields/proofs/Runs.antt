@@ -7,7 +7,7 @@ use native.Mathlib.Omega.{arith}
 use native.Mathlib.Nat.{zero-mul, mul-zero, suc-mul, mul-le-mul-right, div-mul-le-self, div-add-mod', mod-lt, not-suc-le-zero}
 use lib.ListN.{length}
 use borrow.Author.Tests.{le-leb, lt-leb}
-use Rattle.law_base.specs.Numbers.{lt-or-ge}
+use Rattle.law_base.proofs.Numbers.{lt-or-ge}
 use Rattle.cut_fields.specs.declared.Cursor.{Cursor}
 use Rattle.cut_fields.specs.declared.Cursor.the-variants.{At, Short}
 use Rattle.cut_fields.specs.Field.{numberAt, fieldAt, placeOf}

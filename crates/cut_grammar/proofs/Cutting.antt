@@ -8,19 +8,20 @@ use native.Mathlib.Nat.{le-refl}
 use lib.ListN.{length, getD, take, length-take}
 use lib.Seq.{getD-take}
 use borrow.Author.Tests.{le-leb, lt-leb}
-use Rattle.law_base.specs.Numbers.{lt-or-ge}
+use Rattle.law_base.proofs.Numbers.{lt-or-ge}
 use Rattle.cut_fields.specs.declared.Cursor.the-variants.{At}
 use Rattle.cut_grammar.specs.declared.Piece.{Piece}
 use Rattle.cut_grammar.specs.declared.Body.{Body}
 use Rattle.cut_grammar.specs.declared.Taken.the-variants as taken
 use Rattle.cut_grammar.specs.Grammar.{readAt}
 use Rattle.cut_grammar.specs.Kinds.{kindOf}
-use Rattle.cut_grammar.specs.Cut.{named, cutAt}
-use Rattle.cut_grammar.proofs.Layouts.{stands, Ends, ends, none, short, wide, Own, forward, own}
+use Rattle.cut_grammar.specs.Cut.{takenAs, cutAt}
+use Rattle.cut_grammar.specs.Ends.{stands, Ends, ends, none, short, wide, Own}
+use Rattle.cut_grammar.proofs.Layouts.{forward, own}
 
 -- what ends a piece under its name
-named-ends : {a b : ℕ} (kind at : ℕ) {k p next : ℕ} {x : Body} {piece : Piece} → Ends a b x → named kind at x ≡ taken.Whole k p next piece → (a ≤ next) × (next ≤ b)
-unfolding named
+named-ends : {a b : ℕ} (kind at : ℕ) {k p next : ℕ} {x : Body} {piece : Piece} → Ends a b x → takenAs kind at x ≡ taken.Whole k p next piece → (a ≤ next) × (next ≤ b)
+unfolding takenAs
 named-ends {a} {b} kind at {next = next} (ends {p = q} h t) e = let i : q ≡ next = cc in (omega arith, omega arith)
 named-ends kind at none e = absurd (let z : _≡_ {A = ℕ} 0 1 = cc in omega arith)
 named-ends kind at short e = absurd (let z : _≡_ {A = ℕ} 0 1 = cc in omega arith)
@@ -28,7 +29,7 @@ named-ends kind at wide e = absurd (let z : _≡_ {A = ℕ} 0 1 = cc in omega ar
 
 -- a place inside the tape has a kind byte
 pub cut-there : (s : List ℕ) (at full : ℕ) → at < length s
-    → cutAt s at full ≡ named (getD s at 0) at (readAt (kindOf full (getD s at 0)) s (At (at + 1)))
+    → cutAt s at full ≡ takenAs (getD s at 0) at (readAt (kindOf full (getD s at 0)) s (At (at + 1)))
 unfolding cutAt
 cut-there s at full h = rw (lt-leb (length s) at h)
 
@@ -53,7 +54,7 @@ module _ (s : List ℕ) (at full : ℕ) {k a next : ℕ} {piece : Piece} (e : cu
       (omega (arith, r .0), r .1)
 
   -- decided by its own bytes
-  own-bytes : {m : ℕ} {x y : Body} → next ≤ m → Own (length s) m x y → named (getD s at 0) at x ≡ taken.Whole k a next piece → y ≡ x
+  own-bytes : {m : ℕ} {x y : Body} → next ≤ m → Own (length s) m x y → takenAs (getD s at 0) at x ≡ taken.Whole k a next piece → y ≡ x
   own-bytes h Own.same q = refl
   own-bytes h (Own.beyond b) q = let r = named-ends (getD s at 0) at b q in absurd (omega (arith, r .0))
 

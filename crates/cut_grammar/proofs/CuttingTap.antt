@@ -7,7 +7,7 @@ use native.Mathlib.Omega.{arith}
 use native.Mathlib.Nat.{le-refl}
 use lib.ListN.{length, take, length-take}
 use borrow.Author.Tests.{le-leb, lt-leb, eq-eqb, ne-eqb}
-use Rattle.law_base.specs.Numbers.{lt-or-ge}
+use Rattle.law_base.proofs.Numbers.{lt-or-ge}
 use Rattle.cut_fields.specs.declared.Cursor.{Cursor}
 use Rattle.cut_fields.specs.declared.Cursor.the-variants.{At}
 use Rattle.cut_fields.specs.declared.Cursor.the-variants as cursor
@@ -16,11 +16,12 @@ use Rattle.cut_fields.specs.Field.{fieldAt, placeOf}
 use Rattle.cut_grammar.specs.declared.Span.{Span}
 use Rattle.cut_grammar.specs.declared.TakenTap.the-variants as tap
 use Rattle.cut_grammar.specs.Grammar.{countedAt}
-use Rattle.cut_grammar.specs.Cut.{blockOf, tapAt}
-use Rattle.cut_grammar.proofs.Layouts.{In, stands, stuck, OwnRead, OwnPlace, field-past, field-forward, field-own, place-own}
+use Rattle.cut_grammar.specs.Cut.{tapBlock, tapAt}
+use Rattle.cut_grammar.specs.Ends.{StandsIn, stands, stuck}
+use Rattle.cut_grammar.proofs.Layouts.{OwnRead, OwnPlace, field-past, field-forward, field-own, place-own}
 
 -- the tests before a block
-tap-there : (s : List ℕ) (at : ℕ) → at + 1 < length s → tapAt s at ≡ blockOf (countedAt s (At at) 2) (countedAt s (At at) 2 .cursor)
+tap-there : (s : List ℕ) (at : ℕ) → at + 1 < length s → tapAt s at ≡ tapBlock (countedAt s (At at) 2) (countedAt s (At at) 2 .cursor)
 unfolding tapAt
 tap-there s at h = rw (lt-leb (length s) at (omega arith), ne-eqb (at + 1) (length s) (λ e. omega arith))
 
@@ -39,12 +40,12 @@ not-lone : {from size next : ℕ} → tap.Lone ≡ tap.Block from size next → 
 not-lone e = let z : _≡_ {A = ℕ} 0 1 = cc in omega arith
 
 -- a block is one whose cursor stands past it
-block-at : (d : Span) (c : Cursor) {from size next : ℕ} → blockOf d c ≡ tap.Block from size next → c ≡ At next
-unfolding blockOf
+block-at : (d : Span) (c : Cursor) {from size next : ℕ} → tapBlock d c ≡ tap.Block from size next → c ≡ At next
+unfolding tapBlock
 block-at d (At p) e = cc
 block-at d (cursor.Short p w) e = absurd (let z : _≡_ {A = ℕ} 0 1 = cc in omega arith)
 
-stands-at : {a b next : ℕ} {c : Cursor} → In a b c → c ≡ At next → (a ≤ next) × (next ≤ b)
+stands-at : {a b next : ℕ} {c : Cursor} → StandsIn a b c → c ≡ At next → (a ≤ next) × (next ≤ b)
 stands-at {next = next} (stands {p} h t) e = let i : p ≡ next = cc in (omega arith, omega arith)
 stands-at stuck e = absurd (let z : _≡_ {A = ℕ} 0 1 = cc in omega arith)
 
@@ -93,4 +94,4 @@ module _ (s : List ℕ) (at : ℕ) {from size next : ℕ} (e : tapAt s at ≡ ta
       let i = inside in
       let l : at + 1 < length (take m s) = rw length-take (omega (arith, f .0, f .1)) in
       let q : countedAt (take m s) (At at) 2 ≡ countedAt s (At at) 2 = span-own s m (field-own 2 s m at (omega (arith, f .0))) past h in
-      tap-there (take m s) at l ∙ ap (λ (d : Span). blockOf d (d .cursor)) q ∙ sym (tap-there s at i)
+      tap-there (take m s) at l ∙ ap (λ (d : Span). tapBlock d (d .cursor)) q ∙ sym (tap-there s at i)

@@ -12,9 +12,9 @@ use Rattle.cut_grammar.specs.declared.Taken.{Taken}
 use Rattle.cut_grammar.specs.declared.Taken.the-variants as taken
 use Rattle.cut_grammar.specs.declared.TakenTap.the-variants as tap
 use Rattle.cut_grammar.specs.declared.Heading.the-variants as head
-use Rattle.cut_grammar.specs.Grammar.{passAt, countedAt, textsAt, wholeAt, sealed, enclosed, fittingAt, readAt, digits, orFull, heldIf}
+use Rattle.cut_grammar.specs.Grammar.{passAt, countedAt, textsAt, wholeAt, sealed, enclosed, fittingAt, readAt, binaryDigits, orFull, heldIf}
 use Rattle.cut_grammar.specs.Kinds.{kind10, kind11, kind12, kind13, kind14, stream19, kind19, kind20, kind21, kind22, kind24, kind25, kind2A, kind30, kind31, info32, kind32, kind33, kind35, kind5A, kinds, kindOf}
-use Rattle.cut_grammar.specs.Cut.{startsAt, headAt, named, cutAt, blockOf, tapAt}
+use Rattle.cut_grammar.specs.Cut.{startsAt, headAt, takenAs, cutAt, tapBlock, tapAt}
 
 pub record Example : Type 0 where
   pub tape : List ℕ
@@ -101,7 +101,7 @@ examples =
     []
 
 pub examples-hold : map (λ e. cutAt (e .tape) (e .at) (e .full)) examples ≡ map (λ e. e .wants) examples
-unfolding examples cutAt kindOf kinds kind10 kind11 kind12 kind13 kind14 stream19 kind19 kind20 kind21 kind22 kind24 kind25 kind2A kind30 kind31 info32 kind32 kind33 kind35 kind5A named readAt passAt countedAt textsAt wholeAt sealed enclosed fittingAt digits orFull heldIf fieldAt numberAt leAt placeOf times eachAt groupsAt
+unfolding examples cutAt kindOf kinds kind10 kind11 kind12 kind13 kind14 stream19 kind19 kind20 kind21 kind22 kind24 kind25 kind2A kind30 kind31 info32 kind32 kind33 kind35 kind5A takenAs readAt passAt countedAt textsAt wholeAt sealed enclosed fittingAt binaryDigits orFull heldIf fieldAt numberAt leAt placeOf times eachAt groupsAt
 examples-hold = refl
 
 -- a piece cut inside each of these fields, places and widths, one byte before its end: that field comes up short
@@ -112,24 +112,24 @@ unfoldable pub shorts : ℕ → List (ℕ × ℕ) → List Taken
 shorts kind fs = map (λ f. taken.Short kind (f .0) (f .1)) fs
 
 pub cut-11 : shortAt (0x11 ∷ 0x78 ∷ 0x08 ∷ 0x9B ∷ 0x02 ∷ 0xDF ∷ 0x02 ∷ 0x57 ∷ 0x03 ∷ 0xAE ∷ 0x06 ∷ 0x7F ∷ 0x1F ∷ 0x08 ∷ 0xE8 ∷ 0x03 ∷ 0x03 ∷ 0x00 ∷ 0x00 ∷ 0x01 ∷ 0x02 ∷ 0x03 ∷ []) ((1, 2) ∷ (3, 2) ∷ (5, 2) ∷ (7, 2) ∷ (9, 2) ∷ (11, 2) ∷ (13, 1) ∷ (14, 2) ∷ (16, 3) ∷ (19, 3) ∷ []) ≡ shorts 0x11 ((1, 2) ∷ (3, 2) ∷ (5, 2) ∷ (7, 2) ∷ (9, 2) ∷ (11, 2) ∷ (13, 1) ∷ (14, 2) ∷ (16, 3) ∷ (19, 3) ∷ [])
-unfolding shortAt shorts cutAt kindOf kinds kind10 kind11 kind12 kind13 kind14 stream19 kind19 kind20 kind21 kind22 kind24 kind25 kind2A kind30 kind31 info32 kind32 kind33 kind35 kind5A named readAt passAt countedAt textsAt wholeAt sealed enclosed fittingAt digits orFull heldIf fieldAt numberAt leAt placeOf times eachAt groupsAt
+unfolding shortAt shorts cutAt kindOf kinds kind10 kind11 kind12 kind13 kind14 stream19 kind19 kind20 kind21 kind22 kind24 kind25 kind2A kind30 kind31 info32 kind32 kind33 kind35 kind5A takenAs readAt passAt countedAt textsAt wholeAt sealed enclosed fittingAt binaryDigits orFull heldIf fieldAt numberAt leAt placeOf times eachAt groupsAt
 cut-11 = refl
 
 pub cut-13 : shortAt (0x13 ∷ 0x02 ∷ 0x2C ∷ 0x01 ∷ 0x90 ∷ 0x01 ∷ []) ((1, 1) ∷ (2, 2) ∷ (4, 2) ∷ []) ≡ shorts 0x13 ((1, 1) ∷ (2, 2) ∷ (4, 2) ∷ [])
-unfolding shortAt shorts cutAt kindOf kinds kind10 kind11 kind12 kind13 kind14 stream19 kind19 kind20 kind21 kind22 kind24 kind25 kind2A kind30 kind31 info32 kind32 kind33 kind35 kind5A named readAt passAt countedAt textsAt wholeAt sealed enclosed fittingAt digits orFull heldIf fieldAt numberAt leAt placeOf times eachAt groupsAt
+unfolding shortAt shorts cutAt kindOf kinds kind10 kind11 kind12 kind13 kind14 stream19 kind19 kind20 kind21 kind22 kind24 kind25 kind2A kind30 kind31 info32 kind32 kind33 kind35 kind5A takenAs readAt passAt countedAt textsAt wholeAt sealed enclosed fittingAt binaryDigits orFull heldIf fieldAt numberAt leAt placeOf times eachAt groupsAt
 cut-13 = refl
 
 pub cut-19 : shortAt (0x19 ∷ 0x63 ∷ 0x00 ∷ 0x00 ∷ 0x00 ∷ 0x07 ∷ 0x00 ∷ 0x02 ∷ 0x00 ∷ 0x00 ∷ 0x00 ∷ 0x01 ∷ 0x02 ∷ 0x09 ∷ 0x00 ∷ 0x00 ∷ 0x00 ∷ 0x02 ∷ 0x02 ∷ 0x00 ∷ 0xF4 ∷ 0x01 ∷ 0x00 ∷ 0x58 ∷ 0x02 ∷ 0x00 ∷ 0x03 ∷ 0x00 ∷ 0x01 ∷ 0x04 ∷ 0x00 ∷ 0x00 ∷ 0x0A ∷ 0x00 ∷ 0x0A ∷ 0x00 ∷ 0x00 ∷ 0x14 ∷ 0x00 ∷ 0x14 ∷ 0x00 ∷ 0xAA ∷ 0x80 ∷ []) ((1, 4) ∷ (5, 2) ∷ (7, 4) ∷ (11, 1) ∷ (12, 1) ∷ (13, 4) ∷ (17, 1) ∷ (18, 1) ∷ (19, 1) ∷ (20, 2) ∷ (22, 1) ∷ (23, 2) ∷ (25, 1) ∷ (26, 2) ∷ (28, 1) ∷ (29, 2) ∷ (31, 1) ∷ (32, 2) ∷ (34, 2) ∷ (36, 1) ∷ (37, 2) ∷ (39, 2) ∷ (41, 1) ∷ (42, 1) ∷ []) ≡ shorts 0x19 ((1, 4) ∷ (5, 2) ∷ (7, 4) ∷ (11, 1) ∷ (12, 1) ∷ (13, 4) ∷ (17, 1) ∷ (18, 1) ∷ (19, 1) ∷ (20, 2) ∷ (22, 1) ∷ (23, 2) ∷ (25, 1) ∷ (26, 2) ∷ (28, 1) ∷ (29, 2) ∷ (31, 1) ∷ (32, 2) ∷ (34, 2) ∷ (36, 1) ∷ (37, 2) ∷ (39, 2) ∷ (41, 1) ∷ (42, 1) ∷ [])
-unfolding shortAt shorts cutAt kindOf kinds kind10 kind11 kind12 kind13 kind14 stream19 kind19 kind20 kind21 kind22 kind24 kind25 kind2A kind30 kind31 info32 kind32 kind33 kind35 kind5A named readAt passAt countedAt textsAt wholeAt sealed enclosed fittingAt digits orFull heldIf fieldAt numberAt leAt placeOf times eachAt groupsAt
+unfolding shortAt shorts cutAt kindOf kinds kind10 kind11 kind12 kind13 kind14 stream19 kind19 kind20 kind21 kind22 kind24 kind25 kind2A kind30 kind31 info32 kind32 kind33 kind35 kind5A takenAs readAt passAt countedAt textsAt wholeAt sealed enclosed fittingAt binaryDigits orFull heldIf fieldAt numberAt leAt placeOf times eachAt groupsAt
 cut-19 = refl
 
 pub cut-32 : shortAt (0x32 ∷ 0x08 ∷ 0x00 ∷ 0x02 ∷ 0x00 ∷ 0x02 ∷ 0x41 ∷ 0x42 ∷ 0x01 ∷ 0x01 ∷ 0x43 ∷ []) ((1, 2) ∷ (3, 8) ∷ []) ≡ shorts 0x32 ((1, 2) ∷ (3, 8) ∷ [])
-unfolding shortAt shorts cutAt kindOf kinds kind10 kind11 kind12 kind13 kind14 stream19 kind19 kind20 kind21 kind22 kind24 kind25 kind2A kind30 kind31 info32 kind32 kind33 kind35 kind5A named readAt passAt countedAt textsAt wholeAt sealed enclosed fittingAt digits orFull heldIf fieldAt numberAt leAt placeOf times eachAt groupsAt
+unfolding shortAt shorts cutAt kindOf kinds kind10 kind11 kind12 kind13 kind14 stream19 kind19 kind20 kind21 kind22 kind24 kind25 kind2A kind30 kind31 info32 kind32 kind33 kind35 kind5A takenAs readAt passAt countedAt textsAt wholeAt sealed enclosed fittingAt binaryDigits orFull heldIf fieldAt numberAt leAt placeOf times eachAt groupsAt
 cut-32 = refl
 
 -- the fields inside a 32 come up short where its length says that it ends
 pub cut-32-inside : map (λ n. cutAt (0x32 ∷ n ∷ 0 ∷ 0x02 ∷ 0x00 ∷ 0x02 ∷ 0x41 ∷ 0x42 ∷ 0x01 ∷ 0x01 ∷ 0x43 ∷ 0x00 ∷ []) 0 255) (0 ∷ 1 ∷ 2 ∷ 3 ∷ 4 ∷ 5 ∷ 6 ∷ 7 ∷ []) ≡ taken.Short 0x32 3 1 ∷ taken.Short 0x32 4 1 ∷ taken.Short 0x32 5 1 ∷ taken.Short 0x32 6 2 ∷ taken.Short 0x32 6 2 ∷ taken.Short 0x32 8 1 ∷ taken.Short 0x32 9 1 ∷ taken.Short 0x32 10 1 ∷ []
-unfolding cutAt kindOf kinds kind10 kind11 kind12 kind13 kind14 stream19 kind19 kind20 kind21 kind22 kind24 kind25 kind2A kind30 kind31 info32 kind32 kind33 kind35 kind5A named readAt passAt countedAt textsAt wholeAt sealed enclosed fittingAt digits orFull heldIf fieldAt numberAt leAt placeOf times eachAt groupsAt
+unfolding cutAt kindOf kinds kind10 kind11 kind12 kind13 kind14 stream19 kind19 kind20 kind21 kind22 kind24 kind25 kind2A kind30 kind31 info32 kind32 kind33 kind35 kind5A takenAs readAt passAt countedAt textsAt wholeAt sealed enclosed fittingAt binaryDigits orFull heldIf fieldAt numberAt leAt placeOf times eachAt groupsAt
 cut-32-inside = refl
 
 pub heads-hold : map headAt ((0x5A ∷ 0x58 ∷ 0x54 ∷ 0x61 ∷ 0x70 ∷ 0x65 ∷ 0x21 ∷ 0x1A ∷ 0x01 ∷ 0x14 ∷ 0x22 ∷ []) ∷ (0x5A ∷ 0x58 ∷ 0x54 ∷ 0x61 ∷ 0x70 ∷ 0x65 ∷ 0x21 ∷ 0x1B ∷ 0x01 ∷ 0x14 ∷ []) ∷ (0x5A ∷ 0x58 ∷ 0x54 ∷ 0x61 ∷ 0x70 ∷ 0x65 ∷ 0x21 ∷ 0x1A ∷ 0x01 ∷ []) ∷ ([]) ∷ []) ≡ head.Version 1 20 ∷ head.BadSignature ∷ head.Short 0 10 ∷ head.Short 0 10 ∷ []
@@ -138,5 +138,5 @@ heads-hold = refl
 
 -- nothing left, a lone byte, an empty block, a block, and one behind it, a length without its data
 pub taps-hold : map (λ (e : List ℕ × ℕ). tapAt (e .0) (e .1)) (([], 0) ∷ (0x05 ∷ [], 0) ∷ (0x00 ∷ 0x00 ∷ [], 0) ∷ (0x01 ∷ 0x00 ∷ 0xFF ∷ 0x02 ∷ 0x00 ∷ 0x01 ∷ 0x02 ∷ [], 3) ∷ (0x02 ∷ 0x00 ∷ 0xFF ∷ [], 0) ∷ []) ≡ tap.End ∷ tap.Lone ∷ tap.Block 2 0 2 ∷ tap.Block 5 2 7 ∷ tap.Short 2 2 ∷ []
-unfolding tapAt blockOf countedAt fieldAt numberAt leAt placeOf
+unfolding tapAt tapBlock countedAt fieldAt numberAt leAt placeOf
 taps-hold = refl

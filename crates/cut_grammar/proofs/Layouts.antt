@@ -9,7 +9,7 @@ use native.Mathlib.Omega.{arith}
 use lib.ListN.{length, take, length-take}
 use lib.Seq.{getD-take, take-take}
 use lib.Dec.{leb}
-use Rattle.law_base.specs.Numbers.{lt-or-ge}
+use Rattle.law_base.proofs.Numbers.{lt-or-ge}
 use Rattle.law_base.specs.Rules.{_⇒_, _∣_}
 use Rattle.cut_fields.specs.declared.Cursor.{Cursor}
 use Rattle.cut_fields.specs.declared.Cursor.the-variants.{At}
@@ -22,36 +22,20 @@ use Rattle.cut_grammar.specs.declared.Piece.{Piece}
 use Rattle.cut_grammar.specs.declared.Body.{Body}
 use Rattle.cut_grammar.specs.declared.Body.the-variants.{Whole, Unknown, Short, Overflow}
 use Rattle.cut_grammar.specs.Grammar.{Passed, bytes, fields, groups, texts, Layout, number, counted, here, pass, within, fitting, whole, unknown, countedAt, textsAt, passAt, wholeAt, sealed, enclosed, fittingAt, readAt}
-
--- a cursor that stands from a to b, or came up short
-pub data In (a b : ℕ) : Cursor → Type 0 where
-  stands : {p : ℕ} → a ≤ p → p ≤ b → In a b (At p)
-  stuck : {p w : ℕ} → In a b (cursor.Short p w)
-
--- a piece that ends from a to b, or none
-pub data Ends (a b : ℕ) : Body → Type 0 where
-  ends : {piece : Piece} {p : ℕ} → a ≤ p → p ≤ b → Ends a b (Whole piece p)
-  none : {described : Bool} → Ends a b (Unknown described)
-  short : {p w : ℕ} → Ends a b (Short p w)
-  wide : {p : ℕ} → Ends a b (Overflow p)
-
--- two answers of which the first, where it is a piece that ends at or before k, is the second
-pub data Own (l k : ℕ) : Body → Body → Type 0 where
-  same : {x : Body} → Own l k x x
-  beyond : {x y : Body} → Ends (k + 1) l x → Own l k x y
+use Rattle.cut_grammar.specs.Ends.{StandsIn, stands, stuck, Ends, ends, none, short, wide, Own}
 
 -- two reads of which the first, where it ends at or before k, is the second
 pub data OwnRead (l k : ℕ) : Read → Read → Type 0 where
   same : {v p : ℕ} → p ≤ k → OwnRead l k (record { value = v; cursor = At p }) (record { value = v; cursor = At p })
-  beyond : {x y : Read} → In (k + 1) l (x .cursor) → OwnRead l k x y
+  beyond : {x y : Read} → StandsIn (k + 1) l (x .cursor) → OwnRead l k x y
 
 pub data OwnPlace (l k : ℕ) : Cursor → Cursor → Type 0 where
   same : {p : ℕ} → p ≤ k → OwnPlace l k (At p) (At p)
-  beyond : {x y : Cursor} → In (k + 1) l x → OwnPlace l k x y
+  beyond : {x y : Cursor} → StandsIn (k + 1) l x → OwnPlace l k x y
 
 -- what holds of all that moves a cursor
 record Moves (f : List ℕ → Cursor → Cursor) : Type 0 where
-  forward : (s : List ℕ) (a : ℕ) (c : Cursor) → In a (length s) c → In a (length s) (f s c)
+  forward : (s : List ℕ) (a : ℕ) (c : Cursor) → StandsIn a (length s) c → StandsIn a (length s) (f s c)
   own : (s : List ℕ) (k p : ℕ) → p ≤ k → OwnPlace (length s) k (f s (At p)) (f (take k s) (At p))
 
 -- a field reads the same from the bytes up to its end
@@ -65,14 +49,14 @@ unfolding numberAt
 number-own s k p w h = rw (le-own s k p w h)
 
 -- a field from p on stands from any place up to its end on
-pub field-past : (s : List ℕ) (a p w : ℕ) → a ≤ p + w → In a (length s) (fieldAt s (At p) w .cursor)
+pub field-past : (s : List ℕ) (a p w : ℕ) → a ≤ p + w → StandsIn a (length s) (fieldAt s (At p) w .cursor)
 field-past s a p w h =
     ⊎-elim
     (λ (t : length s < p + w). rw (field-short s w p t) stuck)
     (λ (t : p + w ≤ length s). rw (field-there s w p t) (stands h t))
     (lt-or-ge (length s) (p + w))
 
-pub field-forward : (w : ℕ) (s : List ℕ) (a : ℕ) (c : Cursor) → In a (length s) c → In a (length s) (fieldAt s c w .cursor)
+pub field-forward : (w : ℕ) (s : List ℕ) (a : ℕ) (c : Cursor) → StandsIn a (length s) c → StandsIn a (length s) (fieldAt s c w .cursor)
 field-forward w s a (At p) (stands h t) = field-past s a p w (omega arith)
 field-forward w s a (cursor.Short p v) stuck = unfold fieldAt in stuck
 
@@ -106,7 +90,7 @@ moves-then {f} {g} m n =
     record { forward = λ s a c h. n .forward s a (f s c) (m .forward s a c h); own = λ s k p h. then-own n s k (m .own s k p h) }
 
 module _ {f : List ℕ → Cursor → Cursor} (m : Moves f) where
-  times-forward : (n : ℕ) (s : List ℕ) (a : ℕ) (c : Cursor) → In a (length s) c → In a (length s) (times (f s) n c)
+  times-forward : (n : ℕ) (s : List ℕ) (a : ℕ) (c : Cursor) → StandsIn a (length s) c → StandsIn a (length s) (times (f s) n c)
   unfolding times
   times-forward zero s a c h = h
   times-forward (suc n) s a (At p) h = times-forward n s a (f s (At p)) (m .forward s a (At p) h)
@@ -141,7 +125,7 @@ pass-moves (groups n h k w) = moves-times (moves-then (field-moves h) (moves-tim
 pass-moves (texts n) = moves-times (moves-then (field-moves 1) (counted-moves 1)) n
 
 -- the ends of layouts
-whole-forward : (piece : Piece) (a b : ℕ) (c : Cursor) → In a b c → Ends a b (wholeAt piece c)
+whole-forward : (piece : Piece) (a b : ℕ) (c : Cursor) → StandsIn a b c → Ends a b (wholeAt piece c)
 unfolding wholeAt
 whole-forward piece a b (At p) (stands h t) = ends h t
 whole-forward piece a b (cursor.Short p w) stuck = short
@@ -153,7 +137,7 @@ sealed-forward a b end h t (Unknown described) = none
 sealed-forward a b end h t (Short p w) = short
 sealed-forward a b end h t (Overflow p) = wide
 
-enclosed-forward : (inner : ℕ → Body) (a b : ℕ) (c : Cursor) → In a b c → Ends a b (enclosed inner c)
+enclosed-forward : (inner : ℕ → Body) (a b : ℕ) (c : Cursor) → StandsIn a b c → Ends a b (enclosed inner c)
 unfolding enclosed
 enclosed-forward inner a b (At end) (stands h t) = sealed-forward a b end h t (inner end)
 enclosed-forward inner a b (cursor.Short p w) stuck = short
@@ -168,7 +152,7 @@ fitting-forward bits a b (At p) rest h = by-cases (leb bits 4294967295)
 fitting-forward bits a b (cursor.Short p w) rest h = h
 
 -- a piece ends no earlier than the place where its layout began, and inside the tape
-pub forward : (l : Layout) (s : List ℕ) (a : ℕ) (c : Cursor) → In a (length s) c → Ends a (length s) (readAt l s c)
+pub forward : (l : Layout) (s : List ℕ) (a : ℕ) (c : Cursor) → StandsIn a (length s) c → Ends a (length s) (readAt l s c)
 unfolding readAt
 forward (number w rest) s a c h = forward (rest (fieldAt s c w .value)) s a (fieldAt s c w .cursor) (field-forward w s a c h)
 forward (counted w rest) s a c h =
@@ -188,26 +172,26 @@ module _ (s : List ℕ) (k : ℕ) where
 
   after : (l : Layout) → Rest l → {x y : Cursor} → OwnPlace (length s) k x y → Own (length s) k (readAt l s x) (readAt l (take k s) y)
   after l r (same {p} h) = r p h
-  after l r (beyond {x} h) = beyond (forward l s (k + 1) x h)
+  after l r (beyond {x} h) = Own.beyond (forward l s (k + 1) x h)
 
   after-read : (rest : ℕ → Layout) → ((v : ℕ) → Rest (rest v)) → {x y : Read} → OwnRead (length s) k x y
       → Own (length s) k (readAt (rest (x .value)) s (x .cursor)) (readAt (rest (y .value)) (take k s) (y .cursor))
   after-read rest r (same {v} {p} h) = r v p h
-  after-read rest r (beyond {x} h) = beyond (forward (rest (x .value)) s (k + 1) (x .cursor) h)
+  after-read rest r (beyond {x} h) = Own.beyond (forward (rest (x .value)) s (k + 1) (x .cursor) h)
 
   after-span : (rest : ℕ → ℕ → Layout) → ((p v : ℕ) → Rest (rest p v)) → {x y : Read} → OwnRead (length s) k x y
       → Own (length s) k (readAt (rest (placeOf (x .cursor)) (x .value)) s (fieldAt s (x .cursor) (x .value) .cursor))
       (readAt (rest (placeOf (y .cursor)) (y .value)) (take k s) (fieldAt (take k s) (y .cursor) (y .value) .cursor))
   after-span rest r (same {v} {p} h) = after (rest (placeOf (At p)) v) (r (placeOf (At p)) v) (place-own (field-own v s k p h))
   after-span rest r (beyond {x} h) =
-      beyond (forward (rest (placeOf (x .cursor)) (x .value)) s (k + 1) _ (field-forward (x .value) s (k + 1) (x .cursor) h))
+      Own.beyond (forward (rest (placeOf (x .cursor)) (x .value)) s (k + 1) _ (field-forward (x .value) s (k + 1) (x .cursor) h))
 
   after-body : (inner : Layout) (p : ℕ) {x y : Cursor} → OwnPlace (length s) k x y
       → Own (length s) k (enclosed (λ end. readAt inner (take end s) (At p)) x) (enclosed (λ end. readAt inner (take end (take k s)) (At p)) y)
   unfolding enclosed
-  after-body inner p (same {p = end} h) = rw (take-take end k s h) same
+  after-body inner p (same {p = end} h) = rw (take-take end k s h) Own.same
   after-body inner p (beyond {x} h) =
-      beyond (enclosed-forward (λ end. readAt inner (take end s) (At p)) (k + 1) (length s) x h)
+      Own.beyond (enclosed-forward (λ end. readAt inner (take end s) (At p)) (k + 1) (length s) x h)
 
   after-bits : (bits p : ℕ) {x y : Body} → Own (length s) k x y → Own (length s) k (fittingAt bits (At p) x) (fittingAt bits (At p) y)
   unfolding fittingAt
@@ -215,7 +199,7 @@ module _ (s : List ℕ) (k : ℕ) where
     where
       by-cases : (t : Bool) → Own (length s) k (t ⇒ x ∣ Overflow p) (t ⇒ y ∣ Overflow p)
       by-cases true = o
-      by-cases false = same
+      by-cases false = Own.same
 
 -- a piece that ends at or before k is read alike from the first k bytes
 pub own : (l : Layout) (s : List ℕ) (k p : ℕ) → p ≤ k → Own (length s) k (readAt l s (At p)) (readAt l (take k s) (At p))
@@ -226,5 +210,5 @@ own (here rest) s k p h = own (rest (placeOf (At p))) s k p h
 own (pass part rest) s k p h = after s k rest (own rest s k) (pass-moves part .own s k p h)
 own (within n inner) s k p h = after-body s k inner p (place-own (field-own n s k p h))
 own (fitting bits rest) s k p h = after-bits s k bits p (own rest s k p h)
-own (whole piece) s k p h = same
-own (unknown described) s k p h = same
+own (whole piece) s k p h = Own.same
+own (unknown described) s k p h = Own.same

@@ -17,7 +17,7 @@ use Rattle.cut_grammar.specs.declared.Body.{Body}
 use Rattle.cut_grammar.specs.declared.Body.the-variants.{Whole, Unknown, Short, Overflow}
 use Rattle.cut_grammar.specs.declared.Taken.the-variants as taken
 use Rattle.cut_grammar.specs.Grammar.{Layout, number, counted, here, pass, within, fitting, whole, unknown, countedAt, passAt, wholeAt, sealed, enclosed, fittingAt, readAt}
-use Rattle.cut_grammar.specs.Cut.{named}
+use Rattle.cut_grammar.specs.Cut.{takenAs}
 
 module _ (is : Piece → Bool) where
   -- a layout that gives no such piece, whatever it reads
@@ -91,8 +91,8 @@ found-every P (a ∷ more) x d (h & rest) k = by-cases (eqb x (a .key)) (found-e
     by-cases false r = r
 
 -- a body under its name
-pub unnamed : (kind at : ℕ) (b : Body) {k a next : ℕ} {x : Piece} → named kind at b ≡ taken.Whole k a next x → b ≡ Whole x next
-unfolding named
+pub unnamed : (kind at : ℕ) (b : Body) {k a next : ℕ} {x : Piece} → takenAs kind at b ≡ taken.Whole k a next x → b ≡ Whole x next
+unfolding takenAs
 unnamed kind at (Whole y p) e = cc
 unnamed kind at (Unknown described) e = absurd (let z : _≡_ {A = ℕ} 0 1 = cc in omega arith)
 unnamed kind at (Short p w) e = absurd (let z : _≡_ {A = ℕ} 0 1 = cc in omega arith)

@@ -9,7 +9,7 @@ use native.Mathlib.Nat.{le-trans}
 use lib.ListN.{length, getD}
 use lib.Dec.{leb, eqb}
 use borrow.Author.Tests.{leb-true}
-use Rattle.law_base.specs.Numbers.{lt-or-ge}
+use Rattle.law_base.proofs.Numbers.{lt-or-ge}
 use Rattle.law_base.specs.Rules.{_⇒_, _∣_}
 use Rattle.cut_fields.specs.declared.Cursor.{Cursor}
 use Rattle.cut_fields.specs.declared.Cursor.the-variants.{At}
@@ -27,10 +27,10 @@ use Rattle.cut_grammar.specs.Grammar.{Layout, passAt, wholeAt, fittingAt
 use Rattle.cut_grammar.specs.Kinds.{kind13, stream19, kind19}
 use Rattle.cut_grammar.specs.Cut.{cutAt}
 use Rattle.cut_grammar.specs.Steps.{head19}
-use Rattle.cut_grammar.specs.Places.{Places}
+use Rattle.cut_grammar.specs.Places.{Places, Found19}
 use Rattle.cut_grammar.proofs.Cutting.{cut-there, cut-inside, cut-forward}
 use Rattle.cut_grammar.proofs.Others.{Other, other-none, unnamed}
-use Rattle.cut_grammar.proofs.Sorts.{sortOf, isGeneral, isListed, Row, pulses, general, other, row-of}
+use Rattle.cut_grammar.proofs.Sorts.{sortOf, isGeneral, isListed, RowSort, pulses, general, other, row-of}
 
 -- the end of 19: its data bytes are there, and their bits fit
 record Streamed (s : List ℕ) (bits : ℕ) (g₀ g : GeneralizedData) (c : Cursor) (next : ℕ) : Type 0 where
@@ -60,15 +60,9 @@ streamed s bits g₀ (cursor.Short p w) e =
     stuck : cursor.Short p w ≡ At (placeOf (cursor.Short p w)) → ⊥
     stuck i = let z : _≡_ {A = ℕ} 0 1 = cc in omega arith
 
--- a 19 that ends at `next`: its places, and its alphabets' sizes, which are bytes or `full`
-pub record Found (full : ℕ) (s : List ℕ) (g : GeneralizedData) (next : ℕ) : Type 0 where
-  pub end : next ≡ g .from + g .size
-  pub places : Places s g
-  pub sizes : ((i : ℕ) → getD s i 0 < 256) → (most : ℕ) → full ≤ most → 255 ≤ most → (g .asp ≤ most) × (g .asd ≤ most)
-
 -- what a layout says of the 19 that it gives
 abbrev Placed : ℕ → List ℕ → Body → Type 0
-Placed full s b = (g : GeneralizedData) (next : ℕ) → b ≡ Whole (piece.Generalized g) next → next ≤ length s → Found full s g next
+Placed full s b = (g : GeneralizedData) (next : ℕ) → b ≡ Whole (piece.Generalized g) next → next ≤ length s → Found19 full s g next
 
 other-placed : {full : ℕ} (is : Piece → Bool) → ((g : GeneralizedData) → is (piece.Generalized g) ≡ true) → (l : Layout) → Other is l → (s : List ℕ) (c : Cursor) → Placed full s (readAt l s c)
 other-placed is i l o s c g next e h = absurd (other-none is l o s c (piece.Generalized g) next (i g) e)
@@ -114,7 +108,7 @@ module _ (full : ℕ) (s : List ℕ) (g₀ : GeneralizedData) (asp asd pilot ent
       record { entries = omega arith; symbols = omega arith; from = omega arith; inside = omega arith; bits = n; size = z; fits = t .fits } in
       let small : (c : Cursor) → ((i : ℕ) → getD s i 0 < 256) → (most : ℕ) → full ≤ most → 255 ≤ most → orFull full (fieldAt s c 1 .value) ≤ most =
       λ c b most f k. full-small full (fieldAt s c 1 .value) most f (le-trans (byte-small s b c) k) in
-      subst (λ (x : GeneralizedData). Found full s x next) (t .same)
+      subst (λ (x : GeneralizedData). Found19 full s x next) (t .same)
       (record { end = end; places = places; sizes = λ b most f k. (rw a (small asp b most f k), rw d (small asd b most f k)) })
 
 general-placed : (full : ℕ) (s : List ℕ) (c : Cursor) → Placed full s (readAt (kind19 full) s c)
@@ -122,13 +116,13 @@ unfolding readAt kind19 passAt head19
 general-placed full s c = tables full s _ _ _ (head19 s c .cursor) _ _ _ refl refl refl refl refl refl refl refl refl refl refl
 
 -- of all rows, that of 19 alone gives a 19
-rows-placed : {full : ℕ} {l : Layout} → Row full l → (s : List ℕ) (c : Cursor) → Placed full s (readAt l s c)
+rows-placed : {full : ℕ} {l : Layout} → RowSort full l → (s : List ℕ) (c : Cursor) → Placed full s (readAt l s c)
 unfolding sortOf kind13
 rows-placed pulses s c = other-placed isGeneral (λ _. refl) kind13 (λ _ _. refl) s c
 rows-placed {full} general s c = general-placed full s c
 rows-placed (other l o) s c = other-placed isListed (λ _. refl) l o s c
 
 -- a whole 19 has its tables where its places say
-pub cut-places : (s : List ℕ) (at full : ℕ) {k a next : ℕ} {g : GeneralizedData} → cutAt s at full ≡ taken.Whole k a next (piece.Generalized g) → Found full s g next
+pub cut-places : (s : List ℕ) (at full : ℕ) {k a next : ℕ} {g : GeneralizedData} → cutAt s at full ≡ taken.Whole k a next (piece.Generalized g) → Found19 full s g next
 cut-places s at full {next = next} {g = g} e =
     rows-placed (row-of full (getD s at 0)) s (At (at + 1)) g next (unnamed (getD s at 0) at _ (sym (cut-there s at full (cut-inside s at full e)) ∙ e)) (cut-forward s at full e .1)

@@ -21,7 +21,7 @@ use Rattle.cut_grammar.specs.Kinds.{kind13, stream19, kind19}
 use Rattle.cut_grammar.specs.Cut.{cutAt}
 use Rattle.cut_grammar.proofs.Cutting.{cut-there, cut-inside, cut-forward}
 use Rattle.cut_grammar.proofs.Others.{Other, other-none, unnamed}
-use Rattle.cut_grammar.proofs.Sorts.{sortOf, isPulses, isListed, Row, pulses, general, other, row-of}
+use Rattle.cut_grammar.proofs.Sorts.{sortOf, isPulses, isListed, RowSort, pulses, general, other, row-of}
 
 -- pulses that end at `next`
 abbrev Ended : Body → Type 0
@@ -45,7 +45,7 @@ unfolding readAt kind13 passAt
 pulses-ended s c = whole-ended s (fieldAt s c 1 .value) (fieldAt s c 1 .cursor) _ refl
 
 -- of all rows, that of 13 alone gives pulses
-rows-ended : {full : ℕ} {l : Layout} → Row full l → (s : List ℕ) (c : Cursor) → Ended (readAt l s c)
+rows-ended : {full : ℕ} {l : Layout} → RowSort full l → (s : List ℕ) (c : Cursor) → Ended (readAt l s c)
 unfolding sortOf kind19 stream19
 rows-ended pulses s c = pulses-ended s c
 rows-ended {full} general s c = other-ended isPulses (λ _ _. refl) (kind19 full) (λ _ _ _ _ _ _ _ _ _ _ _ _. refl) s c

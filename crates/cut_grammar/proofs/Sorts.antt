@@ -40,12 +40,12 @@ isGeneral p = eqb (sortOf p) 2
 abbrev pub isListed : Piece → Bool
 isListed p = not (eqb (sortOf p) 0)
 
-pub data Row (full : ℕ) : Layout → Type 0 where
-  pulses : Row full kind13
-  general : Row full (kind19 full)
-  other : (l : Layout) → Other isListed l → Row full l
+pub data RowSort (full : ℕ) : Layout → Type 0 where
+  pulses : RowSort full kind13
+  general : RowSort full (kind19 full)
+  other : (l : Layout) → Other isListed l → RowSort full l
 
-each-row : (full : ℕ) → Every (Row full) (kinds full)
+each-row : (full : ℕ) → Every (RowSort full) (kinds full)
 unfolding sortOf kinds kind10 kind11 kind12 kind14 kind20 kind21 kind22 kind24 kind25 kind2A kind30 kind31 info32 kind32 kind33 kind35 kind5A
 each-row full =
     other kind10 (λ _ _ _. refl) &
@@ -72,6 +72,6 @@ each-row full =
     other kind5A refl &
     no-more
 
-pub row-of : (full kind : ℕ) → Row full (kindOf full kind)
+pub row-of : (full kind : ℕ) → RowSort full (kindOf full kind)
 unfolding kindOf
-row-of full kind = found-every (Row full) (kinds full) kind (unknown _) (each-row full) (other (unknown _) tt)
+row-of full kind = found-every (RowSort full) (kinds full) kind (unknown _) (each-row full) (other (unknown _) tt)

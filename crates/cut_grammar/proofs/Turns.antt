@@ -15,17 +15,17 @@ use Rattle.cut_fields.specs.declared.Cursor.the-variants as cursor
 use Rattle.cut_fields.specs.Field.{fieldAt}
 use Rattle.cut_fields.specs.Run.{times}
 use Rattle.cut_fields.proofs.Runs.{times-stopped, stopped}
-use Rattle.cut_grammar.specs.Grammar.{countedAt, textsAt, digits}
+use Rattle.cut_grammar.specs.Grammar.{countedAt, textsAt, binaryDigits}
 use Rattle.cut_grammar.specs.Cut.{startsAt}
 
 -- halving: 0 has no digits, and another number one more than its half
-pub digits-zero : (f : ℕ) → digits f 0 ≡ 0
-unfolding digits
+pub digits-zero : (f : ℕ) → binaryDigits f 0 ≡ 0
+unfolding binaryDigits
 digits-zero zero = refl
 digits-zero (suc f) = refl
 
-pub digits-more : (k n : ℕ) → k < 32 → (n ≡ 0 → ⊥) → k + digits (32 - k) n ≡ k + 1 + digits (32 - (k + 1)) (n / 2)
-unfolding digits
+pub digits-more : (k n : ℕ) → k < 32 → (n ≡ 0 → ⊥) → k + binaryDigits (32 - k) n ≡ k + 1 + binaryDigits (32 - (k + 1)) (n / 2)
+unfolding binaryDigits
 digits-more k n h z =
     let e : 32 - k ≡ suc (32 - (k + 1)) = omega arith in
     rw (e, ne-eqb n 0 z) (omega arith)

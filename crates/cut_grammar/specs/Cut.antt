@@ -36,25 +36,25 @@ headAt s =
     ∣ head.Short 0 10
 
 -- a body under the kind and the place of its piece
-unfoldable pub named : ℕ → ℕ → Body → Taken
-named kind at (body.Whole piece next) = taken.Whole kind at next piece
-named kind at (body.Unknown described) = taken.Unknown kind described
-named kind at (body.Short p w) = taken.Short kind p w
-named kind at (body.Overflow p) = taken.Overflow kind p
+unfoldable pub takenAs : ℕ → ℕ → Body → Taken
+takenAs kind at (body.Whole piece next) = taken.Whole kind at next piece
+takenAs kind at (body.Unknown described) = taken.Unknown kind described
+takenAs kind at (body.Short p w) = taken.Short kind p w
+takenAs kind at (body.Overflow p) = taken.Overflow kind p
 
 -- the piece at a place: a kind byte and its body
 unfoldable pub cutAt : List ℕ → ℕ → ℕ → Taken
 cutAt s at full =
     leb (length s) at ⇒ taken.End
-    ∣ named (getD s at 0) at (readAt (kindOf full (getD s at 0)) s (At (at + 1)))
+    ∣ takenAs (getD s at 0) at (readAt (kindOf full (getD s at 0)) s (At (at + 1)))
 
 -- the block at a place of a TAP: length 2, data; zero or one byte left ends the list
-unfoldable pub blockOf : Span → Cursor → TakenTap
-blockOf data′ (At next) = tap.Block (data′ .from) (data′ .size) next
-blockOf data′ (cursor.Short p w) = tap.Short p w
+unfoldable pub tapBlock : Span → Cursor → TakenTap
+tapBlock data′ (At next) = tap.Block (data′ .from) (data′ .size) next
+tapBlock data′ (cursor.Short p w) = tap.Short p w
 
 unfoldable pub tapAt : List ℕ → ℕ → TakenTap
 tapAt s at =
     leb (length s) at ⇒ tap.End
     ∣ eqb (at + 1) (length s) ⇒ tap.Lone
-    ∣ blockOf (countedAt s (At at) 2) (countedAt s (At at) 2 .cursor)
+    ∣ tapBlock (countedAt s (At at) 2) (countedAt s (At at) 2 .cursor)

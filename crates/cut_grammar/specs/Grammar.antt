@@ -85,12 +85,12 @@ readAt (whole piece) s c = wholeAt piece c
 readAt (unknown described) s c = Unknown described
 
 -- the binary digits of n, f of them at the most; a number of 32 bits has no more than 32
-unfoldable pub digits : ℕ → ℕ → ℕ
-digits zero n = 0
-digits (suc f) n = eqb n 0 ⇒ 0 ∣ 1 + digits f (n / 2)
+unfoldable pub binaryDigits : ℕ → ℕ → ℕ
+binaryDigits zero n = 0
+binaryDigits (suc f) n = eqb n 0 ⇒ 0 ∣ 1 + binaryDigits f (n / 2)
 
 abbrev pub bitsOf : ℕ → ℕ
-bitsOf n = digits 32 n
+bitsOf n = binaryDigits 32 n
 
 -- an alphabet's size, where 0 means `full`; an alphabet that nothing uses is left out
 unfoldable pub orFull : ℕ → ℕ → ℕ

@@ -3,3 +3,4 @@ pub mod Kinds
 pub mod Cut
 pub mod Places
 pub mod Steps
+pub mod Ends

@@ -1,8 +1,8 @@
 -- Where a 19 has its tables: each begins where the one before it ended, and the data bytes end inside the tape. Assumes nothing.
-use Prim.Native.Nat.{ℕ, _+_, _*_, _-_, _/_, _≤_}
+use Prim.Native.Nat.{ℕ, _+_, _*_, _-_, _/_, _≤_, _<_}
 use mathlib.Core.Path.{_≡_}
 use mathlib.Core.List.{List}
-use lib.ListN.{length}
+use lib.ListN.{length, getD}
 use Rattle.cut_grammar.specs.declared.GeneralizedData.{GeneralizedData}
 use Rattle.cut_grammar.specs.Grammar.{bitsOf, heldIf}
 
@@ -16,3 +16,9 @@ pub record Places (s : List ℕ) (g : GeneralizedData) : Type 0 where
   pub bits : g .nb ≡ bitsOf (g .asd - 1)
   pub size : g .size ≡ (g .nb * g .totd + 7) / 8
   pub fits : g .nb * g .totd ≤ 4294967295
+
+-- a 19 that ends at `next`: its places, and its alphabets' sizes, which are bytes or `full`
+pub record Found19 (full : ℕ) (s : List ℕ) (g : GeneralizedData) (next : ℕ) : Type 0 where
+  pub end : next ≡ g .from + g .size
+  pub places : Places s g
+  pub sizes : ((i : ℕ) → getD s i 0 < 256) → (most : ℕ) → full ≤ most → 255 ≤ most → (g .asp ≤ most) × (g .asd ≤ most)

@@ -23,7 +23,7 @@ use cut_grammar::whole;
 ghost use mathlib.Core.Path.{_≡_};
 ghost use Rattle.cut_grammar.specs.Grammar.{readAt};
 ghost use Rattle.cut_grammar.specs.Kinds.{kindOf};
-ghost use Rattle.cut_grammar.specs.Cut.{cutAt, named};
+ghost use Rattle.cut_grammar.specs.Cut.{cutAt, takenAs};
 
 // What stands after a kind byte: every kind from 0 to 255 has its row.
 fn body_of(tape: &[u8], kind: u8, c: Cursor, full: u32) -> Body
@@ -60,7 +60,7 @@ fn body_of(tape: &[u8], kind: u8, c: Cursor, full: u32) -> Body
 
 // A body under its kind and the place of its piece.
 fn named(kind: u8, at: u64, body: Body) -> Taken
-    ensures { λ r. ⌜ r ≡ named kind at body ⌝ }
+    ensures { λ r. ⌜ r ≡ takenAs kind at body ⌝ }
 {
     match body {
         Body::Whole(piece, next) => Taken::Whole {

@@ -12,7 +12,7 @@ use Rattle.ask_block.specs.declared.Number.the-variants.{Is, Refused}
 use Rattle.ask_block.specs.Queries.{lenOf}
 use Rattle.play_walk.specs.declared.Position.{Position}
 use Rattle.host_words.specs.declared.Placed.the-variants.{Not}
-use Rattle.host_answers.specs.Answers.{Answer, refused, numberOf, valuesOf}
+use Rattle.host_answers.specs.Answers.{Reply, refusedBy, numberOf, valuesOf}
 use Rattle.export.specs.Export.{withPlace}
 use Rattle.host_answers.proofs.Telling.{tell-refused}
 
@@ -34,11 +34,11 @@ pub placed-over : (w : Tape) {a : Number} {k : ℕ} → a ≡ lenOf w → a ≡ 
 unfolding lenOf
 placed-over w {a} {k} e q = by-over (overfull w) k (w .count) (sym q ∙ e)
 
-by-count : (t : Bool) (k : ℕ) (row : List ℕ) → k ≡ (t ⇒ badRow ∣ noPosition) → (k ≡ numberOf (t ⇒ refused badRow ∣ refused noPosition) row) × (row ≡ valuesOf (t ⇒ refused badRow ∣ refused noPosition) row)
+by-count : (t : Bool) (k : ℕ) (row : List ℕ) → k ≡ (t ⇒ badRow ∣ noPosition) → (k ≡ numberOf (t ⇒ refusedBy badRow ∣ refusedBy noPosition) row) × (row ≡ valuesOf (t ⇒ refusedBy badRow ∣ refusedBy noPosition) row)
 by-count true k row e = (e ∙ tell-refused badRow row .0, tell-refused badRow row .1)
 by-count false k row e = (e ∙ tell-refused noPosition row .0, tell-refused noPosition row .1)
 
 -- so a host is told, whatever is asked of the position
-pub tell-misplaced : (f : Position → Answer) (w : Tape) (k : ℕ) (row : List ℕ) → k ≡ (overfull w ⇒ badRow ∣ noPosition) → (k ≡ numberOf (withPlace f w Not) row) × (row ≡ valuesOf (withPlace f w Not) row)
+pub tell-misplaced : (f : Position → Reply) (w : Tape) (k : ℕ) (row : List ℕ) → k ≡ (overfull w ⇒ badRow ∣ noPosition) → (k ≡ numberOf (withPlace f w Not) row) × (row ≡ valuesOf (withPlace f w Not) row)
 unfolding withPlace
 tell-misplaced f w k row e = by-count (overfull w) k row e

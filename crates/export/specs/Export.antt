@@ -11,27 +11,27 @@ use Rattle.play_walk.specs.declared.Position.{Position}
 use Rattle.ask_block.specs.Queries.{nameBytes}
 use Rattle.play_deck.specs.Deck.{playMeasured, playSource, blockAt}
 use Rattle.load_blocks.specs.Does.{lentOf}
-use Rattle.load_source.specs.Source.{Loaded as Load}
+use Rattle.load_source.specs.Source.{Load}
 use Rattle.load_tape.specs.Load.{loadNamed}
 use Rattle.load_tape.specs.declared.Loaded.{Loaded}
 use Rattle.host_words.specs.declared.Placed.{Placed}
 use Rattle.host_words.specs.declared.Placed.the-variants as place
 use Rattle.host_words.specs.Words.{positionFrom}
-use Rattle.host_answers.specs.Answers.{Answer, refused, ofSelected, ofReached, ofLoaded}
+use Rattle.host_answers.specs.Answers.{Reply, refusedBy, ofSelected, ofReached, ofLoaded}
 
 -- WITH A POSITION as words: 11 for the count, then 9 where they name none; else what f says of it
-unfoldable pub withPlace : (Position → Answer) → Tape → Placed → Answer
+unfoldable pub withPlace : (Position → Reply) → Tape → Placed → Reply
 withPlace f w (place.Is q) = f q
-withPlace f w place.Not = overfull w ⇒ refused badRow ∣ refused noPosition
+withPlace f w place.Not = overfull w ⇒ refusedBy badRow ∣ refusedBy noPosition
 
 -- a position's block, and both players' answers, from lent words
-abbrev pub selectedAt : Tape → List ℕ → Answer
+abbrev pub selectedAt : Tape → List ℕ → Reply
 selectedAt w ws = withPlace (λ q. ofSelected (blockAt w q)) w (positionFrom ws)
 
-abbrev pub sourceAt : Tape → List ℕ → ℕ → Answer
+abbrev pub sourceAt : Tape → List ℕ → ℕ → Reply
 sourceAt w ws n = withPlace (λ q. ofReached (playSource w q n)) w (positionFrom ws)
 
-abbrev pub measuredAt : Tape → List ℕ → ℕ → Answer
+abbrev pub measuredAt : Tape → List ℕ → ℕ → Reply
 measuredAt w ws n = withPlace (λ q. ofReached (playMeasured w q n)) w (positionFrom ws)
 
 -- the load of a tape for a model into lent tables

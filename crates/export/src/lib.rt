@@ -21,7 +21,7 @@ ghost use Rattle.refusals.specs.Refusals.{noPosition, badRow};
 ghost use Rattle.play_entries.specs.Mounted.{overfull, tapeOf};
 ghost use Rattle.play_walk.specs.Heads.{startAt};
 ghost use Rattle.ask_block.specs.Queries.{lenOf, sizeOf, selectableOf, timeOf, nameAnswer, loadingOf};
-ghost use Rattle.load_tape.specs.Load.{answerOf, blocksOf, tonesOf};
+ghost use Rattle.load_tape.specs.Load.{answerOf, blockTable, toneTable};
 ghost use Rattle.host_answers.specs.Answers.{numberOf, valuesOf, ofNumber, ofMark, ofTime, ofPosition, ofLoaded};
 ghost use Rattle.export.specs.Export.{loadIn, selectedAt, sourceAt, measuredAt, loadNumber, loadTable, nameLeft};
 
@@ -45,8 +45,8 @@ pub extern "C" fn glyvrask_load(
     answer: &mut [u64],
 ) -> u32
     ensures { λ k. ⌜ k ≡ loadNumber (answerOf (loadIn (now (blocks .entry)) (now (tones .entry)) (now (tape .entry)) model)) (now (answer .entry)) ⌝ }
-    ensures { λ _. ⌜ now (blocks .exit) ≡ loadTable (now (answer .entry)) (now (blocks .entry)) (blocksOf (length (now (blocks .entry))) (loadIn (now (blocks .entry)) (now (tones .entry)) (now (tape .entry)) model)) ⌝ }
-    ensures { λ _. ⌜ now (tones .exit) ≡ loadTable (now (answer .entry)) (now (tones .entry)) (tonesOf (length (now (tones .entry))) (loadIn (now (blocks .entry)) (now (tones .entry)) (now (tape .entry)) model)) ⌝ }
+    ensures { λ _. ⌜ now (blocks .exit) ≡ loadTable (now (answer .entry)) (now (blocks .entry)) (blockTable (length (now (blocks .entry))) (loadIn (now (blocks .entry)) (now (tones .entry)) (now (tape .entry)) model)) ⌝ }
+    ensures { λ _. ⌜ now (tones .exit) ≡ loadTable (now (answer .entry)) (now (tones .entry)) (toneTable (length (now (tones .entry))) (loadIn (now (blocks .entry)) (now (tones .entry)) (now (tape .entry)) model)) ⌝ }
     ensures { λ _. ⌜ now (answer .exit) ≡ valuesOf (ofLoaded (answerOf (loadIn (now (blocks .entry)) (now (tones .entry)) (now (tape .entry)) model))) (now (answer .entry)) ⌝ }
 {
     if answer.len() < 3 {

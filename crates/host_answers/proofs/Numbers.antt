@@ -36,8 +36,8 @@ selected-no (Block b) = refl
 selected-no BadPosition = refl
 selected-no BadRow = refl
 
-pub reached-no : (a : Reached) → ofReached a .no ≡ walks.numberOf a
-unfolding ofReached walks.numberOf
+pub reached-no : (a : Reached) → ofReached a .no ≡ walks.reachedNo a
+unfolding ofReached walks.reachedNo
 reached-no (At s) = refl
 reached-no (Stopped s) = refl
 reached-no (Ended s) = refl

@@ -10,7 +10,7 @@ use borrow.Author.Tests.{le-leb, lt-leb}
 use Rattle.law_base.specs.Rules.{_⇒_, _∣_}
 use Rattle.refusals.specs.Refusals.{noRoom}
 use Rattle.text_out.specs.Out.{fits, told}
-use Rattle.host_answers.specs.Answers.{refused, numberOf, valuesOf}
+use Rattle.host_answers.specs.Answers.{refusedBy, numberOf, valuesOf}
 
 -- one word more
 pub tell-turn : (ws row row′ : List ℕ) (j : ℕ) → row′ ≡ paste row 0 ws j → j < length row → j < length ws → set row′ j (getD ws j 0) ≡ paste row 0 ws (j + 1)
@@ -35,6 +35,6 @@ tell-whole ws row row′ j h k e =
     (rw (le-leb (length ws) (length row) h), rw (le-leb (length ws) (length row) h) (e ∙ first))
 
 -- a refusal is its number, whatever row is lent, and the row stays
-pub tell-refused : (k : ℕ) (row : List ℕ) → (k ≡ numberOf (refused k) row) × (row ≡ valuesOf (refused k) row)
+pub tell-refused : (k : ℕ) (row : List ℕ) → (k ≡ numberOf (refusedBy k) row) × (row ≡ valuesOf (refusedBy k) row)
 unfolding numberOf valuesOf told
 tell-refused k row = (rw (le-leb 0 (length row) (omega arith)), rw (le-leb 0 (length row) (omega arith)))

@@ -23,68 +23,68 @@ use Rattle.load_tape.specs.declared.Loaded.the-variants as loaded
 use Rattle.host_words.specs.Words.{flagOf, spanOf, wordsOf}
 
 -- an answer as a host gets it: document 01's number, 0 for none, and its values as words
-pub record Answer : Type 0 where
+pub record Reply : Type 0 where
   pub no : ℕ
   pub values : List ℕ
 
-abbrev pub given : List ℕ → Answer
+abbrev pub given : List ℕ → Reply
 given ws = record { no = 0; values = ws }
 
 -- a refusal is its number alone
-abbrev pub refused : ℕ → Answer
-refused k = record { no = k; values = [] }
+abbrev pub refusedBy : ℕ → Reply
+refusedBy k = record { no = k; values = [] }
 
 -- WHAT IS RETURNED: the number; 10 where the lent row is shorter than the values
-unfoldable pub numberOf : Answer → List ℕ → ℕ
+unfoldable pub numberOf : Reply → List ℕ → ℕ
 numberOf a row = fits (a .values) row ⇒ a .no ∣ noRoom
 
 -- WHAT IS LEFT OF THE LENT ROW: the values, then the words that were there; all of them where nothing is told
-unfoldable pub valuesOf : Answer → List ℕ → List ℕ
+unfoldable pub valuesOf : Reply → List ℕ → List ℕ
 valuesOf a row = told (a .values) row
 
 -- a number of the queries
-unfoldable pub ofNumber : Number → Answer
+unfoldable pub ofNumber : Number → Reply
 ofNumber (number.Is n) = given (n ∷ [])
-ofNumber (number.Refused k) = refused k
+ofNumber (number.Refused k) = refusedBy k
 
 -- a selectable mark: 0 or 1
-unfoldable pub ofMark : Mark → Answer
+unfoldable pub ofMark : Mark → Reply
 ofMark (mark.Is b) = given (flagOf b ∷ [])
-ofMark (mark.Refused k) = refused k
+ofMark (mark.Refused k) = refusedBy k
 
 -- what a block lasts: whether it never ends, and its T-states
-unfoldable pub ofTime : Time → Answer
+unfoldable pub ofTime : Time → Reply
 ofTime (lasting.Lasts d) = given (spanOf d .endless ∷ spanOf d .left ∷ [])
-ofTime (lasting.Refused k) = refused k
+ofTime (lasting.Refused k) = refusedBy k
 
 -- a position
-unfoldable pub ofPosition : Position → Answer
+unfoldable pub ofPosition : Position → Reply
 ofPosition q = given (wordsOf q)
 
 -- a block for a menu
-unfoldable pub ofSelected : Selected → Answer
+unfoldable pub ofSelected : Selected → Reply
 ofSelected (selected.Block b) = given (b ∷ [])
-ofSelected selected.BadPosition = refused noPosition
-ofSelected selected.BadRow = refused badRow
+ofSelected selected.BadPosition = refusedBy noPosition
+ofSelected selected.BadRow = refusedBy badRow
 
 -- where a call leaves the head: how it stands, the entries passed, the level, the position
 unfoldable pub standWords : ℕ → Stand → List ℕ
 standWords how s = how ∷ s .passed ∷ flagOf (s .level) ∷ wordsOf (s .position)
 
 -- a player's answer: 0 it stands, 1 it has stopped at an endless pause, 2 it has ended
-unfoldable pub ofReached : Reached → Answer
+unfoldable pub ofReached : Reached → Reply
 ofReached (reached.At s) = given (standWords 0 s)
 ofReached (reached.Stopped s) = given (standWords 1 s)
 ofReached (reached.Ended s) = given (standWords 2 s)
-ofReached reached.NotValid = refused noPosition
-ofReached reached.NotFormed = refused badRow
+ofReached reached.NotValid = refusedBy noPosition
+ofReached reached.NotFormed = refusedBy badRow
 
 -- a tape's format: 0 TAP, 1 TZX
-unfoldable pub formatOf : Format → ℕ
-formatOf Tap = 0
-formatOf Tzx = 1
+unfoldable pub formatNumber : Format → ℕ
+formatNumber Tap = 0
+formatNumber Tzx = 1
 
 -- a load's answer: the format, how many blocks, how many tone rows
-unfoldable pub ofLoaded : Loaded → Answer
-ofLoaded (loaded.Tape f b t) = given (formatOf f ∷ b ∷ t ∷ [])
-ofLoaded (loaded.Refused k) = refused k
+unfoldable pub ofLoaded : Loaded → Reply
+ofLoaded (loaded.Tape f b t) = given (formatNumber f ∷ b ∷ t ∷ [])
+ofLoaded (loaded.Refused k) = refusedBy k

@@ -8,7 +8,7 @@ use lib.Dec.{eqb}
 use lib.ListN.{length, take}
 use borrow.Author.Tests.{le-ltb, eqb-true}
 use Rattle.law_base.specs.Rules.{_⇒_, _∣_}
-use Rattle.law_base.specs.Tests.{first, second}
+use Rattle.law_base.proofs.Tests.{first, second}
 use Rattle.play_entries.specs.declared.Phase.{Phase}
 use Rattle.play_entries.specs.declared.Phase.the-variants.{Start, Tones, Data, Edge, Pause}
 use Rattle.play_entries.specs.declared.Duration.{Duration}
@@ -19,11 +19,11 @@ use Rattle.host_words.specs.declared.Phased.the-variants as phased
 use Rattle.host_words.specs.declared.Spanned.{Spanned}
 use Rattle.host_words.specs.declared.Spanned.the-variants as spanned
 use Rattle.host_words.specs.declared.Placed.the-variants as place
-use Rattle.host_words.specs.Words.{flagOf, spot, spotOf, span, spanOf, wordsOf, bare, halved, phaseFrom, spanFrom, joined, positionFrom}
+use Rattle.host_words.specs.Words.{flagOf, spot, spotOf, span, spanOf, wordsOf, unhalved, halved, phaseFrom, spanFrom, joined, positionFrom}
 
 -- the words of a phase name it
 phase-back : (f : Phase) → phaseFrom (spotOf f .phase) (spotOf f .item) (spotOf f .part) (spotOf f .half) ≡ phased.Is f
-unfolding phaseFrom spotOf bare halved flagOf
+unfolding phaseFrom spotOf unhalved halved flagOf
 phase-back Start = refl
 phase-back (Tones i p false) = refl
 phase-back (Tones i p true) = refl
@@ -48,8 +48,8 @@ either true x y e f g = f refl e
 either false x y e f g = g refl e
 
 -- words that name a phase are its words
-bare-spot : (f g : Phase) (n a b h : ℕ) → spotOf f ≡ spot n 0 0 0 → bare f a b h ≡ phased.Is g → spotOf g ≡ spot n a b h
-unfolding bare
+bare-spot : (f g : Phase) (n a b h : ℕ) → spotOf f ≡ spot n 0 0 0 → unhalved f a b h ≡ phased.Is g → spotOf g ≡ spot n a b h
+unfolding unhalved
 bare-spot f g n a b h s e =
     either (eqb a 0 && (eqb b 0 && eqb h 0)) _ _ e
     (λ t q.

@@ -8,7 +8,7 @@ use Rattle.play_entries.specs.declared.Duration.the-variants.{T, Endless}
 use Rattle.play_walk.specs.Heads.{placed}
 use Rattle.host_words.specs.declared.Placed.{Placed}
 use Rattle.host_words.specs.declared.Placed.the-variants.{Is, Not}
-use Rattle.host_words.specs.Words.{bare, halved, phaseFrom, spanFrom, joined, positionFrom}
+use Rattle.host_words.specs.Words.{unhalved, halved, phaseFrom, spanFrom, joined, positionFrom}
 
 abbrev named : List (List ℕ × Placed)
 named =
@@ -34,5 +34,5 @@ named =
     ∷ []
 
 pub words-named : map (λ (e : List ℕ × Placed). positionFrom (e .0)) named ≡ map (λ (e : List ℕ × Placed). e .1) named
-unfolding positionFrom joined phaseFrom spanFrom bare halved
+unfolding positionFrom joined phaseFrom spanFrom unhalved halved
 words-named = refl

@@ -52,8 +52,8 @@ wordsOf q =
     q .block ∷ f .phase ∷ f .item ∷ f .part ∷ f .half ∷ d .endless ∷ d .left ∷ []
 
 -- a phase that uses no further word: they are 0
-unfoldable pub bare : Phase → ℕ → ℕ → ℕ → Phased
-bare f a b h = (eqb a 0 && (eqb b 0 && eqb h 0)) ⇒ phased.Is f ∣ phased.Not
+unfoldable pub unhalved : Phase → ℕ → ℕ → ℕ → Phased
+unhalved f a b h = (eqb a 0 && (eqb b 0 && eqb h 0)) ⇒ phased.Is f ∣ phased.Not
 
 -- a phase with halves: the flag is 0 or 1
 unfoldable pub halved : (Bool → Phase) → ℕ → Phased
@@ -62,11 +62,11 @@ halved f h = eqb h 0 ⇒ phased.Is (f false) ∣ eqb h 1 ⇒ phased.Is (f true) 
 -- WORDS AS A PHASE, where they name one
 unfoldable pub phaseFrom : ℕ → ℕ → ℕ → ℕ → Phased
 phaseFrom f a b h =
-    eqb f 0 ⇒ bare Start a b h
+    eqb f 0 ⇒ unhalved Start a b h
     ∣ eqb f 1 ⇒ halved (Tones a b) h
     ∣ eqb f 2 ⇒ halved (Data a b) h
-    ∣ eqb f 3 ⇒ bare Pause a b h
-    ∣ eqb f 4 ⇒ bare Edge a b h
+    ∣ eqb f 3 ⇒ unhalved Pause a b h
+    ∣ eqb f 4 ⇒ unhalved Edge a b h
     ∣ phased.Not
 
 -- WORDS AS A DURATION, where they name one

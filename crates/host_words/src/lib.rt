@@ -5,7 +5,7 @@ use play_walk::Position;
 ghost use mathlib.Core.Path.{_≡_};
 ghost use Rattle.play_entries.specs.declared.Phase.the-variants.{Tones, Data};
 ghost use Rattle.host_words.specs.declared.Phased.the-variants.{Is};
-ghost use Rattle.host_words.specs.Words.{flagOf, spotOf, spanOf, bare, halved, phaseFrom, spanFrom, joined, positionFrom};
+ghost use Rattle.host_words.specs.Words.{flagOf, spotOf, spanOf, unhalved, halved, phaseFrom, spanFrom, joined, positionFrom};
 
 // The words of a phase.
 pub struct Spot {
@@ -105,7 +105,7 @@ pub fn span_of(d: Duration) -> Span
 
 // A phase that uses no further word.
 fn bare_phase(f: Phase, a: u64, b: u64, half: u64) -> Phased
-    ensures { λ r. ⌜ r ≡ bare f a b half ⌝ }
+    ensures { λ r. ⌜ r ≡ unhalved f a b half ⌝ }
 {
     if a != 0 {
         return Phased::Not;

@@ -1,5 +1,2 @@
 pub mod Rules
 pub mod Arms
-pub mod Numbers
-pub mod Tests
-pub mod Parts

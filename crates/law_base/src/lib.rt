@@ -1,1 +1,1 @@
-// Theory alone: what several crates cite is in specs/.
+// Theory alone: what several crates cite; definitions are in specs/, laws in proofs/.

@@ -10,17 +10,18 @@ use lib.Dec.{eqb}
 use Rattle.law_base.specs.Rules.{_⇒_, _∣_}
 use Rattle.cut_fields.proofs.Le.{le-small}
 use Rattle.rows.specs.declared.Tone.{Tone}
-use Rattle.rows.proofs.WellLaws.{Halves}
+use Rattle.rows.specs.Well.{Halves}
 use Rattle.cut_grammar.specs.declared.GeneralizedData.{GeneralizedData}
 use Rattle.cut_grammar.specs.declared.Piece.{Piece}
 use Rattle.cut_grammar.specs.declared.Piece.the-variants.{Standard, Turbo, Tone as PureTone, Pulses, Pure, Generalized, Pause, GroupStart, GroupEnd, LoopStart, LoopEnd, Stop48, Text, Message, Archive, Hardware, Custom, Glue}
 use Rattle.load_general.specs.General as general
 use Rattle.load_state.specs.declared.Pending.{Pending}
 use Rattle.load_state.specs.declared.Pending.the-variants as pending
-use Rattle.load_state.proofs.Kept.{All, nil, cons}
+use Rattle.load_state.specs.Kept.{All, nil, cons}
 use Rattle.load_blocks.specs.declared.Origin.{Origin}
-use Rattle.load_blocks.specs.Sounds.{Sound, ms, toneOf}
-use Rattle.load_blocks.specs.Blocks.{isHeader, standardCycles, standardTones, standardPause, standardSound, turboTones, turboSound, pureToneTones, pulseAt, pairSound, pairSounds, pureTones, pureSound, stopSound, silentSound, pauseSound}
+use Rattle.load_general.specs.General.{plainTone}
+use Rattle.load_blocks.specs.Sounds.{Sound, ms}
+use Rattle.load_blocks.specs.Blocks.{standardHeader, standardCycles, standardTones, standardPause, standardSound, turboTones, turboSound, pureToneTones, pulseAt, pairSound, pairSounds, pureTones, pureSound, stopSound, silentSound, pauseSound}
 use Rattle.load_blocks.specs.Deeds.{Deed, adds, adds48, errs, generalDeed, stop48Deed, soundsOf, brings}
 use Rattle.load_source.specs.Meaning.{deedOf}
 use Rattle.law_every_load.specs.Sizes.{Bytes, Range, Sized}
@@ -48,7 +49,7 @@ pub record Fine (s : List ℕ) (d : Deed) : Type 0 where
   pub sounds : All (FineSound s) (soundsOf d)
   pub name : FineName s (brings d)
 
-small : (num len1 len2 : ℕ) → num ≤ 65535 → len1 ≤ 65535 → len2 ≤ 65535 → Halves (toneOf num len1 len2)
+small : (num len1 len2 : ℕ) → num ≤ 65535 → len1 ≤ 65535 → len2 ≤ 65535 → Halves (plainTone num len1 len2)
 small num len1 len2 n a b = record { num = n; len1 = a; len2 = b; wave = omega arith }
 
 standard-small : (header : Bool) → All Halves (standardTones header)
@@ -65,7 +66,7 @@ pure-small : (half count : ℕ) → half < 65536 → count < 65536 → All Halve
 unfolding pureToneTones
 pure-small half count h k = by-cases (eqb (count % 2) 0)
   where
-    by-cases : (b : Bool) → All Halves (b ⇒ toneOf (count / 2) half half ∷ [] ∣ toneOf 1 0 half ∷ toneOf (count / 2) half half ∷ [])
+    by-cases : (b : Bool) → All Halves (b ⇒ plainTone (count / 2) half half ∷ [] ∣ plainTone 1 0 half ∷ plainTone (count / 2) half half ∷ [])
     by-cases true = cons (small (count / 2) half half (omega arith) (omega arith) (omega arith)) nil
     by-cases false = cons (small 1 0 half (omega arith) (omega arith) (omega arith)) (cons (small (count / 2) half half (omega arith) (omega arith) (omega arith)) nil)
 

@@ -1,5 +1,5 @@
 -- What adding a block keeps, of any reading. Assumes nothing.
-use Prim.Native.Nat.{ℕ, _+_, _≤_, _<_}
+use Prim.Native.Nat.{ℕ, _+_, _<_}
 use mathlib.Core.Path.{_≡_, refl}
 use mathlib.Core.Bool.{Bool, true, false}
 use mathlib.Core.List.{List}
@@ -11,21 +11,15 @@ use Rattle.law_base.specs.Rules.{_⇒_, _∣_}
 use Rattle.rows.specs.declared.Block.{Block}
 use Rattle.load_state.specs.declared.Pending.{Pending}
 use Rattle.load_state.specs.declared.Halt.the-variants.{Refusal}
-use Rattle.load_state.specs.Parser.{Tape, on, no, _⟫_, empty, withTones, withBlock, addTones, addBlock}
-use Rattle.load_state.proofs.Kept.{Sure, sure, none, sure-then, All, nil, cons, Steps}
+use Rattle.load_state.specs.Parser.{Parsed, on, no, _⟫_, withTones, withBlock, addTones, addBlock}
+use Rattle.load_state.proofs.Kept.{sure-then}
+use Rattle.load_state.specs.Kept.{Sure, sure, none, All, nil, cons}
 use Rattle.load_blocks.specs.declared.Origin.{Origin}
 use Rattle.load_blocks.specs.Adds.{Lent, addRows}
 use Rattle.load_blocks.specs.Sounds.{Sound, rowOf, addSound, addSounds}
+use Rattle.law_every_load.specs.Keeps.{Invariant}
 
--- WHAT IS ASKED OF A PROPERTY K OF TAPES: the empty tape has it; a block of a sound and an origin with M, with room for all of its tone rows,
--- keeps it; so do the parser's steps
-pub record Keeps (lent : Lent) (M : Sound → Origin → Type 0) (Q : Pending → Type 0) (K : Tape → Type 0) : Type 0 where
-  pub begins : K empty
-  pub adding : (origin : Origin) (d : Sound) (t : Tape) → M d origin → length (t .tones) + length (d .tones) ≤ lent .tones → length (t .blocks) < lent .blocks
-      → K t → K (withBlock (rowOf origin d (length (t .tones))) (withTones (d .tones) t))
-  pub steps : Steps (lent .blocks) Q K
-
-block-sure : {K : Tape → Type 0} (m : ℕ) (r : Block) (t : Tape) → (length (t .blocks) < m → K (withBlock r t)) → Sure K (addBlock m r t)
+block-sure : {K : Parsed → Type 0} (m : ℕ) (r : Block) (t : Parsed) → (length (t .blocks) < m → K (withBlock r t)) → Sure K (addBlock m r t)
 unfolding addBlock
 block-sure {K} m r t h = by-cases (ltb (length (t .blocks)) m) refl
   where
@@ -33,8 +27,8 @@ block-sure {K} m r t h = by-cases (ltb (length (t .blocks)) m) refl
     by-cases true e = sure (h (ltb-true _ _ e))
     by-cases false e = none
 
-module _ {lent : Lent} {M : Sound → Origin → Type 0} {Q : Pending → Type 0} {K : Tape → Type 0} (k : Keeps lent M Q K) where
-  pub sound-keeps : (origin : Origin) (d : Sound) (t : Tape) → M d origin → K t → Sure K (addSound lent origin d t)
+module _ {lent : Lent} {M : Sound → Origin → Type 0} {Q : Pending → Type 0} {K : Parsed → Type 0} (k : Invariant lent M Q K) where
+  pub sound-keeps : (origin : Origin) (d : Sound) (t : Parsed) → M d origin → K t → Sure K (addSound lent origin d t)
   unfolding addSound addRows addTones _⟫_
   sound-keeps origin d t m h = by-cases (leb (length (t .tones) + length (d .tones)) (lent .tones)) refl
     where
@@ -43,7 +37,7 @@ module _ {lent : Lent} {M : Sound → Origin → Type 0} {Q : Pending → Type 0
       by-cases true e = block-sure (lent .blocks) _ (withTones (d .tones) t) (λ room. k .adding origin d t m (leb-true _ _ e) room h)
       by-cases false e = none
 
-  pub sounds-keep : (origin : Origin) {ds : List Sound} → All (λ d. M d origin) ds → (t : Tape) → K t → Sure K (addSounds lent origin ds t)
+  pub sounds-keep : (origin : Origin) {ds : List Sound} → All (λ d. M d origin) ds → (t : Parsed) → K t → Sure K (addSounds lent origin ds t)
   unfolding addSounds
   sounds-keep origin nil t h = sure h
   sounds-keep origin (cons {x = d} {xs = ds} m ms) t h = sure-then (addSounds lent origin ds) (sound-keeps origin d t m h) (sounds-keep origin ms)

@@ -20,15 +20,16 @@ use Rattle.cut_grammar.specs.Cut.{cutAt, tapAt, headAt}
 use Rattle.load_state.specs.declared.Loop.{Loop}
 use Rattle.load_state.specs.declared.Loop.the-variants.{Closed, Open}
 use Rattle.load_state.specs.declared.Halt.the-variants.{Refusal, Length}
-use Rattle.load_state.specs.Parser.{Tape, Out, on, no as halt, empty, _⟫_, addTones, addBlock, pend, endGroup, openLoop, copyRows, copies, closed, closeLoop}
+use Rattle.load_state.specs.Parser.{Parsed, Out, on, no as halt, empty, _⟫_, addTones, addBlock, pend, endGroup, openLoop, copyRows, copies, closed, closeLoop}
 use Rattle.load_blocks.specs.Adds.{Lent, addRows}
 use Rattle.load_blocks.specs.declared.Origin.{Origin}
 use Rattle.load_blocks.specs.Sounds.{Sound, originAt, addSound, addSounds}
 use Rattle.load_blocks.specs.Deeds.{Deed, adding, groups, texts, groupEnds, opens, closes, panics, errs, does as enact}
 use Rattle.load_source.specs.declared.Failure.{Failure}
 use Rattle.load_source.specs.Meaning.{deedOf}
-use Rattle.load_source.specs.Source.{See, over, bad, refuses, thing, Read, done, failed, refused, act, halted, after, seeing, foldFrom, tooManyBits, judged, tzxOf, tzxSee, headed, readTzx, tapOf, tapSee, readTap, full, Loaded, tzx, tapped, no, orTap, orElse, loadOf}
-use Rattle.load_tape.specs.Load.{named}
+use Rattle.load_source.specs.Source.{See, over, bad, refuses, thing, Verdict, done, failed, refused, act, halted, readOn, seeing, foldFrom, tooManyBits, bitsJudged, tzxOf, tzxSee, headed, readTzx, tapOf, tapSee, readTap, full, Load, no, orTap, orElse, loadOf}
+use Rattle.load_tape.specs.Load.{namedLoad}
+use Rattle.law_every_load.specs.Numbered.{Numbered, as-tzx, as-tap, by}
 
 -- a number from lo to hi
 pub record Between (lo hi k : ℕ) : Type 0 where
@@ -36,19 +37,19 @@ pub record Between (lo hi k : ℕ) : Type 0 where
   pub high : k ≤ hi
 
 -- a step's answer, what is seen at a place, a reading's answer: each refusal by such a number
-pub data Says (lo hi : ℕ) : Out → Type 0 where
-  goes : {t : Tape} → Says lo hi (on t)
-  says : {k : ℕ} → Between lo hi k → Says lo hi (halt (Refusal k))
-  fails : {n : ℕ} → Says lo hi (halt (Length n))
+pub data HaltsBy (lo hi : ℕ) : Out → Type 0 where
+  goes : {t : Parsed} → HaltsBy lo hi (on t)
+  says : {k : ℕ} → Between lo hi k → HaltsBy lo hi (halt (Refusal k))
+  fails : {n : ℕ} → HaltsBy lo hi (halt (Length n))
 
 pub data Sees (lo hi : ℕ) : See → Type 0 where
   ends : Sees lo hi over
   bad-seen : {f : Failure} → Sees lo hi (bad f)
   sees : {k : ℕ} → Between lo hi k → Sees lo hi (refuses k)
-  does : {next : ℕ} {f : Tape → Out} → ((t : Tape) → Says lo hi (f t)) → Sees lo hi (thing next f)
+  does : {next : ℕ} {f : Parsed → Out} → ((t : Parsed) → HaltsBy lo hi (f t)) → Sees lo hi (thing next f)
 
-pub data Tells (lo hi : ℕ) : Read → Type 0 where
-  whole : {t : Tape} → Tells lo hi (done t)
+pub data Tells (lo hi : ℕ) : Verdict → Type 0 where
+  whole : {t : Parsed} → Tells lo hi (done t)
   fails : {f : Failure} → Tells lo hi (failed f)
   tells : {k : ℕ} → Between lo hi k → Tells lo hi (refused k)
 
@@ -56,7 +57,7 @@ four : Between generalised blocksFull generalised
 four = record { low = omega arith; high = omega arith }
 
 -- a block's refusals are among a piece's
-wider : {o : Out} → Says tonesFull blocksFull o → Says generalised blocksFull o
+wider : {o : Out} → HaltsBy tonesFull blocksFull o → HaltsBy generalised blocksFull o
 wider goes = goes
 wider (says {k = k} b) = says {k = k} (record { low = omega (arith, b .low); high = b .high })
 wider fails = fails
@@ -66,49 +67,49 @@ pub either : (P : Out → Type 0) (b : Bool) {x y : Out} → P x → P y → P (
 either P true h k = h
 either P false h k = k
 
-then-says : {lo hi : ℕ} {o : Out} {f : Tape → Out} → Says lo hi o → ((t : Tape) → Says lo hi (f t)) → Says lo hi (o ⟫ f)
+then-says : {lo hi : ℕ} {o : Out} {f : Parsed → Out} → HaltsBy lo hi o → ((t : Parsed) → HaltsBy lo hi (f t)) → HaltsBy lo hi (o ⟫ f)
 unfolding _⟫_
 then-says (goes {t}) h = h t
 then-says (says k) h = says k
 then-says fails h = fails
 
-tones-says : (most : ℕ) (ts : List Tone) (t : Tape) → Says tonesFull blocksFull (addTones most ts t)
+tones-says : (most : ℕ) (ts : List Tone) (t : Parsed) → HaltsBy tonesFull blocksFull (addTones most ts t)
 unfolding addTones
-tones-says most ts t = either (Says tonesFull blocksFull) (leb (length (t .tones) + length ts) most) goes (says (record { low = omega arith; high = omega arith }))
+tones-says most ts t = either (HaltsBy tonesFull blocksFull) (leb (length (t .tones) + length ts) most) goes (says (record { low = omega arith; high = omega arith }))
 
-block-says : (most : ℕ) (r : Block) (t : Tape) → Says tonesFull blocksFull (addBlock most r t)
+block-says : (most : ℕ) (r : Block) (t : Parsed) → HaltsBy tonesFull blocksFull (addBlock most r t)
 unfolding addBlock
-block-says most r t = either (Says tonesFull blocksFull) (ltb (length (t .blocks)) most) goes (says (record { low = omega arith; high = omega arith }))
+block-says most r t = either (HaltsBy tonesFull blocksFull) (ltb (length (t .blocks)) most) goes (says (record { low = omega arith; high = omega arith }))
 
 -- copies of a loop
-row-says : (most : ℕ) (rs : List Block) (t : Tape) → Says tonesFull blocksFull (copyRows most rs t)
+row-says : (most : ℕ) (rs : List Block) (t : Parsed) → HaltsBy tonesFull blocksFull (copyRows most rs t)
 unfolding copyRows
 row-says most [] t = goes
 row-says most (r ∷ rs) t = then-says (block-says most _ t) (λ u. row-says most rs u)
 
-copies-says : (most n : ℕ) (rs : List Block) (t : Tape) → Says tonesFull blocksFull (copies most n rs t)
+copies-says : (most n : ℕ) (rs : List Block) (t : Parsed) → HaltsBy tonesFull blocksFull (copies most n rs t)
 unfolding copies
 copies-says most zero rs t = goes
 copies-says most (suc n) rs t = then-says (row-says most rs t) (λ u. copies-says most n rs u)
 
-pub closed-says : (most : ℕ) (l : Loop) (t : Tape) → Says tonesFull blocksFull (closed most l t)
+pub closed-says : (most : ℕ) (l : Loop) (t : Parsed) → HaltsBy tonesFull blocksFull (closed most l t)
 unfolding closed
 closed-says most Closed t = goes
 closed-says most (Open start times) t = copies-says most times _ _
 
 module _ (lent : Lent) where
-  pub sound-says : (origin : Origin) (d : Sound) (t : Tape) → Says tonesFull blocksFull (addSound lent origin d t)
+  pub sound-says : (origin : Origin) (d : Sound) (t : Parsed) → HaltsBy tonesFull blocksFull (addSound lent origin d t)
   unfolding addSound addRows
   sound-says origin d t = then-says (tones-says (lent .tones) (d .tones) t) (λ u. block-says (lent .blocks) _ u)
 
-  pub sounds-say : (origin : Origin) (ds : List Sound) (t : Tape) → Says tonesFull blocksFull (addSounds lent origin ds t)
+  pub sounds-say : (origin : Origin) (ds : List Sound) (t : Parsed) → HaltsBy tonesFull blocksFull (addSounds lent origin ds t)
   unfolding addSounds
   sounds-say origin [] t = goes
   sounds-say origin (d ∷ ds) t = then-says (sound-says origin d t) (λ u. sounds-say origin ds u)
 
-  does-says : (model : ℕ) (origin : Origin) (d : Deed) (t : Tape) → Says generalised blocksFull (enact lent model origin d t)
+  does-says : (model : ℕ) (origin : Origin) (d : Deed) (t : Parsed) → HaltsBy generalised blocksFull (enact lent model origin d t)
   unfolding enact pend endGroup openLoop closeLoop
-  does-says model origin (adding only48 ds) t = either (Says generalised blocksFull) (only48 && not (eqb model 0)) goes (wider (sounds-say origin ds t))
+  does-says model origin (adding only48 ds) t = either (HaltsBy generalised blocksFull) (only48 && not (eqb model 0)) goes (wider (sounds-say origin ds t))
   does-says model origin (groups from size) t = goes
   does-says model origin (texts from size) t = goes
   does-says model origin groupEnds t = goes
@@ -118,7 +119,7 @@ module _ (lent : Lent) where
   does-says model origin (errs n) t = fails
 
   module _ (s : List ℕ) where
-    act-says : (model : ℕ) (origin : Origin) (p : Piece) (t : Tape) → Says generalised blocksFull (act lent s model origin p t)
+    act-says : (model : ℕ) (origin : Origin) (p : Piece) (t : Parsed) → HaltsBy generalised blocksFull (act lent s model origin p t)
     unfolding act
     act-says model origin p t = does-says model origin (deedOf s p) t
 
@@ -138,26 +139,26 @@ module _ (lent : Lent) where
     tap-sees at (tap.Short p w) = bad-seen
 
   -- a run of things, and what is judged of it
-  after-tells : {lo hi : ℕ} {o : Out} {k : Tape → Read} → Says lo hi o → ((t : Tape) → Tells lo hi (k t)) → Tells lo hi (after o k)
-  unfolding after halted
+  after-tells : {lo hi : ℕ} {o : Out} {k : Parsed → Verdict} → HaltsBy lo hi o → ((t : Parsed) → Tells lo hi (k t)) → Tells lo hi (readOn o k)
+  unfolding readOn halted
   after-tells (goes {t}) h = h t
   after-tells (says b) h = tells b
   after-tells fails h = fails
 
-  seeing-tells : {lo hi : ℕ} {x : See} {k : ℕ → Tape → Read} → Sees lo hi x → (t : Tape) → ((n : ℕ) (u : Tape) → Tells lo hi (k n u)) → Tells lo hi (seeing x t k)
+  seeing-tells : {lo hi : ℕ} {x : See} {k : ℕ → Parsed → Verdict} → Sees lo hi x → (t : Parsed) → ((n : ℕ) (u : Parsed) → Tells lo hi (k n u)) → Tells lo hi (seeing x t k)
   unfolding seeing
   seeing-tells ends t h = whole
   seeing-tells bad-seen t h = fails
   seeing-tells (sees b) t h = tells b
   seeing-tells (does {next} f) t h = after-tells (f t) (h next)
 
-  run-tells : {lo hi : ℕ} {see : ℕ → See} → ((at : ℕ) → Sees lo hi (see at)) → (n at : ℕ) (t : Tape) → Tells lo hi (foldFrom see n at t)
+  run-tells : {lo hi : ℕ} {see : ℕ → See} → ((at : ℕ) → Sees lo hi (see at)) → (n at : ℕ) (t : Parsed) → Tells lo hi (foldFrom see n at t)
   unfolding foldFrom
   run-tells h zero at t = whole
   run-tells h (suc n) at t = seeing-tells (h at) t (λ m u. run-tells h n m u)
 
-  judged-tells : {r : Read} → Tells generalised blocksFull r → Tells generalised lastBits (judged r)
-  unfolding judged
+  judged-tells : {r : Verdict} → Tells generalised blocksFull r → Tells generalised lastBits (bitsJudged r)
+  unfolding bitsJudged
   judged-tells (whole {t}) = by-cases (tooManyBits (t .blocks))
     where
       by-cases : (b : Bool) → Tells generalised lastBits (b ⇒ refused lastBits ∣ done t)
@@ -184,19 +185,13 @@ module _ (lent : Lent) where
   unfolding readTap tapSee
   tap-tells s = run-tells (λ at. tap-sees s at (tapAt s at)) (length s) 0 empty
 
--- a load's answer
-pub data Numbered : Loaded → Type 0 where
-  as-tzx : {t : Tape} → Numbered (tzx t)
-  as-tap : {t : Tape} → Numbered (tapped t)
-  by : {k : ℕ} → 1 ≤ k → k ≤ 7 → Numbered (no k)
-
-or-tap : {r : Read} → Tells tonesFull blocksFull r → Numbered (orTap r)
+or-tap : {r : Verdict} → Tells tonesFull blocksFull r → Numbered (orTap r)
 unfolding orTap
 or-tap whole = as-tap
 or-tap fails = by {k = tapeBad} (omega arith) (omega arith)
 or-tap (tells {k = k} b) = by {k = k} (omega (arith, b .low)) (omega (arith, b .high))
 
-or-else : {r q : Read} → Tells generalised lastBits r → Tells tonesFull blocksFull q → Numbered (orElse r q)
+or-else : {r q : Verdict} → Tells generalised lastBits r → Tells tonesFull blocksFull q → Numbered (orElse r q)
 unfolding orElse
 or-else whole q = as-tzx
 or-else fails q = or-tap q
@@ -212,8 +207,8 @@ load-numbered lent s model = by-cases (leb 3 model) (ltb 1048576 (length s))
     by-cases false false = or-else (tzx-tells lent s model) (tap-tells lent s)
 
 -- and so after the naming pass
-pub named-numbered : (s : List ℕ) {l : Loaded} → Numbered l → Numbered (named s l)
-unfolding named
+pub named-numbered : (s : List ℕ) {l : Load} → Numbered l → Numbered (namedLoad s l)
+unfolding namedLoad
 named-numbered s as-tzx = as-tzx
 named-numbered s as-tap = as-tap
 named-numbered s (by a b) = by a b

@@ -13,29 +13,30 @@ use Rattle.law_base.specs.Rules.{_⇒_, _∣_}
 use Rattle.rows.specs.declared.Block.{Block}
 use Rattle.rows.specs.declared.Tone.{Tone}
 use Rattle.load_state.specs.declared.Pending.{Pending}
-use Rattle.load_state.specs.Parser.{Tape, empty}
+use Rattle.load_state.specs.Parser.{Parsed, empty}
 use Rattle.load_state.proofs.Adds.{paused-length}
-use Rattle.load_state.proofs.Kept.{All, nil, cons, all-also}
+use Rattle.load_state.proofs.Kept.{all-also}
+use Rattle.load_state.specs.Kept.{All, nil, cons}
 use Rattle.load_blocks.specs.declared.Origin.{Origin}
 use Rattle.load_blocks.specs.Sounds.{Sound, rowOf}
 use Rattle.load_blocks.specs.Blocks.{standardSound}
 use Rattle.load_blocks.specs.Adds.{Lent}
 use Rattle.load_source.specs.Source as source
-use Rattle.load_source.specs.Source.{tooManyBits, Loaded, readTzx, readTap, orElse, loadOf}
+use Rattle.load_source.specs.Source.{tooManyBits, Load, readTzx, readTap, orElse, loadOf}
 use Rattle.text_name.specs.Names.{unselected, nameAll}
 use Rattle.law_every_load.specs.Sizes.{Bytes}
-use Rattle.law_every_load.specs.Made.{Pends, OfPiece, of, Row, Births, Lasts}
+use Rattle.law_every_load.specs.Made.{Pends, OfPiece, of, RowOver, Births, Lasts}
 use Rattle.law_every_load.specs.OfSource.{sourceTable, tapTable, Reads, as-tzx, as-tap}
-use Rattle.law_every_load.proofs.Keeps.{Keeps}
+use Rattle.law_every_load.specs.Keeps.{Invariant}
 use Rattle.law_every_load.proofs.Loading.{load-keeps}
 use Rattle.law_every_load.proofs.Rows.{paused-same, rows-keep, named-all}
 
 -- no more rows than are lent
-pub record Within (lent : Lent) (t : Tape) : Type 0 where
+pub record Within (lent : Lent) (t : Parsed) : Type 0 where
   pub blocks : length (t .blocks) ≤ lent .blocks
   pub tones : length (t .tones) ≤ lent .tones
 
-within-keeps : (lent : Lent) (M : Sound → Origin → Type 0) (Q : Pending → Type 0) → Keeps lent M Q (Within lent)
+within-keeps : (lent : Lent) (M : Sound → Origin → Type 0) (Q : Pending → Type 0) → Invariant lent M Q (Within lent)
 unfolding empty
 within-keeps lent M Q =
     record {
@@ -50,26 +51,26 @@ within-keeps lent M Q =
     }
 
 -- nothing said
-abbrev Any : Tape → Type 0
+abbrev Any : Parsed → Type 0
 Any t = Unit {0}
 
-any-keeps : (lent : Lent) (M : Sound → Origin → Type 0) (Q : Pending → Type 0) → Keeps lent M Q Any
+any-keeps : (lent : Lent) (M : Sound → Origin → Type 0) (Q : Pending → Type 0) → Invariant lent M Q Any
 any-keeps lent M Q =
     record { begins = tt; adding = λ origin d t m a b h. tt; steps = record { copying = λ r t i b h. tt; naming = λ p t q h. tt; pausing = λ t h. tt; looping = λ l t h. tt } }
 
 -- last bits at most 8 where there is data
-abbrev pub Bits : Block → Type 0
-Bits r = 0 < r .size → r .last ≤ 8
+abbrev pub FewBits : Block → Type 0
+FewBits r = 0 < r .size → r .last ≤ 8
 
-bits-one : (r : Block) (rest : Bool) → ((ltb 0 (r .size) && ltb 8 (r .last)) ⇒ true ∣ rest) ≡ false → Bits r × (rest ≡ false)
+bits-one : (r : Block) (rest : Bool) → ((ltb 0 (r .size) && ltb 8 (r .last)) ⇒ true ∣ rest) ≡ false → FewBits r × (rest ≡ false)
 bits-one r rest e = by-cases (ltb 0 (r .size)) (ltb 8 (r .last)) refl refl e
   where
-    by-cases : (a b : Bool) → ltb 0 (r .size) ≡ a → ltb 8 (r .last) ≡ b → ((a && b) ⇒ true ∣ rest) ≡ false → Bits r × (rest ≡ false)
+    by-cases : (a b : Bool) → ltb 0 (r .size) ≡ a → ltb 8 (r .last) ≡ b → ((a && b) ⇒ true ∣ rest) ≡ false → FewBits r × (rest ≡ false)
     by-cases true true p q f = absurd (let z : _≡_ {A = ℕ} 0 1 = cc in omega arith)
     by-cases true false p q f = (λ _. ltb-false 8 (r .last) q, f)
     by-cases false b p q f = (λ h. absurd (let z = ltb-false 0 (r .size) p in omega arith), f)
 
-bits-all : (rs : List Block) → tooManyBits rs ≡ false → All Bits rs
+bits-all : (rs : List Block) → tooManyBits rs ≡ false → All FewBits rs
 unfolding tooManyBits
 bits-all [] e = nil
 bits-all (r ∷ rs) e = let p = bits-one r (tooManyBits rs) e in cons (p .0) (bits-all rs (p .1))
@@ -87,31 +88,31 @@ tap-eight : {s : List ℕ} → Births (tapTable s) Eight
 unfolding standardSound rowOf
 tap-eight origin d tone (of f (List·Memᴰ·head e)) = rw e refl
 
-eight-bits : {all : List Tone} (r : Block) → Row Eight all r → Bits r
+eight-bits : {all : List Tone} (r : Block) → RowOver Eight all r → FewBits r
 eight-bits r h n = omega (arith, h .has)
 
 -- a refused load reads nothing
-not-refused : {a : Loaded} {t : Tape} {j : ℕ} → Reads a t → a ≡ source.no j → ⊥
+not-refused : {a : Load} {t : Parsed} {j : ℕ} → Reads a t → a ≡ source.no j → ⊥
 not-refused as-tzx e = let z : _≡_ {A = ℕ} 0 1 = cc in omega arith
 not-refused as-tap e = let z : _≡_ {A = ℕ} 0 1 = cc in omega arith
 
-past-two : (a : Loaded) {t : Tape} (m n : Bool) → Reads (m ⇒ source.no badModel ∣ n ⇒ source.no tapeLong ∣ a) t → n ≡ false
+past-two : (a : Load) {t : Parsed} (m n : Bool) → Reads (m ⇒ source.no badModel ∣ n ⇒ source.no tapeLong ∣ a) t → n ≡ false
 past-two a true n r = absurd (not-refused r refl)
 past-two a false true r = absurd (not-refused r refl)
 past-two a false false r = refl
 
-module _ (lent : Lent) (s : List ℕ) (model : ℕ) {t : Tape} where
+module _ (lent : Lent) (s : List ℕ) (model : ℕ) {t : Parsed} where
   -- ALL ROWS ARE LENT ONES
   pub load-within : Bytes s → Reads (loadOf lent s model) t → Within lent t
   load-within b r =
       load-keeps lent s model b (within-keeps lent (OfPiece (sourceTable s)) (Pends (sourceTable s))) (within-keeps lent (OfPiece (tapTable s)) (Pends (sourceTable s))) (λ u h. h .kept) (λ u h. h) r
 
   -- LAST BITS: for TZX by refusal 7, for TAP by the standard block's 8
-  pub read-bits : Bytes s → Reads (loadOf lent s model) t → All Bits (t .blocks)
+  pub read-bits : Bytes s → Reads (loadOf lent s model) t → All FewBits (t .blocks)
   read-bits b r =
       load-keeps lent s model b (any-keeps lent (OfPiece (sourceTable s)) (Pends (sourceTable s))) (rows-keep (eight-lasts s) tap-eight lent) (λ u h. bits-all (u .blocks) (h .bits)) (λ u h. all-also eight-bits (h .rows)) r
 
-  pub load-bits : Bytes s → Reads (loadOf lent s model) t → All Bits (nameAll s false (t .blocks))
+  pub load-bits : Bytes s → Reads (loadOf lent s model) t → All FewBits (nameAll s false (t .blocks))
   unfolding unselected
   load-bits b r = named-all s (λ q h. h) false (read-bits b r)
 

@@ -15,14 +15,15 @@ use Rattle.rows.specs.Rows.{tone, withPause}
 use Rattle.rows.proofs.Tables.{get-row}
 use Rattle.load_state.specs.declared.Pending.{Pending}
 use Rattle.load_state.specs.declared.Pending.the-variants.{Nothing, First, Later, Text}
-use Rattle.load_state.specs.Parser.{named, used, Tape, empty, withTones, paused}
-use Rattle.load_state.proofs.Kept.{All, nil, cons, all-also, Lasting, Kept, kept-empty, with-block, kept-steps}
+use Rattle.load_state.specs.Parser.{named, used, Parsed, empty, withTones, paused}
+use Rattle.load_state.proofs.Kept.{all-also, kept-empty, with-block, kept-steps}
+use Rattle.load_state.specs.Kept.{All, nil, cons, Lasting, KeptSoFar}
 use Rattle.load_blocks.specs.declared.Origin.{Origin}
 use Rattle.load_blocks.specs.Sounds.{Sound, rowOf}
 use Rattle.load_blocks.specs.Adds.{Lent}
-use Rattle.text_name.specs.Names.{isHeader, unselected, passed, nameAll}
-use Rattle.law_every_load.specs.Made.{Table, Pends, Given, tonesIn, Row, Lasts}
-use Rattle.law_every_load.proofs.Keeps.{Keeps}
+use Rattle.text_name.specs.Names.{isHeader, unselected, nameOne, nameAll}
+use Rattle.law_every_load.specs.Made.{Table, Pends, GivenName, tonesIn, RowOver, Lasts}
+use Rattle.law_every_load.specs.Keeps.{Invariant}
 
 -- what does not look at a row's pause is the same with 22's
 pub paused-same : {A : Type 0} (f : Block → A) (r : Block) → f (withPause 3500 r) ≡ f r → f (paused r) ≡ f r
@@ -52,7 +53,7 @@ used-pends T (Text text chars) h = tt
 
 module _ {P : List Tone → Block → Type 0} where
   -- more tone rows behind
-  row-longer : (all ts : List Tone) (r : Block) → Row P all r → Row P (all ++ ts) r
+  row-longer : (all ts : List Tone) (r : Block) → RowOver P all r → RowOver P (all ++ ts) r
   row-longer all ts r h =
       let i = h .inside in
       let n : r .tone ≤ length all = omega arith in
@@ -61,29 +62,29 @@ module _ {P : List Tone → Block → Type 0} where
       record { inside = rw length-append (omega arith); has = rw e (h .has) }
 
   -- a row over the last ones
-  row-new : (all ts : List Tone) (r : Block) → r .tone ≡ length all → r .tones ≡ length ts → P ts r → Row P (all ++ ts) r
+  row-new : (all ts : List Tone) (r : Block) → r .tone ≡ length all → r .tones ≡ length ts → P ts r → RowOver P (all ++ ts) r
   row-new all ts r e n h =
       let q : tonesIn (all ++ ts) r ≡ ts = ap (take (r .tones)) (drop-at all ts (r .tone) (sym e)) ∙ take-all (r .tones) ts (omega arith) in
       record { inside = rw length-append (omega arith); has = rw q h }
 
   module _ {T : Table} (k : Lasts T P) where
-    row-named : (all : List Tone) (p : Pending) (r : Block) → Pends T p → Row P all r → Row P all (named p r)
+    row-named : (all : List Tone) (p : Pending) (r : Block) → Pends T p → RowOver P all r → RowOver P all (named p r)
     row-named all Nothing r q h = h
-    row-named all (First from size) r q h = record { inside = h .inside; has = k .naming 1 3 from size (tonesIn all r) r (Given.first q) (h .has) }
-    row-named all (Later from size) r q h = record { inside = h .inside; has = k .naming 0 4 from size (tonesIn all r) r (Given.later q) (h .has) }
-    row-named all (Text from size) r q h = record { inside = h .inside; has = k .naming 1 2 from size (tonesIn all r) r (Given.text q) (h .has) }
+    row-named all (First from size) r q h = record { inside = h .inside; has = k .naming 1 3 from size (tonesIn all r) r (GivenName.first q) (h .has) }
+    row-named all (Later from size) r q h = record { inside = h .inside; has = k .naming 0 4 from size (tonesIn all r) r (GivenName.later q) (h .has) }
+    row-named all (Text from size) r q h = record { inside = h .inside; has = k .naming 1 2 from size (tonesIn all r) r (GivenName.text q) (h .has) }
 
-    row-paused : (all : List Tone) (r : Block) → Row P all r → Row P all (paused r)
+    row-paused : (all : List Tone) (r : Block) → RowOver P all r → RowOver P all (paused r)
     row-paused all r h =
         let e : tonesIn all (paused r) ≡ tonesIn all r = paused-same (tonesIn all) r refl in
         let n : paused r .tone + paused r .tones ≡ r .tone + r .tones = paused-same (λ q. q .tone + q .tones) r refl in
         record { inside = omega (arith, h .inside); has = subst (λ (ts : List Tone). P ts (paused r)) (sym e) (k .pausing (tonesIn all r) r (h .has)) }
 
-    lasting : (all : List Tone) → Lasting (Row P all) (Pends T)
+    lasting : (all : List Tone) → Lasting (RowOver P all) (Pends T)
     lasting all =
         record {
           naming = λ p r q h. row-named all p r q h;
-          copying = λ r h. record { inside = h .inside; has = k .naming 0 0 0 0 (tonesIn all r) r Given.none (h .has) };
+          copying = λ r h. record { inside = h .inside; has = k .naming 0 0 0 0 (tonesIn all r) r GivenName.none (h .has) };
           pausing = row-paused all;
           uses = λ p q. used-pends T p q;
           nothing = tt;
@@ -91,7 +92,7 @@ module _ {P : List Tone → Block → Type 0} where
 
     -- rows of sounds with M, which have P, keep it
     module _ {M : Sound → Origin → Type 0} (has : (origin : Origin) (d : Sound) (tone : ℕ) → M d origin → P (d .tones) (rowOf origin d tone)) where
-      pub rows-keep : (lent : Lent) → Keeps lent M (Pends T) (λ t. Kept (Row P (t .tones)) (Pends T) t)
+      pub rows-keep : (lent : Lent) → Invariant lent M (Pends T) (λ t. KeptSoFar (RowOver P (t .tones)) (Pends T) t)
       unfolding empty rowOf
       rows-keep lent =
           record {
@@ -109,7 +110,7 @@ module _ {P : List Tone → Block → Type 0} where
 
 -- the naming pass keeps what it leaves of a row alone
 pub named-all : {Q : Block → Type 0} (s : List ℕ) → ((r : Block) → Q r → Q (unselected r)) → (p : Bool) {rs : List Block} → All Q rs → All Q (nameAll s p rs)
-unfolding nameAll passed
+unfolding nameAll nameOne
 named-all s f p nil = nil
 named-all {Q} s f p (cons {x = r} h hs) = cons (by-cases (isHeader s r) p) (named-all s f (isHeader s r) hs)
   where

@@ -9,7 +9,7 @@ use native.Mathlib.Nat.{le-refl}
 use lib.ListN.{length, getD, take, length-take, List·getD-eq-default}
 use lib.Seq.{getD-take}
 use lib.Dec.{leb, eqb}
-use Rattle.law_base.specs.Numbers.{lt-or-ge}
+use Rattle.law_base.proofs.Numbers.{lt-or-ge}
 use Rattle.law_base.specs.Rules.{_⇒_, _∣_}
 use Rattle.cut_fields.specs.declared.Cursor.{Cursor}
 use Rattle.cut_fields.specs.declared.Cursor.the-variants.{At}
@@ -25,10 +25,11 @@ use Rattle.cut_grammar.specs.declared.TakenTap.{TakenTap}
 use Rattle.cut_grammar.specs.declared.TakenTap.the-variants as tap
 use Rattle.cut_grammar.specs.Grammar.{Layout, number, counted, here, pass, within, fitting, whole, unknown, countedAt, passAt, wholeAt, sealed, enclosed, fittingAt, readAt}
 use Rattle.cut_grammar.specs.Kinds.{kind10, kind11, kind12, kind13, kind14, stream19, kind19, kind20, kind21, kind22, kind24, kind25, kind2A, kind30, kind31, info32, kind32, kind33, kind35, kind5A, unread, kinds, kindOf}
-use Rattle.cut_grammar.specs.Cut.{named, cutAt, blockOf, tapAt}
-use Rattle.cut_grammar.proofs.Layouts.{Ends, ends, none, short, wide, stuck, forward}
+use Rattle.cut_grammar.specs.Cut.{takenAs, cutAt, tapBlock, tapAt}
+use Rattle.cut_grammar.proofs.Layouts.{forward}
 use Rattle.cut_grammar.proofs.Cutting.{cut-there, cut-inside}
 use Rattle.cut_grammar.proofs.Others.{Every, no-more, _&_, found-every, unnamed}
+use Rattle.cut_grammar.specs.Ends.{Ends, ends, none, short, wide, stuck}
 use Rattle.load_source.specs.Source.{full}
 use Rattle.load_source.proofs.Rest.{cut-fit}
 use Rattle.law_every_load.specs.Sizes.{Bytes, Range, Numbers, Sized}
@@ -205,8 +206,8 @@ module _ (s : List ℕ) (at : ℕ) {k a next : ℕ} {piece : Piece} (e : cutAt s
 
   -- a piece is named by its own byte and place
   pub cut-named : cutAt s at full ≡ taken.Whole (getD s at 0) at next piece
-  unfolding named
-  cut-named = cut-there s at full (cut-inside s at full e) ∙ ap (named (getD s at 0) at) body
+  unfolding takenAs
+  cut-named = cut-there s at full (cut-inside s at full e) ∙ ap (takenAs (getD s at 0) at) body
 
   -- WHAT A CUT PIECE IS
   pub cut-sized : Bytes s → Sized s piece
@@ -222,10 +223,10 @@ data GivesTap (most : ℕ) : TakenTap → Type 0 where
   too-few : {p w : ℕ} → GivesTap most (tap.Short p w)
 
 tap-gives : (s : List ℕ) → Bytes s → (at : ℕ) → GivesTap (length s) (tapAt s at)
-unfolding tapAt blockOf
+unfolding tapAt tapBlock
 tap-gives s b at = by-cases (leb (length s) at) (eqb (at + 1) (length s)) (countedAt s (At at) 2 .cursor) refl
   where
-    by-cases : (t u : Bool) (d : Cursor) → countedAt s (At at) 2 .cursor ≡ d → GivesTap (length s) (t ⇒ tap.End ∣ u ⇒ tap.Lone ∣ blockOf (countedAt s (At at) 2) d)
+    by-cases : (t u : Bool) (d : Cursor) → countedAt s (At at) 2 .cursor ≡ d → GivesTap (length s) (t ⇒ tap.End ∣ u ⇒ tap.Lone ∣ tapBlock (countedAt s (At at) 2) d)
     by-cases true u d q = end
     by-cases false true d q = lone
     by-cases false false (At e) q = block (counted-range s b (At at) 2 q (le-refl (length s)))

@@ -10,8 +10,9 @@ use Rattle.law_base.specs.Rules.{_⇒_, _∣_}
 use Rattle.cut_grammar.specs.declared.Piece.{Piece}
 use Rattle.load_state.specs.declared.Pending.{Pending}
 use Rattle.load_state.specs.declared.Pending.the-variants.{First, Text}
-use Rattle.load_state.specs.Parser.{Tape, on}
-use Rattle.load_state.proofs.Kept.{Sure, sure, none, All, all-also, members, keeps-pend, keeps-end, keeps-open, keeps-close}
+use Rattle.load_state.specs.Parser.{Parsed, on}
+use Rattle.load_state.proofs.Kept.{all-also, members, keeps-pend, keeps-end, keeps-open, keeps-close}
+use Rattle.load_state.specs.Kept.{Sure, sure, none, All}
 use Rattle.load_blocks.specs.declared.Origin.{Origin}
 use Rattle.load_blocks.specs.Adds.{Lent}
 use Rattle.load_blocks.specs.Sounds.{Sound, originAt, addSounds}
@@ -20,7 +21,8 @@ use Rattle.load_source.specs.Meaning.{deedOf}
 use Rattle.load_source.specs.Source.{act}
 use Rattle.law_every_load.specs.Made.{OfPiece, of, Brought, Pends}
 use Rattle.law_every_load.specs.OfSource.{From, sourceTable}
-use Rattle.law_every_load.proofs.Keeps.{Keeps, sounds-keep}
+use Rattle.law_every_load.specs.Keeps.{Invariant}
+use Rattle.law_every_load.proofs.Keeps.{sounds-keep}
 
 -- a deed of sounds with M and a name with Q
 pub record Of (M : Sound → Origin → Type 0) (Q : Pending → Type 0) (origin : Origin) (d : Deed) : Type 0 where
@@ -28,8 +30,8 @@ pub record Of (M : Sound → Origin → Type 0) (Q : Pending → Type 0) (origin
   pub name : Q (brings d)
 
 -- any deed
-pub does-keeps : {lent : Lent} {M : Sound → Origin → Type 0} {Q : Pending → Type 0} {K : Tape → Type 0} → Keeps lent M Q K
-    → (model : ℕ) (origin : Origin) (d : Deed) → Of M Q origin d → (t : Tape) → K t → Sure K (does lent model origin d t)
+pub does-keeps : {lent : Lent} {M : Sound → Origin → Type 0} {Q : Pending → Type 0} {K : Parsed → Type 0} → Invariant lent M Q K
+    → (model : ℕ) (origin : Origin) (d : Deed) → Of M Q origin d → (t : Parsed) → K t → Sure K (does lent model origin d t)
 unfolding does soundsOf brings
 does-keeps {lent} {K = K} k model origin (adding only48 ds) f t h = by-cases (only48 && not (eqb model 0))
   where
@@ -57,8 +59,8 @@ brought f panics e = tt
 brought f (errs n) e = tt
 
 -- any piece
-pub act-keeps : {lent : Lent} {s : List ℕ} {K : Tape → Type 0} → Keeps lent (OfPiece (sourceTable s)) (Pends (sourceTable s)) K
-    → (model at : ℕ) (piece : Piece) → From s at piece → (t : Tape) → K t → Sure K (act lent s model (originAt (getD s at 0) at) piece t)
+pub act-keeps : {lent : Lent} {s : List ℕ} {K : Parsed → Type 0} → Invariant lent (OfPiece (sourceTable s)) (Pends (sourceTable s)) K
+    → (model at : ℕ) (piece : Piece) → From s at piece → (t : Parsed) → K t → Sure K (act lent s model (originAt (getD s at 0) at) piece t)
 unfolding act
 act-keeps {s = s} k model at piece f t h =
     does-keeps k model (originAt (getD s at 0) at) (deedOf s piece) (record { sounds = all-also (λ d m. of f m) (members (soundsOf (deedOf s piece))); name = brought f (deedOf s piece) refl }) t h

@@ -8,13 +8,14 @@ use Rattle.law_base.specs.Rules.{_⇒_, _∣_}
 use Rattle.cut_fields.specs.Field.{leAt}
 use Rattle.cut_fields.proofs.Le.{le-small}
 use Rattle.rows.specs.declared.Tone.{Tone}
-use Rattle.rows.proofs.WellLaws.{Halves}
+use Rattle.rows.specs.Well.{Halves}
 use Rattle.cut_grammar.specs.declared.GeneralizedData.{GeneralizedData}
 use Rattle.load_general.specs.declared.Row.{Row}
 use Rattle.load_general.specs.declared.Row.the-variants.{Refused, Gives}
 use Rattle.load_general.specs.General as general
-use Rattle.load_general.specs.General.{Symbol, symbolAt, Part, before, rowsFrom, cycles, entrySymbol, entryRepeat, entryRow, pilotOf, ordinary, lastBits, numberAt, singleRow, pairRow, singlesOf, pairsOf, dataOf, withData, withPilot, generalOf}
-use Rattle.load_state.proofs.Kept.{All, nil, cons, all-append}
+use Rattle.load_general.specs.General.{Symbol, symbolAt, Part, before, rowsFrom, cycles, entrySymbol, entryRepeat, entryRow, pilotOf, ordinary, usedBits, symbolNumber, singleRow, pairRow, singlesOf, pairsOf, dataPart, withData, withPilot, generalOf}
+use Rattle.load_state.proofs.Kept.{all-append}
+use Rattle.load_state.specs.Kept.{All, nil, cons}
 use Rattle.law_every_load.specs.Sizes.{Bytes}
 
 -- rows, parts and pieces of which every tone is small
@@ -95,15 +96,15 @@ module _ (s : List ℕ) (b : Bytes s) where
     single-fine : (i : ℕ) → FineRow (singleRow s g i)
     unfolding singleRow
     single-fine i =
-        let n = numberAt s g (i * g .nb) 0 in
+        let n = symbolNumber s g (i * g .nb) 0 in
         either-row (leb (g .asd) n) FineRow.refused
         (gives (record { num = omega arith; len1 = first-small (g .symbols) (g .npd) n; len2 = second-small (g .symbols) (g .npd) n; wave = omega arith }))
 
     pair-fine : (i : ℕ) → FineRow (pairRow s g i)
     unfolding pairRow
     pair-fine i =
-        let n = numberAt s g (2 * i * g .nb) 0 in
-        let m = numberAt s g (2 * i * g .nb) 1 in
+        let n = symbolNumber s g (2 * i * g .nb) 0 in
+        let m = symbolNumber s g (2 * i * g .nb) 1 in
         either-row (leb (g .asd) n) FineRow.refused
         (either-row (leb (g .asd) m) FineRow.refused
         (gives (record { num = omega arith; len1 = first-small (g .symbols) (g .npd) n; len2 = first-small (g .symbols) (g .npd) m; wave = omega arith })))
@@ -115,8 +116,8 @@ module _ (s : List ℕ) (b : Bytes s) where
         (either-part (eqb (g .npp) 1 || eqb (g .npp) 2) (rows-fine entry-fine 0 (g .totp))
         (either-part (leb (g .asp) (entrySymbol s g 0)) FinePart.refused stops))
 
-    data-fine : FinePart (dataOf s g)
-    unfolding dataOf singlesOf pairsOf
+    data-fine : FinePart (dataPart s g)
+    unfolding dataPart singlesOf pairsOf
     data-fine =
         either-part (eqb (g .totd) 0) FinePart.refused
         (either-part (leb 8 (g .nb)) FinePart.refused
@@ -130,7 +131,7 @@ module _ (s : List ℕ) (b : Bytes s) where
     parts-fine stops = stop
     parts-fine (small {ts = ts} h) = by-cases (ltb 0 (g .totd) && ordinary s g)
       where
-        by-cases : (t : Bool) → Fine (t ⇒ general.plain ts (symbolAt s (g .symbols) 2 0 .first) (symbolAt s (g .symbols) 2 1 .first) (lastBits (g .totd)) ∣ withData ts (dataOf s g))
+        by-cases : (t : Bool) → Fine (t ⇒ general.plain ts (symbolAt s (g .symbols) 2 0 .first) (symbolAt s (g .symbols) 2 1 .first) (usedBits (g .totd)) ∣ withData ts (dataPart s g))
         by-cases true = plain h (first-small (g .symbols) 2 0) (first-small (g .symbols) 2 1)
         by-cases false = with-fine h data-fine
 

@@ -9,29 +9,30 @@ use mathlib.Core.Logic.{⊎-elim}
 use lib.ListN.{length, getD, length-replicate}
 use lib.Dec.{eqb}
 use borrow.Author.Tests.{le-leb, le-ltb, eq-eqb}
-use Rattle.law_base.specs.Numbers.{lt-or-ge}
+use Rattle.law_base.proofs.Numbers.{lt-or-ge}
 use Rattle.rows.specs.declared.Block.{Block}
 use Rattle.rows.specs.declared.Tone.{Tone}
 use Rattle.rows.specs.Table.{Codec, get, tableOf, zeros, capacityOf}
 use Rattle.rows.specs.Rows.{tone, block, toneMost}
-use Rattle.rows.specs.Well.{wellTone, wellTones, wellRanges, wellLast, wellNumbers, wellCases, wellBlock}
+use Rattle.rows.specs.Well.{wellTone, wellTones, wellRanges, wellLast, wellNumbers, wellCases, wellBlock, Halves}
 use Rattle.rows.proofs.Tables.{over-length, get-row}
-use Rattle.rows.proofs.WellLaws.{Halves}
-use Rattle.load_state.specs.Parser.{Tape}
+use Rattle.load_state.specs.Parser.{Parsed}
 use Rattle.load_state.specs.Holds.{toneRoom, blockRoom}
-use Rattle.load_state.proofs.Kept.{All, all-get, all-both}
+use Rattle.load_state.proofs.Kept.{all-get, all-both}
+use Rattle.load_state.specs.Kept.{All}
 use Rattle.load_blocks.specs.Does.{lentOf}
 use Rattle.load_source.specs.Source.{loadOf}
 use Rattle.text_name.specs.Names.{nameAll}
 use Rattle.text_name.proofs.Selecting.{name-all-length}
-use Rattle.play_entries.specs.Mounted.{tapeOf, overfull, sizeOf, wellRow}
+use Rattle.play_entries.specs.Mounted.{tapeOf, overfull, tapeSize, wellRow}
 use Rattle.law_every_load.specs.Sizes.{Bytes}
-use Rattle.law_every_load.specs.Made.{tonesIn, Row}
+use Rattle.law_every_load.specs.Made.{tonesIn, RowOver}
 use Rattle.law_every_load.specs.OfSource.{Reads}
+use Rattle.law_every_load.specs.Formed.{Formed}
 use Rattle.law_every_load.proofs.Rows.{own-count, own-tone}
 use Rattle.law_every_load.proofs.Every.{every-read, every-row}
-use Rattle.law_every_load.proofs.Formed.{Formed, formed}
-use Rattle.law_every_load.proofs.Room.{Within, Bits, load-within, read-bits, load-bits, load-length}
+use Rattle.law_every_load.proofs.Formed.{every-formed}
+use Rattle.law_every_load.proofs.Room.{Within, FewBits, load-within, read-bits, load-bits, load-length}
 
 -- a table of N words that hold the rows is N words
 pub table-length : {R : Type 0} (C : Codec R) (rs : List R) (N : ℕ) → length rs * C .width ≤ N → length (tableOf C rs N) ≡ N
@@ -51,7 +52,7 @@ tones-well tones from (suc n) h =
     tones-well tones (from + 1) n (λ i k. let e : from + suc i ≡ from + 1 + i = omega arith in rw e at (h (suc i) (omega arith))) in
     rw (z, l)
 
-last-well : (r : Block) → Bits r → wellLast r ≡ true
+last-well : (r : Block) → FewBits r → wellLast r ≡ true
 last-well r h =
     ⊎-elim
     (λ (k : 0 < r .size). rw (le-leb (r .last) 8 (h k)) (or-true (eqb (r .size) 0)))
@@ -60,7 +61,7 @@ last-well r h =
 
 module _ (s : List ℕ) (all : List Tone) (N : ℕ) (room : length all ≤ toneRoom N) where
   -- a formed row over tones of the table is well formed
-  row-well : (r : Block) → Row (Formed s) all r → Bits r → wellBlock (length s) (tableOf tone all N) r ≡ true
+  row-well : (r : Block) → RowOver (Formed s) all r → FewBits r → wellBlock (length s) (tableOf tone all N) r ≡ true
   unfolding wellBlock wellRanges wellNumbers wellCases
   row-well r h b =
       let f = h .has in
@@ -85,23 +86,23 @@ module _ (B : ℕ) (s tones : List ℕ) (rows : List Block) where
   unfolding wellRow
   table-well m all i h =
       let d = get block (tableOf block rows B) i in
-      let z : sizeOf s ≡ length s = omega arith in
+      let z : tapeSize s ≡ length s = omega arith in
       let g : get block (tableOf block rows B) i ≡ getD rows i d = get-row block rows (zeros B) i d h in
       ap (λ (n : ℕ). wellBlock n tones d) z ∙ ap (wellBlock (length s) tones) g ∙ all-get all i d h
 
 -- what a load of B and N words read, its names given out
-module _ (B N : ℕ) (s : List ℕ) (model : ℕ) {t : Tape} (b : Bytes s) (r : Reads (loadOf (lentOf B N) s model) t) where
+module _ (B N : ℕ) (s : List ℕ) (model : ℕ) {t : Parsed} (b : Bytes s) (r : Reads (loadOf (lentOf B N) s model) t) where
   within : Within (lentOf B N) t
   within = load-within (lentOf B N) s model b r
 
   -- EVERY ROW, before and after names are given out
   pub read-well : All (λ q. wellBlock (length s) (tableOf tone (t .tones) N) q ≡ true) (t .blocks)
   read-well =
-      all-both (row-well s (t .tones) N (within .tones)) (every-read (lentOf B N) s model (formed s b) b r) (read-bits (lentOf B N) s model b r)
+      all-both (row-well s (t .tones) N (within .tones)) (every-read (lentOf B N) s model (every-formed s b) b r) (read-bits (lentOf B N) s model b r)
 
   pub every-well : All (λ q. wellBlock (length s) (tableOf tone (t .tones) N) q ≡ true) (nameAll s false (t .blocks))
   every-well =
-      all-both (row-well s (t .tones) N (within .tones)) (every-row (lentOf B N) s model (formed s b) b r) (load-bits (lentOf B N) s model b r)
+      all-both (row-well s (t .tones) N (within .tones)) (every-row (lentOf B N) s model (every-formed s b) b r) (load-bits (lentOf B N) s model b r)
 
   -- THE COUNT FITS THE TABLE
   pub loaded-fits : overfull (tapeOf s (tableOf tone (t .tones) N) (tableOf block (nameAll s false (t .blocks)) B) (length (t .blocks))) ≡ false

@@ -5,8 +5,9 @@ use mathlib.Core.List.{List}
 use lib.ListN.{length}
 use Rattle.rows.specs.declared.Block.{Block}
 use Rattle.rows.specs.declared.Tone.{Tone}
-use Rattle.load_state.specs.Parser.{Tape}
-use Rattle.load_state.proofs.Kept.{All, all-also}
+use Rattle.load_state.specs.Parser.{Parsed}
+use Rattle.load_state.proofs.Kept.{all-also}
+use Rattle.load_state.specs.Kept.{All}
 use Rattle.load_blocks.specs.Adds.{Lent}
 use Rattle.load_source.specs.Source.{loadOf}
 use Rattle.text_name.specs.Names.{nameAll}
@@ -24,5 +25,5 @@ any s = record {
   lasts = record { naming = λ mark case text chars ts r g h. tt; pausing = λ ts r h. tt; passing = λ ts r h. tt };
 }
 
-pub rows-within : (lent : Lent) (s : List ℕ) (model : ℕ) {t : Tape} → Bytes s → Reads (loadOf lent s model) t → All (λ r. r .tone + r .tones ≤ length (t .tones)) (nameAll s false (t .blocks))
+pub rows-within : (lent : Lent) (s : List ℕ) (model : ℕ) {t : Parsed} → Bytes s → Reads (loadOf lent s model) t → All (λ r. r .tone + r .tones ≤ length (t .tones)) (nameAll s false (t .blocks))
 rows-within lent s model b r = all-also (λ q h. h .inside) (every-row lent s model (any s) b r)

@@ -40,18 +40,18 @@ Pends T (pending.Later from size) = Brought T (pending.First from size)
 Pends T (pending.Text from size) = Brought T (pending.Text from size)
 
 -- a name that a block can be given: its mark, its case, its place and length; a copy's is none
-pub data Given (T : Table) : ℕ → ℕ → ℕ → ℕ → Type 0 where
-  none : Given T 0 0 0 0
-  first : {from size : ℕ} → Brought T (pending.First from size) → Given T 1 3 from size
-  later : {from size : ℕ} → Brought T (pending.First from size) → Given T 0 4 from size
-  text : {from size : ℕ} → Brought T (pending.Text from size) → Given T 1 2 from size
+pub data GivenName (T : Table) : ℕ → ℕ → ℕ → ℕ → Type 0 where
+  none : GivenName T 0 0 0 0
+  first : {from size : ℕ} → Brought T (pending.First from size) → GivenName T 1 3 from size
+  later : {from size : ℕ} → Brought T (pending.First from size) → GivenName T 0 4 from size
+  text : {from size : ℕ} → Brought T (pending.Text from size) → GivenName T 1 2 from size
 
 -- a row's own tone rows
 abbrev pub tonesIn : List Tone → Block → List Tone
 tonesIn all r = take (r .tones) (drop (r .tone) all)
 
 -- a row over tone rows of the table, of which P holds
-pub record Row (P : List Tone → Block → Type 0) (all : List Tone) (r : Block) : Type 0 where
+pub record RowOver (P : List Tone → Block → Type 0) (all : List Tone) (r : Block) : Type 0 where
   pub inside : r .tone + r .tones ≤ length all
   pub has : P (tonesIn all r) r
 
@@ -60,6 +60,6 @@ abbrev pub Births : Table → (List Tone → Block → Type 0) → Type 0
 Births T P = (origin : Origin) (d : Sound) (tone : ℕ) → OfPiece T d origin → P (d .tones) (rowOf origin d tone)
 
 pub record Lasts (T : Table) (P : List Tone → Block → Type 0) : Type 0 where
-  pub naming : (mark case text chars : ℕ) (ts : List Tone) (r : Block) → Given T mark case text chars → P ts r → P ts (renamed mark case text chars r)
+  pub naming : (mark case text chars : ℕ) (ts : List Tone) (r : Block) → GivenName T mark case text chars → P ts r → P ts (renamed mark case text chars r)
   pub pausing : (ts : List Tone) (r : Block) → P ts r → P ts (paused r)
   pub passing : (ts : List Tone) (r : Block) → P ts r → P ts (unselected r)

@@ -10,11 +10,11 @@ use Rattle.cut_grammar.specs.declared.Taken.the-variants.{Whole}
 use Rattle.cut_grammar.specs.declared.TakenTap.the-variants as tap
 use Rattle.cut_grammar.specs.Cut.{cutAt, tapAt}
 use Rattle.load_state.specs.declared.Pending.the-variants.{Nothing}
-use Rattle.load_state.specs.Parser.{Tape}
-use Rattle.load_blocks.specs.Blocks.{isHeader, standardPause, standardSound}
+use Rattle.load_state.specs.Parser.{Parsed}
+use Rattle.load_blocks.specs.Blocks.{standardHeader, standardPause, standardSound}
 use Rattle.load_blocks.specs.Deeds.{soundsOf, brings}
 use Rattle.load_source.specs.Meaning.{deedOf}
-use Rattle.load_source.specs.Source.{full, tapKind, Loaded, tzx, tapped}
+use Rattle.load_source.specs.Source.{full, tapKind, Load, tzx, tapped}
 use Rattle.law_every_load.specs.Sizes.{Range, Sized}
 use Rattle.law_every_load.specs.Made.{Table, Births, Lasts}
 
@@ -34,21 +34,21 @@ sourceTable s = record {
 }
 
 -- a block of the tape read as TAP: where its data stand
-pub record Data : Type 0 where
+pub record TapData : Type 0 where
   pub from : ℕ
   pub size : ℕ
 
-pub record FromTap (s : List ℕ) (at : ℕ) (d : Data) : Type 0 where
+pub record FromTap (s : List ℕ) (at : ℕ) (d : TapData) : Type 0 where
   pub next : ℕ
   pub cut : tapAt s at ≡ tap.Block (d .from) (d .size) next
   pub range : Range (length s) 65536 (d .from) (d .size)
 
 abbrev pub tapTable : List ℕ → Table
 tapTable s = record {
-  Piece = Data;
+  Piece = TapData;
   Cut = FromTap s;
   kind = λ at. tapKind;
-  sounds = λ d. let header = isHeader s (d .from) (d .size) in standardSound header (d .from) (d .size) (standardPause header) ∷ [];
+  sounds = λ d. let header = standardHeader s (d .from) (d .size) in standardSound header (d .from) (d .size) (standardPause header) ∷ [];
   brings = λ d. Nothing;
 }
 
@@ -59,6 +59,6 @@ pub record Everywhere (s : List ℕ) (P : List Tone → Block → Type 0) : Type
   pub lasts : Lasts (sourceTable s) P
 
 -- a load that was not refused, and the tape that it read
-pub data Reads : Loaded → Tape → Type 0 where
-  as-tzx : {t : Tape} → Reads (tzx t) t
-  as-tap : {t : Tape} → Reads (tapped t) t
+pub data Reads : Load → Parsed → Type 0 where
+  as-tzx : {t : Parsed} → Reads (tzx t) t
+  as-tap : {t : Parsed} → Reads (tapped t) t

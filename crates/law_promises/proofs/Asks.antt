@@ -9,7 +9,7 @@ use mathlib.Core.List.{List, _++_}
 use lib.Dec.{leb, ltb, eqb}
 use lib.ListN.{length, drop}
 use Rattle.law_base.specs.Rules.{_⇒_, _∣_}
-use Rattle.law_base.specs.Tests.{first, second}
+use Rattle.law_base.proofs.Tests.{first, second}
 use Rattle.refusals.specs.Refusals.{noBlock, noRoom, badRow}
 use Rattle.law_pulses.specs.Play.{Status, standing, stopped, ended, time, comesTo}
 use Rattle.law_pulses.specs.Source.{isEnded}

@@ -10,7 +10,7 @@ use lib.ListN.{length}
 use lib.Dec.{ltb, eqb}
 use Rattle.refusals.specs.Refusals.{generalised, tonesFull, blocksFull}
 use Rattle.law_base.specs.Rules.{_⇒_, _∣_}
-use Rattle.law_base.specs.Tests.{first, second}
+use Rattle.law_base.proofs.Tests.{first, second}
 use Rattle.rows.specs.declared.Block.{Block}
 use Rattle.cut_grammar.specs.declared.GeneralizedData.{GeneralizedData}
 use Rattle.cut_grammar.specs.declared.Piece.{Piece}
@@ -25,23 +25,23 @@ use Rattle.cut_grammar.proofs.CuttingTap.{tap-forward}
 use Rattle.load_general.specs.General as general
 use Rattle.load_state.specs.declared.Halt.{Halt}
 use Rattle.load_state.specs.declared.Halt.the-variants.{Refusal, Length}
-use Rattle.load_state.specs.Parser.{Tape, Out, on, no as halt, pend, endGroup, openLoop, closeLoop}
+use Rattle.load_state.specs.Parser.{Parsed, Out, on, no as halt, pend, endGroup, openLoop, closeLoop}
 use Rattle.load_blocks.specs.declared.Origin.{Origin}
 use Rattle.load_blocks.specs.Sounds.{originAt, addSound}
-use Rattle.load_blocks.specs.Blocks.{isHeader, standardPause, standardSound, stopSound}
+use Rattle.load_blocks.specs.Blocks.{standardHeader, standardPause, standardSound, stopSound}
 use Rattle.load_blocks.specs.Adds.{Lent}
 use Rattle.load_blocks.specs.Deeds as deed
 use Rattle.load_blocks.specs.Deeds.{Deed, adding, adds48, groups, texts, groupEnds, opens, closes, panics, generalDeed, stop48Deed, does as enact}
 use Rattle.load_source.specs.Meaning.{deedOf}
-use Rattle.load_source.specs.Source.{See, refuses, thing, Read, done, refused, act, halted, tooManyBits, tapKind, full, tzxOf, tzxSee, tapOf, tapSee}
+use Rattle.load_source.specs.Source.{See, refuses, thing, Verdict, done, refused, act, halted, tooManyBits, tapKind, full, tzxOf, tzxSee, tapOf, tapSee}
 use Rattle.load_source.proofs.Rest.{tzx-stops, tzx-sees, sees-piece, tap-stops}
-use Rattle.law_every_load.proofs.Refusals.{Says, goes, says, fails, either, sounds-say, closed-says}
-use Rattle.law_promises.specs.Numbers.{Comes, here, past, Due, ends, errs, stands, answers, Panics, before, within, Lacks, Needs, needs, Overlong, this, later, Judged}
+use Rattle.law_every_load.proofs.Refusals.{HaltsBy, goes, says, fails, either, sounds-say, closed-says}
+use Rattle.law_promises.specs.Numbers.{Comes, here, past, Due, ends, errs, stands, answers, Panics, before, within, Lacks, Needs, needs, Overlong, this, later, OverlongAt, Bounded}
 use Rattle.law_promises.proofs.Lacking.{lacks-no, sound-lacks, act-lacks}
-use Rattle.law_promises.proofs.Runs.{Bounded, comes-map}
+use Rattle.law_promises.proofs.Runs.{comes-map}
 
 -- a block is not refused by 4
-never-four : {A : Type 0} {o : Out} → Says tonesFull blocksFull o → o ≡ halt (Refusal generalised) → A
+never-four : {A : Type 0} {o : Out} → HaltsBy tonesFull blocksFull o → o ≡ halt (Refusal generalised) → A
 never-four goes e = let z : _≡_ {A = ℕ} 0 1 = cc in absurd (omega arith)
 never-four (says {k = k} b) e = let z : k ≡ generalised = cc in absurd (omega (arith, b .low))
 never-four fails e = let z : _≡_ {A = ℕ} 0 1 = cc in absurd (omega arith)
@@ -52,13 +52,13 @@ unfolding halted
 halted-by (Refusal j) k e = let z : j ≡ k = cc in ap Refusal z
 halted-by (Length n) k e = let z : _≡_ {A = ℕ} 0 1 = cc in absurd (omega arith)
 
-halted-never : (j : Halt) {u : Tape} → halted j ≡ done u → ⊥
+halted-never : (j : Halt) {u : Parsed} → halted j ≡ done u → ⊥
 unfolding halted
 halted-never (Refusal j) e = let z : _≡_ {A = ℕ} 0 1 = cc in omega arith
 halted-never (Length n) e = let z : _≡_ {A = ℕ} 0 1 = cc in omega arith
 
 -- what lacks rows is refused
-needs-due : (lent : Lent) {see : ℕ → See} {k at : ℕ} {t : Tape} → Needs see lent k at t → Due see (refused k) at t
+needs-due : (lent : Lent) {see : ℕ → See} {k at : ℕ} {t : Parsed} → Needs see lent k at t → Due see (refused k) at t
 unfolding halted
 needs-due lent {k = k} (needs e l) = answers {k = Refusal k} e (lacks-no lent l)
 
@@ -79,9 +79,9 @@ data Refused4 (s : List ℕ) : Piece → Type 0 where
 
 module _ (lent : Lent) (s : List ℕ) (model : ℕ) where
   -- only `panics` is refused by 4, and only a 19 of the table is `panics`
-  does-four : (origin : Origin) (d : Deed) (t : Tape) → enact lent model origin d t ≡ halt (Refusal generalised) → panicking d ≡ true
+  does-four : (origin : Origin) (d : Deed) (t : Parsed) → enact lent model origin d t ≡ halt (Refusal generalised) → panicking d ≡ true
   unfolding enact panicking pend endGroup openLoop closeLoop
-  does-four origin (adding only48 ds) t e = never-four (either (Says tonesFull blocksFull) (only48 && not (eqb model 0)) goes (sounds-say lent origin ds t)) e
+  does-four origin (adding only48 ds) t e = never-four (either (HaltsBy tonesFull blocksFull) (only48 && not (eqb model 0)) goes (sounds-say lent origin ds t)) e
   does-four origin (groups from size) t e = never-four goes e
   does-four origin (texts from size) t e = never-four goes e
   does-four origin groupEnds t e = never-four goes e
@@ -125,16 +125,16 @@ module _ (lent : Lent) (s : List ℕ) (model : ℕ) where
   deed-four (Custom id from size) e = calm e
   deed-four Glue e = calm e
 
-  act-four : (origin : Origin) (p : Piece) (t : Tape) → act lent s model origin p t ≡ halt (Refusal generalised) → Refused4 s p
+  act-four : (origin : Origin) (p : Piece) (t : Parsed) → act lent s model origin p t ≡ halt (Refusal generalised) → Refused4 s p
   unfolding act
   act-four origin p t e = deed-four p (does-four origin (deedOf s p) t e)
 
   -- a thing of a TZX: a piece, or a kind not named
-  data Thing (at next : ℕ) (does : Tape → Out) : Type 0 where
+  data Thing (at next : ℕ) (does : Parsed → Out) : Type 0 where
     whole : {kind from : ℕ} {piece : Piece} → cutAt s at full ≡ taken.Whole kind from next piece → does ≡ act lent s model (originAt kind from) piece → Thing at next does
     skip : next ≡ at + 1 → does ≡ on → Thing at next does
 
-  tzx-thing : (at next : ℕ) (does : Tape → Out) → tzxSee lent s model at ≡ thing next does → Thing at next does
+  tzx-thing : (at next : ℕ) (does : Parsed → Out) → tzxSee lent s model at ≡ thing next does → Thing at next does
   unfolding tzxSee tzxOf
   tzx-thing at next does e = of (cutAt s at full) refl e
     where
@@ -149,7 +149,7 @@ module _ (lent : Lent) (s : List ℕ) (model : ℕ) where
       of (taken.Overflow kind p) q f = let z : _≡_ {A = ℕ} 0 1 = cc in absurd (omega arith)
 
   -- a refusal that stands in a TZX
-  tzx-stands : (at k : ℕ) (t : Tape) → tzxSee lent s model at ≡ refuses k → (k ≡ generalised) × Panics s at t
+  tzx-stands : (at k : ℕ) (t : Parsed) → tzxSee lent s model at ≡ refuses k → (k ≡ generalised) × Panics s at t
   unfolding tzxSee tzxOf
   tzx-stands at k t e = of (cutAt s at full) refl e
     where
@@ -163,31 +163,31 @@ module _ (lent : Lent) (s : List ℕ) (model : ℕ) where
   pub tzx-bounded : Bounded (length s) (tzxSee lent s model)
   tzx-bounded = record { stops = tzx-stops lent s model; moves = λ at next does e. of at next does (tzx-thing at next does e) }
     where
-      of : (at next : ℕ) (does : Tape → Out) → Thing at next does → at < next
+      of : (at next : ℕ) (does : Parsed → Out) → Thing at next does → at < next
       of at next does (whole q d) = cut-forward s at full q .0
       of at next does (skip z d) = omega arith
 
   -- 4
-  due-four : {r : Read} {at : ℕ} {t : Tape} → Due (tzxSee lent s model) r at t → r ≡ refused generalised → Panics s at t
+  due-four : {r : Verdict} {at : ℕ} {t : Parsed} → Due (tzxSee lent s model) r at t → r ≡ refused generalised → Panics s at t
   due-four (ends e) f = let z : _≡_ {A = ℕ} 0 1 = cc in absurd (omega arith)
   due-four (errs e) f = let z : _≡_ {A = ℕ} 0 1 = cc in absurd (omega arith)
   due-four (stands {at = at} {k = k} {t = t} e) f = tzx-stands at k t e .1
   due-four (answers {at = at} {next = next} {k = k} {does = does} {t = t} e d) f = of (tzx-thing at next does e) (d ∙ ap halt (halted-by k generalised f))
     where
       of : Thing at next does → does t ≡ halt (Refusal generalised) → Panics s at t
-      of (whole {piece = piece} q x) y = by-piece piece q (act-four _ piece t (ap (λ (h : Tape → Out). h t) (sym x) ∙ y))
+      of (whole {piece = piece} q x) y = by-piece piece q (act-four _ piece t (ap (λ (h : Parsed → Out). h t) (sym x) ∙ y))
         where
           by-piece : {kind from : ℕ} (p : Piece) → cutAt s at full ≡ taken.Whole kind from next p → Refused4 s p → Panics s at t
           by-piece p c (is h) = within c h
-      of (skip q x) y = let u : on t ≡ halt (Refusal generalised) = ap (λ (h : Tape → Out). h t) (sym x) ∙ y in let z : _≡_ {A = ℕ} 0 1 = cc in absurd (omega arith)
+      of (skip q x) y = let u : on t ≡ halt (Refusal generalised) = ap (λ (h : Parsed → Out). h t) (sym x) ∙ y in let z : _≡_ {A = ℕ} 0 1 = cc in absurd (omega arith)
 
-  four-due : {at : ℕ} {t : Tape} → Panics s at t → Due (tzxSee lent s model) (refused generalised) at t
+  four-due : {at : ℕ} {t : Parsed} → Panics s at t → Due (tzxSee lent s model) (refused generalised) at t
   unfolding tzxOf act deedOf generalDeed enact halted
   four-due {at} (before q) = stands (tzx-sees lent s model at (sym q))
   four-due {at} {t} (within {kind = kind} {from = from} {g = g} q e) = answers {k = Refusal generalised} (sees-piece lent s model at (sym q)) (ap (λ (x : general.Given). enact lent model (originAt kind from) (generalDeed g x) t) e)
 
   -- 5 and 6
-  due-needs : (k : ℕ) → tonesFull ≤ k → {r : Read} {at : ℕ} {t : Tape} → Due (tzxSee lent s model) r at t → r ≡ refused k → Needs (tzxSee lent s model) lent k at t
+  due-needs : (k : ℕ) → tonesFull ≤ k → {r : Verdict} {at : ℕ} {t : Parsed} → Due (tzxSee lent s model) r at t → r ≡ refused k → Needs (tzxSee lent s model) lent k at t
   due-needs k h (ends e) f = let z : _≡_ {A = ℕ} 0 1 = cc in absurd (omega arith)
   due-needs k h (errs e) f = let z : _≡_ {A = ℕ} 0 1 = cc in absurd (omega arith)
   due-needs k h (stands {at = at} {k = j} {t = t} e) f = let z : j ≡ k = cc in absurd (omega (arith, tzx-stands at j t e .0))
@@ -195,24 +195,24 @@ module _ (lent : Lent) (s : List ℕ) (model : ℕ) where
     where
       of : Thing at next does → does t ≡ halt (Refusal k) → Lacks lent k does t
       of (whole {piece = piece} q x) y =
-          subst (λ (f : Tape → Out). Lacks lent k f t) (sym x) (act-lacks lent s model k h _ piece t (ap (λ (f : Tape → Out). f t) (sym x) ∙ y))
-      of (skip q x) y = let u : on t ≡ halt (Refusal k) = ap (λ (f : Tape → Out). f t) (sym x) ∙ y in let z : _≡_ {A = ℕ} 0 1 = cc in absurd (omega arith)
+          subst (λ (f : Parsed → Out). Lacks lent k f t) (sym x) (act-lacks lent s model k h _ piece t (ap (λ (f : Parsed → Out). f t) (sym x) ∙ y))
+      of (skip q x) y = let u : on t ≡ halt (Refusal k) = ap (λ (f : Parsed → Out). f t) (sym x) ∙ y in let z : _≡_ {A = ℕ} 0 1 = cc in absurd (omega arith)
 
-  pub panics-due : (at : ℕ) (t : Tape) → Due (tzxSee lent s model) (refused generalised) at t ↔ Panics s at t
+  pub panics-due : (at : ℕ) (t : Parsed) → Due (tzxSee lent s model) (refused generalised) at t ↔ Panics s at t
   panics-due at t = (λ d. due-four d refl, λ p. four-due p)
 
-  pub piece-due : (k : ℕ) → tonesFull ≤ k → (at : ℕ) (t : Tape) → Due (tzxSee lent s model) (refused k) at t ↔ Needs (tzxSee lent s model) lent k at t
+  pub piece-due : (k : ℕ) → tonesFull ≤ k → (at : ℕ) (t : Parsed) → Due (tzxSee lent s model) (refused k) at t ↔ Needs (tzxSee lent s model) lent k at t
   piece-due k h at t = (λ d. due-needs k h d refl, λ p. needs-due lent p)
 
 -- a TAP's things are blocks
 module _ (lent : Lent) (s : List ℕ) where
-  abbrev blockDoes : ℕ → ℕ → ℕ → Tape → Out
-  blockDoes at from size = addSound lent (originAt tapKind at) (standardSound (isHeader s from size) from size (standardPause (isHeader s from size)))
+  abbrev blockDoes : ℕ → ℕ → ℕ → Parsed → Out
+  blockDoes at from size = addSound lent (originAt tapKind at) (standardSound (standardHeader s from size) from size (standardPause (standardHeader s from size)))
 
-  data TapThing (at next : ℕ) (does : Tape → Out) : Type 0 where
+  data TapThing (at next : ℕ) (does : Parsed → Out) : Type 0 where
     is-block : {from size : ℕ} → tapAt s at ≡ tap.Block from size next → does ≡ blockDoes at from size → TapThing at next does
 
-  tap-thing : (at next : ℕ) (does : Tape → Out) → tapSee lent s at ≡ thing next does → TapThing at next does
+  tap-thing : (at next : ℕ) (does : Parsed → Out) → tapSee lent s at ≡ thing next does → TapThing at next does
   unfolding tapSee tapOf
   tap-thing at next does e = of (tapAt s at) refl e
     where
@@ -238,10 +238,10 @@ module _ (lent : Lent) (s : List ℕ) where
   pub tap-bounded : Bounded (length s) (tapSee lent s)
   tap-bounded = record { stops = tap-stops lent s; moves = λ at next does e. of at next does (tap-thing at next does e) }
     where
-      of : (at next : ℕ) (does : Tape → Out) → TapThing at next does → at < next
+      of : (at next : ℕ) (does : Parsed → Out) → TapThing at next does → at < next
       of at next does (is-block q d) = omega (arith, tap-forward s at q .0)
 
-  due-tap : (k : ℕ) {r : Read} {at : ℕ} {t : Tape} → Due (tapSee lent s) r at t → r ≡ refused k → Needs (tapSee lent s) lent k at t
+  due-tap : (k : ℕ) {r : Verdict} {at : ℕ} {t : Parsed} → Due (tapSee lent s) r at t → r ≡ refused k → Needs (tapSee lent s) lent k at t
   due-tap k (ends e) f = let z : _≡_ {A = ℕ} 0 1 = cc in absurd (omega arith)
   due-tap k (errs e) f = let z : _≡_ {A = ℕ} 0 1 = cc in absurd (omega arith)
   due-tap k (stands {at = at} {k = j} e) f = absurd (tap-stands at j e)
@@ -249,9 +249,9 @@ module _ (lent : Lent) (s : List ℕ) where
     where
       of : TapThing at next does → does t ≡ halt (Refusal k) → Lacks lent k does t
       of (is-block q x) y =
-          subst (λ (f : Tape → Out). Lacks lent k f t) (sym x) (sound-lacks lent k _ _ t (ap (λ (f : Tape → Out). f t) (sym x) ∙ y))
+          subst (λ (f : Parsed → Out). Lacks lent k f t) (sym x) (sound-lacks lent k _ _ t (ap (λ (f : Parsed → Out). f t) (sym x) ∙ y))
 
-  pub block-due : (k at : ℕ) (t : Tape) → Due (tapSee lent s) (refused k) at t ↔ Needs (tapSee lent s) lent k at t
+  pub block-due : (k at : ℕ) (t : Parsed) → Due (tapSee lent s) (refused k) at t ↔ Needs (tapSee lent s) lent k at t
   block-due k at t = (λ d. due-tap k d refl, λ p. needs-due lent p)
 
 -- 7: a block with data has last bits above 8
@@ -275,18 +275,18 @@ long-bits (later {r = r} {rs = rs} h) = of (ltb 0 (r .size) && ltb 8 (r .last)) 
 
 module _ (lent : Lent) (s : List ℕ) (model : ℕ) where
   -- a tape that is read whole and judged
-  abbrev Late : ℕ → Tape → Type 0
-  Late at t = (u : Tape) × (tooManyBits (u .blocks) ≡ true) × Comes (tzxSee lent s model) (Due (tzxSee lent s model) (done u)) at t
+  abbrev Late : ℕ → Parsed → Type 0
+  Late at t = (u : Parsed) × (tooManyBits (u .blocks) ≡ true) × Comes (tzxSee lent s model) (Due (tzxSee lent s model) (done u)) at t
 
-  late-judged : {u : Tape} → tooManyBits (u .blocks) ≡ true → {r : Read} {at : ℕ} {t : Tape} → Due (tzxSee lent s model) r at t → r ≡ done u → Judged lent s model at t
-  late-judged {u} b (ends {t = t} e) f = let z : t ≡ u = cc in record { whole = e; bits = bits-long _ (ap (λ (x : Tape). tooManyBits (x .blocks)) z ∙ b) }
+  late-judged : {u : Parsed} → tooManyBits (u .blocks) ≡ true → {r : Verdict} {at : ℕ} {t : Parsed} → Due (tzxSee lent s model) r at t → r ≡ done u → OverlongAt lent s model at t
+  late-judged {u} b (ends {t = t} e) f = let z : t ≡ u = cc in record { whole = e; bits = bits-long _ (ap (λ (x : Parsed). tooManyBits (x .blocks)) z ∙ b) }
   late-judged b (errs e) f = let z : _≡_ {A = ℕ} 0 1 = cc in absurd (omega arith)
   late-judged b (stands e) f = let z : _≡_ {A = ℕ} 0 1 = cc in absurd (omega arith)
   late-judged b (answers {k = k} e d) f = absurd (halted-never k f)
 
-  judged-late : {at : ℕ} {t : Tape} → Comes (tzxSee lent s model) (Judged lent s model) at t → Late at t
+  judged-late : {at : ℕ} {t : Parsed} → Comes (tzxSee lent s model) (OverlongAt lent s model) at t → Late at t
   judged-late (here {t = t} j) = (t, long-bits (j .bits), here (ends (j .whole)))
   judged-late (past e d c) = let x = judged-late c in (x .0, x .1, past e d (x .2))
 
-  pub end-due : (at : ℕ) (t : Tape) → Late at t ↔ Comes (tzxSee lent s model) (Judged lent s model) at t
+  pub end-due : (at : ℕ) (t : Parsed) → Late at t ↔ Comes (tzxSee lent s model) (OverlongAt lent s model) at t
   end-due at t = (λ x. comes-map (λ p u d. late-judged (x .1) d refl) (x .2), λ c. judged-late c)

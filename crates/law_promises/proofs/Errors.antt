@@ -12,17 +12,17 @@ use Rattle.cut_grammar.specs.declared.Heading.{Heading}
 use Rattle.cut_grammar.specs.declared.Heading.the-variants as heading
 use Rattle.cut_grammar.specs.Cut.{headAt}
 use Rattle.load_state.specs.declared.Halt.the-variants.{Refusal, Length}
-use Rattle.load_state.specs.Parser.{Tape, empty}
+use Rattle.load_state.specs.Parser.{Parsed, empty}
 use Rattle.load_blocks.specs.Adds.{Lent}
 use Rattle.load_source.specs.declared.Failure.{Failure}
 use Rattle.load_source.specs.declared.Failure.the-variants as failure
-use Rattle.load_source.specs.Source.{See, Read, done, failed, refused, foldFrom, tooManyBits, judged, tzxSee, headed, readTzx, tapSee, readTap, halted}
+use Rattle.load_source.specs.Source.{See, Verdict, done, failed, refused, foldFrom, tooManyBits, bitsJudged, tzxSee, headed, readTzx, tapSee, readTap, halted}
 use Rattle.law_promises.specs.Numbers.{Errs, Headed, Comes, here, past, Due, ends, errs, stands, answers, ByTzx, ByTap, Bad, short, length48}
 use Rattle.law_promises.proofs.Runs.{comes-map, run-due}
 use Rattle.law_promises.proofs.Loads.{tzx-headed}
 use Rattle.law_promises.proofs.Dues.{tzx-bounded, tap-bounded}
 
-due-bad : {see : ℕ → See} {r : Read} {f : Failure} {at : ℕ} {t : Tape} → Due see r at t → r ≡ failed f → Bad see at t
+due-bad : {see : ℕ → See} {r : Verdict} {f : Failure} {at : ℕ} {t : Parsed} → Due see r at t → r ≡ failed f → Bad see at t
 unfolding halted
 due-bad (ends e) q = let z : _≡_ {A = ℕ} 0 1 = cc in absurd (omega arith)
 due-bad (errs e) q = short e
@@ -30,15 +30,15 @@ due-bad (stands e) q = let z : _≡_ {A = ℕ} 0 1 = cc in absurd (omega arith)
 due-bad (answers {k = Refusal j} e d) q = let z : _≡_ {A = ℕ} 0 1 = cc in absurd (omega arith)
 due-bad (answers {k = Length n} e d) q = length48 e d
 
-bad-due : {see : ℕ → See} {at : ℕ} {t : Tape} → Comes see (Bad see) at t → (f : Failure) × Comes see (Due see (failed f)) at t
+bad-due : {see : ℕ → See} {at : ℕ} {t : Parsed} → Comes see (Bad see) at t → (f : Failure) × Comes see (Due see (failed f)) at t
 unfolding halted
 bad-due (here (short {f = f} e)) = (f, here (errs e))
 bad-due (here (length48 {n = n} e d)) = (failure.Length n, here (answers {k = Length n} e d))
 bad-due (past e d c) = let x = bad-due c in (x .0, past e d (x .1))
 
 -- judging alters no error
-judged-bad : (r : Read) {f : Failure} → judged r ≡ failed f → r ≡ failed f
-unfolding judged
+judged-bad : (r : Verdict) {f : Failure} → bitsJudged r ≡ failed f → r ≡ failed f
+unfolding bitsJudged
 judged-bad (done t) {f} e = of (tooManyBits (t .blocks)) e
   where
     of : (b : Bool) → (b ⇒ refused lastBits ∣ done t) ≡ failed f → done t ≡ failed f
@@ -63,10 +63,10 @@ module _ (lent : Lent) (s : List ℕ) where
 
     -- TZX: a short read or bad signature is an error
     pub tzx-errs : Errs (readTzx lent s model) ↔ ((Headed s → ⊥) ⊎ ByTzx lent s model (Bad (tzxSee lent s model)))
-    unfolding readTzx headed judged
+    unfolding readTzx headed bitsJudged
     tzx-errs = (
       λ x. of (headAt s) refl (x .0) (x .1),
-      λ h. ⊎-elim (λ n. none (headAt s) refl n) (λ x. let y = bad-due (x .1) in (y .0, tzx-headed lent s model (x .0) ∙ ap judged (run (y .0) .1 (y .1)))) h,
+      λ h. ⊎-elim (λ n. none (headAt s) refl n) (λ x. let y = bad-due (x .1) in (y .0, tzx-headed lent s model (x .0) ∙ ap bitsJudged (run (y .0) .1 (y .1)))) h,
     )
       where
         of : (h : Heading) → headAt s ≡ h → (f : Failure) → headed lent s model h ≡ failed f → (Headed s → ⊥) ⊎ ByTzx lent s model (Bad (tzxSee lent s model))

@@ -7,32 +7,32 @@ use mathlib.Core.Bool.{true, false}
 use mathlib.Core.List.{List, [], _∷_}
 use lib.ListN.{replicate}
 use Rattle.cut_fields.specs.Field.{leAt, numberAt, fieldAt, placeOf}
-use Rattle.law_pulses.specs.Play.{time, comesTo, low, high, answer, rest, over, shown as shownAt, status}
+use Rattle.law_pulses.specs.Play.{time, comesTo, low, high, answer, rest, over, statusHere, status}
 use Rattle.law_pulses.specs.Runs.{run}
-use Rattle.rows.specs.Table.{over as tableOver}
+use Rattle.rows.specs.Table.{tableOver}
 use Rattle.rows.specs.Well.{wellRanges, wellTone, wellNumbers, wellCases, wellTones, wellBlock}
 use Rattle.rows.proofs.Samples.{rowWords}
 use Rattle.cut_grammar.specs.Grammar.{countedAt}
-use Rattle.cut_grammar.specs.Cut.{startsAt, headAt, blockOf, tapAt}
+use Rattle.cut_grammar.specs.Cut.{startsAt, headAt, tapBlock, tapAt}
 use Rattle.load_state.specs.Parser.{empty, _⟫_, addTones, addBlock}
 use Rattle.load_blocks.specs.Sounds.{rowOf, addSound}
-use Rattle.load_blocks.specs.Blocks.{isHeader, standardCycles, standardTones, standardPause, standardSound}
+use Rattle.load_blocks.specs.Blocks.{standardHeader, standardCycles, standardTones, standardPause, standardSound}
 use Rattle.load_blocks.specs.Adds.{addRows}
-use Rattle.load_source.specs.Source.{after, seeing, foldFrom, headed, readTzx, tapOf, tapSee, readTap, orTap, orElse, loadOf}
+use Rattle.load_source.specs.Source.{readOn, seeing, foldFrom, headed, readTzx, tapOf, tapSee, readTap, orTap, orElse, loadOf}
 use Rattle.text_out.specs.Out.{decimal, digits}
-use Rattle.text_name.specs.Names.{isHeader as isHeading, sizeShown, sizeName, guessed, nameOf, unselected, passed, nameAll}
+use Rattle.text_name.specs.Names.{isHeader, sizeShown, sizeName, guessed, nameOf, unselected, nameOne, nameAll}
 use Rattle.play_entries.specs.declared.Phase.the-variants.{Tones}
 use Rattle.play_entries.specs.declared.Duration.{Duration}
 use Rattle.play_entries.specs.declared.Duration.the-variants.{T, Endless}
-use Rattle.play_entries.specs.Entries.{entryOf, cyclesOf, isSingle, startLevel, cycleLevel, bitLevel, edged, pauseLevel, toneOf, tonesOf as toneEntries, dataOf, pauseOf, soundOf, entriesOf, lastsOf}
+use Rattle.play_entries.specs.Entries.{entryOf, cyclesOf, isSingle, startLevel, cycleLevel, bitLevel, edged, pauseLevel, toneOf, tonesOf, dataOf, pauseOf, soundOf, entriesOf, lastsOf}
 use Rattle.play_entries.specs.Places.{Tape, listFrom, levelAt, fromPause, fromEdge, fromSecond, fromByte, fromTone, fromCycle, leftAt, hasEntry, lengthAt, remains, valid, headOf, leftOf}
 use Rattle.play_entries.specs.Mounted.{wellRow, firstBad, formed, tapeOf}
-use Rattle.load_tape.specs.Load.{namedTape, named, loadNamed, blocksOf, tonesOf}
+use Rattle.load_tape.specs.Load.{namedTape, namedLoad, loadNamed, blockTable, toneTable}
 use Rattle.play_walk.specs.declared.Position.{Position}
 use Rattle.play_walk.specs.declared.Reached.the-variants.{At, Ended}
-use Rattle.play_walk.specs.Heads.{startAt, stand, placed, levelHere, restLevel, toldAs, told, walked, walkFrom}
+use Rattle.play_walk.specs.Heads.{startAt, stand, placed, levelHere, restLevel, toldAs, toldReached, walked, walkFrom}
 use Rattle.play_deck.specs.Deck.{ruledOut, illFormed, judged, unless, playMeasured}
-use Rattle.play_deck.proofs.Answers.{positionIn, passedIn}
+use Rattle.play_deck.specs.Calls.{positionIn, passedIn}
 use Rattle.text_shown.specs.Shown.{shown}
 use Rattle.text_lines.specs.Lines.{timeText, markText, rowText, rowsText}
 use Rattle.text_page.specs.Page.{modelText, formatText, countText, loadingText, restText, listingText}
@@ -40,7 +40,7 @@ use Rattle.listing.specs.Listing.{loadedOf, Listing, mounted, listed, listingOf
 
 -- an empty tape is listed in 37 bytes, and `00 00` in 67
 lists : (answerTo (listingOf [] 0) (replicate 99 0) ≡ 37) × (answerTo (listingOf (0 ∷ 0 ∷ []) 0) (replicate 99 0) ≡ 67)
-unfolding countedAt comesTo leAt numberAt fieldAt placeOf startsAt headAt blockOf tapAt empty _⟫_ addTones addBlock rowOf isHeader standardCycles standardTones standardSound standardPause addRows addSound after seeing foldFrom headed readTzx tapOf tapSee readTap orTap orElse loadOf decimal digits isHeading sizeShown sizeName guessed nameOf unselected passed nameAll namedTape named loadNamed blocksOf tonesOf tableOver time run entryOf cyclesOf isSingle startLevel cycleLevel bitLevel edged pauseLevel toneOf toneEntries dataOf pauseOf soundOf entriesOf lastsOf listFrom shown timeText markText rowText rowsText modelText formatText countText loadingText restText listingText loadedOf mounted listed listingOf answerTo
+unfolding countedAt comesTo leAt numberAt fieldAt placeOf startsAt headAt tapBlock tapAt empty _⟫_ addTones addBlock rowOf standardHeader standardCycles standardTones standardSound standardPause addRows addSound readOn seeing foldFrom headed readTzx tapOf tapSee readTap orTap orElse loadOf decimal digits isHeader sizeShown sizeName guessed nameOf unselected nameOne nameAll namedTape namedLoad loadNamed blockTable toneTable tableOver time run entryOf cyclesOf isSingle startLevel cycleLevel bitLevel edged pauseLevel toneOf tonesOf dataOf pauseOf soundOf entriesOf lastsOf listFrom shown timeText markText rowText rowsText modelText formatText countText loadingText restText listingText loadedOf mounted listed listingOf answerTo
 lists = (refl, refl)
 
 -- refusing all tapes
@@ -61,7 +61,7 @@ two = tapeOf [] (2 ∷ 100 ∷ 100 ∷ 0 ∷ []) (rowWords (0 ∷ 1 ∷ 0 ∷ 0 
 plays : (playMeasured two (startAt 0) 99 ≡ At (stand (placed 0 (Tones 0 0 false) (T 1)) 1 low))
     × (playMeasured two (placed 0 (Tones 0 0 false) (T 1)) 1 ≡ At (stand (placed 0 (Tones 0 0 true) (T 100)) 1 high))
     × (playMeasured two (startAt 7) 99 ≡ Ended (stand (startAt 1) 0 low))
-unfolding playMeasured unless judged ruledOut illFormed wellRow wellBlock wellRanges wellNumbers wellCases wellTones wellTone valid hasEntry remains lengthAt walkFrom walked formed firstBad told toldAs levelHere restLevel headOf leftOf answer rest over shownAt status leftAt fromCycle fromTone fromByte levelAt fromPause fromEdge fromSecond listFrom entriesOf soundOf toneEntries toneOf cyclesOf isSingle startLevel cycleLevel bitLevel edged pauseLevel dataOf pauseOf entryOf run
+unfolding playMeasured unless judged ruledOut illFormed wellRow wellBlock wellRanges wellNumbers wellCases wellTones wellTone valid hasEntry remains lengthAt walkFrom walked formed firstBad toldReached toldAs levelHere restLevel headOf leftOf answer rest over statusHere status leftAt fromCycle fromTone fromByte levelAt fromPause fromEdge fromSecond listFrom entriesOf soundOf tonesOf toneOf cyclesOf isSingle startLevel cycleLevel bitLevel edged pauseLevel dataOf pauseOf entryOf run
 plays = (refl, refl, refl)
 
 leftIn : Duration → ℕ

@@ -13,12 +13,12 @@ use Rattle.rows.specs.declared.Tone.{Tone}
 use Rattle.cut_grammar.specs.declared.GeneralizedData.{GeneralizedData}
 use Rattle.load_general.specs.declared.Row.{Row}
 use Rattle.load_general.specs.declared.Row.the-variants.{Refused, Gives}
-use Rattle.load_general.specs.General.{Symbol, toneOf, dataSymbol, Part, refused, stops, tones, refused4, plain, before, rowsFrom, cycles, symbolAt, entrySymbol, entryRepeat, entryRow, pilotOf, ordinary, lastBits, numberAt, singleRow, pairRow, singlesOf, pairsOf, dataOf, withData, withPilot, generalOf}
+use Rattle.load_general.specs.General.{Symbol, plainTone, dataSymbol, Part, refused, stops, tones, refused4, plain, before, rowsFrom, cycles, symbolAt, entrySymbol, entryRepeat, entryRow, pilotOf, ordinary, usedBits, symbolNumber, singleRow, pairRow, singlesOf, pairsOf, dataPart, withData, withPilot, generalOf}
 use Rattle.law_promises.specs.Four.{BadEntry, symbol, repeat, BadPilot, entry, first, BadData, none, eight, no-bits, no-bits-paired, single, pair, Four}
 
 -- a row of a part that is refused
-pub data Bad (row : ℕ → Row) (from n : ℕ) : Type 0 where
-  bad : {j : ℕ} → from ≤ j → j < from + n → row j ≡ Refused → Bad row from n
+pub data RowRefused (row : ℕ → Row) (from n : ℕ) : Type 0 where
+  bad : {j : ℕ} → from ≤ j → j < from + n → row j ≡ Refused → RowRefused row from n
 
 before-refused : (x : Row) (rest : Part) → before x rest ≡ refused → (x ≡ Refused) ⊎ (rest ≡ refused)
 unfolding before
@@ -37,13 +37,13 @@ before-later Refused e = refl
 before-later (Gives t) e = ap (before (Gives t)) e
 
 -- a part is refused where, and only where, one of its rows is
-rows-bad : (row : ℕ → Row) (i n : ℕ) → rowsFrom row i n ≡ refused → Bad row i n
+rows-bad : (row : ℕ → Row) (i n : ℕ) → rowsFrom row i n ≡ refused → RowRefused row i n
 unfolding rowsFrom
 rows-bad row i zero e = absurd (let z : _≡_ {A = ℕ} 0 1 = cc in omega arith)
 rows-bad row i (suc n) e =
     ⊎-elim (λ h. bad {j = i} (omega arith) (omega arith) h) (λ h. further (rows-bad row (i + 1) n h)) (before-refused (row i) (rowsFrom row (i + 1) n) e)
   where
-    further : Bad row (i + 1) n → Bad row i (suc n)
+    further : RowRefused row (i + 1) n → RowRefused row i (suc n)
     further (bad {j} a b r) = bad {j = j} (omega (arith, a)) (omega (arith, b)) r
 
 bad-rows : (row : ℕ → Row) (i n j : ℕ) → i ≤ j → j < i + n → row j ≡ Refused → rowsFrom row i n ≡ refused
@@ -64,7 +64,7 @@ differ e = let z : _≡_ {A = ℕ} 1 0 = ap (λ (t : Bool). t ⇒ 0 ∣ 1) e in 
 module _ (s : List ℕ) (g : GeneralizedData) where
   cycles-bad : (y : Symbol) (n : ℕ) → cycles y n ≡ Refused → (y .second ≡ 0) × (n ≡ 65535)
   unfolding cycles
-  cycles-bad y n e = at-second (toneOf ((n + 1) / 2) (y .first) (y .first)) (toneOf n (y .first) (y .second)) (eqb (y .second) 0) refl (eqb n 65535) refl e
+  cycles-bad y n e = at-second (plainTone ((n + 1) / 2) (y .first) (y .first)) (plainTone n (y .first) (y .second)) (eqb (y .second) 0) refl (eqb n 65535) refl e
     where
       at-second : (t u : Tone) (a : Bool) → eqb (y .second) 0 ≡ a → (b : Bool) → eqb n 65535 ≡ b
           → (a ⇒ (b ⇒ Refused ∣ Gives t) ∣ Gives u) ≡ Refused → (y .second ≡ 0) × (n ≡ 65535)
@@ -117,7 +117,7 @@ module _ (s : List ℕ) (g : GeneralizedData) where
       by-cases true p b q c r h = absurd (let z : _≡_ {A = ℕ} 0 1 = cc in omega arith)
       by-cases false p true q c r h = of-row (rows-bad (entryRow s g) 0 (g .totp) h)
         where
-          of-row : Bad (entryRow s g) 0 (g .totp) → BadPilot s g
+          of-row : RowRefused (entryRow s g) 0 (g .totp) → BadPilot s g
           of-row (bad {j} x y z) = entry {i = j} (one-or-two q) (omega (arith, y)) (entry-bad j z)
       by-cases false p false q true r h = let n = neither q in first (n .0) (n .1) (omega (arith, eqb-false (g .totp) 0 p)) (leb-true _ _ r)
       by-cases false p false q false r h = absurd (let z : _≡_ {A = ℕ} 0 1 = cc in omega arith)
@@ -128,29 +128,29 @@ module _ (s : List ℕ) (g : GeneralizedData) where
   bad-pilot (first n m p h) = rw (ne-eqb (g .totp) 0 (omega (arith, p)), ne-eqb (g .npp) 1 n, ne-eqb (g .npp) 2 m, le-leb _ _ h)
 
   -- a data symbol, a pair of them
-  single-bad : (i : ℕ) → singleRow s g i ≡ Refused → g .asd ≤ numberAt s g (i * g .nb) 0
+  single-bad : (i : ℕ) → singleRow s g i ≡ Refused → g .asd ≤ symbolNumber s g (i * g .nb) 0
   unfolding singleRow
-  single-bad i e = by-cases (toneOf 1 (dataSymbol s g (numberAt s g (i * g .nb) 0) .first) (dataSymbol s g (numberAt s g (i * g .nb) 0) .second)) (leb (g .asd) (numberAt s g (i * g .nb) 0)) refl e
+  single-bad i e = by-cases (plainTone 1 (dataSymbol s g (symbolNumber s g (i * g .nb) 0) .first) (dataSymbol s g (symbolNumber s g (i * g .nb) 0) .second)) (leb (g .asd) (symbolNumber s g (i * g .nb) 0)) refl e
     where
-      by-cases : (t : Tone) (a : Bool) → leb (g .asd) (numberAt s g (i * g .nb) 0) ≡ a → (a ⇒ Refused ∣ Gives t) ≡ Refused → g .asd ≤ numberAt s g (i * g .nb) 0
+      by-cases : (t : Tone) (a : Bool) → leb (g .asd) (symbolNumber s g (i * g .nb) 0) ≡ a → (a ⇒ Refused ∣ Gives t) ≡ Refused → g .asd ≤ symbolNumber s g (i * g .nb) 0
       by-cases t true p h = leb-true _ _ p
       by-cases t false p h = absurd (let z : _≡_ {A = ℕ} 0 1 = cc in omega arith)
 
-  bad-single : (i : ℕ) → g .asd ≤ numberAt s g (i * g .nb) 0 → singleRow s g i ≡ Refused
+  bad-single : (i : ℕ) → g .asd ≤ symbolNumber s g (i * g .nb) 0 → singleRow s g i ≡ Refused
   unfolding singleRow
   bad-single i h = rw (le-leb _ _ h)
 
   abbrev pairTone : ℕ → Tone
-  pairTone i = toneOf 1 (dataSymbol s g (numberAt s g (2 * i * g .nb) 0) .first) (dataSymbol s g (numberAt s g (2 * i * g .nb) 1) .first)
+  pairTone i = plainTone 1 (dataSymbol s g (symbolNumber s g (2 * i * g .nb) 0) .first) (dataSymbol s g (symbolNumber s g (2 * i * g .nb) 1) .first)
 
   abbrev Either : ℕ → Type 0
-  Either i = (g .asd ≤ numberAt s g (2 * i * g .nb) 0) ⊎ (g .asd ≤ numberAt s g (2 * i * g .nb) 1)
+  Either i = (g .asd ≤ symbolNumber s g (2 * i * g .nb) 0) ⊎ (g .asd ≤ symbolNumber s g (2 * i * g .nb) 1)
 
   pair-bad : (i : ℕ) → pairRow s g i ≡ Refused → Either i
   unfolding pairRow
-  pair-bad i e = by-cases (leb (g .asd) (numberAt s g (2 * i * g .nb) 0)) refl (leb (g .asd) (numberAt s g (2 * i * g .nb) 1)) refl e
+  pair-bad i e = by-cases (leb (g .asd) (symbolNumber s g (2 * i * g .nb) 0)) refl (leb (g .asd) (symbolNumber s g (2 * i * g .nb) 1)) refl e
     where
-      by-cases : (a : Bool) → leb (g .asd) (numberAt s g (2 * i * g .nb) 0) ≡ a → (b : Bool) → leb (g .asd) (numberAt s g (2 * i * g .nb) 1) ≡ b
+      by-cases : (a : Bool) → leb (g .asd) (symbolNumber s g (2 * i * g .nb) 0) ≡ a → (b : Bool) → leb (g .asd) (symbolNumber s g (2 * i * g .nb) 1) ≡ b
           → (a ⇒ Refused ∣ b ⇒ Refused ∣ Gives (pairTone i)) ≡ Refused → Either i
       by-cases true p b q h = inl (leb-true _ _ p)
       by-cases false p true q h = inr (leb-true _ _ q)
@@ -159,9 +159,9 @@ module _ (s : List ℕ) (g : GeneralizedData) where
   bad-pair : (i : ℕ) → Either i → pairRow s g i ≡ Refused
   unfolding pairRow
   bad-pair i (inl h) = rw (le-leb _ _ h)
-  bad-pair i (inr h) = by-cases (leb (g .asd) (numberAt s g (2 * i * g .nb) 0))
+  bad-pair i (inr h) = by-cases (leb (g .asd) (symbolNumber s g (2 * i * g .nb) 0))
     where
-      by-cases : (a : Bool) → (a ⇒ Refused ∣ leb (g .asd) (numberAt s g (2 * i * g .nb) 1) ⇒ Refused ∣ Gives (pairTone i)) ≡ Refused
+      by-cases : (a : Bool) → (a ⇒ Refused ∣ leb (g .asd) (symbolNumber s g (2 * i * g .nb) 1) ⇒ Refused ∣ Gives (pairTone i)) ≡ Refused
       by-cases true = refl
       by-cases false = rw (le-leb _ _ h)
 
@@ -169,7 +169,7 @@ module _ (s : List ℕ) (g : GeneralizedData) where
   unfolding singlesOf
   singles-bad n e = by-cases (eqb (g .nb) 0) refl e
     where
-      of-row : Bad (singleRow s g) 0 (g .totd) → BadData s g
+      of-row : RowRefused (singleRow s g) 0 (g .totd) → BadData s g
       of-row (bad {j} x y z) = single {i = j} n (omega (arith, y)) (single-bad j z)
 
       by-cases : (a : Bool) → eqb (g .nb) 0 ≡ a → (a ⇒ refused ∣ rowsFrom (singleRow s g) 0 (g .totd)) ≡ refused → BadData s g
@@ -180,7 +180,7 @@ module _ (s : List ℕ) (g : GeneralizedData) where
   unfolding pairsOf
   pairs-bad n e = by-cases (eqb (g .nb) 0) refl (ltb 1 (g .totd)) refl e
     where
-      of-row : Bad (pairRow s g) 0 (g .totd / 2) → BadData s g
+      of-row : RowRefused (pairRow s g) 0 (g .totd / 2) → BadData s g
       of-row (bad {j} x y z) = pair {i = j} n (omega (arith, y)) (pair-bad j z)
 
       by-cases : (a : Bool) → eqb (g .nb) 0 ≡ a → (b : Bool) → ltb 1 (g .totd) ≡ b → ((a && b) ⇒ refused ∣ rowsFrom (pairRow s g) 0 (g .totd / 2)) ≡ refused → BadData s g
@@ -188,8 +188,8 @@ module _ (s : List ℕ) (g : GeneralizedData) where
       by-cases true p false q h = of-row (rows-bad (pairRow s g) 0 (g .totd / 2) h)
       by-cases false p b q h = of-row (rows-bad (pairRow s g) 0 (g .totd / 2) h)
 
-  data-bad : dataOf s g ≡ refused → BadData s g
-  unfolding dataOf
+  data-bad : dataPart s g ≡ refused → BadData s g
+  unfolding dataPart
   data-bad e = by-cases (eqb (g .totd) 0) refl (leb 8 (g .nb)) refl (eqb (g .npd) 2) refl (eqb (g .npd) 1) refl e
     where
       by-cases : (a : Bool) → eqb (g .totd) 0 ≡ a → (b : Bool) → leb 8 (g .nb) ≡ b → (c : Bool) → eqb (g .npd) 2 ≡ c → (d : Bool) → eqb (g .npd) 1 ≡ d
@@ -209,16 +209,16 @@ module _ (s : List ℕ) (g : GeneralizedData) where
       by-cases false true = refl
       by-cases false false = e
 
-  two-data : g .npd ≡ 2 → singlesOf s g ≡ refused → dataOf s g ≡ refused
-  unfolding dataOf
+  two-data : g .npd ≡ 2 → singlesOf s g ≡ refused → dataPart s g ≡ refused
+  unfolding dataPart
   two-data n e = data-by (eqb (g .npd) 2 ⇒ singlesOf s g ∣ eqb (g .npd) 1 ⇒ pairsOf s g ∣ stops) (rw (eq-eqb (g .npd) 2 n) e)
 
-  one-data : g .npd ≡ 1 → pairsOf s g ≡ refused → dataOf s g ≡ refused
-  unfolding dataOf
+  one-data : g .npd ≡ 1 → pairsOf s g ≡ refused → dataPart s g ≡ refused
+  unfolding dataPart
   one-data n e = data-by (eqb (g .npd) 2 ⇒ singlesOf s g ∣ eqb (g .npd) 1 ⇒ pairsOf s g ∣ stops) (rw (ne-eqb (g .npd) 2 (omega (arith, n)), eq-eqb (g .npd) 1 n) e)
 
-  bad-data : BadData s g → dataOf s g ≡ refused
-  unfolding dataOf singlesOf pairsOf
+  bad-data : BadData s g → dataPart s g ≡ refused
+  unfolding dataPart singlesOf pairsOf
   bad-data (none e) = rw (eq-eqb _ _ e)
   bad-data (eight h) = by-cases (eqb (g .totd) 0)
     where
@@ -256,9 +256,9 @@ module _ (s : List ℕ) (g : GeneralizedData) where
   general-bad stops p e = absurd (let z : _≡_ {A = ℕ} 0 1 = cc in omega arith)
   general-bad (tones ps) p e = by-cases (ltb 0 (g .totd) && ordinary s g) refl e
     where
-      by-cases : (a : Bool) → (ltb 0 (g .totd) && ordinary s g) ≡ a → (a ⇒ plain ps (symbolAt s (g .symbols) 2 0 .first) (symbolAt s (g .symbols) 2 1 .first) (lastBits (g .totd)) ∣ withData ps (dataOf s g)) ≡ refused4 → Four s g
+      by-cases : (a : Bool) → (ltb 0 (g .totd) && ordinary s g) ≡ a → (a ⇒ plain ps (symbolAt s (g .symbols) 2 0 .first) (symbolAt s (g .symbols) 2 1 .first) (usedBits (g .totd)) ∣ withData ps (dataPart s g)) ≡ refused4 → Four s g
       by-cases true q h = absurd (let z : _≡_ {A = ℕ} 0 1 = cc in omega arith)
-      by-cases false q h = inr (record { rows = ps; pilot = p; other = q }, data-bad (with-bad ps (dataOf s g) h))
+      by-cases false q h = inr (record { rows = ps; pilot = p; other = q }, data-bad (with-bad ps (dataPart s g) h))
 
   bad-general : Four s g → generalOf s g ≡ refused4
   unfolding generalOf withPilot withData

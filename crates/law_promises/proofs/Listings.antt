@@ -11,17 +11,17 @@ use lib.Dec.{leb, ltb}
 use Rattle.text_out.specs.Out.{fits}
 use Rattle.law_base.specs.Rules.{_⇒_, _∣_}
 use Rattle.refusals.specs.Refusals.{badModel, tapeLong, tapeBad, lastBits, noRoom}
-use Rattle.load_source.specs.Source.{Loaded as Load, tzx, tapped, no}
+use Rattle.load_source.specs.Source.{Load, tzx, tapped, no}
 use Rattle.load_tape.specs.declared.Loaded.the-variants.{Refused}
 use Rattle.load_tape.specs.Load.{answerOf}
 use Rattle.listing.specs.Listing.{loadedOf, Listing, text, refused, listed, listingOf, answerTo}
-use Rattle.listing.proofs.Numbers.{Sized, long, small, listing-sized}
+use Rattle.listing.proofs.Numbers.{TextOrNo, long, small, listing-sized}
 use Rattle.law_promises.specs.Numbers.{Admitted}
 use Rattle.law_promises.proofs.Loads.{Ways, by-model, by-size, by-rest, ways, ways-back}
 use Rattle.law_promises.proofs.Numbers.{given-1, given-2}
 
 -- the number that the host gets, of a refusal and of a text
-sized-no : (out : List ℕ) (k : ℕ) → k ≤ lastBits → {l : Listing} → Sized l → (answerTo l out ≡ k) ↔ (l ≡ refused k)
+sized-no : (out : List ℕ) (k : ℕ) → k ≤ lastBits → {l : Listing} → TextOrNo l → (answerTo l out ≡ k) ↔ (l ≡ refused k)
 unfolding answerTo
 sized-no out k m (long {t = t} h) = (λ e. absurd (of (fits t out) e), λ e. let z : _≡_ {A = ℕ} 0 1 = cc in absurd (omega arith))
   where
@@ -30,7 +30,7 @@ sized-no out k m (long {t = t} h) = (λ e. absurd (of (fits t out) e), λ e. let
     of false e = absurd (omega arith)
 sized-no out k m (small {k = j} a b) = (λ e. ap refused e, λ e. let z : j ≡ k = cc in z)
 
-sized-10 : (out : List ℕ) {l : Listing} → Sized l → (answerTo l out ≡ noRoom) ↔ ((t : List ℕ) × (l ≡ text t) × (length out < length t))
+sized-10 : (out : List ℕ) {l : Listing} → TextOrNo l → (answerTo l out ≡ noRoom) ↔ ((t : List ℕ) × (l ≡ text t) × (length out < length t))
 unfolding answerTo
 sized-10 out (long {t = t} h) = (λ e. (t, refl, of (fits t out) refl e), λ x. let e = x .1 in let z : t ≡ x .0 = cc in let y : length t ≡ length (x .0) = ap length z in rw (lt-leb (length t) (length out) (omega (arith, x .2, y))))
   where

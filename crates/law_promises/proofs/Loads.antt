@@ -10,26 +10,26 @@ use lib.ListN.{length}
 use lib.Dec.{leb, ltb}
 use Rattle.law_base.specs.Rules.{_⇒_, _∣_}
 use Rattle.refusals.specs.Refusals.{badModel, tapeLong, tapeBad, generalised, tonesFull, blocksFull, lastBits}
-use Rattle.load_state.specs.Parser.{empty, Tape}
+use Rattle.load_state.specs.Parser.{empty, Parsed}
 use Rattle.cut_grammar.specs.declared.Heading.{Heading}
 use Rattle.cut_grammar.specs.declared.Heading.the-variants as heading
 use Rattle.cut_grammar.specs.Cut.{headAt}
 use Rattle.load_blocks.specs.Adds.{Lent}
-use Rattle.load_source.specs.Source.{Read, done, failed, refused, foldFrom, tooManyBits, judged, tzxSee, headed, readTzx, readTap, Loaded, tzx, tapped, no, orTap, orElse, loadOf}
+use Rattle.load_source.specs.Source.{Verdict, done, failed, refused, foldFrom, tooManyBits, bitsJudged, tzxSee, headed, readTzx, readTap, Load, tzx, tapped, no, orTap, orElse, loadOf}
 use Rattle.load_tape.specs.declared.Loaded.the-variants.{Refused}
-use Rattle.load_tape.specs.Load.{named, loadNamed, answerOf}
+use Rattle.load_tape.specs.Load.{namedLoad, loadNamed, answerOf}
 use Rattle.law_every_load.proofs.Refusals.{Between, Tells, whole, fails, tells, pieces-tell, tzx-tells, tap-tells}
 use Rattle.law_promises.specs.Numbers.{Admitted, Errs, Headed}
 
 -- a refusal of a reading has one of its numbers
-pub told : {lo hi : ℕ} {r : Read} (k : ℕ) → Tells lo hi r → r ≡ refused k → Between lo hi k
-told k whole e = let z : _≡_ {A = ℕ} 0 1 = cc in absurd (omega arith)
-told k fails e = let z : _≡_ {A = ℕ} 0 1 = cc in absurd (omega arith)
-told k (tells {k = j} b) e = let z : j ≡ k = cc in rw z at b
+pub refused-between : {lo hi : ℕ} {r : Verdict} (k : ℕ) → Tells lo hi r → r ≡ refused k → Between lo hi k
+refused-between k whole e = let z : _≡_ {A = ℕ} 0 1 = cc in absurd (omega arith)
+refused-between k fails e = let z : _≡_ {A = ℕ} 0 1 = cc in absurd (omega arith)
+refused-between k (tells {k = j} b) e = let z : j ≡ k = cc in rw z at b
 
 -- an answer is a refusal exactly where the load is
-answers-no : (s : List ℕ) (k : ℕ) (l : Loaded) → (answerOf (named s l) ≡ Refused k) ↔ (l ≡ no k)
-unfolding answerOf named
+answers-no : (s : List ℕ) (k : ℕ) (l : Load) → (answerOf (namedLoad s l) ≡ Refused k) ↔ (l ≡ no k)
+unfolding answerOf namedLoad
 answers-no s k (tzx t) = (λ e. let z : _≡_ {A = ℕ} 0 1 = cc in absurd (omega arith), λ e. let z : _≡_ {A = ℕ} 0 1 = cc in absurd (omega arith))
 answers-no s k (tapped t) = (λ e. let z : _≡_ {A = ℕ} 0 1 = cc in absurd (omega arith), λ e. let z : _≡_ {A = ℕ} 0 1 = cc in absurd (omega arith))
 answers-no s k (no j) = (λ e. let z : j ≡ k = cc in ap no z, λ e. let z : j ≡ k = cc in ap Refused z)
@@ -52,12 +52,12 @@ module _ {A : Type 0} (give : ℕ → A) (apart : (i j : ℕ) → give i ≡ giv
   ways-back (by-rest e f q) = rw (e, f) q
 
 -- what both readings come to
-data Both (r q : Read) (k : ℕ) : Type 0 where
+data Both (r q : Verdict) (k : ℕ) : Type 0 where
   one : r ≡ refused k → Both r q k
   other : Errs r → q ≡ refused k → Both r q k
   none : Errs r → Errs q → k ≡ tapeBad → Both r q k
 
-both : (r q : Read) (k : ℕ) → orElse r q ≡ no k → Both r q k
+both : (r q : Verdict) (k : ℕ) → orElse r q ≡ no k → Both r q k
 unfolding orElse orTap
 both (done t) q k e = let z : _≡_ {A = ℕ} 0 1 = cc in absurd (omega arith)
 both (failed f) (done t) k e = let z : _≡_ {A = ℕ} 0 1 = cc in absurd (omega arith)
@@ -65,7 +65,7 @@ both (failed f) (failed g) k e = let z : tapeBad ≡ k = cc in none (f, refl) (g
 both (failed f) (refused j) k e = let z : j ≡ k = cc in other (f, refl) (ap refused z)
 both (refused j) q k e = let z : j ≡ k = cc in one (ap refused z)
 
-both-back : {r q : Read} {k : ℕ} → Both r q k → orElse r q ≡ no k
+both-back : {r q : Verdict} {k : ℕ} → Both r q k → orElse r q ≡ no k
 unfolding orElse orTap
 both-back (one e) = rw e
 both-back (other e f) = rw (e .1, f)
@@ -73,51 +73,51 @@ both-back (none e f z) = rw (e .1, f .1, z)
 
 module _ (lent : Lent) (s : List ℕ) (model : ℕ) where
   -- THE NUMBERS OF A LOAD
-  pub data Given (k : ℕ) : Type 0 where
-    model-no : 3 ≤ model → k ≡ badModel → Given k
-    size-no : model < 3 → 1048576 < length s → k ≡ tapeLong → Given k
-    both-no : Admitted 1048576 s model → Errs (readTzx lent s model) → Errs (readTap lent s) → k ≡ tapeBad → Given k
-    tzx-no : Admitted 1048576 s model → readTzx lent s model ≡ refused k → Between generalised lastBits k → Given k
-    tap-no : Admitted 1048576 s model → Errs (readTzx lent s model) → readTap lent s ≡ refused k → Between tonesFull blocksFull k → Given k
+  pub data LoadRefused (k : ℕ) : Type 0 where
+    model-no : 3 ≤ model → k ≡ badModel → LoadRefused k
+    size-no : model < 3 → 1048576 < length s → k ≡ tapeLong → LoadRefused k
+    both-no : Admitted 1048576 s model → Errs (readTzx lent s model) → Errs (readTap lent s) → k ≡ tapeBad → LoadRefused k
+    tzx-no : Admitted 1048576 s model → readTzx lent s model ≡ refused k → Between generalised lastBits k → LoadRefused k
+    tap-no : Admitted 1048576 s model → Errs (readTzx lent s model) → readTap lent s ≡ refused k → Between tonesFull blocksFull k → LoadRefused k
 
   apart-no : (i j : ℕ) → no i ≡ no j → i ≡ j
   apart-no i j e = cc
 
-  given-of : (k : ℕ) → Ways no (leb 3 model) (ltb 1048576 (length s)) (orElse (readTzx lent s model) (readTap lent s)) k → Given k
+  given-of : (k : ℕ) → Ways no (leb 3 model) (ltb 1048576 (length s)) (orElse (readTzx lent s model) (readTap lent s)) k → LoadRefused k
   given-of k (by-model e q) = model-no (leb-true _ _ e) q
   given-of k (by-size e f q) = size-no (leb-false _ _ e) (ltb-true _ _ f) q
   given-of k (by-rest e f q) = of-both (record { known = leb-false _ _ e; short = ltb-false _ _ f }) (both _ _ k q)
     where
-      of-both : Admitted 1048576 s model → Both (readTzx lent s model) (readTap lent s) k → Given k
-      of-both a (one x) = tzx-no a x (told k (tzx-tells lent s model) x)
-      of-both a (other x y) = tap-no a x y (told k (tap-tells lent s) y)
+      of-both : Admitted 1048576 s model → Both (readTzx lent s model) (readTap lent s) k → LoadRefused k
+      of-both a (one x) = tzx-no a x (refused-between k (tzx-tells lent s model) x)
+      of-both a (other x y) = tap-no a x y (refused-between k (tap-tells lent s) y)
       of-both a (none x y z) = both-no a x y z
 
-  ways-of : {k : ℕ} → Given k → Ways no (leb 3 model) (ltb 1048576 (length s)) (orElse (readTzx lent s model) (readTap lent s)) k
+  ways-of : {k : ℕ} → LoadRefused k → Ways no (leb 3 model) (ltb 1048576 (length s)) (orElse (readTzx lent s model) (readTap lent s)) k
   ways-of (model-no h q) = by-model (le-leb _ _ h) q
   ways-of (size-no h l q) = by-size (lt-leb _ _ h) (lt-ltb _ _ l) q
   ways-of (both-no a x y z) = by-rest (lt-leb _ _ (a .known)) (le-ltb _ _ (a .short)) (both-back (none x y z))
   ways-of (tzx-no a x b) = by-rest (lt-leb _ _ (a .known)) (le-ltb _ _ (a .short)) (both-back (one x))
   ways-of (tap-no a x y b) = by-rest (lt-leb _ _ (a .known)) (le-ltb _ _ (a .short)) (both-back (other x y))
 
-  pub given : (k : ℕ) → (answerOf (loadNamed lent s model) ≡ Refused k) ↔ Given k
+  pub refused-when : (k : ℕ) → (answerOf (loadNamed lent s model) ≡ Refused k) ↔ LoadRefused k
   unfolding loadNamed loadOf
-  given k =
+  refused-when k =
       let a = answers-no s k (loadOf lent s model) in
       (λ e. given-of k (ways no apart-no _ _ _ k (a .0 e)), λ g. a .1 (ways-back no apart-no (ways-of g)))
 
 -- the TZX reading: its pieces' answer, then 7
 module _ (lent : Lent) (s : List ℕ) (model : ℕ) where
-  abbrev pieces : Read
+  abbrev pieces : Verdict
   pieces = foldFrom (tzxSee lent s model) (length s) 10 empty
 
   -- 7, or what the pieces answer
-  data Judges (k : ℕ) (r : Read) : Type 0 where
+  data Judges (k : ℕ) (r : Verdict) : Type 0 where
     piece : r ≡ refused k → Judges k r
-    last : (t : Tape) → r ≡ done t → tooManyBits (t .blocks) ≡ true → k ≡ lastBits → Judges k r
+    last : (t : Parsed) → r ≡ done t → tooManyBits (t .blocks) ≡ true → k ≡ lastBits → Judges k r
 
-  judges : (k : ℕ) (r : Read) → judged r ≡ refused k → Judges k r
-  unfolding judged
+  judges : (k : ℕ) (r : Verdict) → bitsJudged r ≡ refused k → Judges k r
+  unfolding bitsJudged
   judges k (done t) e = by-bits (tooManyBits (t .blocks)) refl e
     where
       by-bits : (b : Bool) → tooManyBits (t .blocks) ≡ b → (b ⇒ refused lastBits ∣ done t) ≡ refused k → Judges k (done t)
@@ -137,24 +137,24 @@ module _ (lent : Lent) (s : List ℕ) (model : ℕ) where
   unfolding readTzx
   tzx-judges k e = heads k (headAt s) refl e
 
-  pub tzx-headed : Headed s → readTzx lent s model ≡ judged pieces
+  pub tzx-headed : Headed s → readTzx lent s model ≡ bitsJudged pieces
   unfolding readTzx headed
   tzx-headed (major, minor, q) = rw q
 
   -- 4, 5, 6: a piece's
   pub tzx-piece : (k : ℕ) → k ≤ blocksFull → (readTzx lent s model ≡ refused k) ↔ (Headed s × (pieces ≡ refused k))
-  unfolding judged
-  tzx-piece k l = (λ e. let x = tzx-judges k e in (x .0, of (x .1)), λ x. tzx-headed (x .0) ∙ ap judged (x .1))
+  unfolding bitsJudged
+  tzx-piece k l = (λ e. let x = tzx-judges k e in (x .0, of (x .1)), λ x. tzx-headed (x .0) ∙ ap bitsJudged (x .1))
     where
       of : Judges k pieces → pieces ≡ refused k
       of (piece e) = e
       of (last t e b z) = absurd (omega arith)
 
   -- 7: of the whole
-  pub tzx-last : (readTzx lent s model ≡ refused lastBits) ↔ (Headed s × ((t : Tape) × (pieces ≡ done t) × (tooManyBits (t .blocks) ≡ true)))
-  unfolding judged
-  tzx-last = (λ e. let x = tzx-judges lastBits e in (x .0, of (x .1)), λ x. tzx-headed (x .0) ∙ ap judged (x .1 .1) ∙ rw (x .1 .2))
+  pub tzx-last : (readTzx lent s model ≡ refused lastBits) ↔ (Headed s × ((t : Parsed) × (pieces ≡ done t) × (tooManyBits (t .blocks) ≡ true)))
+  unfolding bitsJudged
+  tzx-last = (λ e. let x = tzx-judges lastBits e in (x .0, of (x .1)), λ x. tzx-headed (x .0) ∙ ap bitsJudged (x .1 .1) ∙ rw (x .1 .2))
     where
-      of : Judges lastBits pieces → (t : Tape) × (pieces ≡ done t) × (tooManyBits (t .blocks) ≡ true)
-      of (piece e) = let b = told lastBits (pieces-tell lent s model) e in absurd (omega (arith, b .high))
+      of : Judges lastBits pieces → (t : Parsed) × (pieces ≡ done t) × (tooManyBits (t .blocks) ≡ true)
+      of (piece e) = let b = refused-between lastBits (pieces-tell lent s model) e in absurd (omega (arith, b .high))
       of (last t e b z) = (t, e, b)

@@ -7,22 +7,22 @@ use mathlib.Core.List.{List}
 use lib.ListN.{length}
 use Rattle.refusals.specs.Refusals.{badModel, tapeLong, tapeBad, generalised, tonesFull, blocksFull, lastBits}
 use Rattle.rows.specs.Table.{zeros}
-use Rattle.load_state.specs.Parser.{Tape, empty}
+use Rattle.load_state.specs.Parser.{Parsed, empty}
 use Rattle.load_blocks.specs.Adds.{Lent}
-use Rattle.load_source.specs.Source.{done, refused, readTzx, readTap, foldFrom, tzxSee, tapSee, Loaded, tzx, tapped, no}
+use Rattle.load_source.specs.Source.{done, refused, readTzx, readTap, foldFrom, tzxSee, tapSee, Load, tzx, tapped, no}
 use Rattle.load_tape.specs.declared.Loaded.the-variants.{Refused}
-use Rattle.load_tape.specs.Load.{loadNamed, answerOf, blocksOf, tonesOf, Leaves}
-use Rattle.law_promises.specs.Numbers.{Admitted, Errs, Comes, ByTzx, ByTap, Due, Lacking, Panics, Needs, Judged}
+use Rattle.load_tape.specs.Load.{loadNamed, answerOf, blockTable, toneTable, Leaves}
+use Rattle.law_promises.specs.Numbers.{Admitted, Errs, Comes, ByTzx, ByTap, Due, Lacking, Panics, Needs, OverlongAt}
 use Rattle.law_promises.proofs.Runs.{comes-map, run-due}
-use Rattle.law_promises.proofs.Loads.{Given, model-no, size-no, both-no, tzx-no, tap-no, given, tzx-piece, tzx-last}
+use Rattle.law_promises.proofs.Loads.{LoadRefused, model-no, size-no, both-no, tzx-no, tap-no, refused-when, tzx-piece, tzx-last}
 use Rattle.law_promises.proofs.Dues.{tzx-bounded, panics-due, piece-due, tap-bounded, block-due, end-due}
 
 module _ (lent : Lent) (s : List ℕ) (model : ℕ) where
   -- 1: model is not 0 (48K), 1 (128K), 2 (Plus3)
   pub given-1 : (answerOf (loadNamed lent s model) ≡ Refused badModel) ↔ (3 ≤ model)
-  given-1 = (λ e. of (given lent s model badModel .0 e), λ h. given lent s model badModel .1 (model-no h refl))
+  given-1 = (λ e. of (refused-when lent s model badModel .0 e), λ h. refused-when lent s model badModel .1 (model-no h refl))
     where
-      of : Given lent s model badModel → 3 ≤ model
+      of : LoadRefused lent s model badModel → 3 ≤ model
       of (model-no h q) = h
       of (size-no h l q) = absurd (omega arith)
       of (both-no a x y q) = absurd (omega arith)
@@ -31,9 +31,9 @@ module _ (lent : Lent) (s : List ℕ) (model : ℕ) where
 
   -- 2: tape over 1,048,576 bytes; 1 is checked first
   pub given-2 : (answerOf (loadNamed lent s model) ≡ Refused tapeLong) ↔ ((model < 3) × (1048576 < length s))
-  given-2 = (λ e. of (given lent s model tapeLong .0 e), λ h. given lent s model tapeLong .1 (size-no (h .0) (h .1) refl))
+  given-2 = (λ e. of (refused-when lent s model tapeLong .0 e), λ h. refused-when lent s model tapeLong .1 (size-no (h .0) (h .1) refl))
     where
-      of : Given lent s model tapeLong → (model < 3) × (1048576 < length s)
+      of : LoadRefused lent s model tapeLong → (model < 3) × (1048576 < length s)
       of (model-no h q) = absurd (omega arith)
       of (size-no h l q) = (h, l)
       of (both-no a x y q) = absurd (omega arith)
@@ -42,9 +42,9 @@ module _ (lent : Lent) (s : List ℕ) (model : ℕ) where
 
   -- 3: TZX and TAP reading both err
   pub given-3 : (answerOf (loadNamed lent s model) ≡ Refused tapeBad) ↔ (Admitted 1048576 s model × (Errs (readTzx lent s model) × Errs (readTap lent s)))
-  given-3 = (λ e. of (given lent s model tapeBad .0 e), λ h. given lent s model tapeBad .1 (both-no (h .0) (h .1 .0) (h .1 .1) refl))
+  given-3 = (λ e. of (refused-when lent s model tapeBad .0 e), λ h. refused-when lent s model tapeBad .1 (both-no (h .0) (h .1 .0) (h .1 .1) refl))
     where
-      of : Given lent s model tapeBad → Admitted 1048576 s model × (Errs (readTzx lent s model) × Errs (readTap lent s))
+      of : LoadRefused lent s model tapeBad → Admitted 1048576 s model × (Errs (readTzx lent s model) × Errs (readTap lent s))
       of (model-no h q) = absurd (omega arith)
       of (size-no h l q) = absurd (omega arith)
       of (both-no a x y q) = (a, (x, y))
@@ -52,19 +52,19 @@ module _ (lent : Lent) (s : List ℕ) (model : ℕ) where
       of (tap-no a x y b) = absurd (omega (arith, b .low))
 
   -- a number of the TZX's pieces, of the whole TZX, and of the TAP: where the reading comes to
-  tzx-comes : (k : ℕ) → k ≤ blocksFull → {P : ℕ → Tape → Type 0} → ((at : ℕ) (t : Tape) → Due (tzxSee lent s model) (refused k) at t ↔ P at t) → (readTzx lent s model ≡ refused k) ↔ ByTzx lent s model P
+  tzx-comes : (k : ℕ) → k ≤ blocksFull → {P : ℕ → Parsed → Type 0} → ((at : ℕ) (t : Parsed) → Due (tzxSee lent s model) (refused k) at t ↔ P at t) → (readTzx lent s model ≡ refused k) ↔ ByTzx lent s model P
   tzx-comes k l p =
       let x = tzx-piece lent s model k l in
       let y = run-due (tzx-bounded lent s model) (length s) 10 empty (refused k) (omega arith) in
       (λ e. let z = x .0 e in (z .0, comes-map (λ at t. p at t .0) (y .0 (z .1))), λ c. x .1 (c .0, y .1 (comes-map (λ at t. p at t .1) (c .1))))
 
-  tzx-ends : (readTzx lent s model ≡ refused lastBits) ↔ ByTzx lent s model (Judged lent s model)
+  tzx-ends : (readTzx lent s model ≡ refused lastBits) ↔ ByTzx lent s model (OverlongAt lent s model)
   tzx-ends =
       let x = tzx-last lent s model in
       let w = end-due lent s model 10 empty in
       (λ e. let z = x .0 e in (z .0, w .0 (z .1 .0, z .1 .2, run (z .1 .0) .0 (z .1 .1))), λ c. let z = w .1 (c .1) in x .1 (c .0, (z .0, run (z .0) .1 (z .2), z .1)))
     where
-      run : (u : Tape) → (foldFrom (tzxSee lent s model) (length s) 10 empty ≡ done u) ↔ Comes (tzxSee lent s model) (Due (tzxSee lent s model) (done u)) 10 empty
+      run : (u : Parsed) → (foldFrom (tzxSee lent s model) (length s) 10 empty ≡ done u) ↔ Comes (tzxSee lent s model) (Due (tzxSee lent s model) (done u)) 10 empty
       run u = run-due (tzx-bounded lent s model) (length s) 10 empty (done u) (omega arith)
 
   tap-comes : (k : ℕ) → (readTap lent s ≡ refused k) ↔ ByTap lent s (Needs (tapSee lent s) lent k)
@@ -76,14 +76,14 @@ module _ (lent : Lent) (s : List ℕ) (model : ℕ) where
   -- 4: a generalised piece on which the Rust panics
   pub given-4 : (answerOf (loadNamed lent s model) ≡ Refused generalised) ↔ (Admitted 1048576 s model × ByTzx lent s model (Panics s))
   given-4 = (
-    λ e. of (given lent s model generalised .0 e),
-    λ h. given lent s model generalised .1 (tzx-no (h .0) (comes .1 (h .1)) (record { low = omega arith; high = omega arith })),
+    λ e. of (refused-when lent s model generalised .0 e),
+    λ h. refused-when lent s model generalised .1 (tzx-no (h .0) (comes .1 (h .1)) (record { low = omega arith; high = omega arith })),
   )
     where
       comes : (readTzx lent s model ≡ refused generalised) ↔ ByTzx lent s model (Panics s)
       comes = tzx-comes generalised (omega arith) (panics-due lent s model)
 
-      of : Given lent s model generalised → Admitted 1048576 s model × ByTzx lent s model (Panics s)
+      of : LoadRefused lent s model generalised → Admitted 1048576 s model × ByTzx lent s model (Panics s)
       of (model-no h q) = absurd (omega arith)
       of (size-no h l q) = absurd (omega arith)
       of (both-no a x y q) = absurd (omega arith)
@@ -93,17 +93,17 @@ module _ (lent : Lent) (s : List ℕ) (model : ℕ) where
   -- 5, 6: by the TZX's pieces, or, where TZX errs, by the TAP's blocks
   lacking : (k : ℕ) → tonesFull ≤ k → k ≤ blocksFull → (answerOf (loadNamed lent s model) ≡ Refused k) ↔ (Admitted 1048576 s model × Lacking lent s model k)
   lacking k l m = (
-    λ e. of (given lent s model k .0 e),
+    λ e. of (refused-when lent s model k .0 e),
     λ h. ⊎-elim
-        (λ x. given lent s model k .1 (tzx-no (h .0) (comes .1 x) (record { low = omega arith; high = omega arith })))
-        (λ x. given lent s model k .1 (tap-no (h .0) (x .0) (tap-comes k .1 (x .1)) (record { low = l; high = m })))
+        (λ x. refused-when lent s model k .1 (tzx-no (h .0) (comes .1 x) (record { low = omega arith; high = omega arith })))
+        (λ x. refused-when lent s model k .1 (tap-no (h .0) (x .0) (tap-comes k .1 (x .1)) (record { low = l; high = m })))
         (h .1),
   )
     where
       comes : (readTzx lent s model ≡ refused k) ↔ ByTzx lent s model (Needs (tzxSee lent s model) lent k)
       comes = tzx-comes k m (piece-due lent s model k l)
 
-      of : Given lent s model k → Admitted 1048576 s model × Lacking lent s model k
+      of : LoadRefused lent s model k → Admitted 1048576 s model × Lacking lent s model k
       of (model-no h q) = absurd (omega arith)
       of (size-no h o q) = absurd (omega arith)
       of (both-no a x y q) = absurd (omega arith)
@@ -119,13 +119,13 @@ module _ (lent : Lent) (s : List ℕ) (model : ℕ) where
   given-6 = lacking blocksFull (omega arith) (omega arith)
 
   -- 7: TZX was read whole, but a block with data has last bits above 8
-  pub given-7 : (answerOf (loadNamed lent s model) ≡ Refused lastBits) ↔ (Admitted 1048576 s model × ByTzx lent s model (Judged lent s model))
+  pub given-7 : (answerOf (loadNamed lent s model) ≡ Refused lastBits) ↔ (Admitted 1048576 s model × ByTzx lent s model (OverlongAt lent s model))
   given-7 = (
-    λ e. of (given lent s model lastBits .0 e),
-    λ h. given lent s model lastBits .1 (tzx-no (h .0) (tzx-ends .1 (h .1)) (record { low = omega arith; high = omega arith })),
+    λ e. of (refused-when lent s model lastBits .0 e),
+    λ h. refused-when lent s model lastBits .1 (tzx-no (h .0) (tzx-ends .1 (h .1)) (record { low = omega arith; high = omega arith })),
   )
     where
-      of : Given lent s model lastBits → Admitted 1048576 s model × ByTzx lent s model (Judged lent s model)
+      of : LoadRefused lent s model lastBits → Admitted 1048576 s model × ByTzx lent s model (OverlongAt lent s model)
       of (model-no h q) = absurd (omega arith)
       of (size-no h l q) = absurd (omega arith)
       of (both-no a x y q) = absurd (omega arith)
@@ -133,8 +133,8 @@ module _ (lent : Lent) (s : List ℕ) (model : ℕ) where
       of (tap-no a x y b) = absurd (omega (arith, b .high))
 
 -- 1 to 7 leave both tables all zero
-pub refused-blank : (B N k : ℕ) (l : Loaded) (bt tt : List ℕ) → Leaves B N l (Refused k) bt tt → (bt ≡ zeros B) × (tt ≡ zeros N)
-unfolding answerOf blocksOf tonesOf
+pub refused-blank : (B N k : ℕ) (l : Load) (bt tt : List ℕ) → Leaves B N l (Refused k) bt tt → (bt ≡ zeros B) × (tt ≡ zeros N)
+unfolding answerOf blockTable toneTable
 refused-blank B N k (tzx t) bt tt h = let e = h .answer in let z : _≡_ {A = ℕ} 0 1 = cc in absurd (omega arith)
 refused-blank B N k (tapped t) bt tt h = let e = h .answer in let z : _≡_ {A = ℕ} 0 1 = cc in absurd (omega arith)
 refused-blank B N k (no j) bt tt h = (h .blocks, h .tones)

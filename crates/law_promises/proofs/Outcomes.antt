@@ -3,7 +3,7 @@ use mathlib.Core.Path.{_≡_, sym, ap₂, _∙_}
 use mathlib.Core.List.{List, []}
 use Prim.Native.Nat.{ℕ}
 use denote.Ref.{now}
-use Rattle.law_promises.specs.Determined.{Determined, Answered}
+use Rattle.law_promises.specs.Determined.{Determined, Answered, HeadAnswered}
 use Rattle.load_tape.proofs.load.Kinds as load-kinds
 use Rattle.load_tape.proofs.load.Reads as load
 use Rattle.ask_block.proofs.len.Kinds as len-kinds
@@ -63,7 +63,6 @@ use Rattle.export.proofs.glyvrask_play_measured.Reads as c-play-measured
 use Rattle.play_entries.specs.Places.{Tape}
 use Rattle.play_walk.specs.declared.Reached.{Reached}
 use Rattle.play_deck.specs.declared.Head.{Head}
-use Rattle.play_deck.specs.Deck.{playMounted}
 
 -- the load: its answer, and every word of both tables
 pub load-determined : Determined {W = (List ℕ) × (List ℕ)} 3 load-kinds.ps load-kinds.r load.Post (λ κs e. (now (e .1 .1 .0), now (e .1 .1 .1 .0)))
@@ -117,13 +116,10 @@ play-mounted-determined κs a z z′ e e′ p q = p ∙ sym q
 pub play-local-determined : Answered 3 play-local-kinds.ps play-local-kinds.r play-local.Post
 play-local-determined κs a z z′ e e′ p q = p ∙ sym q
 
--- and lent: its `ensures` are these two equations, the answer, and the head at exit; there is no `Post` of a function that a struct is lent to
-module _ (w : Tape) (h : Head) (n : ℕ) where
-  abbrev pub Mounted : Reached → Head → Type 0
-  Mounted r h′ = (r ≡ playMounted w h n .answer) × (h′ ≡ playMounted w h n .head)
-
-  pub play-head-determined : {r r′ : Reached} {x x′ : Head} → Mounted r x → Mounted r′ x′ → (r ≡ r′) × (x ≡ x′)
-  play-head-determined p q = (p .0 ∙ sym (q .0), p .1 ∙ sym (q .1))
+-- and lent
+pub play-head-determined : (w : Tape) (h : Head) (n : ℕ) {r r′ : Reached} {x x′ : Head} → HeadAnswered w h n r x → HeadAnswered w h n r′ x′
+    → (r ≡ r′) × (x ≡ x′)
+play-head-determined w h n p q = (p .0 ∙ sym (q .0), p .1 ∙ sym (q .1))
 
 -- for C hosts: the result, and every row that may be written
 pub load-once-blocks : Determined 4 c-load-kinds.ps c-load-kinds.r c-load.Post (λ κs e. now (e .1 .1 .0))

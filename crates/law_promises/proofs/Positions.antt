@@ -7,18 +7,18 @@ use mathlib.Core.Bool.{Bool, true, false, not, _&&_}
 use mathlib.Core.Logic.{_↔_, _⊎_, inl, inr, ⊎-elim, Iff·trans}
 use lib.Dec.{leb, ltb, eqb}
 use Rattle.law_base.specs.Rules.{_⇒_, _∣_}
-use Rattle.law_base.specs.Tests.{first, second}
+use Rattle.law_base.proofs.Tests.{first, second}
 use Rattle.refusals.specs.Refusals.{noPosition, badRow}
 use Rattle.law_pulses.specs.Play.{Status, standing, stopped, ended, Answer, answer}
 use Rattle.law_pulses.specs.Source.{isEnded}
-use Rattle.play_entries.specs.Entries.{Spot}
+use Rattle.play_entries.specs.Entries.{Label}
 use Rattle.play_entries.specs.Places.{Tape, blockIn, valid}
 use Rattle.play_entries.specs.Mounted.{overfull, wellRow, formed}
 use Rattle.play_walk.specs.declared.Position.{Position}
 use Rattle.play_walk.specs.declared.Stand.{Stand}
 use Rattle.play_walk.specs.declared.Reached.{Reached}
 use Rattle.play_walk.specs.declared.Reached.the-variants as reached
-use Rattle.play_walk.specs.Heads.{numberOf, ahead, toldAs, told, walked, walkFrom}
+use Rattle.play_walk.specs.Heads.{reachedNo, ahead, toldAs, toldReached, walked, walkFrom}
 use Rattle.play_deck.specs.declared.Check.{Check}
 use Rattle.play_deck.specs.declared.Check.the-variants.{Fine, NotValid, NotFormed}
 use Rattle.play_deck.specs.declared.Head.{Head}
@@ -108,65 +108,65 @@ module _ (w : Tape) (q : Position) where
       back-to false x = rw (lt-leb (w .count) (q .block) (x .0), row-bad .1 x)
 
 -- a player's number: the check's, or that of its walk
-told-none : (st : Status) (s : Stand) → numberOf (toldAs st s) ≡ 0
-unfolding numberOf toldAs
+told-none : (st : Status) (s : Stand) → reachedNo (toldAs st s) ≡ 0
+unfolding reachedNo toldAs
 told-none standing s = refl
 told-none stopped s = refl
 told-none ended s = refl
 
-pub checked-9 : (c : Check) (r : Reached) → (numberOf r ≡ noPosition → ⊥) → (numberOf (unless c r) ≡ noPosition) ↔ (c ≡ NotValid)
-unfolding numberOf unless
+pub checked-9 : (c : Check) (r : Reached) → (reachedNo r ≡ noPosition → ⊥) → (reachedNo (unless c r) ≡ noPosition) ↔ (c ≡ NotValid)
+unfolding reachedNo unless
 checked-9 Fine r d = (λ e. absurd (d e), λ e. let z : _≡_ {A = ℕ} 0 1 = cc in absurd (omega arith))
 checked-9 NotValid r d = (λ e. refl, λ e. refl)
 checked-9 NotFormed r d = (λ e. absurd (omega arith), λ e. let z : _≡_ {A = ℕ} 0 1 = cc in absurd (omega arith))
 
-pub checked-11 : (c : Check) (r : Reached) → (numberOf (unless c r) ≡ badRow) ↔ ((c ≡ NotFormed) ⊎ ((c ≡ Fine) × (numberOf r ≡ badRow)))
-unfolding numberOf unless
+pub checked-11 : (c : Check) (r : Reached) → (reachedNo (unless c r) ≡ badRow) ↔ ((c ≡ NotFormed) ⊎ ((c ≡ Fine) × (reachedNo r ≡ badRow)))
+unfolding reachedNo unless
 checked-11 Fine r = (λ e. inr (refl, e), λ h. ⊎-elim (λ e. let z : _≡_ {A = ℕ} 0 1 = cc in absurd (omega arith)) (λ x. x .1) h)
 checked-11 NotValid r = (λ e. absurd (omega arith), λ h. ⊎-elim (λ e. let z : _≡_ {A = ℕ} 0 1 = cc in absurd (omega arith)) (λ x. let e = x .0 in let z : _≡_ {A = ℕ} 0 1 = cc in absurd (omega arith)) h)
 checked-11 NotFormed r = (λ e. inl refl, λ h. refl)
 
 -- a walk from block b of n T-states, as both players make it
-module _ (w : Tape) (q : Position) (n : ℕ) (a : Answer Spot) where
+module _ (w : Tape) (q : Position) (n : ℕ) (a : Answer Label) where
   abbrev walks : Reached
   walks = eqb n 0 ⇒ stays w q ∣ walked w (formed w (q .block)) a
 
   abbrev reaches : Bool
   reaches = isEnded (a .tells) && ltb (formed w (q .block) .count) (w .count)
 
-  stays-none : numberOf (stays w q) ≡ 0
+  stays-none : reachedNo (stays w q) ≡ 0
   unfolding stays
   stays-none = told-none _ _
 
-  told-a : numberOf (told w (formed w (q .block)) a) ≡ 0
-  unfolding told
+  told-a : reachedNo (toldReached w (formed w (q .block)) a) ≡ 0
+  unfolding toldReached
   told-a = told-none _ _
 
-  walk-11 : (numberOf walks ≡ badRow) ↔ ((0 < n) × Runs w (q .block) (a .tells))
-  unfolding walked numberOf
+  walk-11 : (reachedNo walks ≡ badRow) ↔ ((0 < n) × Runs w (q .block) (a .tells))
+  unfolding walked reachedNo
   walk-11 = (λ e. of (eqb n 0) reaches refl refl e, λ h. rw (ne-eqb n 0 (λ z. omega (arith, h .0, z)), h .1 .over, lt-ltb (formed w (q .block) .count) (w .count) (h .1 .cut)))
     where
-      of : (z b : Bool) → eqb n 0 ≡ z → reaches ≡ b → numberOf (z ⇒ stays w q ∣ b ⇒ reached.NotFormed ∣ told w (formed w (q .block)) a) ≡ badRow → (0 < n) × Runs w (q .block) (a .tells)
+      of : (z b : Bool) → eqb n 0 ≡ z → reaches ≡ b → reachedNo (z ⇒ stays w q ∣ b ⇒ reached.NotFormed ∣ toldReached w (formed w (q .block)) a) ≡ badRow → (0 < n) × Runs w (q .block) (a .tells)
       of true b y f e = absurd (omega (arith, stays-none, e))
       of false true y f e =
           let p : (n ≡ 0 → ⊥) = eqb-false n 0 y in
           (omega (arith, p), record { over = ended-is (a .tells) (first (isEnded (a .tells)) (ltb (formed w (q .block) .count) (w .count)) f); cut = ltb-true _ _ (second (isEnded (a .tells)) (ltb (formed w (q .block) .count) (w .count)) f) })
       of false false y f e = absurd (omega (arith, told-a, e))
 
-  walk-9 : numberOf walks ≡ noPosition → ⊥
-  unfolding walked numberOf
+  walk-9 : reachedNo walks ≡ noPosition → ⊥
+  unfolding walked reachedNo
   walk-9 e = of (eqb n 0) reaches e
     where
-      of : (z b : Bool) → numberOf (z ⇒ stays w q ∣ b ⇒ reached.NotFormed ∣ told w (formed w (q .block)) a) ≡ noPosition → ⊥
+      of : (z b : Bool) → reachedNo (z ⇒ stays w q ∣ b ⇒ reached.NotFormed ∣ toldReached w (formed w (q .block)) a) ≡ noPosition → ⊥
       of true b f = absurd (omega (arith, stays-none, f))
       of false true f = absurd (omega arith)
       of false false f = absurd (omega (arith, told-a, f))
 
   -- the player's number
-  player-9 : (numberOf (unless (judged w q) walks) ≡ noPosition) ↔ Invalid w q
+  player-9 : (reachedNo (unless (judged w q) walks) ≡ noPosition) ↔ Invalid w q
   player-9 = Iff·trans (checked-9 (judged w q) walks walk-9) (judged-9 w q)
 
-  player-11 : (numberOf (unless (judged w q) walks) ≡ badRow) ↔ (Unformed w (q .block) ⊎ ((judged w q ≡ Fine) × ((0 < n) × Runs w (q .block) (a .tells))))
+  player-11 : (reachedNo (unless (judged w q) walks) ≡ badRow) ↔ (Unformed w (q .block) ⊎ ((judged w q ≡ Fine) × ((0 < n) × Runs w (q .block) (a .tells))))
   player-11 =
       let x = checked-11 (judged w q) walks in (
         λ e. ⊎-elim (λ f. inl (judged-11 w q .0 f)) (λ f. inr (f .0, walk-11 .0 (f .1))) (x .0 e),
@@ -175,20 +175,20 @@ module _ (w : Tape) (q : Position) (n : ℕ) (a : Answer Spot) where
 
 module _ (w : Tape) (q : Position) where
   -- 9: position not valid on this tape
-  pub given-9-measured : (n : ℕ) → (numberOf (playMeasured w q n) ≡ noPosition) ↔ Invalid w q
+  pub given-9-measured : (n : ℕ) → (reachedNo (playMeasured w q n) ≡ noPosition) ↔ Invalid w q
   unfolding playMeasured walkFrom
   given-9-measured n = player-9 w q n (answer (ahead (formed w (q .block)) q) n)
 
-  pub given-9-source : (n : ℕ) → (numberOf (playSource w q n) ≡ noPosition) ↔ Invalid w q
+  pub given-9-source : (n : ℕ) → (reachedNo (playSource w q n) ≡ noPosition) ↔ Invalid w q
   unfolding playSource sourceFrom
   given-9-source n = player-9 w q n (sourceAnswer (ahead (formed w (q .block)) q) n)
 
   -- 11: for the count or its row; or a walk that reaches a bad row
-  pub given-11-measured : (n : ℕ) → (numberOf (playMeasured w q n) ≡ badRow) ↔ (Unformed w (q .block) ⊎ ((judged w q ≡ Fine) × ((0 < n) × Runs w (q .block) (answer (ahead (formed w (q .block)) q) n .tells))))
+  pub given-11-measured : (n : ℕ) → (reachedNo (playMeasured w q n) ≡ badRow) ↔ (Unformed w (q .block) ⊎ ((judged w q ≡ Fine) × ((0 < n) × Runs w (q .block) (answer (ahead (formed w (q .block)) q) n .tells))))
   unfolding playMeasured walkFrom
   given-11-measured n = player-11 w q n (answer (ahead (formed w (q .block)) q) n)
 
-  pub given-11-source : (n : ℕ) → (numberOf (playSource w q n) ≡ badRow) ↔ (Unformed w (q .block) ⊎ ((judged w q ≡ Fine) × ((0 < n) × Runs w (q .block) (sourceAnswer (ahead (formed w (q .block)) q) n .tells))))
+  pub given-11-source : (n : ℕ) → (reachedNo (playSource w q n) ≡ badRow) ↔ (Unformed w (q .block) ⊎ ((judged w q ≡ Fine) × ((0 < n) × Runs w (q .block) (sourceAnswer (ahead (formed w (q .block)) q) n .tells))))
   unfolding playSource sourceFrom
   given-11-source n = player-11 w q n (sourceAnswer (ahead (formed w (q .block)) q) n)
 
@@ -274,11 +274,11 @@ module _ (w : Tape) (q : Position) where
       (λ e. ⊎-elim (λ f. inl (judged-11 w q .0 f)) (λ f. inr f) (x .0 e), λ h. x .1 (⊎-elim (λ f. inl (judged-11 w q .1 f)) (λ f. inr f) h))
 
 -- on a refusal the mounted head is as it was
-pub head-stays : (w : Tape) (h : Head) (n : ℕ) → 0 < numberOf (playMounted w h n .answer) → playMounted w h n .head ≡ h
-unfolding numberOf headAfter playMounted
+pub head-stays : (w : Tape) (h : Head) (n : ℕ) → 0 < reachedNo (playMounted w h n .answer) → playMounted w h n .head ≡ h
+unfolding reachedNo headAfter playMounted
 head-stays w h n l = of (playMeasured w (h .position) n) l
   where
-    of : (r : Reached) → 0 < numberOf r → headAfter h r ≡ h
+    of : (r : Reached) → 0 < reachedNo r → headAfter h r ≡ h
     of (reached.At s) m = absurd (omega arith)
     of (reached.Stopped s) m = absurd (omega arith)
     of (reached.Ended s) m = absurd (omega arith)

@@ -8,8 +8,9 @@ use Rattle.load_tape.specs.Load.{loadNamed, Leaves}
 use Rattle.play_entries.specs.Mounted.{tapeOf}
 use Rattle.law_every_load.specs.Sizes.{Bytes}
 use Rattle.law_every_load.proofs.Left.{left-whole}
-use Rattle.ask_block.proofs.Answers.{Answered, whole-answered}
+use Rattle.ask_block.proofs.Answers.{whole-answered}
+use Rattle.ask_block.specs.Queries.{EachAnswered}
 
 module _ (B N : ℕ) (s : List ℕ) (model : ℕ) {f : Format} {n k : ℕ} {bt tt : List ℕ} (b : Bytes s) (l : Leaves B N (loadNamed (lentOf B N) s model) (loaded.Tape f n k) bt tt) where
-  pub loaded-answers : (i : ℕ) → i < n → Answered (tapeOf s tt bt n) i
+  pub loaded-answers : (i : ℕ) → i < n → EachAnswered (tapeOf s tt bt n) i
   loaded-answers i h = whole-answered (tapeOf s tt bt n) (left-whole B N s model b l) i h

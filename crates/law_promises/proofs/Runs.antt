@@ -1,24 +1,19 @@
 -- A READING'S ANSWER IS r EXACTLY WHEN it comes to a place where r is due; one law for TZX and TAP. Assumes nothing.
-use Prim.Native.Nat.{ℕ, zero, suc, _+_, _-_, _≤_, _<_}
+use Prim.Native.Nat.{ℕ, zero, suc, _+_, _-_, _≤_}
 use native.Mathlib.Omega.{arith}
 use mathlib.Core.Path.{_≡_, refl, subst, _∙_}
 use mathlib.Core.Logic.{_↔_}
-use Rattle.load_state.specs.Parser.{Tape, Out, on, no}
-use Rattle.load_source.specs.Source.{See, over, bad, refuses, thing, Read, after, seeing, foldFrom}
-use Rattle.law_promises.specs.Numbers.{Comes, here, past, Due, ends, errs, stands, answers}
+use Rattle.load_state.specs.Parser.{Parsed, Out, on, no}
+use Rattle.load_source.specs.Source.{See, over, bad, refuses, thing, Verdict, readOn, seeing, foldFrom}
+use Rattle.law_promises.specs.Numbers.{Comes, here, past, Due, ends, errs, stands, answers, Bounded}
 
--- things move forward, and at the size all is over: so as many turns as there are bytes are enough
-pub record Bounded (size : ℕ) (see : ℕ → See) : Type 0 where
-  pub stops : (p : ℕ) → size ≤ p → see p ≡ over
-  pub moves : (at next : ℕ) (does : Tape → Out) → see at ≡ thing next does → at < next
-
-pub comes-map : {see : ℕ → See} {P Q : ℕ → Tape → Type 0} → ((at : ℕ) (t : Tape) → P at t → Q at t) → {at : ℕ} {t : Tape} → Comes see P at t → Comes see Q at t
+pub comes-map : {see : ℕ → See} {P Q : ℕ → Parsed → Type 0} → ((at : ℕ) (t : Parsed) → P at t → Q at t) → {at : ℕ} {t : Parsed} → Comes see P at t → Comes see Q at t
 comes-map f (here {at = at} {t = t} p) = here (f at t p)
 comes-map f (past e d c) = past e d (comes-map f c)
 
 -- what is due at a place is what a turn there answers
-due-seen : {see : ℕ → See} {r : Read} {at : ℕ} {t : Tape} (k : ℕ → Tape → Read) → Due see r at t → seeing (see at) t k ≡ r
-unfolding seeing after
+due-seen : {see : ℕ → See} {r : Verdict} {at : ℕ} {t : Parsed} (k : ℕ → Parsed → Verdict) → Due see r at t → seeing (see at) t k ≡ r
+unfolding seeing readOn
 due-seen k (ends e) = rw e
 due-seen k (errs e) = rw e
 due-seen k (stands e) = rw e
@@ -26,15 +21,15 @@ due-seen k (answers e d) = rw (e, d)
 
 module _ {size : ℕ} {see : ℕ → See} (b : Bounded size see) where
   abbrev More : ℕ → Type 0
-  More n = (m : ℕ) (u : Tape) → size ≤ m + n → Comes see (Due see (foldFrom see n m u)) m u
+  More n = (m : ℕ) (u : Parsed) → size ≤ m + n → Comes see (Due see (foldFrom see n m u)) m u
 
   -- every run comes to where its answer is due
-  ran : (n at : ℕ) (t : Tape) → size ≤ at + n → Comes see (Due see (foldFrom see n at t)) at t
-  unfolding foldFrom seeing after
+  ran : (n at : ℕ) (t : Parsed) → size ≤ at + n → Comes see (Due see (foldFrom see n at t)) at t
+  unfolding foldFrom seeing readOn
   ran zero at t h = here (ends (b .stops at (omega arith)))
   ran (suc n) at t h = by-see (λ m u q. ran n m u q) (see at) refl
     where
-      by-out : More n → (next : ℕ) (does : Tape → Out) (o : Out) → see at ≡ thing next does → does t ≡ o → Comes see (Due see (after o (foldFrom see n next))) at t
+      by-out : More n → (next : ℕ) (does : Parsed → Out) (o : Out) → see at ≡ thing next does → does t ≡ o → Comes see (Due see (readOn o (foldFrom see n next))) at t
       by-out more next does (on u) e d = past e d (more next u (omega (arith, b .moves at next does e)))
       by-out more next does (no k) e d = here (answers e d)
 
@@ -44,20 +39,20 @@ module _ {size : ℕ} {see : ℕ → See} (b : Bounded size see) where
       by-see more (refuses k) e = here (stands e)
       by-see more (thing next does) e = by-out more next does (does t) e refl
 
-  turn : (n at : ℕ) (t : Tape) → size ≤ at + n → foldFrom see n at t ≡ seeing (see at) t (foldFrom see (n - 1))
+  turn : (n at : ℕ) (t : Parsed) → size ≤ at + n → foldFrom see n at t ≡ seeing (see at) t (foldFrom see (n - 1))
   unfolding foldFrom seeing
   turn zero at t h = rw (b .stops at (omega arith))
   turn (suc n) at t h = let m : suc n - 1 ≡ n = omega arith in rw m
 
-  step : (n : ℕ) {at next : ℕ} {does : Tape → Out} {t u : Tape} → see at ≡ thing next does → does t ≡ on u → seeing (see at) t (foldFrom see n) ≡ foldFrom see n next u
-  unfolding seeing after
+  step : (n : ℕ) {at next : ℕ} {does : Parsed → Out} {t u : Parsed} → see at ≡ thing next does → does t ≡ on u → seeing (see at) t (foldFrom see n) ≡ foldFrom see n next u
+  unfolding seeing readOn
   step n e d = rw (e, d)
 
   -- and a run that comes to where r is due answers r
-  came : (n : ℕ) {r : Read} {at : ℕ} {t : Tape} → size ≤ at + n → Comes see (Due see r) at t → foldFrom see n at t ≡ r
+  came : (n : ℕ) {r : Verdict} {at : ℕ} {t : Parsed} → size ≤ at + n → Comes see (Due see r) at t → foldFrom see n at t ≡ r
   came n h (here {at = at} {t = t} d) = turn n at t h ∙ due-seen (foldFrom see (n - 1)) d
   came n h (past {at = at} {next = next} {does = does} {t = t} e d c) = turn n at t h ∙ step (n - 1) e d ∙ came (n - 1) (omega (arith, b .moves at next does e)) c
 
   -- THE LAW
-  pub run-due : (n at : ℕ) (t : Tape) (r : Read) → size ≤ at + n → (foldFrom see n at t ≡ r) ↔ Comes see (Due see r) at t
-  run-due n at t r h = (λ e. subst (λ (x : Read). Comes see (Due see x) at t) e (ran n at t h), λ c. came n h c)
+  pub run-due : (n at : ℕ) (t : Parsed) (r : Verdict) → size ≤ at + n → (foldFrom see n at t ≡ r) ↔ Comes see (Due see r) at t
+  run-due n at t r h = (λ e. subst (λ (x : Verdict). Comes see (Due see x) at t) e (ran n at t h), λ c. came n h c)

@@ -12,11 +12,10 @@ use Rattle.rows.specs.declared.Block.{Block}
 use Rattle.rows.specs.declared.Tone.{Tone}
 use Rattle.rows.proofs.Tables.{get-row, rows-over}
 use Rattle.load_blocks.specs.Does.{lentOf}
-use Rattle.load_state.proofs.Kept.{All, nil, cons}
-use Rattle.load_source.specs.Source.{Loaded}
+use Rattle.load_source.specs.Source.{Load}
 use Rattle.load_tape.specs.declared.Format.{Format}
 use Rattle.load_tape.specs.declared.Loaded.the-variants as loaded
-use Rattle.load_tape.specs.Load.{namedTape, named, loadNamed, Leaves}
+use Rattle.load_tape.specs.Load.{namedTape, namedLoad, loadNamed, Leaves}
 use Rattle.text_name.specs.Names.{nameAll}
 use Rattle.text_name.proofs.Selecting.{name-all-length}
 use Rattle.play_entries.specs.Mounted.{tapeOf}
@@ -24,7 +23,8 @@ use Rattle.law_every_load.specs.Sizes.{Bytes}
 use Rattle.law_every_load.specs.OfSource.{Reads, as-tzx, as-tap}
 use Rattle.law_every_load.proofs.Left.{left}
 use Rattle.law_every_load.proofs.Within.{rows-within}
-use Rattle.text_view.specs.View.{View, tonesFrom, viewOf, blocksOf, viewsIn, blockList}
+use Rattle.text_view.specs.View.{View, tonesFrom, viewOf, rowViews, viewsIn, blockList}
+use Rattle.load_state.specs.Kept.{All, nil, cons}
 use Rattle.law_promises.specs.Demands.{listOf}
 
 none : Tone
@@ -50,15 +50,15 @@ tones-read ts N from (suc n) h =
 abbrev Has : List Tone → Block → Type 0
 Has ts r = r .tone + r .tones ≤ length ts
 
-list-read : (s : List ℕ) (ts : List Tone) (N : ℕ) {rs : List Block} → All (Has ts) rs → blocksOf s (tableOf tone ts N) rs ≡ blockList s ts rs
-unfolding blocksOf blockList
+list-read : (s : List ℕ) (ts : List Tone) (N : ℕ) {rs : List Block} → All (Has ts) rs → rowViews s (tableOf tone ts N) rs ≡ blockList s ts rs
+unfolding rowViews blockList
 list-read s ts N nil = refl
 list-read s ts N (cons {x = r} h hs) =
     ap₂ (λ (a : List Tone) (l : List View). viewOf s a r ∷ l) (tones-read ts N (r .tone) (r .tones) h) (list-read s ts N hs)
 
 -- what a named load lists
-list-named : (s : List ℕ) {a : Loaded} {t : _} → Reads a t → listOf s (named s a) ≡ blockList s (t .tones) (nameAll s false (t .blocks))
-unfolding listOf named namedTape
+list-named : (s : List ℕ) {a : Load} {t : _} → Reads a t → listOf s (namedLoad s a) ≡ blockList s (t .tones) (nameAll s false (t .blocks))
+unfolding listOf namedLoad namedTape
 list-named s as-tzx = refl
 list-named s as-tap = refl
 
@@ -70,7 +70,7 @@ module _ (B N : ℕ) (s : List ℕ) (model : ℕ) {f : Format} {n k : ℕ} {bt t
       let q = left B N s model b l in
       let t = q .tape in
       let rs = nameAll s false (t .blocks) in
-      ap₂ (λ (x y : List ℕ). blocksOf s x (rowsOf block y n)) (q .tones) (q .blocks)
-      ∙ ap (blocksOf s (tableOf tone (t .tones) N)) (rows-over block rs (zeros B) n (name-all-length s false (t .blocks) ∙ sym (q .count)))
+      ap₂ (λ (x y : List ℕ). rowViews s x (rowsOf block y n)) (q .tones) (q .blocks)
+      ∙ ap (rowViews s (tableOf tone (t .tones) N)) (rows-over block rs (zeros B) n (name-all-length s false (t .blocks) ∙ sym (q .count)))
       ∙ list-read s (t .tones) N (rows-within (lentOf B N) s model b (q .reads))
       ∙ sym (list-named s (q .reads))

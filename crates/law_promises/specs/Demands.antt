@@ -1,11 +1,11 @@
 -- What demand 2 compares: the block list, from the definition and from the tables. Definitions alone; assumes nothing.
 use Prim.Native.Nat.{ℕ}
 use mathlib.Core.List.{List, []}
-use Rattle.load_source.specs.Source.{Loaded, tzx, tapped, no}
+use Rattle.load_source.specs.Source.{Load, tzx, tapped, no}
 use Rattle.text_view.specs.View.{View, blockList}
 
 -- THE BLOCK LIST that document 01 gives a tape: names, selectability, tones, zero, one, last bits, pause, data; none for a refusal
-unfoldable pub listOf : List ℕ → Loaded → List View
+unfoldable pub listOf : List ℕ → Load → List View
 listOf s (tzx t) = blockList s (t .tones) (t .blocks)
 listOf s (tapped t) = blockList s (t .tones) (t .blocks)
 listOf s (no k) = []

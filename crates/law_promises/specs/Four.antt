@@ -6,7 +6,7 @@ use mathlib.Core.Logic.{_⊎_}
 use mathlib.Core.List.{List}
 use lib.Dec.{ltb}
 use Rattle.cut_grammar.specs.declared.GeneralizedData.{GeneralizedData}
-use Rattle.load_general.specs.General.{tones, symbolAt, entrySymbol, entryRepeat, numberAt, ordinary, pilotOf}
+use Rattle.load_general.specs.General.{tones, symbolAt, entrySymbol, entryRepeat, symbolNumber, ordinary, pilotOf}
 use Rattle.rows.specs.declared.Tone.{Tone}
 
 module _ (s : List ℕ) (g : GeneralizedData) where
@@ -26,15 +26,15 @@ module _ (s : List ℕ) (g : GeneralizedData) where
     eight : 8 ≤ g .nb → BadData
     no-bits : g .nb ≡ 0 → g .npd ≡ 2 → BadData
     no-bits-paired : g .nb ≡ 0 → g .npd ≡ 1 → 1 < g .totd → BadData
-    single : {i : ℕ} → g .npd ≡ 2 → i < g .totd → g .asd ≤ numberAt s g (i * g .nb) 0 → BadData
-    pair : {i : ℕ} → g .npd ≡ 1 → i < g .totd / 2 → (g .asd ≤ numberAt s g (2 * i * g .nb) 0) ⊎ (g .asd ≤ numberAt s g (2 * i * g .nb) 1) → BadData
+    single : {i : ℕ} → g .npd ≡ 2 → i < g .totd → g .asd ≤ symbolNumber s g (i * g .nb) 0 → BadData
+    pair : {i : ℕ} → g .npd ≡ 1 → i < g .totd / 2 → (g .asd ≤ symbolNumber s g (2 * i * g .nb) 0) ⊎ (g .asd ≤ symbolNumber s g (2 * i * g .nb) 1) → BadData
 
   -- the pilot part gave tones, no stop; the data part is no ordinary data block
-  pub record Reached : Type 0 where
+  pub record DataReached : Type 0 where
     pub rows : List Tone
     pub pilot : pilotOf s g ≡ tones rows
     pub other : (ltb 0 (g .totd) && ordinary s g) ≡ false
 
   -- REFUSAL 4
   abbrev pub Four : Type 0
-  Four = BadPilot ⊎ (Reached × BadData)
+  Four = BadPilot ⊎ (DataReached × BadData)

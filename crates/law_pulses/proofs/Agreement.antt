@@ -9,10 +9,10 @@ use native.Mathlib.Omega.{arith}
 use lib.Dec.{ltb}
 use lib.ListN.{length}
 use borrow.Author.Tests.{lt-ltb, le-ltb}
-use Rattle.law_base.specs.Numbers.{lt-or-ge}
-use Rattle.law_pulses.specs.Play.{Entry, pulse, endless, rest, over, shown, status, answer, counted, calls}
+use Rattle.law_base.proofs.Numbers.{lt-or-ge}
+use Rattle.law_pulses.specs.Play.{Entry, pulse, endless, rest, over, statusHere, status, answer, counted, calls}
 use Rattle.law_pulses.proofs.Steps.{rest-nil, rest-stop, rest-ways}
-use Rattle.law_pulses.specs.Source.{Outcome, isEnded, sourced, reached, sumDropped, source, dropped, sources, whole, heard, lasting, Below, Behind, Short, Agrees}
+use Rattle.law_pulses.specs.Source.{Outcome, isEnded, sourced, reached, sumDropped, source, dropped, sources, withDropped, heard, lastingEntries, Below, Behind, Short, Agrees}
 use Rattle.law_pulses.proofs.Ahead.{drops, drops-here, drops-past, runsAhead, ahead-here, ahead-past, source-turns}
 
 short-none : {t d : ℕ} → (0 < t → d < t) → t ≤ d → t ≡ 0
@@ -24,8 +24,8 @@ module _ {A : Type 0} where
   unfolding sourced sumDropped
   dropped-ahead es n = ap sumDropped (source-turns es (suc (length es)) n 0 (omega arith)) ∙ omega arith
 
-  never : (rs : List (Entry A)) → isEnded (shown rs) ≡ false
-  unfolding shown
+  never : (rs : List (Entry A)) → isEnded (statusHere rs) ≡ false
+  unfolding statusHere
   never [] = refl
   never (endless a v ∷ es) = refl
   never (pulse a v t ∷ es) = refl
@@ -51,11 +51,11 @@ module _ {A : Type 0} where
   source-place es n = ap (λ (o : Outcome A). o .place) (source-heard es n)
 
   same-agree : {x y : Outcome A} → x ≡ y → Agrees x y
-  unfolding lasting
+  unfolding lastingEntries
   same-agree {x} {y} e =
       record {
         ends = ap (λ (o : Outcome A). o .done) e;
-        left = ap (λ (o : Outcome A). lasting (o .place)) e;
+        left = ap (λ (o : Outcome A). lastingEntries (o .place)) e;
         heads = inl (record { gone = []; none = refl; split = ap (λ (o : Outcome A). o .place) e });
       }
 
@@ -64,17 +64,17 @@ module _ {A : Type 0} where
   agrees es n = same-agree (source-heard es n)
 
   sources-heard : (es : List (Entry A)) (n : ℕ) (ns : List ℕ)
-      → sources es n ns ≡ heard (calls es (n + dropped es n) (whole (source es n .place) ns))
-  unfolding sources whole calls heard counted
+      → sources es n ns ≡ heard (calls es (n + dropped es n) (withDropped (source es n .place) ns))
+  unfolding sources withDropped calls heard counted
   sources-heard es n [] = source-heard es n
   sources-heard es n (m ∷ ms) =
       let p = source es n .place in
       sources-heard p m ms
-      ∙ ap (λ (x : List (Entry A)). heard (calls x (m + dropped p m) (whole (source p m .place) ms))) (source-place es n)
+      ∙ ap (λ (x : List (Entry A)). heard (calls x (m + dropped p m) (withDropped (source p m .place) ms))) (source-place es n)
 
   -- ANY CALLS, each of the measured player's with the sum that the source's drops in it
   pub agrees-calls : (es : List (Entry A)) (n : ℕ) (ns : List ℕ)
-      → Agrees (sources es n ns) (heard (calls es (n + dropped es n) (whole (source es n .place) ns)))
+      → Agrees (sources es n ns) (heard (calls es (n + dropped es n) (withDropped (source es n .place) ns)))
   agrees-calls es n ns = same-agree (sources-heard es n ns)
 
   below-less : (es : List (Entry A)) (n d : ℕ) → d ≤ n → Below es n → Below es d
@@ -129,8 +129,8 @@ module _ {A : Type 0} where
   unfolding answer
   short-source es n ns s = subst (λ (x : List (Entry A)). Short x ns) (sym (source-place es n)) (short-rest es _ ns s)
 
-  whole-short : (es : List (Entry A)) (ns : List ℕ) → Short es ns → whole es ns ≡ ns
-  unfolding whole Short
+  whole-short : (es : List (Entry A)) (ns : List ℕ) → Short es ns → withDropped es ns ≡ ns
+  unfolding withDropped Short
   whole-short es [] s = refl
   whole-short es (n ∷ ns) s =
       let z = none-dropped es n (s .0) in

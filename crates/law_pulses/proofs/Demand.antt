@@ -7,8 +7,8 @@ use native.Mathlib.Nat.{eq-zero-or-pos}
 use native.Mathlib.Omega.{arith}
 use lib.ListN.{length}
 use borrow.Author.Tests.{lt-ltb, le-ltb}
-use Rattle.law_base.specs.Numbers.{lt-or-ge}
-use Rattle.law_pulses.specs.Play.{Entry, pulse, endless, Status, standing, ended, Answer, made, rest, over, shown, status, answer, counted, calls, time, final, comesTo, Finite, sum, Positive, Spent, AtSum, Demanded, Meets}
+use Rattle.law_base.proofs.Numbers.{lt-or-ge}
+use Rattle.law_pulses.specs.Play.{Entry, pulse, endless, Status, standing, ended, Answer, made, rest, over, statusHere, status, answer, counted, calls, time, final, comesTo, Finite, sum, Positive, Spent, AtSum, Demanded, Meets}
 use Rattle.law_pulses.proofs.Steps.{rest-nil, rest-stop, rest-zero, rest-here, rest-past, rest-ways, over-zero, over-rest, time-pulse, length-rest, rest-cut, over-cut}
 use Rattle.law_pulses.proofs.Joined.{time-append, rest-after}
 
@@ -83,7 +83,7 @@ module _ {A : Type 0} where
       ∙ rest-zero (s .next)))
       (lt-or-ge n (time (s .gone) + s .len))
 
-  pub status-left : (rs : List (Entry A)) (u : ℕ) → u ≡ 0 → status rs u ≡ shown rs
+  pub status-left : (rs : List (Entry A)) (u : ℕ) → u ≡ 0 → status rs u ≡ statusHere rs
   unfolding status
   status-left rs u z = rw (le-ltb 0 u (omega arith))
 
@@ -91,13 +91,13 @@ module _ {A : Type 0} where
   unfolding status
   status-over rs u h = rw (lt-ltb 0 u h)
 
-  shown-time : (rs : List (Entry A)) → 0 < time rs → shown rs ≡ standing
-  unfolding time shown
+  shown-time : (rs : List (Entry A)) → 0 < time rs → statusHere rs ≡ standing
+  unfolding time statusHere
   shown-time [] h = refl
   shown-time (endless a v ∷ es) h = absurd (omega arith)
   shown-time (pulse a v t ∷ es) h = refl
 
-  at-status : (es : List (Entry A)) (n : ℕ) → n ≤ time es → status (rest es n) (over es n) ≡ shown (rest es n)
+  at-status : (es : List (Entry A)) (n : ℕ) → n ≤ time es → status (rest es n) (over es n) ≡ statusHere (rest es n)
   at-status es n h = status-left (rest es n) (over es n) (conserved es n h .1)
 
   -- BELOW the sum
@@ -135,7 +135,7 @@ module _ {A : Type 0} where
   above-place (pulse a v t ∷ es) n h = rest-past a v t es n (omega arith) (omega arith) ∙ above-place es (n - t) (omega arith)
 
   above-status : (es : List (Entry A)) (n : ℕ) → time es < n → status (rest es n) (over es n) ≡ comesTo es
-  unfolding time over comesTo status shown
+  unfolding time over comesTo status statusHere
   above-status [] n h = rw (rest-nil, lt-ltb 0 n h)
   above-status (endless a v ∷ es) n h = rw rest-stop
   above-status (pulse a v t ∷ es) n h =
@@ -187,9 +187,9 @@ module _ {A : Type 0} where
   demanded es n ns p h = rw (any-cut es n ns h) (one-call es (n + sum ns) (omega arith))
 
   -- and a call of 0 alters nothing, and answers stopped at an endless entry, otherwise standing
-  pub zero-call : (es : List (Entry A)) → answer es 0 ≡ made es (shown es) 0
+  pub zero-call : (es : List (Entry A)) → answer es 0 ≡ made es (statusHere es) 0
   unfolding answer
-  zero-call es = rw (rest-zero es, status-left es (over es 0) (over-zero es)) (ap (made es (shown es)) (omega arith))
+  zero-call es = rw (rest-zero es, status-left es (over es 0) (over-zero es)) (ap (made es (statusHere es)) (omega arith))
 
   -- ONE ANSWER: what demand 3 asks is one answer
   pub demanded-one : (es : List (Entry A)) (N : ℕ) (r : Answer A) → 0 < N → Demanded es N r → r ≡ answer es N
@@ -208,7 +208,7 @@ module _ {A : Type 0} where
           (λ g.
           ⊎-elim
           (λ l. d .below l ∙ sym (below-status es N l))
-          (λ k. d .at-sum (omega arith) .1 ∙ ap shown placed ∙ sym (at-status es N g))
+          (λ k. d .at-sum (omega arith) .1 ∙ ap statusHere placed ∙ sym (at-status es N g))
           (lt-or-ge N (time es)))
           (lt-or-ge (time es) N)
 
@@ -218,10 +218,10 @@ module _ {A : Type 0} where
   meets-one run m es n ns p h = demanded-one es (n + sum ns) (run es n ns) (omega arith) (m es n ns p h) ∙ sym (any-cut es n ns h)
 
   -- above the sum no further call alters the answer
-  pub stays : (run : List (Entry A) → ℕ → List ℕ → Answer A) → Meets run
+  pub stays-so : (run : List (Entry A) → ℕ → List ℕ → Answer A) → Meets run
       → (es : List (Entry A)) (n : ℕ) (ns : List ℕ) → time es < n → Positive ns → run es n ns ≡ run es n []
   unfolding Positive answer
-  stays run m es n ns l h =
+  stays-so run m es n ns l h =
       meets-one run m es n ns (omega arith) h
       ∙ any-cut es n ns h
       ∙ settled (n + sum ns) (omega arith)

@@ -7,7 +7,7 @@ use native.Mathlib.Nat.{eq-zero-or-pos, sub-zero, zero-add, zero-sub}
 use native.Mathlib.Omega.{arith}
 use lib.ListN.{length}
 use borrow.Author.Tests.{lt-ltb, le-ltb, ne-eqb}
-use Rattle.law_base.specs.Numbers.{lt-or-ge}
+use Rattle.law_base.proofs.Numbers.{lt-or-ge}
 use Rattle.law_pulses.specs.Play.{Level, Entry, pulse, endless, rest, over, time}
 
 module _ {A : Type 0} where

@@ -46,14 +46,14 @@ module _ {A : Type 0} where
   over (pulse a v t ∷ es) n = over es (n - t)
 
   -- stopped exactly at an endless entry
-  unfoldable pub shown : List (Entry A) → Status
-  shown [] = standing
-  shown (endless a v ∷ es) = stopped
-  shown (pulse a v t ∷ es) = standing
+  unfoldable pub statusHere : List (Entry A) → Status
+  statusHere [] = standing
+  statusHere (endless a v ∷ es) = stopped
+  statusHere (pulse a v t ∷ es) = standing
 
   -- ended where T-states found no entry
   unfoldable pub status : List (Entry A) → ℕ → Status
-  status rs u = ltb 0 u ⇒ ended ∣ shown rs
+  status rs u = ltb 0 u ⇒ ended ∣ statusHere rs
 
   abbrev pub made : List (Entry A) → Status → ℕ → Answer A
   made p s k = record { place = p; tells = s; passed = k }
@@ -137,8 +137,8 @@ pub record Demanded {A : Type 0} (es : List (Entry A)) (N : ℕ) (r : Answer A) 
   -- below the sum, neither stopped nor ended
   pub below : N < time es → r .tells ≡ standing
   -- at the sum, at whatever follows the last pulse with length, and it tells what that is
-  pub at-sum : N ≡ time es → AtSum es (r .place) × (r .tells ≡ shown (r .place))
-  -- above, stopped or ended; whatever N is above it, so it stays so (`stays` in Demand)
+  pub at-sum : N ≡ time es → AtSum es (r .place) × (r .tells ≡ statusHere (r .place))
+  -- above, stopped or ended; whatever N is above it, so it stays so (`stays-so` in proofs/Demand)
   pub above : time es < N → (r .place ≡ final es) × (r .tells ≡ comesTo es)
   -- entries passed and entries left are those there were
   pub counts : r .passed + length (r .place) ≡ length es

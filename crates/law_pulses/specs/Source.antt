@@ -65,20 +65,20 @@ module _ {A : Type 0} where
   sources es n (m ∷ ms) = sources (source es n .place) m ms
 
   -- the same calls, each with the sum that it drops
-  unfoldable pub whole : List (Entry A) → List ℕ → List ℕ
-  whole es [] = []
-  whole es (n ∷ ns) = (n + dropped es n) ∷ whole (source es n .place) ns
+  unfoldable pub withDropped : List (Entry A) → List ℕ → List ℕ
+  withDropped es [] = []
+  withDropped es (n ∷ ns) = (n + dropped es n) ∷ withDropped (source es n .place) ns
 
   -- the measured player's outcome
   unfoldable pub heard : Answer A → Outcome A
   heard r = record { place = r .place; done = isEnded (r .tells) }
 
   -- the entries with length that are left, an endless one included, with their T-states
-  unfoldable pub lasting : List (Entry A) → List (Entry A)
-  lasting [] = []
-  lasting (endless a v ∷ es) = endless a v ∷ lasting es
-  lasting (pulse a v zero ∷ es) = lasting es
-  lasting (pulse a v (suc t) ∷ es) = pulse a v (suc t) ∷ lasting es
+  unfoldable pub lastingEntries : List (Entry A) → List (Entry A)
+  lastingEntries [] = []
+  lastingEntries (endless a v ∷ es) = endless a v ∷ lastingEntries es
+  lastingEntries (pulse a v zero ∷ es) = lastingEntries es
+  lastingEntries (pulse a v (suc t) ∷ es) = pulse a v (suc t) ∷ lastingEntries es
 
   -- n is below every finite duration of es but 0
   unfoldable pub Below : List (Entry A) → ℕ → Type 0
@@ -99,12 +99,12 @@ module _ {A : Type 0} where
 -- xs is ys after entries of no length
 pub record After {A : Type 0} (xs ys : List (Entry A)) : Type 0 where
   pub gone : List (Entry A)
-  pub none : lasting gone ≡ []
+  pub none : lastingEntries gone ≡ []
   pub split : xs ≡ gone ++ ys
 
 -- AGREEMENT: both have ended or neither has, the same entries with length are left with the same T-states,
 -- and the heads differ by entries of no length only
 pub record Agrees {A : Type 0} (x y : Outcome A) : Type 0 where
   pub ends : x .done ≡ y .done
-  pub left : lasting (x .place) ≡ lasting (y .place)
+  pub left : lastingEntries (x .place) ≡ lastingEntries (y .place)
   pub heads : After (x .place) (y .place) ⊎ After (y .place) (x .place)

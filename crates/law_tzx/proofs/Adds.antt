@@ -20,32 +20,32 @@ use Rattle.play_entries.proofs.Sourced.{source-entries}
 use Rattle.load_state.specs.declared.Pending.{Pending}
 use Rattle.load_state.specs.declared.Pending.the-variants.{Nothing, First, Later, Text}
 use Rattle.load_state.specs.declared.Halt.the-variants.{Refusal}
-use Rattle.load_state.specs.Parser.{Tape, on, no, _⟫_, named, withTones, withBlock, addTones, addBlock}
-use Rattle.load_state.proofs.Kept.{Sure, sure, none}
+use Rattle.load_state.specs.Parser.{Parsed, on, no, _⟫_, named, withTones, withBlock, addTones, addBlock}
+use Rattle.load_state.specs.Kept.{Sure, sure, none}
 use Rattle.load_blocks.specs.declared.Origin.{Origin}
 use Rattle.load_blocks.specs.Adds.{Lent, addRows}
-use Rattle.load_blocks.specs.Sounds.{Sound as Birth, rowOf, addSound}
+use Rattle.load_blocks.specs.Sounds.{Sound, rowOf, addSound}
 use Rattle.law_tzx.specs.Format.{Length, lasting}
-use Rattle.law_tzx.specs.Kept.{lengthOf, lengths, listOf, Plays}
+use Rattle.law_tzx.specs.Kept.{lengthOf, lengths, entriesFrom, Plays}
 use Rattle.law_tzx.proofs.Lengths.{lasting-append, blockLengths, block-lengths}
 
 -- nothing is added
-pub plays-none : {s : List ℕ} {ls : List Length} {t u : Tape} → u .blocks ≡ t .blocks → u .tones ≡ t .tones → lasting ls ≡ [] → Plays s ls t u
-unfolding listOf lasting
+pub plays-none : {s : List ℕ} {ls : List Length} {t u : Parsed} → u .blocks ≡ t .blocks → u .tones ≡ t .tones → lasting ls ≡ [] → Plays s ls t u
+unfolding entriesFrom lasting
 plays-none {t = t} p q e =
     record { blocks = []; tones = []; added = p ∙ sym (append-nil (t .blocks)); under = q ∙ sym (append-nil (t .tones)); plays = λ more N b. sym e }
 
 -- the entries of more blocks
-list-append : (s tt : List ℕ) (b : ℕ) (xs ys : List Block) → listOf s tt b (xs ++ ys) ≡ listOf s tt b xs ++ listOf s tt (b + length xs) ys
-unfolding listOf
-list-append s tt b [] ys = let z : b + 0 ≡ b = omega arith in ap (λ (k : ℕ). listOf s tt k ys) (sym z)
+list-append : (s tt : List ℕ) (b : ℕ) (xs ys : List Block) → entriesFrom s tt b (xs ++ ys) ≡ entriesFrom s tt b xs ++ entriesFrom s tt (b + length xs) ys
+unfolding entriesFrom
+list-append s tt b [] ys = let z : b + 0 ≡ b = omega arith in ap (λ (k : ℕ). entriesFrom s tt k ys) (sym z)
 list-append s tt b (x ∷ xs) ys =
     let z : b + 1 + length xs ≡ b + length (x ∷ xs) = omega arith in
-    ap (λ l. entriesOf s tt b x ++ l) (list-append s tt (b + 1) xs ys ∙ ap (λ (k : ℕ). listOf s tt (b + 1) xs ++ listOf s tt k ys) z)
-    ∙ sym (append-assoc (entriesOf s tt b x) (listOf s tt (b + 1) xs) (listOf s tt (b + length (x ∷ xs)) ys))
+    ap (λ l. entriesOf s tt b x ++ l) (list-append s tt (b + 1) xs ys ∙ ap (λ (k : ℕ). entriesFrom s tt (b + 1) xs ++ entriesFrom s tt k ys) z)
+    ∙ sym (append-assoc (entriesOf s tt b x) (entriesFrom s tt (b + 1) xs) (entriesFrom s tt (b + length (x ∷ xs)) ys))
 
 -- one step, then another
-pub plays-then : {s : List ℕ} {ls ms : List Length} {t u v : Tape} → Plays s ls t u → Plays s ms u v → Plays s (ls ++ ms) t v
+pub plays-then : {s : List ℕ} {ls ms : List Length} {t u v : Parsed} → Plays s ls t u → Plays s ms u v → Plays s (ls ++ ms) t v
 plays-then {s} {ls} {ms} {t} {u} {v} p q =
     record {
       blocks = p .blocks ++ q .blocks;
@@ -55,18 +55,18 @@ plays-then {s} {ls} {ms} {t} {u} {v} p q =
       plays = λ more N b.
           let tt = tableOf tone (v .tones ++ more) N in
           let same : v .tones ++ more ≡ u .tones ++ (q .tones ++ more) = ap (λ (l : List Tone). l ++ more) (q .under) ∙ append-assoc (u .tones) (q .tones) more in
-          let first : lasting (lengths (listOf s tt b (p .blocks))) ≡ lasting ls =
-          ap (λ (l : List Tone). lasting (lengths (listOf s (tableOf tone l N) b (p .blocks)))) same ∙ p .plays (q .tones ++ more) N b in
-          let second : lasting (lengths (listOf s tt (b + length (p .blocks)) (q .blocks))) ≡ lasting ms = q .plays more N (b + length (p .blocks)) in
+          let first : lasting (lengths (entriesFrom s tt b (p .blocks))) ≡ lasting ls =
+          ap (λ (l : List Tone). lasting (lengths (entriesFrom s (tableOf tone l N) b (p .blocks)))) same ∙ p .plays (q .tones ++ more) N b in
+          let second : lasting (lengths (entriesFrom s tt (b + length (p .blocks)) (q .blocks))) ≡ lasting ms = q .plays more N (b + length (p .blocks)) in
           ap (λ l. lasting (lengths l)) (list-append s tt b (p .blocks) (q .blocks))
-          ∙ ap lasting (map-append lengthOf (listOf s tt b (p .blocks)) (listOf s tt (b + length (p .blocks)) (q .blocks)))
-          ∙ lasting-append (lengths (listOf s tt b (p .blocks))) (lengths (listOf s tt (b + length (p .blocks)) (q .blocks)))
+          ∙ ap lasting (map-append lengthOf (entriesFrom s tt b (p .blocks)) (entriesFrom s tt (b + length (p .blocks)) (q .blocks)))
+          ∙ lasting-append (lengths (entriesFrom s tt b (p .blocks))) (lengths (entriesFrom s tt (b + length (p .blocks)) (q .blocks)))
           ∙ ap₂ (λ (x y : List Length). x ++ y) first second
           ∙ sym (lasting-append ls ms);
     }
 
 -- lengths that sound the same
-pub plays-as : {s : List ℕ} {ls ms : List Length} {t u : Tape} → lasting ls ≡ lasting ms → Plays s ls t u → Plays s ms t u
+pub plays-as : {s : List ℕ} {ls ms : List Length} {t u : Parsed} → lasting ls ≡ lasting ms → Plays s ls t u → Plays s ms t u
 plays-as e p = record { blocks = p .blocks; tones = p .tones; added = p .added; under = p .under; plays = λ more N b. p .plays more N b ∙ e }
 
 -- a source row's name is not heard
@@ -89,8 +89,8 @@ named-same s tt b p r e = source-entries tt b (named p r) (sort-named p r e) s �
 abbrev blank : Tone
 blank = decodeTone []
 
-module _ (s : List ℕ) (origin : Origin) (d : Birth) (ls : List Length) (same : (n : ℕ) → blockLengths s (d .tones) (rowOf origin d n) ≡ lasting ls) where
-  own : (t : Tape) (more : List Tone) (N i : ℕ) → i < length (d .tones) → get tone (tableOf tone ((t .tones ++ (d .tones)) ++ more) N) (rowOf origin d (length (t .tones)) .tone + i) ≡ getD (d .tones) i blank
+module _ (s : List ℕ) (origin : Origin) (d : Sound) (ls : List Length) (same : (n : ℕ) → blockLengths s (d .tones) (rowOf origin d n) ≡ lasting ls) where
+  own : (t : Parsed) (more : List Tone) (N i : ℕ) → i < length (d .tones) → get tone (tableOf tone ((t .tones ++ (d .tones)) ++ more) N) (rowOf origin d (length (t .tones)) .tone + i) ≡ getD (d .tones) i blank
   unfolding rowOf
   own t more N i k =
       let n = length (t .tones) in
@@ -101,8 +101,8 @@ module _ (s : List ℕ) (origin : Origin) (d : Birth) (ls : List Length) (same :
       ∙ List·getD-append (t .tones ++ (d .tones)) more blank (n + i) h
       ∙ getD-append-add (t .tones) (d .tones) i blank
 
-  row-plays : (t : Tape) → Plays s ls t (withBlock (rowOf origin d (length (t .tones))) (withTones (d .tones) t))
-  unfolding listOf rowOf
+  row-plays : (t : Parsed) → Plays s ls t (withBlock (rowOf origin d (length (t .tones))) (withTones (d .tones) t))
+  unfolding entriesFrom rowOf
   row-plays t =
       let r = rowOf origin d (length (t .tones)) in
       record {
@@ -119,7 +119,7 @@ module _ (s : List ℕ) (origin : Origin) (d : Birth) (ls : List Length) (same :
       }
 
   -- A BLOCK ADDED
-  pub sound-plays : (lent : Lent) (t : Tape) → Sure (Plays s ls t) (addSound lent origin d t)
+  pub sound-plays : (lent : Lent) (t : Parsed) → Sure (Plays s ls t) (addSound lent origin d t)
   unfolding addSound addRows addTones addBlock _⟫_
   sound-plays lent t = by-tones (leb (length (t .tones) + length (d .tones)) (lent .tones))
     where

@@ -9,8 +9,9 @@ use lib.Dec.{eqb}
 use borrow.Author.Tests.{eq-eqb, ne-eqb, eqb-true, eqb-false}
 use Rattle.law_base.specs.Rules.{_⇒_, _∣_}
 use Rattle.cut_grammar.specs.declared.GeneralizedData.{GeneralizedData}
-use Rattle.load_general.specs.General.{lastBits, numberAt}
-use Rattle.law_tzx.specs.Format.{each, bitOf, bitPulses, bitsIn, bytePulses, dataPulses, bitAt, groupAt, dataNumber}
+use Rattle.load_general.specs.General.{usedBits, symbolNumber}
+use Rattle.play_entries.specs.Entries.{bitOf}
+use Rattle.law_tzx.specs.Format.{each, bitPulses, bitsIn, bytePulses, dataPulses, bitAt, groupAt, dataNumber}
 use Rattle.law_tzx.proofs.Waves.{each-split}
 
 -- the same items, wherever they are counted from
@@ -82,8 +83,8 @@ module _ (h : ℕ → ℕ → List ℕ) where
       ∙ sym (each-split all 0 (m * 8) used ∙ ap (λ (k : ℕ). each all 0 (m * 8) ++ each all k used) zz)
 
 -- the bits over: 1 to 8, and with the whole bytes' they are all
-last-few : (n : ℕ) → 0 < n → (max 1 (lastBits n) ≤ 8) × (((n + 7) / 8 - 1) * 8 + max 1 (lastBits n) ≡ n)
-unfolding lastBits
+last-few : (n : ℕ) → 0 < n → (max 1 (usedBits n) ≤ 8) × (((n + 7) / 8 - 1) * 8 + max 1 (usedBits n) ≡ n)
+unfolding usedBits
 last-few n h = by-cases (eqb (n % 8) 0) refl
   where
     by-cases : (b : Bool) → eqb (n % 8) 0 ≡ b → (max 1 (b ⇒ 8 ∣ n % 8) ≤ 8) × (((n + 7) / 8 - 1) * 8 + max 1 (b ⇒ 8 ∣ n % 8) ≡ n)
@@ -91,12 +92,12 @@ last-few n h = by-cases (eqb (n % 8) 0) refl
     by-cases false q = let z = eqb-false (n % 8) 0 q in (omega arith, omega arith)
 
 -- ORDINARY DATA of n bits: the bytes that hold them, the last one's bits as many as are over
-pub data-flat : (s : List ℕ) (off one from n : ℕ) → 0 < n → dataPulses s off one (max 1 (lastBits n)) from ((n + 7) / 8) ≡ each (λ i. bitPulses off one (bitAt s from i)) 0 n
+pub data-flat : (s : List ℕ) (off one from n : ℕ) → 0 < n → dataPulses s off one (max 1 (usedBits n)) from ((n + 7) / 8) ≡ each (λ i. bitPulses off one (bitAt s from i)) 0 n
 unfolding dataPulses bytePulses bitAt
 data-flat s off one from n h =
     let h′ : ℕ → ℕ → List ℕ = λ pos k. bitPulses off one (bitOf (getD s (from + pos) 0) k) in
     let m = (n + 7) / 8 - 1 in
-    let used = max 1 (lastBits n) in
+    let used = max 1 (usedBits n) in
     let e : (n + 7) / 8 ≡ suc m = omega arith in
     let b = last-few n h in
     ap (λ (k : ℕ). each (λ pos. each (h′ pos) 0 (bitsIn used k pos)) 0 k) e
@@ -114,8 +115,8 @@ module _ (s : List ℕ) (g : GeneralizedData) (e : g .nb ≡ 1) where
       ap (λ (n : ℕ). groupAt s (g .from) (i * n) n) e ∙ o ∙ ap (bitAt s (g .from)) z
 
   -- the source reading's
-  pub single-bit : (i : ℕ) → numberAt s g (i * g .nb) 0 ≡ bitAt s (g .from) i
-  unfolding numberAt bitAt
+  pub single-bit : (i : ℕ) → symbolNumber s g (i * g .nb) 0 ≡ bitAt s (g .from) i
+  unfolding symbolNumber bitAt
   single-bit i =
       let z : i * 1 ≡ i = omega arith in
       let m : 7 - i % 8 - 0 ≡ 7 - i % 8 = omega arith in
@@ -123,8 +124,8 @@ module _ (s : List ℕ) (g : GeneralizedData) (e : g .nb ≡ 1) where
       ∙ ap (λ (k : ℕ). getD s (g .from + k / 8) 0 / 2 ^ (7 - k % 8 - 0) % 2) z
       ∙ ap (λ (k : ℕ). getD s (g .from + i / 8) 0 / 2 ^ k % 2) m
 
-  pub second-bit : (i : ℕ) → numberAt s g (2 * i * g .nb) 1 ≡ bitAt s (g .from) (2 * i + 1)
-  unfolding numberAt bitAt
+  pub second-bit : (i : ℕ) → symbolNumber s g (2 * i * g .nb) 1 ≡ bitAt s (g .from) (2 * i + 1)
+  unfolding symbolNumber bitAt
   second-bit i =
       let z : 2 * i * 1 ≡ 2 * i = omega arith in
       let a : 2 * i / 8 ≡ (2 * i + 1) / 8 = omega arith in

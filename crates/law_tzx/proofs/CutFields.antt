@@ -8,7 +8,7 @@ use mathlib.Core.Logic.{⊎-elim}
 use lib.ListN.{length, getD}
 use lib.Dec.{leb}
 use Rattle.law_base.specs.Rules.{_⇒_, _∣_}
-use Rattle.law_base.specs.Numbers.{lt-or-ge}
+use Rattle.law_base.proofs.Numbers.{lt-or-ge}
 use Rattle.cut_fields.specs.declared.Cursor.{Cursor}
 use Rattle.cut_fields.specs.declared.Cursor.the-variants.{At}
 use Rattle.cut_fields.specs.declared.Cursor.the-variants as cursor
@@ -70,7 +70,7 @@ head-byte s c {q} e =
     f5 .told ∙ byte-at s (placeOf (npp .cursor)) ∙ ap (λ (p : ℕ). getD s p 0) k
 
 -- a whole piece behind its bits: any other piece would be whole there too
-pub record Fitted (x y : Piece) (bits : ℕ) (c d : Cursor) (next : ℕ) : Type 0 where
+pub record FittedPiece (x y : Piece) (bits : ℕ) (c d : Cursor) (next : ℕ) : Type 0 where
   pub same : x ≡ y
   pub stood : d ≡ At next
   pub any : (z : Piece) → fittingAt bits c (wholeAt z d) ≡ body.Whole z next
@@ -84,11 +84,11 @@ whole-any : (z : Piece) {d : Cursor} {next : ℕ} → d ≡ At next → wholeAt 
 unfolding wholeAt
 whole-any z e = ap (wholeAt z) e
 
-pub fitted : (x y : Piece) (bits : ℕ) (c d : Cursor) (next : ℕ) → fittingAt bits c (wholeAt x d) ≡ body.Whole y next → Fitted x y bits c d next
+pub fitted : (x y : Piece) (bits : ℕ) (c d : Cursor) (next : ℕ) → fittingAt bits c (wholeAt x d) ≡ body.Whole y next → FittedPiece x y bits c d next
 unfolding fittingAt
 fitted x y bits (At p) d next e = by-cases (leb bits 4294967295) refl e
   where
-    by-cases : (t : Bool) → leb bits 4294967295 ≡ t → (t ⇒ wholeAt x d ∣ body.Overflow p) ≡ body.Whole y next → Fitted x y bits (At p) d next
+    by-cases : (t : Bool) → leb bits 4294967295 ≡ t → (t ⇒ wholeAt x d ∣ body.Overflow p) ≡ body.Whole y next → FittedPiece x y bits (At p) d next
     by-cases true b q = let r = whole-fitted x d q in record { same = r .0; stood = r .1; any = λ z. rw b (whole-any z (r .1)) }
     by-cases false b q = absurd (let z : _≡_ {A = ℕ} 0 1 = cc in omega arith)
 fitted x y bits (cursor.Short p w) d next e = let r = whole-fitted x d e in record { same = r .0; stood = r .1; any = λ z. whole-any z (r .1) }

@@ -9,7 +9,7 @@ use lib.ListN.{getD}
 use lib.Dec.{ltb, eqb}
 use borrow.Author.Tests.{eqb-true}
 use Rattle.law_base.specs.Rules.{_⇒_, _∣_}
-use Rattle.law_base.specs.Tests.{first, second, other}
+use Rattle.law_base.proofs.Tests.{first, second, other}
 use Rattle.cut_fields.specs.declared.Cursor.{Cursor}
 use Rattle.cut_fields.specs.declared.Cursor.the-variants.{At}
 use Rattle.cut_fields.specs.Field.{placeOf}
@@ -23,18 +23,18 @@ use Rattle.cut_grammar.specs.declared.Body.the-variants as body
 use Rattle.cut_grammar.specs.declared.Taken.the-variants as taken
 use Rattle.cut_grammar.specs.Grammar.{Layout, passAt, wholeAt, fittingAt, readAt, bitsOf, orFull, heldIf}
 use Rattle.cut_grammar.specs.Kinds.{stream19, kind19, kinds, kindOf}
-use Rattle.cut_grammar.specs.Cut.{named, cutAt}
+use Rattle.cut_grammar.specs.Cut.{takenAs, cutAt}
 use Rattle.cut_grammar.specs.Steps.{head19}
 use Rattle.cut_grammar.proofs.Cutting.{cut-there, cut-inside}
 use Rattle.cut_grammar.proofs.Others.{unnamed}
 use Rattle.cut_grammar.proofs.Places.{cut-places}
-use Rattle.load_state.specs.Parser.{Tape}
-use Rattle.load_state.proofs.Kept.{Sure}
+use Rattle.load_state.specs.Parser.{Parsed}
+use Rattle.load_state.specs.Kept.{Sure}
 use Rattle.load_blocks.specs.declared.Origin.{Origin}
 use Rattle.load_blocks.specs.Adds.{Lent}
 use Rattle.load_source.specs.Source.{act}
-use Rattle.law_tzx.specs.Format.{Said, unsaid, soundOf, paused, each, pilotSymbol, repetitions, pilotPulses, dataNumber, symbolPulses, every, symbolsSaid, format19, formatOf, full}
-use Rattle.law_tzx.specs.Kept.{keptPilot, keptData, kept19, kept, Keeps, Tables}
+use Rattle.law_tzx.specs.Format.{Said, unsaid, saidPulses, pauseMs, each, pilotSymbol, repetitions, pilotPulses, dataNumber, symbolPulses, every, symbolsSaid, format19, formatOf, formatFull}
+use Rattle.law_tzx.specs.Kept.{keptPilot, keptData, kept19, kept, Keeps, Tables, FormatCut, KeptAt}
 use Rattle.law_tzx.proofs.Waves.{differ}
 use Rattle.law_tzx.proofs.Symbols.{not-so}
 use Rattle.law_tzx.proofs.Keeps.{keeps}
@@ -90,7 +90,7 @@ unfolding readAt kind19 stream19 passAt head19 bodyWith
 general-body full s c = refl
 
 -- an alphabet's size that isn't 0 means the same to both
-full-same : (a : ℕ) → eqb a 0 ≡ false → orFull 255 a ≡ orFull full a
+full-same : (a : ℕ) → eqb a 0 ≡ false → orFull 255 a ≡ orFull formatFull a
 unfolding orFull
 full-same a e = rw e
 
@@ -128,7 +128,7 @@ asp-unsaid : (s : List ℕ) (pause totp npp totd npd asd : ℕ) (c : Cursor) (a 
 unfolding format19 symbolsSaid pilotPulses pilotSymbol repetitions symbolPulses dataNumber
 asp-unsaid s pause totp npp totd npd asd c a b n e =
     let g = generalWith s pause totp npp totd npd asd c a n in
-    ap (λ (t : Bool). (t && every (λ i. ltb (dataNumber s g i) asd) 0 totd) ⇒ soundOf (each (pilotPulses s g) 0 totp ++ each (symbolPulses s g) 0 totd) (paused pause) ∣ unsaid)
+    ap (λ (t : Bool). (t && every (λ i. ltb (dataNumber s g i) asd) 0 totd) ⇒ saidPulses (each (pilotPulses s g) 0 totp ++ each (symbolPulses s g) 0 totd) (pauseMs pause) ∣ unsaid)
     (none-said (λ i. ltb (pilotSymbol s g i) b) totp e ∙ sym (none-said (λ i. ltb (pilotSymbol s g i) a) totp e))
 
 -- what the format cuts there
@@ -139,7 +139,7 @@ pub record Same (s : List ℕ) (b : Body) (piece : Piece) (next : ℕ) : Type 0 
 
 module _ (s : List ℕ) (c : Cursor) {piece : Piece} {next : ℕ} (e : readAt (kind19 255) s c ≡ body.Whole piece next) (k : kept s piece ≡ true) where
   abbrev heldBy : ℕ → ℕ
-  heldBy full = heldIf (head19 s c .totp) (orFull full (head19 s c .asp))
+  heldBy formatFull = heldIf (head19 s c .totp) (orFull formatFull (head19 s c .asp))
 
   abbrev bodyBy : ℕ → ℕ → ℕ → Body
   bodyBy asd asp n = bodyWith s (head19 s c .pause) (head19 s c .totp) (head19 s c .npp) (head19 s c .totd) (head19 s c .npd) asd (head19 s c .cursor) asp n
@@ -165,14 +165,14 @@ module _ (s : List ℕ) (c : Cursor) {piece : Piece} {next : ℕ} (e : readAt (k
   kept255 = ap (kept s) piece255 ∙ k
 
   -- the data's alphabet is of two symbols
-  asd-same : asd255 ≡ orFull full (head19 s c .asd)
+  asd-same : asd255 ≡ orFull formatFull (head19 s c .asd)
   asd-same = full-same (head19 s c .asd) (full-none (head19 s c .asd) (kept-asd s (generalBy asd255 asp255 (heldBy 255)) kept255))
 
-  read256 : readAt (kind19 full) s c ≡ bodyBy asd255 (orFull full (head19 s c .asp)) (heldBy full)
-  read256 = general-body full s c ∙ ap (λ (x : ℕ). bodyBy x (orFull full (head19 s c .asp)) (heldBy full)) (sym asd-same)
+  read256 : readAt (kind19 formatFull) s c ≡ bodyBy asd255 (orFull formatFull (head19 s c .asp)) (heldBy formatFull)
+  read256 = general-body formatFull s c ∙ ap (λ (x : ℕ). bodyBy x (orFull formatFull (head19 s c .asp)) (heldBy formatFull)) (sym asd-same)
 
   abbrev asp256 : ℕ
-  asp256 = orFull full (head19 s c .asp)
+  asp256 = orFull formatFull (head19 s c .asp)
 
   -- with another size of a pilot alphabet that nothing uses
   whole256 : bodyBy asd255 asp256 (heldBy 255) ≡ body.Whole (Generalized (generalBy asd255 asp256 (heldBy 255))) next
@@ -188,22 +188,22 @@ module _ (s : List ℕ) (c : Cursor) {piece : Piece} {next : ℕ} (e : readAt (k
   asp-byte : head19 s c .asp ≡ getD s (placeOf (head19 s c .cursor) - 7) 0
   asp-byte = head-byte s c (began s (head19 s c .pause) (head19 s c .totp) (head19 s c .npp) (head19 s c .totd) (head19 s c .npd) asd255 (head19 s c .cursor) asp255 (heldBy 255) read255)
 
-  general-same : Same s (readAt (kind19 full) s c) piece next
+  general-same : Same s (readAt (kind19 formatFull) s c) piece next
   general-same = by-asp (eqb (head19 s c .asp) 0) refl
     where
-      by-totp : (b : Bool) → eqb (head19 s c .totp) 0 ≡ b → eqb (head19 s c .asp) 0 ≡ true → Same s (readAt (kind19 full) s c) piece next
+      by-totp : (b : Bool) → eqb (head19 s c .totp) 0 ≡ b → eqb (head19 s c .asp) 0 ≡ true → Same s (readAt (kind19 formatFull) s c) piece next
       by-totp true q z =
           let t : head19 s c .totp ≡ 0 = eqb-true (head19 s c .totp) 0 q in
-          let n : heldBy full ≡ heldBy 255 = held-none (head19 s c .totp) asp256 t ∙ sym (held-none (head19 s c .totp) asp255 t) in
+          let n : heldBy formatFull ≡ heldBy 255 = held-none (head19 s c .totp) asp256 t ∙ sym (held-none (head19 s c .totp) asp255 t) in
           record { other = Generalized (generalBy asd255 asp256 (heldBy 255)); whole = read256 ∙ ap (bodyBy asd255 asp256) n ∙ whole256; said = said256 t }
       by-totp false q z =
           let o : eqb (getD s (placeOf (head19 s c .cursor) - 7) 0) 0 ≡ false = kept-asp s (generalBy asd255 asp255 (heldBy 255)) kept255 q in
           absurd (differ (sym z ∙ ap (λ (x : ℕ). eqb x 0) asp-byte ∙ o))
 
-      by-asp : (b : Bool) → eqb (head19 s c .asp) 0 ≡ b → Same s (readAt (kind19 full) s c) piece next
+      by-asp : (b : Bool) → eqb (head19 s c .asp) 0 ≡ b → Same s (readAt (kind19 formatFull) s c) piece next
       by-asp true z = by-totp (eqb (head19 s c .totp) 0) refl z
       by-asp false z =
-          let a : asp255 ≡ orFull full (head19 s c .asp) = full-same (head19 s c .asp) z in
+          let a : asp255 ≡ orFull formatFull (head19 s c .asp) = full-same (head19 s c .asp) z in
           record {
             other = piece;
             whole = read256 ∙ ap (λ (x : ℕ). bodyBy asd255 x (heldIf (head19 s c .totp) x)) (sym a) ∙ read255;
@@ -211,7 +211,7 @@ module _ (s : List ℕ) (c : Cursor) {piece : Piece} {next : ℕ} (e : readAt (k
           }
 
 -- of all kinds, 19 alone has an alphabet
-kinds-same : (kind : ℕ) → eqb kind 0x19 ≡ false → kindOf 255 kind ≡ kindOf full kind
+kinds-same : (kind : ℕ) → eqb kind 0x19 ≡ false → kindOf 255 kind ≡ kindOf formatFull kind
 unfolding kindOf kinds
 kinds-same kind e = rw e
 
@@ -219,37 +219,25 @@ kinds-general : (full kind : ℕ) → kind ≡ 0x19 → kindOf full kind ≡ kin
 unfolding kindOf kinds
 kinds-general full kind e = rw e
 
-body-same : (s : List ℕ) (kind : ℕ) (c : Cursor) {piece : Piece} {next : ℕ} → readAt (kindOf 255 kind) s c ≡ body.Whole piece next → kept s piece ≡ true → Same s (readAt (kindOf full kind) s c) piece next
+body-same : (s : List ℕ) (kind : ℕ) (c : Cursor) {piece : Piece} {next : ℕ} → readAt (kindOf 255 kind) s c ≡ body.Whole piece next → kept s piece ≡ true → Same s (readAt (kindOf formatFull kind) s c) piece next
 body-same s kind c {piece} {next} e k = by-cases (eqb kind 0x19) refl
   where
-    by-cases : (b : Bool) → eqb kind 0x19 ≡ b → Same s (readAt (kindOf full kind) s c) piece next
+    by-cases : (b : Bool) → eqb kind 0x19 ≡ b → Same s (readAt (kindOf formatFull kind) s c) piece next
     by-cases true q =
         let g = eqb-true kind 0x19 q in
-        rw (kinds-general full kind g) (general-same s c (ap (λ (l : Layout). readAt l s c) (sym (kinds-general 255 kind g)) ∙ e) k)
+        rw (kinds-general formatFull kind g) (general-same s c (ap (λ (l : Layout). readAt l s c) (sym (kinds-general 255 kind g)) ∙ e) k)
     by-cases false q = record { other = piece; whole = ap (λ (l : Layout). readAt l s c) (sym (kinds-same kind q)) ∙ e; said = λ on48. refl }
 
--- what the format cuts at a place where a kept piece was cut
-pub record Cut (s : List ℕ) (at next : ℕ) (piece : Piece) : Type 0 where
-  pub other : Piece
-  pub cut : cutAt s at full ≡ taken.Whole (getD s at 0) at next other
-  pub said : (on48 : Bool) → formatOf on48 s other ≡ formatOf on48 s piece
-
 -- THE FORMAT'S OWN CUT of a kept piece
-pub kept-cut : (s : List ℕ) (at : ℕ) {k a next : ℕ} {piece : Piece} → cutAt s at 255 ≡ taken.Whole k a next piece → kept s piece ≡ true → Cut s at next piece
-unfolding named
+pub kept-cut : (s : List ℕ) (at : ℕ) {k a next : ℕ} {piece : Piece} → cutAt s at 255 ≡ taken.Whole k a next piece → kept s piece ≡ true → FormatCut s at next piece
+unfolding takenAs
 kept-cut s at e kept =
     let h = cut-inside s at 255 e in
     let r = body-same s (getD s at 0) (At (at + 1)) (unnamed (getD s at 0) at _ (sym (cut-there s at 255 h) ∙ e)) kept in
-    record { other = r .other; cut = cut-there s at full h ∙ ap (named (getD s at 0) at) (r .whole); said = r .said }
-
--- the piece that the format cuts at a place, and that the source reading's piece there is played as it says
-pub record KeptAt (lent : Lent) (origin : Origin) (s : List ℕ) (model at next : ℕ) (piece : Piece) (t : Tape) : Type 0 where
-  pub other : Piece
-  pub cut : cutAt s at full ≡ taken.Whole (getD s at 0) at next other
-  pub plays : Sure (λ u. Keeps s t u (formatOf (eqb model 0) s other)) (act lent s model origin piece t)
+    record { other = r .other; cut = cut-there s at formatFull h ∙ ap (takenAs (getD s at 0) at) (r .whole); said = r .said }
 
 -- KEEPS, for a piece of a tape
-pub cut-keeps : (lent : Lent) (origin : Origin) (s : List ℕ) (model at : ℕ) (t : Tape) {k a next : ℕ} {piece : Piece} → cutAt s at 255 ≡ taken.Whole k a next piece → kept s piece ≡ true → KeptAt lent origin s model at next piece t
+pub cut-keeps : (lent : Lent) (origin : Origin) (s : List ℕ) (model at : ℕ) (t : Parsed) {k a next : ℕ} {piece : Piece} → cutAt s at 255 ≡ taken.Whole k a next piece → kept s piece ≡ true → KeptAt lent origin s model at next piece t
 cut-keeps lent origin s model at t {k} {a} {next} {piece} cut e =
     let c = kept-cut s at cut e in
     let tables : Tables s piece = λ g q. cut-places s at 255 (cut ∙ ap (λ (x : Piece). taken.Whole k a next x) q) .places in

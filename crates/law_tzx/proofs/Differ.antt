@@ -9,23 +9,23 @@ use Rattle.refusals.specs.Refusals.{generalised}
 use Rattle.cut_fields.specs.Field.{leAt, numberAt, fieldAt, placeOf}
 use Rattle.cut_fields.specs.Run.{times, eachAt, groupsAt}
 use Rattle.law_pulses.specs.Runs.{run}
-use Rattle.rows.specs.Table.{over}
+use Rattle.rows.specs.Table.{tableOver}
 use Rattle.play_entries.specs.Entries.{entryOf, cyclesOf, isSingle, startLevel, cycleLevel, bitLevel, edged, pauseLevel, toneOf, tonesOf, bitsAt, halfOf, byteOf, dataOf, pauseOf, soundOf, entriesOf}
-use Rattle.cut_grammar.specs.Grammar.{countedAt, passAt, textsAt, wholeAt, sealed, enclosed, fittingAt, readAt, digits, orFull, heldIf}
+use Rattle.cut_grammar.specs.Grammar.{countedAt, passAt, textsAt, wholeAt, sealed, enclosed, fittingAt, readAt, binaryDigits, orFull, heldIf}
 use Rattle.cut_grammar.specs.Kinds.{kind10, kind11, kind12, kind13, kind14, stream19, kind19, kind20, kind21, kind22, kind24, kind25, kind2A, kind30, kind31, info32, kind32, kind33, kind35, kind5A, kinds, kindOf}
-use Rattle.cut_grammar.specs.Cut.{named, cutAt}
-use Rattle.load_general.specs.General.{symbolAt, before, rowsFrom, cycles, entrySymbol, entryRepeat, entryRow, pilotOf, equalHalves, ordinary, lastBits, numberAt as symbolNumber, singleRow, pairRow, singlesOf, pairsOf, dataOf as dataPart, withPilot, withData, generalOf}
+use Rattle.cut_grammar.specs.Cut.{takenAs, cutAt}
+use Rattle.load_general.specs.General.{symbolAt, before, rowsFrom, cycles, entrySymbol, entryRepeat, entryRow, pilotOf, equalHalves, ordinary, usedBits, symbolNumber, singleRow, pairRow, singlesOf, pairsOf, dataPart, withPilot, withData, generalOf}
 use Rattle.load_state.specs.Parser.{on, empty, _⟫_, addTones, addBlock, pend, openLoop, endGroup, lastPaused, paused, closeLoop, closed, copies, copyRows}
 use Rattle.load_blocks.specs.Sounds.{rowOf, addSound, addSounds}
-use Rattle.load_blocks.specs.Blocks.{isHeader, standardCycles, standardTones, turboTones, pureTones, pureToneTones, pulseAt, standardSound, turboSound, pairSounds, pureSound, pauseSound}
+use Rattle.load_blocks.specs.Blocks.{standardHeader, standardCycles, standardTones, turboTones, pureTones, pureToneTones, pulseAt, standardSound, turboSound, pairSounds, pureSound, pauseSound}
 use Rattle.load_blocks.specs.Adds.{addRows}
 use Rattle.load_blocks.specs.Deeds.{generalDeed, stop48Deed, does}
 use Rattle.load_source.specs.Meaning.{deedOf}
-use Rattle.load_source.specs.Source.{act, halted, after, seeing, foldFrom, tzxOf, tzxSee}
+use Rattle.load_source.specs.Source.{act, halted, readOn, seeing, foldFrom, tzxOf, tzxSee}
 use Rattle.load_source.specs.Source as source
-use Rattle.law_tzx.specs.Format.{Length, lasts, forever, full, each, bitPulses, bitsIn, bytePulses, dataPulses, bitsSaid, pilotCount, format10, format11, format12, format13, format14, waveFrom, symbolPulse, waveOf, pilotSymbol, repetitions, pilotPulses, bitAt, groupAt, dataNumber, symbolPulses, every, symbolsSaid, format19, format20, format2A, formatOf, lengthsOf, lasting}
-use Rattle.law_tzx.specs.Kept.{evenCount, kept11, kept12, kept13, firstPulse, secondPulse, wholeWave, keptTimes, keptEntry, keptPilot, keptSymbol, keptPairs, keptData, kept19, kept, lengthOf, listOf}
-use Rattle.law_tzx.specs.Heard.{Heard, plays, refused, errs, nothing, most, heardIn, playedBy, formatOn, sourceOn, keptOn, formatAt, sourceAt, keptAt, sameLength, sameLengths, same}
+use Rattle.law_tzx.specs.Format.{Length, lasts, forever, formatFull, each, bitPulses, bitsIn, bytePulses, dataPulses, bitsSaid, pilotCount, format10, format11, format12, format13, format14, waveFrom, symbolPulse, waveOf, pilotSymbol, repetitions, pilotPulses, bitAt, groupAt, dataNumber, symbolPulses, every, symbolsSaid, format19, format20, format2A, formatOf, lengthsOf, lasting}
+use Rattle.law_tzx.specs.Kept.{evenCount, kept11, kept12, kept13, firstPulse, secondPulse, wholeWave, keptTimes, keptEntry, keptPilot, keptSymbol, keptPairs, keptData, kept19, kept, lengthOf, entriesFrom}
+use Rattle.law_tzx.specs.Heard.{Heard, plays, refused, errs, nothing, most, heardIn, playedBy, formatOn, sourceOn, keptOn, formatAt, sourceHeard, keptAt, sameLength, sameLengths, same}
 use Rattle.law_tzx.proofs.Examples.{Example, row}
 
 unfoldable pub ways : List Example
@@ -86,15 +86,15 @@ ways =
     row (0x19 ∷ 0x1D ∷ 0x00 ∷ 0x00 ∷ 0x00 ∷ 0x00 ∷ 0x00 ∷ 0x00 ∷ 0x00 ∷ 0x00 ∷ 0x00 ∷ 0x00 ∷ 0x00 ∷ 0x01 ∷ 0x00 ∷ 0x00 ∷ 0x00 ∷ 0x03 ∷ 0x02 ∷ 0x00 ∷ 0x01 ∷ 0x00 ∷ 0x02 ∷ 0x00 ∷ 0x03 ∷ 0x00 ∷ 0x00 ∷ 0x04 ∷ 0x00 ∷ 0x05 ∷ 0x00 ∷ 0x06 ∷ 0x00 ∷ 0x80 ∷ []) false (plays (lasts 4 ∷ lasts 5 ∷ lasts 6 ∷ [])) (plays (forever ∷ [])) ∷ []
 
 pub ways-said : map (λ e. formatAt (e .tape)) ways ≡ map (λ e. e .format) ways
-unfolding leAt numberAt fieldAt placeOf times eachAt groupsAt run over entryOf cyclesOf isSingle startLevel cycleLevel bitLevel edged pauseLevel toneOf tonesOf bitsAt halfOf byteOf dataOf pauseOf soundOf entriesOf countedAt passAt textsAt wholeAt sealed enclosed fittingAt readAt digits orFull heldIf kind10 kind11 kind12 kind13 kind14 stream19 kind19 kind20 kind21 kind22 kind24 kind25 kind2A kind30 kind31 info32 kind32 kind33 kind35 kind5A kinds kindOf named cutAt symbolAt before rowsFrom cycles entrySymbol entryRepeat entryRow pilotOf equalHalves ordinary lastBits symbolNumber singleRow pairRow singlesOf pairsOf dataPart withPilot withData generalOf empty _⟫_ addTones addBlock pend openLoop isHeader standardCycles standardTones turboTones pureTones pureToneTones pulseAt addRows rowOf standardSound turboSound pairSounds pureSound pauseSound addSound addSounds generalDeed stop48Deed does deedOf act halted each bitPulses bitsIn bytePulses dataPulses bitsSaid pilotCount format10 format11 format12 format13 format14 waveFrom symbolPulse waveOf pilotSymbol repetitions pilotPulses bitAt groupAt dataNumber symbolPulses every symbolsSaid format19 format20 format2A formatOf lengthsOf lasting evenCount kept11 kept12 kept13 firstPulse secondPulse wholeWave keptTimes keptEntry keptPilot keptSymbol keptPairs keptData kept19 kept lengthOf listOf heardIn playedBy formatOn sourceOn keptOn sameLength sameLengths same ways
+unfolding leAt numberAt fieldAt placeOf times eachAt groupsAt run tableOver entryOf cyclesOf isSingle startLevel cycleLevel bitLevel edged pauseLevel toneOf tonesOf bitsAt halfOf byteOf dataOf pauseOf soundOf entriesOf countedAt passAt textsAt wholeAt sealed enclosed fittingAt readAt binaryDigits orFull heldIf kind10 kind11 kind12 kind13 kind14 stream19 kind19 kind20 kind21 kind22 kind24 kind25 kind2A kind30 kind31 info32 kind32 kind33 kind35 kind5A kinds kindOf takenAs cutAt symbolAt before rowsFrom cycles entrySymbol entryRepeat entryRow pilotOf equalHalves ordinary usedBits symbolNumber singleRow pairRow singlesOf pairsOf dataPart withPilot withData generalOf empty _⟫_ addTones addBlock pend openLoop standardHeader standardCycles standardTones turboTones pureTones pureToneTones pulseAt addRows rowOf standardSound turboSound pairSounds pureSound pauseSound addSound addSounds generalDeed stop48Deed does deedOf act halted each bitPulses bitsIn bytePulses dataPulses bitsSaid pilotCount format10 format11 format12 format13 format14 waveFrom symbolPulse waveOf pilotSymbol repetitions pilotPulses bitAt groupAt dataNumber symbolPulses every symbolsSaid format19 format20 format2A formatOf lengthsOf lasting evenCount kept11 kept12 kept13 firstPulse secondPulse wholeWave keptTimes keptEntry keptPilot keptSymbol keptPairs keptData kept19 kept lengthOf entriesFrom heardIn playedBy formatOn sourceOn keptOn sameLength sameLengths same ways
 ways-said = refl
 
-pub ways-played : map (λ e. sourceAt (e .tape)) ways ≡ map (λ e. e .source) ways
-unfolding leAt numberAt fieldAt placeOf times eachAt groupsAt run over entryOf cyclesOf isSingle startLevel cycleLevel bitLevel edged pauseLevel toneOf tonesOf bitsAt halfOf byteOf dataOf pauseOf soundOf entriesOf countedAt passAt textsAt wholeAt sealed enclosed fittingAt readAt digits orFull heldIf kind10 kind11 kind12 kind13 kind14 stream19 kind19 kind20 kind21 kind22 kind24 kind25 kind2A kind30 kind31 info32 kind32 kind33 kind35 kind5A kinds kindOf named cutAt symbolAt before rowsFrom cycles entrySymbol entryRepeat entryRow pilotOf equalHalves ordinary lastBits symbolNumber singleRow pairRow singlesOf pairsOf dataPart withPilot withData generalOf empty _⟫_ addTones addBlock pend openLoop isHeader standardCycles standardTones turboTones pureTones pureToneTones pulseAt addRows rowOf standardSound turboSound pairSounds pureSound pauseSound addSound addSounds generalDeed stop48Deed does deedOf act halted each bitPulses bitsIn bytePulses dataPulses bitsSaid pilotCount format10 format11 format12 format13 format14 waveFrom symbolPulse waveOf pilotSymbol repetitions pilotPulses bitAt groupAt dataNumber symbolPulses every symbolsSaid format19 format20 format2A formatOf lengthsOf lasting evenCount kept11 kept12 kept13 firstPulse secondPulse wholeWave keptTimes keptEntry keptPilot keptSymbol keptPairs keptData kept19 kept lengthOf listOf heardIn playedBy formatOn sourceOn keptOn sameLength sameLengths same ways
+pub ways-played : map (λ e. sourceHeard (e .tape)) ways ≡ map (λ e. e .source) ways
+unfolding leAt numberAt fieldAt placeOf times eachAt groupsAt run tableOver entryOf cyclesOf isSingle startLevel cycleLevel bitLevel edged pauseLevel toneOf tonesOf bitsAt halfOf byteOf dataOf pauseOf soundOf entriesOf countedAt passAt textsAt wholeAt sealed enclosed fittingAt readAt binaryDigits orFull heldIf kind10 kind11 kind12 kind13 kind14 stream19 kind19 kind20 kind21 kind22 kind24 kind25 kind2A kind30 kind31 info32 kind32 kind33 kind35 kind5A kinds kindOf takenAs cutAt symbolAt before rowsFrom cycles entrySymbol entryRepeat entryRow pilotOf equalHalves ordinary usedBits symbolNumber singleRow pairRow singlesOf pairsOf dataPart withPilot withData generalOf empty _⟫_ addTones addBlock pend openLoop standardHeader standardCycles standardTones turboTones pureTones pureToneTones pulseAt addRows rowOf standardSound turboSound pairSounds pureSound pauseSound addSound addSounds generalDeed stop48Deed does deedOf act halted each bitPulses bitsIn bytePulses dataPulses bitsSaid pilotCount format10 format11 format12 format13 format14 waveFrom symbolPulse waveOf pilotSymbol repetitions pilotPulses bitAt groupAt dataNumber symbolPulses every symbolsSaid format19 format20 format2A formatOf lengthsOf lasting evenCount kept11 kept12 kept13 firstPulse secondPulse wholeWave keptTimes keptEntry keptPilot keptSymbol keptPairs keptData kept19 kept lengthOf entriesFrom heardIn playedBy formatOn sourceOn keptOn sameLength sameLengths same ways
 ways-played = refl
 
 pub ways-kept : map (λ e. keptAt (e .tape)) ways ≡ map (λ e. e .kept) ways
-unfolding leAt numberAt fieldAt placeOf times eachAt groupsAt run over entryOf cyclesOf isSingle startLevel cycleLevel bitLevel edged pauseLevel toneOf tonesOf bitsAt halfOf byteOf dataOf pauseOf soundOf entriesOf countedAt passAt textsAt wholeAt sealed enclosed fittingAt readAt digits orFull heldIf kind10 kind11 kind12 kind13 kind14 stream19 kind19 kind20 kind21 kind22 kind24 kind25 kind2A kind30 kind31 info32 kind32 kind33 kind35 kind5A kinds kindOf named cutAt symbolAt before rowsFrom cycles entrySymbol entryRepeat entryRow pilotOf equalHalves ordinary lastBits symbolNumber singleRow pairRow singlesOf pairsOf dataPart withPilot withData generalOf empty _⟫_ addTones addBlock pend openLoop isHeader standardCycles standardTones turboTones pureTones pureToneTones pulseAt addRows rowOf standardSound turboSound pairSounds pureSound pauseSound addSound addSounds generalDeed stop48Deed does deedOf act halted each bitPulses bitsIn bytePulses dataPulses bitsSaid pilotCount format10 format11 format12 format13 format14 waveFrom symbolPulse waveOf pilotSymbol repetitions pilotPulses bitAt groupAt dataNumber symbolPulses every symbolsSaid format19 format20 format2A formatOf lengthsOf lasting evenCount kept11 kept12 kept13 firstPulse secondPulse wholeWave keptTimes keptEntry keptPilot keptSymbol keptPairs keptData kept19 kept lengthOf listOf heardIn playedBy formatOn sourceOn keptOn sameLength sameLengths same ways
+unfolding leAt numberAt fieldAt placeOf times eachAt groupsAt run tableOver entryOf cyclesOf isSingle startLevel cycleLevel bitLevel edged pauseLevel toneOf tonesOf bitsAt halfOf byteOf dataOf pauseOf soundOf entriesOf countedAt passAt textsAt wholeAt sealed enclosed fittingAt readAt binaryDigits orFull heldIf kind10 kind11 kind12 kind13 kind14 stream19 kind19 kind20 kind21 kind22 kind24 kind25 kind2A kind30 kind31 info32 kind32 kind33 kind35 kind5A kinds kindOf takenAs cutAt symbolAt before rowsFrom cycles entrySymbol entryRepeat entryRow pilotOf equalHalves ordinary usedBits symbolNumber singleRow pairRow singlesOf pairsOf dataPart withPilot withData generalOf empty _⟫_ addTones addBlock pend openLoop standardHeader standardCycles standardTones turboTones pureTones pureToneTones pulseAt addRows rowOf standardSound turboSound pairSounds pureSound pauseSound addSound addSounds generalDeed stop48Deed does deedOf act halted each bitPulses bitsIn bytePulses dataPulses bitsSaid pilotCount format10 format11 format12 format13 format14 waveFrom symbolPulse waveOf pilotSymbol repetitions pilotPulses bitAt groupAt dataNumber symbolPulses every symbolsSaid format19 format20 format2A formatOf lengthsOf lasting evenCount kept11 kept12 kept13 firstPulse secondPulse wholeWave keptTimes keptEntry keptPilot keptSymbol keptPairs keptData kept19 kept lengthOf entriesFrom heardIn playedBy formatOn sourceOn keptOn sameLength sameLengths same ways
 ways-kept = refl
 
 length-self : (l : Length) → sameLength l l ≡ true
@@ -116,8 +116,8 @@ same-self errs = refl
 same-self nothing = refl
 
 -- the readings of each way differ
-pub ways-differ : map (λ e. same (formatAt (e .tape)) (sourceAt (e .tape))) ways ≡ map (λ e. false) ways
-unfolding leAt numberAt fieldAt placeOf times eachAt groupsAt run over entryOf cyclesOf isSingle startLevel cycleLevel bitLevel edged pauseLevel toneOf tonesOf bitsAt halfOf byteOf dataOf pauseOf soundOf entriesOf countedAt passAt textsAt wholeAt sealed enclosed fittingAt readAt digits orFull heldIf kind10 kind11 kind12 kind13 kind14 stream19 kind19 kind20 kind21 kind22 kind24 kind25 kind2A kind30 kind31 info32 kind32 kind33 kind35 kind5A kinds kindOf named cutAt symbolAt before rowsFrom cycles entrySymbol entryRepeat entryRow pilotOf equalHalves ordinary lastBits symbolNumber singleRow pairRow singlesOf pairsOf dataPart withPilot withData generalOf empty _⟫_ addTones addBlock pend openLoop isHeader standardCycles standardTones turboTones pureTones pureToneTones pulseAt addRows rowOf standardSound turboSound pairSounds pureSound pauseSound addSound addSounds generalDeed stop48Deed does deedOf act halted each bitPulses bitsIn bytePulses dataPulses bitsSaid pilotCount format10 format11 format12 format13 format14 waveFrom symbolPulse waveOf pilotSymbol repetitions pilotPulses bitAt groupAt dataNumber symbolPulses every symbolsSaid format19 format20 format2A formatOf lengthsOf lasting evenCount kept11 kept12 kept13 firstPulse secondPulse wholeWave keptTimes keptEntry keptPilot keptSymbol keptPairs keptData kept19 kept lengthOf listOf heardIn playedBy formatOn sourceOn keptOn sameLength sameLengths same ways
+pub ways-differ : map (λ e. same (formatAt (e .tape)) (sourceHeard (e .tape))) ways ≡ map (λ e. false) ways
+unfolding leAt numberAt fieldAt placeOf times eachAt groupsAt run tableOver entryOf cyclesOf isSingle startLevel cycleLevel bitLevel edged pauseLevel toneOf tonesOf bitsAt halfOf byteOf dataOf pauseOf soundOf entriesOf countedAt passAt textsAt wholeAt sealed enclosed fittingAt readAt binaryDigits orFull heldIf kind10 kind11 kind12 kind13 kind14 stream19 kind19 kind20 kind21 kind22 kind24 kind25 kind2A kind30 kind31 info32 kind32 kind33 kind35 kind5A kinds kindOf takenAs cutAt symbolAt before rowsFrom cycles entrySymbol entryRepeat entryRow pilotOf equalHalves ordinary usedBits symbolNumber singleRow pairRow singlesOf pairsOf dataPart withPilot withData generalOf empty _⟫_ addTones addBlock pend openLoop standardHeader standardCycles standardTones turboTones pureTones pureToneTones pulseAt addRows rowOf standardSound turboSound pairSounds pureSound pauseSound addSound addSounds generalDeed stop48Deed does deedOf act halted each bitPulses bitsIn bytePulses dataPulses bitsSaid pilotCount format10 format11 format12 format13 format14 waveFrom symbolPulse waveOf pilotSymbol repetitions pilotPulses bitAt groupAt dataNumber symbolPulses every symbolsSaid format19 format20 format2A formatOf lengthsOf lasting evenCount kept11 kept12 kept13 firstPulse secondPulse wholeWave keptTimes keptEntry keptPilot keptSymbol keptPairs keptData kept19 kept lengthOf entriesFrom heardIn playedBy formatOn sourceOn keptOn sameLength sameLengths same ways
 ways-differ = refl
 
 -- not kept, and yet the same lengths, by chance: a pulse too many in the pilot and one dropped from the data; symbols of two bits, all of them 0
@@ -126,8 +126,8 @@ chances =
     row (0x19 ∷ 0x17 ∷ 0x00 ∷ 0x00 ∷ 0x00 ∷ 0x00 ∷ 0x00 ∷ 0x01 ∷ 0x00 ∷ 0x00 ∷ 0x00 ∷ 0x01 ∷ 0x01 ∷ 0x01 ∷ 0x00 ∷ 0x00 ∷ 0x00 ∷ 0x01 ∷ 0x01 ∷ 0x00 ∷ 0x64 ∷ 0x00 ∷ 0x00 ∷ 0x01 ∷ 0x00 ∷ 0x00 ∷ 0x64 ∷ 0x00 ∷ []) false (plays (lasts 100 ∷ lasts 100 ∷ [])) (plays (lasts 100 ∷ lasts 100 ∷ [])) ∷
     row (0x19 ∷ 0x1E ∷ 0x00 ∷ 0x00 ∷ 0x00 ∷ 0x00 ∷ 0x00 ∷ 0x00 ∷ 0x00 ∷ 0x00 ∷ 0x00 ∷ 0x00 ∷ 0x00 ∷ 0x01 ∷ 0x00 ∷ 0x00 ∷ 0x00 ∷ 0x02 ∷ 0x03 ∷ 0x00 ∷ 0x01 ∷ 0x00 ∷ 0x01 ∷ 0x00 ∷ 0x00 ∷ 0x02 ∷ 0x00 ∷ 0x02 ∷ 0x00 ∷ 0x00 ∷ 0x03 ∷ 0x00 ∷ 0x03 ∷ 0x00 ∷ 0x00 ∷ []) false (plays (lasts 1 ∷ lasts 1 ∷ [])) (plays (lasts 1 ∷ lasts 1 ∷ [])) ∷ []
 
-pub chances-same : map (λ e. row (e .tape) (keptAt (e .tape)) (formatAt (e .tape)) (sourceAt (e .tape))) chances ≡ chances
-unfolding leAt numberAt fieldAt placeOf times eachAt groupsAt run over entryOf cyclesOf isSingle startLevel cycleLevel bitLevel edged pauseLevel toneOf tonesOf bitsAt halfOf byteOf dataOf pauseOf soundOf entriesOf countedAt passAt textsAt wholeAt sealed enclosed fittingAt readAt digits orFull heldIf kind10 kind11 kind12 kind13 kind14 stream19 kind19 kind20 kind21 kind22 kind24 kind25 kind2A kind30 kind31 info32 kind32 kind33 kind35 kind5A kinds kindOf named cutAt symbolAt before rowsFrom cycles entrySymbol entryRepeat entryRow pilotOf equalHalves ordinary lastBits symbolNumber singleRow pairRow singlesOf pairsOf dataPart withPilot withData generalOf empty _⟫_ addTones addBlock pend openLoop isHeader standardCycles standardTones turboTones pureTones pureToneTones pulseAt addRows rowOf standardSound turboSound pairSounds pureSound pauseSound addSound addSounds generalDeed stop48Deed does deedOf act halted each bitPulses bitsIn bytePulses dataPulses bitsSaid pilotCount format10 format11 format12 format13 format14 waveFrom symbolPulse waveOf pilotSymbol repetitions pilotPulses bitAt groupAt dataNumber symbolPulses every symbolsSaid format19 format20 format2A formatOf lengthsOf lasting evenCount kept11 kept12 kept13 firstPulse secondPulse wholeWave keptTimes keptEntry keptPilot keptSymbol keptPairs keptData kept19 kept lengthOf listOf heardIn playedBy formatOn sourceOn keptOn sameLength sameLengths same chances
+pub chances-same : map (λ e. row (e .tape) (keptAt (e .tape)) (formatAt (e .tape)) (sourceHeard (e .tape))) chances ≡ chances
+unfolding leAt numberAt fieldAt placeOf times eachAt groupsAt run tableOver entryOf cyclesOf isSingle startLevel cycleLevel bitLevel edged pauseLevel toneOf tonesOf bitsAt halfOf byteOf dataOf pauseOf soundOf entriesOf countedAt passAt textsAt wholeAt sealed enclosed fittingAt readAt binaryDigits orFull heldIf kind10 kind11 kind12 kind13 kind14 stream19 kind19 kind20 kind21 kind22 kind24 kind25 kind2A kind30 kind31 info32 kind32 kind33 kind35 kind5A kinds kindOf takenAs cutAt symbolAt before rowsFrom cycles entrySymbol entryRepeat entryRow pilotOf equalHalves ordinary usedBits symbolNumber singleRow pairRow singlesOf pairsOf dataPart withPilot withData generalOf empty _⟫_ addTones addBlock pend openLoop standardHeader standardCycles standardTones turboTones pureTones pureToneTones pulseAt addRows rowOf standardSound turboSound pairSounds pureSound pauseSound addSound addSounds generalDeed stop48Deed does deedOf act halted each bitPulses bitsIn bytePulses dataPulses bitsSaid pilotCount format10 format11 format12 format13 format14 waveFrom symbolPulse waveOf pilotSymbol repetitions pilotPulses bitAt groupAt dataNumber symbolPulses every symbolsSaid format19 format20 format2A formatOf lengthsOf lasting evenCount kept11 kept12 kept13 firstPulse secondPulse wholeWave keptTimes keptEntry keptPilot keptSymbol keptPairs keptData kept19 kept lengthOf entriesFrom heardIn playedBy formatOn sourceOn keptOn sameLength sameLengths same chances
 chances-same = refl
 
 -- so many lengths
@@ -156,8 +156,8 @@ longer =
     counts (0x19 ∷ 0x1B ∷ 0x03 ∷ 0x00 ∷ 0x00 ∷ 0x00 ∷ 0x00 ∷ 0x01 ∷ 0x00 ∷ 0x00 ∷ 0x00 ∷ 0x01 ∷ 0x00 ∷ 0x02 ∷ 0x00 ∷ 0x00 ∷ 0x00 ∷ 0x01 ∷ 0x02 ∷ (replicate 768 2 ++ 0x00 ∷ 0x02 ∷ 0x00 ∷ 0x00 ∷ 0x65 ∷ 0x00 ∷ 0x00 ∷ 0x66 ∷ 0x00 ∷ 0x40 ∷ [])) false 4 516 ∷ []
 
 pub longer-counted :
-    map (λ e. counts (e .tape) (keptAt (e .tape)) (countOf (formatAt (e .tape))) (countOf (sourceAt (e .tape)))) longer ≡ longer
-unfolding leAt numberAt fieldAt placeOf times eachAt groupsAt run over entryOf cyclesOf isSingle startLevel cycleLevel bitLevel edged pauseLevel toneOf tonesOf bitsAt halfOf byteOf dataOf pauseOf soundOf entriesOf countedAt passAt textsAt wholeAt sealed enclosed fittingAt readAt digits orFull heldIf kind10 kind11 kind12 kind13 kind14 stream19 kind19 kind20 kind21 kind22 kind24 kind25 kind2A kind30 kind31 info32 kind32 kind33 kind35 kind5A kinds kindOf named cutAt symbolAt before rowsFrom cycles entrySymbol entryRepeat entryRow pilotOf equalHalves ordinary lastBits symbolNumber singleRow pairRow singlesOf pairsOf dataPart withPilot withData generalOf empty _⟫_ addTones addBlock pend openLoop isHeader standardCycles standardTones turboTones pureTones pureToneTones pulseAt addRows rowOf standardSound turboSound pairSounds pureSound pauseSound addSound addSounds generalDeed stop48Deed does deedOf act halted each bitPulses bitsIn bytePulses dataPulses bitsSaid pilotCount format10 format11 format12 format13 format14 waveFrom symbolPulse waveOf pilotSymbol repetitions pilotPulses bitAt groupAt dataNumber symbolPulses every symbolsSaid format19 format20 format2A formatOf lengthsOf lasting evenCount kept11 kept12 kept13 firstPulse secondPulse wholeWave keptTimes keptEntry keptPilot keptSymbol keptPairs keptData kept19 kept lengthOf listOf heardIn playedBy formatOn sourceOn keptOn sameLength sameLengths same longer countOf
+    map (λ e. counts (e .tape) (keptAt (e .tape)) (countOf (formatAt (e .tape))) (countOf (sourceHeard (e .tape)))) longer ≡ longer
+unfolding leAt numberAt fieldAt placeOf times eachAt groupsAt run tableOver entryOf cyclesOf isSingle startLevel cycleLevel bitLevel edged pauseLevel toneOf tonesOf bitsAt halfOf byteOf dataOf pauseOf soundOf entriesOf countedAt passAt textsAt wholeAt sealed enclosed fittingAt readAt binaryDigits orFull heldIf kind10 kind11 kind12 kind13 kind14 stream19 kind19 kind20 kind21 kind22 kind24 kind25 kind2A kind30 kind31 info32 kind32 kind33 kind35 kind5A kinds kindOf takenAs cutAt symbolAt before rowsFrom cycles entrySymbol entryRepeat entryRow pilotOf equalHalves ordinary usedBits symbolNumber singleRow pairRow singlesOf pairsOf dataPart withPilot withData generalOf empty _⟫_ addTones addBlock pend openLoop standardHeader standardCycles standardTones turboTones pureTones pureToneTones pulseAt addRows rowOf standardSound turboSound pairSounds pureSound pauseSound addSound addSounds generalDeed stop48Deed does deedOf act halted each bitPulses bitsIn bytePulses dataPulses bitsSaid pilotCount format10 format11 format12 format13 format14 waveFrom symbolPulse waveOf pilotSymbol repetitions pilotPulses bitAt groupAt dataNumber symbolPulses every symbolsSaid format19 format20 format2A formatOf lengthsOf lasting evenCount kept11 kept12 kept13 firstPulse secondPulse wholeWave keptTimes keptEntry keptPilot keptSymbol keptPairs keptData kept19 kept lengthOf entriesFrom heardIn playedBy formatOn sourceOn keptOn sameLength sameLengths same longer countOf
 longer-counted = refl
 
 -- WHAT IS NO MATTER OF ONE PIECE: a tape of pieces, the places of those that the format plays, in its order, and what the source reading plays
@@ -178,9 +178,9 @@ lengthsIn nothing = []
 
 unfoldable pub inOrder : List ℕ → List ℕ → List Length
 inOrder s [] = []
-inOrder s (p ∷ ps) = lengthsIn (formatOn s (cutAt s p full)) ++ inOrder s ps
+inOrder s (p ∷ ps) = lengthsIn (formatOn s (cutAt s p formatFull)) ++ inOrder s ps
 
-unfoldable pub wholeRead : List ℕ → source.Read → List Length
+unfoldable pub wholeRead : List ℕ → source.Verdict → List Length
 wholeRead s (source.done t) = lengthsIn (playedBy s (on t))
 wholeRead s (source.failed f) = []
 wholeRead s (source.refused k) = []
@@ -204,11 +204,11 @@ orders =
     order (0x40 ∷ 0x00 ∷ 0x03 ∷ 0x00 ∷ 0x00 ∷ 0x20 ∷ 0x01 ∷ 0x00 ∷ []) [] [] (lasts 3500 ∷ []) ∷ []
 
 pub orders-said : map (λ e. inOrder (e .tape) (e .places)) orders ≡ map (λ e. e .format) orders
-unfolding leAt numberAt fieldAt placeOf times eachAt groupsAt run over entryOf cyclesOf isSingle startLevel cycleLevel bitLevel edged pauseLevel toneOf tonesOf bitsAt halfOf byteOf dataOf pauseOf soundOf entriesOf countedAt passAt textsAt wholeAt sealed enclosed fittingAt readAt digits orFull heldIf kind10 kind11 kind12 kind13 kind14 stream19 kind19 kind20 kind21 kind22 kind24 kind25 kind2A kind30 kind31 info32 kind32 kind33 kind35 kind5A kinds kindOf named cutAt symbolAt before rowsFrom cycles entrySymbol entryRepeat entryRow pilotOf equalHalves ordinary lastBits symbolNumber singleRow pairRow singlesOf pairsOf dataPart withPilot withData generalOf empty _⟫_ addTones addBlock pend openLoop isHeader standardCycles standardTones turboTones pureTones pureToneTones pulseAt addRows rowOf standardSound turboSound pairSounds pureSound pauseSound addSound addSounds generalDeed stop48Deed does deedOf act halted each bitPulses bitsIn bytePulses dataPulses bitsSaid pilotCount format10 format11 format12 format13 format14 waveFrom symbolPulse waveOf pilotSymbol repetitions pilotPulses bitAt groupAt dataNumber symbolPulses every symbolsSaid format19 format20 format2A formatOf lengthsOf lasting evenCount kept11 kept12 kept13 firstPulse secondPulse wholeWave keptTimes keptEntry keptPilot keptSymbol keptPairs keptData kept19 kept lengthOf listOf heardIn playedBy formatOn sourceOn keptOn sameLength sameLengths same endGroup lastPaused paused orders inOrder lengthsIn
+unfolding leAt numberAt fieldAt placeOf times eachAt groupsAt run tableOver entryOf cyclesOf isSingle startLevel cycleLevel bitLevel edged pauseLevel toneOf tonesOf bitsAt halfOf byteOf dataOf pauseOf soundOf entriesOf countedAt passAt textsAt wholeAt sealed enclosed fittingAt readAt binaryDigits orFull heldIf kind10 kind11 kind12 kind13 kind14 stream19 kind19 kind20 kind21 kind22 kind24 kind25 kind2A kind30 kind31 info32 kind32 kind33 kind35 kind5A kinds kindOf takenAs cutAt symbolAt before rowsFrom cycles entrySymbol entryRepeat entryRow pilotOf equalHalves ordinary usedBits symbolNumber singleRow pairRow singlesOf pairsOf dataPart withPilot withData generalOf empty _⟫_ addTones addBlock pend openLoop standardHeader standardCycles standardTones turboTones pureTones pureToneTones pulseAt addRows rowOf standardSound turboSound pairSounds pureSound pauseSound addSound addSounds generalDeed stop48Deed does deedOf act halted each bitPulses bitsIn bytePulses dataPulses bitsSaid pilotCount format10 format11 format12 format13 format14 waveFrom symbolPulse waveOf pilotSymbol repetitions pilotPulses bitAt groupAt dataNumber symbolPulses every symbolsSaid format19 format20 format2A formatOf lengthsOf lasting evenCount kept11 kept12 kept13 firstPulse secondPulse wholeWave keptTimes keptEntry keptPilot keptSymbol keptPairs keptData kept19 kept lengthOf entriesFrom heardIn playedBy formatOn sourceOn keptOn sameLength sameLengths same endGroup lastPaused paused orders inOrder lengthsIn
 orders-said = refl
 
 pub orders-played : map (λ e. wholeRead (e .tape) (foldFrom (tzxSee most (e .tape) 0) (length (e .tape)) 0 empty)) orders ≡ map (λ e. e .source) orders
-unfolding leAt numberAt fieldAt placeOf times eachAt groupsAt run over entryOf cyclesOf isSingle startLevel cycleLevel bitLevel edged pauseLevel toneOf tonesOf bitsAt halfOf byteOf dataOf pauseOf soundOf entriesOf countedAt passAt textsAt wholeAt sealed enclosed fittingAt readAt digits orFull heldIf kind10 kind11 kind12 kind13 kind14 stream19 kind19 kind20 kind21 kind22 kind24 kind25 kind2A kind30 kind31 info32 kind32 kind33 kind35 kind5A kinds kindOf named cutAt symbolAt before rowsFrom cycles entrySymbol entryRepeat entryRow pilotOf equalHalves ordinary lastBits symbolNumber singleRow pairRow singlesOf pairsOf dataPart withPilot withData generalOf empty _⟫_ addTones addBlock pend openLoop isHeader standardCycles standardTones turboTones pureTones pureToneTones pulseAt addRows rowOf standardSound turboSound pairSounds pureSound pauseSound addSound addSounds generalDeed stop48Deed does deedOf act halted each bitPulses bitsIn bytePulses dataPulses bitsSaid pilotCount format10 format11 format12 format13 format14 waveFrom symbolPulse waveOf pilotSymbol repetitions pilotPulses bitAt groupAt dataNumber symbolPulses every symbolsSaid format19 format20 format2A formatOf lengthsOf lasting evenCount kept11 kept12 kept13 firstPulse secondPulse wholeWave keptTimes keptEntry keptPilot keptSymbol keptPairs keptData kept19 kept lengthOf listOf heardIn playedBy formatOn sourceOn keptOn sameLength sameLengths same endGroup lastPaused paused closeLoop closed copies copyRows after seeing foldFrom tzxOf tzxSee orders wholeRead lengthsIn
+unfolding leAt numberAt fieldAt placeOf times eachAt groupsAt run tableOver entryOf cyclesOf isSingle startLevel cycleLevel bitLevel edged pauseLevel toneOf tonesOf bitsAt halfOf byteOf dataOf pauseOf soundOf entriesOf countedAt passAt textsAt wholeAt sealed enclosed fittingAt readAt binaryDigits orFull heldIf kind10 kind11 kind12 kind13 kind14 stream19 kind19 kind20 kind21 kind22 kind24 kind25 kind2A kind30 kind31 info32 kind32 kind33 kind35 kind5A kinds kindOf takenAs cutAt symbolAt before rowsFrom cycles entrySymbol entryRepeat entryRow pilotOf equalHalves ordinary usedBits symbolNumber singleRow pairRow singlesOf pairsOf dataPart withPilot withData generalOf empty _⟫_ addTones addBlock pend openLoop standardHeader standardCycles standardTones turboTones pureTones pureToneTones pulseAt addRows rowOf standardSound turboSound pairSounds pureSound pauseSound addSound addSounds generalDeed stop48Deed does deedOf act halted each bitPulses bitsIn bytePulses dataPulses bitsSaid pilotCount format10 format11 format12 format13 format14 waveFrom symbolPulse waveOf pilotSymbol repetitions pilotPulses bitAt groupAt dataNumber symbolPulses every symbolsSaid format19 format20 format2A formatOf lengthsOf lasting evenCount kept11 kept12 kept13 firstPulse secondPulse wholeWave keptTimes keptEntry keptPilot keptSymbol keptPairs keptData kept19 kept lengthOf entriesFrom heardIn playedBy formatOn sourceOn keptOn sameLength sameLengths same endGroup lastPaused paused closeLoop closed copies copyRows readOn seeing foldFrom tzxOf tzxSee orders wholeRead lengthsIn
 orders-played = refl
 
 pub orders-differ : map (λ e. sameLengths (e .format) (e .source)) orders ≡ map (λ e. false) orders

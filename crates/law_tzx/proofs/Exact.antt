@@ -18,18 +18,20 @@ use Rattle.rows.specs.declared.Tone.{Tone}
 use Rattle.cut_grammar.specs.declared.TurboData.{TurboData}
 use Rattle.cut_grammar.specs.declared.Piece.{Piece}
 use Rattle.cut_grammar.specs.declared.Piece.the-variants.{Standard, Turbo, Tone as PureTone, Pulses, Pure, Generalized, Pause, GroupStart, GroupEnd, LoopStart, LoopEnd, Stop48, Text, Message, Archive, Hardware, Custom, Glue}
-use Rattle.load_state.specs.Parser.{Tape, Out, on, no}
-use Rattle.load_state.proofs.Kept.{Sure, sure, none, sure-also}
+use Rattle.load_state.specs.Parser.{Parsed, Out, on, no}
+use Rattle.load_state.proofs.Kept.{sure-also}
+use Rattle.load_state.specs.Kept.{Sure, sure, none}
 use Rattle.load_blocks.specs.declared.Origin.{Origin}
-use Rattle.load_blocks.specs.Sounds.{ms, toneOf, Sound as Birth, rowOf, addSounds}
-use Rattle.load_blocks.specs.Blocks.{isHeader, standardCycles, standardTones, turboTones, pureToneTones, standardSound, turboSound, toneSound, pairSounds}
+use Rattle.load_general.specs.General.{plainTone}
+use Rattle.load_blocks.specs.Sounds.{ms, Sound, rowOf, addSounds}
+use Rattle.load_blocks.specs.Blocks.{standardHeader, standardCycles, standardTones, turboTones, pureToneTones, standardSound, turboSound, toneSound, pairSounds}
 use Rattle.load_blocks.specs.Adds.{Lent}
 use Rattle.load_blocks.specs.Deeds.{does}
 use Rattle.load_blocks.proofs.Laws.{one-sound}
 use Rattle.load_source.specs.Meaning.{deedOf}
 use Rattle.load_source.specs.Source.{act}
-use Rattle.law_tzx.specs.Format.{Length, lasts, Sound, Said, sounds, unsaid, paused, each, again, dataPulses, bitsSaid, pilotCount, format10, format11, format12, format13, format14, format2A, formatOf, lengthsOf, lasting}
-use Rattle.law_tzx.specs.Kept.{evenCount, kept11, kept12, kept13, kept, told, lengths, listOf, Plays, Keeps, as-said}
+use Rattle.law_tzx.specs.Format.{Length, lasts, PulseTrain, Said, sounds, unsaid, pauseMs, each, again, dataPulses, bitsSaid, pilotCount, format10, format11, format12, format13, format14, format2A, formatOf, lengthsOf, lasting}
+use Rattle.law_tzx.specs.Kept.{evenCount, kept11, kept12, kept13, kept, exactKind, lengths, entriesFrom, Plays, Keeps, as-said}
 use Rattle.law_tzx.proofs.Lengths.{long, long-append, lasting-append, wavesOf, dataIn, pauseIn, blockLengths}
 use Rattle.law_tzx.proofs.Adds.{sound-plays}
 use Rattle.law_tzx.proofs.Waves.{differ, each-split, once, again-more, cycles-pulses, data-same}
@@ -38,19 +40,19 @@ use Rattle.law_tzx.proofs.KeepSounds.{turbo-pause}
 use Rattle.law_tzx.proofs.KeepPulses.{pulseIn, no-pause, pairs-play}
 
 -- blocks that were added play one list of lengths
-plays-once : {s : List ℕ} {ls ms : List Length} {t u : Tape} → Plays s ls t u → Plays s ms t u → lasting ls ≡ lasting ms
+plays-once : {s : List ℕ} {ls ms : List Length} {t u : Parsed} → Plays s ls t u → Plays s ms t u → lasting ls ≡ lasting ms
 plays-once {s} {ls} {ms} {t} {u} p q =
     let n = length (t .blocks) in
     let a : drop n (u .blocks) ≡ p .blocks = ap (drop n) (p .added) ∙ drop-at (t .blocks) (p .blocks) n refl in
     let b : drop n (u .blocks) ≡ q .blocks = ap (drop n) (q .added) ∙ drop-at (t .blocks) (q .blocks) n refl in
     let tt = tableOf tone (u .tones ++ []) 0 in
-    sym (p .plays [] 0 0) ∙ ap (λ (bs : List Block). lasting (lengths (listOf s tt 0 bs))) (sym a ∙ b) ∙ q .plays [] 0 0
+    sym (p .plays [] 0 0) ∙ ap (λ (bs : List Block). lasting (lengths (entriesFrom s tt 0 bs))) (sym a ∙ b) ∙ q .plays [] 0 0
 
-said-of : {x y : Sound} → sounds x ≡ sounds y → x ≡ y
+said-of : {x y : PulseTrain} → sounds x ≡ sounds y → x ≡ y
 said-of e = cc
 
-keeps-once : {s : List ℕ} {ls : List Length} {t u : Tape} {said : Said} (x : Sound) → said ≡ sounds x → Plays s ls t u → Keeps s t u said → lasting ls ≡ lasting (lengthsOf x)
-keeps-once x e p (as-said {x = y} q) = plays-once p q ∙ ap (λ (z : Sound). lasting (lengthsOf z)) (said-of e)
+keeps-once : {s : List ℕ} {ls : List Length} {t u : Parsed} {said : Said} (x : PulseTrain) → said ≡ sounds x → Plays s ls t u → Keeps s t u said → lasting ls ≡ lasting (lengthsOf x)
+keeps-once x e p (as-said {x = y} q) = plays-once p q ∙ ap (λ (z : PulseTrain). lasting (lengthsOf z)) (said-of e)
 
 -- how many are heard
 abbrev count : List ℕ → ℕ
@@ -72,14 +74,14 @@ count-cycles : (x m : ℕ) → count (again m (suc x ∷ suc x ∷ [])) ≡ m * 
 count-cycles x m = ap count (cycles-pulses (suc x) m) ∙ count-again x (m * 2)
 
 -- of an answer nothing is said
-said-none : {s : List ℕ} {t u : Tape} {said : Said} → said ≡ unsaid → Keeps s t u said → ⊥
+said-none : {s : List ℕ} {t u : Parsed} {said : Said} → said ≡ unsaid → Keeps s t u said → ⊥
 said-none e (as-said q) = let z : _≡_ {A = ℕ} 0 1 = cc in omega arith
 
-sure-any : {K : Tape → Type 0} → ((u : Tape) → K u) → (o : Out) → Sure K o
+sure-any : {K : Parsed → Type 0} → ((u : Parsed) → K u) → (o : Out) → Sure K o
 sure-any h (on u) = sure (h u)
 sure-any h (no k) = none
 
-unsaid-differs : {s : List ℕ} {t : Tape} {said : Said} → said ≡ unsaid → (o : Out) → Sure (λ u. Keeps s t u said → ⊥) o
+unsaid-differs : {s : List ℕ} {t : Parsed} {said : Said} → said ≡ unsaid → (o : Out) → Sure (λ u. Keeps s t u said → ⊥) o
 unsaid-differs e o = sure-any (λ u. said-none e) o
 
 -- two lists of lengths before one pause, of different numbers
@@ -93,7 +95,7 @@ counts-apart xs ys p h e =
     h (omega arith)
 
 -- a block that plays another number of lengths
-add-differs : (lent : Lent) (origin : Origin) (s : List ℕ) (t : Tape) (d : Birth) (bits : List ℕ) (p : Length) (ys : List ℕ) {said : Said} → said ≡ sounds (record { pulses = ys; pause = p })
+add-differs : (lent : Lent) (origin : Origin) (s : List ℕ) (t : Parsed) (d : Sound) (bits : List ℕ) (p : Length) (ys : List ℕ) {said : Said} → said ≡ sounds (record { pulses = ys; pause = p })
     → ((n : ℕ) → dataIn s (rowOf origin d n) ≡ bits) → ((n : ℕ) → pauseIn (rowOf origin d n) ≡ p) → (count (wavesOf (d .tones) ++ bits) ≡ count ys → ⊥) → Sure (λ u. Keeps s t u said → ⊥) (addSounds lent origin (d ∷ []) t)
 unfolding lengthsOf blockLengths
 add-differs lent origin s t d bits p ys said b q h =
@@ -120,7 +122,7 @@ neither false b e = (refl, e)
 few : (x n : ℕ) → (eqb (suc x) 0 || ltb 1 n) ≡ false → n ≤ 1
 few x n e = let l = ltb-false 1 n (neither (eqb (suc x) 0) (ltb 1 n) e .1) in omega arith
 
-differs12 : (lent : Lent) (origin : Origin) (s : List ℕ) (t : Tape) (half count′ : ℕ) → kept12 half count′ ≡ false
+differs12 : (lent : Lent) (origin : Origin) (s : List ℕ) (t : Parsed) (half count′ : ℕ) → kept12 half count′ ≡ false
     → Sure (λ u. Keeps s t u (format12 half count′) → ⊥) (addSounds lent origin (toneSound (pureToneTones half count′) ∷ []) t)
 unfolding kept12 format12 rowOf dataPulses each pauseIn
 differs12 lent origin s t zero count′ e = absurd (differ e)
@@ -134,7 +136,7 @@ pilot-apart : (w v rest : List ℕ) → (count w ≡ count v → ⊥) → count 
 pilot-apart w v rest h e = h (omega (arith, count-append w rest, count-append v rest))
 
 -- two tone rows, the second of one cycle, and data
-two-rows : (num x a b : ℕ) (bits : List ℕ) → wavesOf (toneOf num x x ∷ toneOf 1 a b ∷ []) ++ bits ≡ again (max 1 num) (x ∷ x ∷ []) ++ a ∷ b ∷ bits
+two-rows : (num x a b : ℕ) (bits : List ℕ) → wavesOf (plainTone num x x ∷ plainTone 1 a b ∷ []) ++ bits ≡ again (max 1 num) (x ∷ x ∷ []) ++ a ∷ b ∷ bits
 unfolding wavesOf
 two-rows num x a b bits =
     ap (λ (l : List ℕ). (again (max 1 num) (x ∷ x ∷ []) ++ (l ++ [])) ++ bits) (once (a ∷ b ∷ [])) ∙ append-assoc (again (max 1 num) (x ∷ x ∷ [])) (a ∷ b ∷ []) bits
@@ -164,7 +166,7 @@ turbo-bits : (origin : Origin) (s : List ℕ) (d : TurboData) (n : ℕ) → bits
 unfolding turboSound rowOf
 turbo-bits origin s d n b = data-same s (d .zero) (d .one) (d .last) (d .from) (d .size) b
 
-differs11 : (lent : Lent) (origin : Origin) (s : List ℕ) (t : Tape) (d : TurboData) → kept11 d ≡ false → Sure (λ u. Keeps s t u (format11 s d) → ⊥) (addSounds lent origin (turboSound d ∷ []) t)
+differs11 : (lent : Lent) (origin : Origin) (s : List ℕ) (t : Parsed) (d : TurboData) → kept11 d ≡ false → Sure (λ u. Keeps s t u (format11 s d) → ⊥) (addSounds lent origin (turboSound d ∷ []) t)
 unfolding kept11 format11 turboSound
 differs11 lent origin s t d e = by-bits (bitsSaid (d .last) (d .size)) refl
   where
@@ -172,26 +174,26 @@ differs11 lent origin s t d e = by-bits (bitsSaid (d .last) (d .size)) refl
     bits = dataPulses s (d .zero) (d .one) (d .last) (d .from) (d .size)
 
     by-pilot : (x : ℕ) → d .pilot ≡ x → bitsSaid (d .last) (d .size) ≡ true
-        → Sure (λ u. Keeps s t u (sounds (record { pulses = again (d .pilots) (d .pilot ∷ []) ++ d .sync1 ∷ d .sync2 ∷ bits; pause = paused (d .pause) })) → ⊥) (addSounds lent origin (turboSound d ∷ []) t)
+        → Sure (λ u. Keeps s t u (sounds (record { pulses = again (d .pilots) (d .pilot ∷ []) ++ d .sync1 ∷ d .sync2 ∷ bits; pause = pauseMs (d .pause) })) → ⊥) (addSounds lent origin (turboSound d ∷ []) t)
     by-pilot zero p b = absurd (differ (sym (rw (b, eq-eqb (d .pilot) 0 p)) ∙ e))
     by-pilot (suc x) p b =
         let z : eqb (d .pilot) 0 ≡ false = ne-eqb (d .pilot) 0 (omega arith) in
         let c : evenCount (d .pilots) ≡ false = odd-of (eqb (d .pilot) 0) (evenCount (d .pilots)) (bitsSaid (d .last) (d .size)) e b z in
-        add-differs lent origin s t (turboSound d) bits (paused (d .pause)) (again (d .pilots) (d .pilot ∷ []) ++ d .sync1 ∷ d .sync2 ∷ bits) refl
+        add-differs lent origin s t (turboSound d) bits (pauseMs (d .pause)) (again (d .pilots) (d .pilot ∷ []) ++ d .sync1 ∷ d .sync2 ∷ bits) refl
         (λ n. turbo-bits origin s d n b) (turbo-pause origin d) (turbo-count x d bits p c)
 
     by-bits : (b : Bool) → bitsSaid (d .last) (d .size) ≡ b
-        → Sure (λ u. Keeps s t u (b ⇒ sounds (record { pulses = again (d .pilots) (d .pilot ∷ []) ++ d .sync1 ∷ d .sync2 ∷ bits; pause = paused (d .pause) }) ∣ unsaid) → ⊥) (addSounds lent origin (turboSound d ∷ []) t)
+        → Sure (λ u. Keeps s t u (b ⇒ sounds (record { pulses = again (d .pilots) (d .pilot ∷ []) ++ d .sync1 ∷ d .sync2 ∷ bits; pause = pauseMs (d .pause) }) ∣ unsaid) → ⊥) (addSounds lent origin (turboSound d ∷ []) t)
     by-bits true b = by-pilot (d .pilot) refl b
     by-bits false b = unsaid-differs refl _
 
 -- 14: nothing is said
-differs14 : (s : List ℕ) (t : Tape) (off one last pause from size : ℕ) → bitsSaid last size ≡ false → (o : Out) → Sure (λ u. Keeps s t u (format14 s off one last pause from size) → ⊥) o
+differs14 : (s : List ℕ) (t : Parsed) (off one last pause from size : ℕ) → bitsSaid last size ≡ false → (o : Out) → Sure (λ u. Keeps s t u (format14 s off one last pause from size) → ⊥) o
 unfolding format14
 differs14 s t off one last pause from size e o = unsaid-differs (rw e) o
 
 -- 2A: nothing is said
-differs2A : (s : List ℕ) (t : Tape) (on48 : Bool) (length : ℕ) → eqb length 0 ≡ false → (o : Out) → Sure (λ u. Keeps s t u (format2A on48 length) → ⊥) o
+differs2A : (s : List ℕ) (t : Parsed) (on48 : Bool) (length : ℕ) → eqb length 0 ≡ false → (o : Out) → Sure (λ u. Keeps s t u (format2A on48 length) → ⊥) o
 unfolding format2A
 differs2A s t on48 length e o = unsaid-differs (rw e) o
 
@@ -213,8 +215,8 @@ standard-pause : (origin : Origin) (b : Bool) (from size pause n : ℕ) → paus
 unfolding standardSound rowOf pauseIn
 standard-pause origin b from size pause n = refl
 
-differs10 : (lent : Lent) (origin : Origin) (s : List ℕ) (t : Tape) (pause from size : ℕ) → Sure (λ u. Keeps s t u (format10 s pause from size) → ⊥) (addSounds lent origin (standardSound (isHeader s from size) from size (ms pause) ∷ []) t)
-unfolding standardSound format10 isHeader pilotCount
+differs10 : (lent : Lent) (origin : Origin) (s : List ℕ) (t : Parsed) (pause from size : ℕ) → Sure (λ u. Keeps s t u (format10 s pause from size) → ⊥) (addSounds lent origin (standardSound (standardHeader s from size) from size (ms pause) ∷ []) t)
+unfolding standardSound format10 standardHeader pilotCount
 differs10 lent origin s t pause from size = by-size (eqb size 0)
   where
     bits : List ℕ
@@ -224,10 +226,10 @@ differs10 lent origin s t pause from size = by-size (eqb size 0)
     flag = ltb (getD s from 0) 128
 
     by-size : (b : Bool)
-        → Sure (λ u. Keeps s t u (b ⇒ unsaid ∣ sounds (record { pulses = again (flag ⇒ 8063 ∣ 3223) (2168 ∷ []) ++ 667 ∷ 735 ∷ bits; pause = paused pause })) → ⊥) (addSounds lent origin (standardSound (b || flag) from size (ms pause) ∷ []) t)
+        → Sure (λ u. Keeps s t u (b ⇒ unsaid ∣ sounds (record { pulses = again (flag ⇒ 8063 ∣ 3223) (2168 ∷ []) ++ 667 ∷ 735 ∷ bits; pause = pauseMs pause })) → ⊥) (addSounds lent origin (standardSound (b || flag) from size (ms pause) ∷ []) t)
     by-size true = unsaid-differs refl _
     by-size false =
-        add-differs lent origin s t (standardSound flag from size (ms pause)) bits (paused pause) (again (flag ⇒ 8063 ∣ 3223) (2168 ∷ []) ++ 667 ∷ 735 ∷ bits) refl
+        add-differs lent origin s t (standardSound flag from size (ms pause)) bits (pauseMs pause) (again (flag ⇒ 8063 ∣ 3223) (2168 ∷ []) ++ 667 ∷ 735 ∷ bits) refl
         (standard-bits origin s flag from size (ms pause)) (standard-pause origin flag from size (ms pause)) (standard-count flag bits)
 
 one-heard : (v : ℕ) → (v ≡ 0 → ⊥) → count (v ∷ []) ≡ 1
@@ -254,16 +256,16 @@ odd-last s count′ from e q =
     let n : count (each f 0 m) ≡ count (each f 0 count′) = ap length q in
     omega arith
 
-differs13 : (lent : Lent) (origin : Origin) (s : List ℕ) (t : Tape) (count′ from : ℕ) → kept13 s count′ from ≡ false → Sure (λ u. Keeps s t u (format13 s count′ from) → ⊥) (addSounds lent origin (pairSounds s from 0 (count′ / 2)) t)
+differs13 : (lent : Lent) (origin : Origin) (s : List ℕ) (t : Parsed) (count′ from : ℕ) → kept13 s count′ from ≡ false → Sure (λ u. Keeps s t u (format13 s count′ from) → ⊥) (addSounds lent origin (pairSounds s from 0 (count′ / 2)) t)
 unfolding format13
 differs13 lent origin s t count′ from e =
     sure-also (λ u p k. odd-last s count′ from e (keeps-once (record { pulses = each (pulseIn s from) 0 count′; pause = lasts 0 }) refl p k ∙ no-pause (each (pulseIn s from) 0 count′)))
     (pairs-play lent origin s from 0 (count′ / 2) t)
 
 -- THE CONVERSE: where `kept` is false, no block list that the piece adds plays what the format says
-pub unkept-differs : (lent : Lent) (origin : Origin) (s : List ℕ) (model : ℕ) (piece : Piece) (t : Tape) → told piece ≡ true → kept s piece ≡ false
+pub unkept-differs : (lent : Lent) (origin : Origin) (s : List ℕ) (model : ℕ) (piece : Piece) (t : Parsed) → exactKind piece ≡ true → kept s piece ≡ false
     → Sure (λ u. Keeps s t u (formatOf (eqb model 0) s piece) → ⊥) (act lent s model origin piece t)
-unfolding told kept formatOf act deedOf does
+unfolding exactKind kept formatOf act deedOf does
 unkept-differs lent origin s model (Standard pause from size) t k e = differs10 lent origin s t pause from size
 unkept-differs lent origin s model (Turbo d) t k e = differs11 lent origin s t d e
 unkept-differs lent origin s model (PureTone half count′) t k e = differs12 lent origin s t half count′ e

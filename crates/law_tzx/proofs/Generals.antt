@@ -8,13 +8,13 @@ use lib.ListN.{getD}
 use lib.Dec.{ltb, leb, eqb}
 use borrow.Author.Tests.{ltb-true, lt-ltb, lt-leb, eqb-true, eqb-false, eq-eqb, ne-eqb}
 use Rattle.law_base.specs.Rules.{_⇒_, _∣_}
-use Rattle.law_base.specs.Tests.{first, second, other}
+use Rattle.law_base.proofs.Tests.{first, second, other}
 use Rattle.cut_grammar.specs.declared.GeneralizedData.{GeneralizedData}
-use Rattle.cut_grammar.specs.Grammar.{digits, bitsOf}
+use Rattle.cut_grammar.specs.Grammar.{binaryDigits, bitsOf}
 use Rattle.cut_grammar.specs.Places.{Places}
 use Rattle.load_general.specs.declared.Row.{Row}
 use Rattle.load_general.specs.declared.Row.the-variants.{Refused, Gives}
-use Rattle.load_general.specs.General.{Symbol, symbolAt, toneOf, refused, stops, tones, rowsFrom, cycles, entrySymbol, entryRepeat, entryRow, pilotOf, equalHalves, ordinary, lastBits, numberAt, singleRow, pairRow, singlesOf, pairsOf, dataOf}
+use Rattle.load_general.specs.General.{Symbol, symbolAt, plainTone, refused, stops, tones, rowsFrom, cycles, entrySymbol, entryRepeat, entryRow, pilotOf, equalHalves, ordinary, usedBits, symbolNumber, singleRow, pairRow, singlesOf, pairsOf, dataPart}
 use Rattle.law_tzx.specs.Format.{Length, each, again, bitPulses, dataPulses, waveOf, pilotSymbol, repetitions, pilotPulses, bitAt, dataNumber, symbolPulses, every, lasting}
 use Rattle.law_tzx.specs.Kept.{firstPulse, secondPulse, wholeWave, keptTimes, keptEntry, keptPilot, keptSymbol, keptPairs, keptData}
 use Rattle.law_tzx.proofs.Lengths.{long, long-append, wavesOf}
@@ -39,12 +39,12 @@ none-heard f n e = ap (λ (k : ℕ). long (each f 0 k)) (sym e)
 
 -- a symbol below an alphabet of two gives its pulses
 given-two : (s : List ℕ) (place n y : ℕ) → y < 2
-    → (leb 2 y ⇒ Refused ∣ Gives (toneOf 1 (symbolAt s place n y .first) (symbolAt s place n y .second))) ≡ Gives (toneOf 1 (firstPulse s place n y) (secondPulse s place n y))
-given-two s place n y l = rw (lt-leb 2 y l) (ap₂ (λ (a b : ℕ). Gives (toneOf 1 a b)) (first-same s place n y) (second-same s place n y))
+    → (leb 2 y ⇒ Refused ∣ Gives (plainTone 1 (symbolAt s place n y .first) (symbolAt s place n y .second))) ≡ Gives (plainTone 1 (firstPulse s place n y) (secondPulse s place n y))
+given-two s place n y l = rw (lt-leb 2 y l) (ap₂ (λ (a b : ℕ). Gives (plainTone 1 a b)) (first-same s place n y) (second-same s place n y))
 
 given-pair : (s : List ℕ) (place n y z : ℕ) → y < 2 → z < 2
-    → (leb 2 y ⇒ Refused ∣ leb 2 z ⇒ Refused ∣ Gives (toneOf 1 (symbolAt s place n y .first) (symbolAt s place n z .first))) ≡ Gives (toneOf 1 (firstPulse s place n y) (firstPulse s place n z))
-given-pair s place n y z l m = rw (lt-leb 2 y l, lt-leb 2 z m) (ap₂ (λ (a b : ℕ). Gives (toneOf 1 a b)) (first-same s place n y) (first-same s place n z))
+    → (leb 2 y ⇒ Refused ∣ leb 2 z ⇒ Refused ∣ Gives (plainTone 1 (symbolAt s place n y .first) (symbolAt s place n z .first))) ≡ Gives (plainTone 1 (firstPulse s place n y) (firstPulse s place n z))
+given-pair s place n y z l m = rw (lt-leb 2 y l, lt-leb 2 z m) (ap₂ (λ (a b : ℕ). Gives (plainTone 1 a b)) (first-same s place n y) (first-same s place n z))
 
 -- one pulse alone
 one-heard : (s : List ℕ) (place y : ℕ) → long (firstPulse s place 1 y ∷ []) ≡ long (waveOf s place 1 y)
@@ -140,15 +140,15 @@ module _ (s : List ℕ) (g : GeneralizedData) where
       by-cases i l k false q = first (ltb (pilotSymbol s g i) (g .asp)) _ (every-at (keptEntry s g) 0 (g .totp) i (pilot-clauses e q .entries) l k)
 
   -- what a kept data part says
-  pub record Data : Type 0 where
+  pub record DataClauses : Type 0 where
     pub some : 0 < g .totd
     pub asd : g .asd ≡ 2
     pub bits : g .nb ≡ 1
     pub size : g .size ≡ (g .totd + 7) / 8
     pub rest : (eqb (g .npd) 2 ⇒ every (keptSymbol s g) 0 (g .totd) ∣ (eqb (g .npd) 1 && keptPairs s g)) ≡ true
 
-  pub data-clauses : Places s g → keptData s g ≡ true → Data
-  unfolding keptData digits
+  pub data-clauses : Places s g → keptData s g ≡ true → DataClauses
+  unfolding keptData binaryDigits
   data-clauses p e =
       let last = eqb (g .npd) 2 ⇒ every (keptSymbol s g) 0 (g .totd) ∣ (eqb (g .npd) 1 && keptPairs s g) in
       let t = eqb (g .asd) 2 in
@@ -158,7 +158,7 @@ module _ (s : List ℕ) (g : GeneralizedData) where
       let m : (g .nb * g .totd + 7) / 8 ≡ (g .totd + 7) / 8 = ap (λ (n : ℕ). (n * g .totd + 7) / 8) one ∙ omega arith in
       record { some = ltb-true 0 (g .totd) (first (ltb 0 (g .totd)) (t && last) e); asd = two; bits = one; size = p .size ∙ m; rest = second t last c }
 
-  module _ (d : Data) where
+  module _ (d : DataClauses) where
     number-small : (i : ℕ) → dataNumber s g i < 2
     number-small i = rw (number-bit s g (d .bits) i) (bit-small s (g .from) i)
 
@@ -170,12 +170,12 @@ module _ (s : List ℕ) (g : GeneralizedData) where
     unfolding singleRow symbolPulses keptSymbol each
     single-wave i n e =
         let y = dataNumber s g i in
-        let row : ℕ → ℕ → ℕ → Row = λ asd npd b. leb asd b ⇒ Refused ∣ Gives (toneOf 1 (symbolAt s (g .symbols) npd b .first) (symbolAt s (g .symbols) npd b .second)) in
+        let row : ℕ → ℕ → ℕ → Row = λ asd npd b. leb asd b ⇒ Refused ∣ Gives (plainTone 1 (symbolAt s (g .symbols) npd b .first) (symbolAt s (g .symbols) npd b .second)) in
         let a = firstPulse s (g .symbols) 2 y in
         let b = secondPulse s (g .symbols) 2 y in
-        let same : numberAt s g (i * g .nb) 0 ≡ y = single-bit s g (d .bits) i ∙ sym (number-bit s g (d .bits) i) in
+        let same : symbolNumber s g (i * g .nb) 0 ≡ y = single-bit s g (d .bits) i ∙ sym (number-bit s g (d .bits) i) in
         record {
-          tone = toneOf 1 a b;
+          tone = plainTone 1 a b;
           given = ap (row (g .asd) (g .npd)) same ∙ ap₂ (λ (u v : ℕ). row u v y) (d .asd) n ∙ given-two s (g .symbols) 2 y (number-small i);
           heard = two-same a b e ∙ ap long (sym (wave-two s (g .symbols) y)) ∙ ap (λ (k : ℕ). long (waveOf s (g .symbols) k y)) (sym n);
         }
@@ -186,11 +186,11 @@ module _ (s : List ℕ) (g : GeneralizedData) where
     pair-wave i n =
         let y = dataNumber s g (2 * i) in
         let z = dataNumber s g (2 * i + 1) in
-        let row : ℕ → ℕ → ℕ → ℕ → Row = λ asd npd b c. leb asd b ⇒ Refused ∣ leb asd c ⇒ Refused ∣ Gives (toneOf 1 (symbolAt s (g .symbols) npd b .first) (symbolAt s (g .symbols) npd c .first)) in
-        let p : numberAt s g (2 * i * g .nb) 0 ≡ y = single-bit s g (d .bits) (2 * i) ∙ sym (number-bit s g (d .bits) (2 * i)) in
-        let q : numberAt s g (2 * i * g .nb) 1 ≡ z = second-bit s g (d .bits) i ∙ sym (number-bit s g (d .bits) (2 * i + 1)) in
+        let row : ℕ → ℕ → ℕ → ℕ → Row = λ asd npd b c. leb asd b ⇒ Refused ∣ leb asd c ⇒ Refused ∣ Gives (plainTone 1 (symbolAt s (g .symbols) npd b .first) (symbolAt s (g .symbols) npd c .first)) in
+        let p : symbolNumber s g (2 * i * g .nb) 0 ≡ y = single-bit s g (d .bits) (2 * i) ∙ sym (number-bit s g (d .bits) (2 * i)) in
+        let q : symbolNumber s g (2 * i * g .nb) 1 ≡ z = second-bit s g (d .bits) i ∙ sym (number-bit s g (d .bits) (2 * i + 1)) in
         record {
-          tone = toneOf 1 (firstPulse s (g .symbols) 1 y) (firstPulse s (g .symbols) 1 z);
+          tone = plainTone 1 (firstPulse s (g .symbols) 1 y) (firstPulse s (g .symbols) 1 z);
           given = ap₂ (row (g .asd) (g .npd)) p q ∙ ap₂ (λ (u v : ℕ). row u v y z) (d .asd) n ∙ given-pair s (g .symbols) 1 y z (number-small (2 * i)) (number-small (2 * i + 1));
           heard = pair-heard s (g .symbols) y z ∙ ap (λ (k : ℕ). long (waveOf s (g .symbols) k y ++ waveOf s (g .symbols) k z)) (sym n);
         }
@@ -219,8 +219,8 @@ module _ (s : List ℕ) (g : GeneralizedData) where
             sym (ap (λ (m : ℕ). long (each f 0 m)) k ∙ ap long (each-split f 0 (g .totd / 2 * 2) 1 ∙ last-none (each f 0 (g .totd / 2 * 2)) f (0 + g .totd / 2 * 2) w))
 
     -- THE DATA PART as tones
-    pub data-part : Parts (dataOf s g) (each (symbolPulses s g) 0 (g .totd))
-    unfolding dataOf singlesOf pairsOf
+    pub data-part : Parts (dataPart s g) (each (symbolPulses s g) 0 (g .totd))
+    unfolding dataPart singlesOf pairsOf
     data-part =
         rw (ne-eqb (g .totd) 0 (omega (arith, d .some)), lt-leb 8 (g .nb) (omega (arith, d .bits)), ne-eqb (g .nb) 0 (omega (arith, d .bits)))
         (by-cases (eqb (g .npd) 2) refl (d .rest))
@@ -239,7 +239,7 @@ module _ (s : List ℕ) (g : GeneralizedData) where
 
     -- THE DATA PART as ordinary data
     pub plain-heard : ordinary s g ≡ true
-        → long (dataPulses s (symbolAt s (g .symbols) 2 0 .first) (symbolAt s (g .symbols) 2 1 .first) (max 1 (lastBits (g .totd))) (g .from) (g .size)) ≡ long (each (symbolPulses s g) 0 (g .totd))
+        → long (dataPulses s (symbolAt s (g .symbols) 2 0 .first) (symbolAt s (g .symbols) 2 1 .first) (max 1 (usedBits (g .totd))) (g .from) (g .size)) ≡ long (each (symbolPulses s g) 0 (g .totd))
     unfolding ordinary equalHalves symbolPulses
     plain-heard e =
         let at = g .symbols in
@@ -250,7 +250,7 @@ module _ (s : List ℕ) (g : GeneralizedData) where
         let h = second (eqb (g .npd) 2) (equalHalves y && equalHalves z) c in
         let p : y .first ≡ y .second = eqb-true (y .first) (y .second) (first (equalHalves y) (equalHalves z) h) in
         let q : z .first ≡ z .second = eqb-true (z .first) (z .second) (second (equalHalves y) (equalHalves z) h) in
-        ap (λ (k : ℕ). long (dataPulses s (y .first) (z .first) (max 1 (lastBits (g .totd))) (g .from) k)) (d .size)
+        ap (λ (k : ℕ). long (dataPulses s (y .first) (z .first) (max 1 (usedBits (g .totd))) (g .from) k)) (d .size)
         ∙ ap long (data-flat s (y .first) (z .first) (g .from) (g .totd) (d .some))
         ∙ each-same (λ i. bitPulses (y .first) (z .first) (bitAt s (g .from) i)) (symbolPulses s g) 0 (g .totd) (λ i l k.
         ap (λ (b : ℕ). long (bitPulses (y .first) (z .first) b)) (sym (number-bit s g (d .bits) i))

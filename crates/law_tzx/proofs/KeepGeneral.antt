@@ -7,33 +7,33 @@ use lib.ListN.{length}
 use lib.Dec.{ltb}
 use borrow.Author.Tests.{lt-ltb}
 use Rattle.law_base.specs.Rules.{_⇒_, _∣_}
-use Rattle.law_base.specs.Tests.{first, second}
+use Rattle.law_base.proofs.Tests.{first, second}
 use Rattle.rows.specs.declared.Block.{Block}
 use Rattle.rows.specs.declared.Tone.{Tone}
 use Rattle.cut_grammar.specs.declared.GeneralizedData.{GeneralizedData}
 use Rattle.cut_grammar.specs.Places.{Places}
-use Rattle.load_general.specs.General.{Symbol, symbolAt, plain, toned, pilotOf, ordinary, lastBits, dataOf, withPilot, withData, generalOf}
-use Rattle.load_state.specs.Parser.{Tape}
-use Rattle.load_state.proofs.Kept.{Sure}
+use Rattle.load_general.specs.General.{Symbol, symbolAt, plain, toned, pilotOf, ordinary, usedBits, dataPart, withPilot, withData, generalOf}
+use Rattle.load_state.specs.Parser.{Parsed}
+use Rattle.load_state.specs.Kept.{Sure}
 use Rattle.load_blocks.specs.declared.Origin.{Origin}
 use Rattle.load_blocks.specs.declared.Bits.{Bits}
-use Rattle.load_blocks.specs.Sounds.{ms, Sound as Birth, bitsAt, noBits, rowOf}
+use Rattle.load_blocks.specs.Sounds.{ms, Sound, dataBits, noBits, rowOf}
 use Rattle.load_blocks.specs.Blocks.{dataSound}
 use Rattle.load_blocks.specs.Adds.{Lent}
 use Rattle.load_blocks.specs.Deeds.{generalDeed, does}
-use Rattle.law_tzx.specs.Format.{Length, lasts, Sound, sounds, paused, each, dataPulses, pilotPulses, symbolPulses, symbolsSaid, format19}
+use Rattle.law_tzx.specs.Format.{Length, lasts, PulseTrain, sounds, pauseMs, each, dataPulses, pilotPulses, symbolPulses, symbolsSaid, format19}
 use Rattle.law_tzx.specs.Kept.{keptPilot, keptData, kept19, Keeps}
 use Rattle.law_tzx.proofs.Lengths.{long, long-append, waveIn, wavesOf, dataIn, pauseIn}
 use Rattle.law_tzx.proofs.Symbols.{Parts}
-use Rattle.law_tzx.proofs.Generals.{pilot-part, pilot-said, Data, data-clauses, data-said, data-part, plain-heard}
+use Rattle.law_tzx.proofs.Generals.{pilot-part, pilot-said, DataClauses, data-clauses, data-said, data-part, plain-heard}
 use Rattle.law_tzx.proofs.KeepSounds.{soundWith, keep-one}
 
 -- 19: ordinary data behind a pilot
-abbrev plainBirth : GeneralizedData → List Tone → ℕ → ℕ → ℕ → Birth
-plainBirth g ts off one last = dataSound ts (bitsAt (g .from) (g .size) off one last) (ms (g .pause))
+abbrev plainBirth : GeneralizedData → List Tone → ℕ → ℕ → ℕ → Sound
+plainBirth g ts off one last = dataSound ts (dataBits (g .from) (g .size) off one last) (ms (g .pause))
 
 -- or tones alone
-abbrev tonedBirth : GeneralizedData → List Tone → Birth
+abbrev tonedBirth : GeneralizedData → List Tone → Sound
 tonedBirth g ts = dataSound ts noBits (ms (g .pause))
 
 born-pause : (origin : Origin) (ts : List Tone) (d : Bits) (pause n : ℕ) → pauseIn (rowOf origin (dataSound ts d pause) n) ≡ lasts pause
@@ -59,15 +59,15 @@ plain-same : (origin : Origin) (s : List ℕ) (g : GeneralizedData) (ps : List T
 unfolding rowOf
 plain-same origin s g ps off one last x y n p q = both (wavesOf ps) (dataPulses s off one (max 1 last) (g .from) (g .size)) x y p q
 
-module _ (lent : Lent) (origin : Origin) (s : List ℕ) (model : ℕ) (t : Tape) (g : GeneralizedData) where
+module _ (lent : Lent) (origin : Origin) (s : List ℕ) (model : ℕ) (t : Parsed) (g : GeneralizedData) where
   abbrev pilotIn : List ℕ
   pilotIn = each (pilotPulses s g) 0 (g .totp)
 
   abbrev symbolsIn : List ℕ
   symbolsIn = each (symbolPulses s g) 0 (g .totd)
 
-  abbrev sound19 : Sound
-  sound19 = soundWith (pilotIn ++ symbolsIn) (paused (g .pause))
+  abbrev sound19 : PulseTrain
+  sound19 = soundWith (pilotIn ++ symbolsIn) (pauseMs (g .pause))
 
   keep-toned : (ps ts : List Tone) → long (wavesOf ps) ≡ long pilotIn → long (wavesOf ts) ≡ long symbolsIn → Sure (λ u. Keeps s t u (sounds sound19)) (does lent model origin (generalDeed g (toned (ps ++ ts))) t)
   unfolding does generalDeed
@@ -80,7 +80,7 @@ module _ (lent : Lent) (origin : Origin) (s : List ℕ) (model : ℕ) (t : Tape)
   unfolding does generalDeed
   keep-plain ps off one last p q =
       keep-one lent origin s t (plainBirth g ps off one last) sound19
-      (λ n. plain-same origin s g ps off one last pilotIn symbolsIn n p q) (born-pause origin ps (bitsAt (g .from) (g .size) off one last) (ms (g .pause)))
+      (λ n. plain-same origin s g ps off one last pilotIn symbolsIn n p q) (born-pause origin ps (dataBits (g .from) (g .size) off one last) (ms (g .pause)))
 
   keep-general : Places s g → kept19 s g ≡ true → Sure (λ u. Keeps s t u (sounds sound19)) (does lent model origin (generalDeed g (generalOf s g)) t)
   unfolding kept19 generalOf withPilot withData
@@ -95,9 +95,9 @@ module _ (lent : Lent) (origin : Origin) (s : List ℕ) (model : ℕ) (t : Tape)
       z : Symbol
       z = symbolAt s (g .symbols) 2 1
 
-      by-cases : (p : Parts (pilotOf s g) pilotIn) (d : Data s g) (b : Bool) → ordinary s g ≡ b
-          → Sure (λ u. Keeps s t u (sounds sound19)) (does lent model origin (generalDeed g ((ltb 0 (g .totd) && ordinary s g) ⇒ plain (p .rows) (y .first) (z .first) (lastBits (g .totd)) ∣ withData (p .rows) (dataOf s g))) t)
-      by-cases p d true q = rw (lt-ltb 0 (g .totd) (d .some), q) (keep-plain (p .rows) (y .first) (z .first) (lastBits (g .totd)) (p .heard) (plain-heard s g d q))
+      by-cases : (p : Parts (pilotOf s g) pilotIn) (d : DataClauses s g) (b : Bool) → ordinary s g ≡ b
+          → Sure (λ u. Keeps s t u (sounds sound19)) (does lent model origin (generalDeed g ((ltb 0 (g .totd) && ordinary s g) ⇒ plain (p .rows) (y .first) (z .first) (usedBits (g .totd)) ∣ withData (p .rows) (dataPart s g))) t)
+      by-cases p d true q = rw (lt-ltb 0 (g .totd) (d .some), q) (keep-plain (p .rows) (y .first) (z .first) (usedBits (g .totd)) (p .heard) (plain-heard s g d q))
       by-cases p d false q =
           let r = data-part s g d in
           rw (lt-ltb 0 (g .totd) (d .some), q, r .given) (keep-toned (p .rows) (r .rows) (p .heard) (r .heard))

@@ -7,13 +7,15 @@ use mathlib.Core.List.{List, [], _∷_, _++_, map, append-nil}
 use lib.ListN.{length}
 use lib.Dec.{eqb}
 use borrow.Author.Tests.{eqb-true, eqb-false}
-use Rattle.law_base.specs.Tests.{first, other}
+use Rattle.law_base.proofs.Tests.{first, other}
 use Rattle.cut_fields.specs.Field.{leAt}
 use Rattle.rows.specs.declared.Tone.{Tone}
-use Rattle.load_state.specs.Parser.{Tape}
-use Rattle.load_state.proofs.Kept.{Sure, sure, sure-also, sure-then}
+use Rattle.load_state.specs.Parser.{Parsed}
+use Rattle.load_state.proofs.Kept.{sure-also, sure-then}
+use Rattle.load_state.specs.Kept.{Sure, sure}
 use Rattle.load_blocks.specs.declared.Origin.{Origin}
-use Rattle.load_blocks.specs.Sounds.{toneOf, rowOf, addSounds}
+use Rattle.load_general.specs.General.{plainTone}
+use Rattle.load_blocks.specs.Sounds.{rowOf, addSounds}
 use Rattle.load_blocks.specs.Blocks.{pulseAt, toneSound, pairSounds}
 use Rattle.load_blocks.specs.Adds.{Lent}
 use Rattle.law_tzx.specs.Format.{lasts, each, dataPulses, format13, lengthsOf, lasting}
@@ -27,7 +29,7 @@ use Rattle.law_tzx.proofs.KeepSounds.{soundWith}
 abbrev pub pulseIn : List ℕ → ℕ → ℕ → List ℕ
 pulseIn s from i = leAt s (from + i * 2) 2 ∷ []
 
-pair-same : (origin : Origin) (s : List ℕ) (a b n : ℕ) → blockLengths s (toneOf 1 a b ∷ []) (rowOf origin (toneSound (toneOf 1 a b ∷ [])) n) ≡ lasting (map lasts (a ∷ b ∷ []))
+pair-same : (origin : Origin) (s : List ℕ) (a b n : ℕ) → blockLengths s (plainTone 1 a b ∷ []) (rowOf origin (toneSound (plainTone 1 a b ∷ [])) n) ≡ lasting (map lasts (a ∷ b ∷ []))
 unfolding blockLengths wavesOf each rowOf dataPulses pauseIn lasting
 pair-same origin s a b n = append-nil (long (a ∷ b ∷ []) ++ []) ∙ append-nil (long (a ∷ b ∷ []))
 
@@ -54,7 +56,7 @@ pub no-pause : (xs : List ℕ) → lasting (lengthsOf (soundWith xs (lasts 0))) 
 unfolding lengthsOf lasting
 no-pause xs = lasting-append (map lasts xs) (lasts 0 ∷ []) ∙ append-nil (long xs)
 
-pub pairs-play : (lent : Lent) (origin : Origin) (s : List ℕ) (from i n : ℕ) (t : Tape) → Sure (Plays s (map lasts (each (pulseIn s from) i (n * 2))) t) (addSounds lent origin (pairSounds s from i n) t)
+pub pairs-play : (lent : Lent) (origin : Origin) (s : List ℕ) (from i n : ℕ) (t : Parsed) → Sure (Plays s (map lasts (each (pulseIn s from) i (n * 2))) t) (addSounds lent origin (pairSounds s from i n) t)
 unfolding addSounds pairSounds pulseAt
 pairs-play lent origin s from i zero t = sure (plays-none refl refl (none-heard (pulseIn s from) i))
 pairs-play lent origin s from i (suc n) t =
@@ -62,7 +64,7 @@ pairs-play lent origin s from i (suc n) t =
     let b = leAt s (from + (i + 1) * 2) 2 in
     let e : map lasts (a ∷ b ∷ each (pulseIn s from) (i + 2) (n * 2)) ≡ map lasts (each (pulseIn s from) i (suc n * 2)) = ap (map lasts) (sym (each-two (pulseIn s from) i n)) in
     sure-then (addSounds lent origin (pairSounds s from (i + 2) n))
-    (sound-plays s origin (toneSound (toneOf 1 a b ∷ [])) (map lasts (a ∷ b ∷ [])) (pair-same origin s a b) lent t)
+    (sound-plays s origin (toneSound (plainTone 1 a b ∷ [])) (map lasts (a ∷ b ∷ [])) (pair-same origin s a b) lent t)
     (λ u p. sure-also (λ v q. plays-as (ap lasting e) (plays-then p q)) (pairs-play lent origin s from (i + 2) n u))
 
 -- an odd last pulse of 0 is not heard
@@ -88,7 +90,7 @@ pairs-same s count from e = by-cases (eqb (count % 2) 0) refl
         ∙ ap long (each-split f 0 (count / 2 * 2) 1)
         ∙ last-none (each f 0 (count / 2 * 2)) f (0 + count / 2 * 2) w)
 
-pub keep13 : (lent : Lent) (origin : Origin) (s : List ℕ) (t : Tape) (count from : ℕ) → kept13 s count from ≡ true → Sure (λ u. Keeps s t u (format13 s count from)) (addSounds lent origin (pairSounds s from 0 (count / 2)) t)
+pub keep13 : (lent : Lent) (origin : Origin) (s : List ℕ) (t : Parsed) (count from : ℕ) → kept13 s count from ≡ true → Sure (λ u. Keeps s t u (format13 s count from)) (addSounds lent origin (pairSounds s from 0 (count / 2)) t)
 unfolding format13
 keep13 lent origin s t count from e =
     sure-also (λ u p. as-said (plays-as (pairs-same s count from e ∙ sym (no-pause (each (pulseIn s from) 0 count))) p)) (pairs-play lent origin s from 0 (count / 2) t)

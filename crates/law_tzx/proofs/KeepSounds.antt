@@ -8,28 +8,30 @@ use lib.ListN.{length}
 use lib.Dec.{eqb}
 use borrow.Author.Tests.{ltb-true, eqb-true, eqb-false, ne-eqb}
 use Rattle.law_base.specs.Rules.{_⇒_, _∣_}
-use Rattle.law_base.specs.Tests.{first, second, other}
+use Rattle.law_base.proofs.Tests.{first, second, other}
 use Rattle.rows.specs.declared.Tone.{Tone}
 use Rattle.cut_grammar.specs.declared.TurboData.{TurboData}
-use Rattle.load_state.specs.Parser.{Tape, on}
-use Rattle.load_state.proofs.Kept.{Sure, sure, sure-also}
+use Rattle.load_state.specs.Parser.{Parsed, on}
+use Rattle.load_state.proofs.Kept.{sure-also}
+use Rattle.load_state.specs.Kept.{Sure, sure}
 use Rattle.load_blocks.specs.declared.Origin.{Origin}
-use Rattle.load_blocks.specs.Sounds.{ms, toneOf, Sound as Birth, bitsAt, rowOf, addSounds}
+use Rattle.load_general.specs.General.{plainTone}
+use Rattle.load_blocks.specs.Sounds.{ms, Sound, dataBits, rowOf, addSounds}
 use Rattle.load_blocks.specs.Blocks.{turboTones, pureTones, pureToneTones, turboSound, toneSound, pureSound, stopSound, silentSound, pauseSound}
 use Rattle.load_blocks.specs.Adds.{Lent}
 use Rattle.load_blocks.specs.Deeds.{stop48Deed, does}
 use Rattle.load_blocks.proofs.Laws.{one-sound}
-use Rattle.law_tzx.specs.Format.{Length, lasts, forever, Sound, sounds, paused, each, again, dataPulses, bitsSaid, format11, format12, format14, format20, format2A, lengthsOf, lasting}
+use Rattle.law_tzx.specs.Format.{Length, lasts, forever, PulseTrain, sounds, pauseMs, each, again, dataPulses, bitsSaid, format11, format12, format14, format20, format2A, lengthsOf, lasting}
 use Rattle.law_tzx.specs.Kept.{evenCount, kept11, kept12, Keeps, as-said}
 use Rattle.law_tzx.proofs.Lengths.{long, long-append, lasting-append, wavesOf, dataIn, pauseIn, blockLengths}
 use Rattle.law_tzx.proofs.Adds.{plays-none, sound-plays}
 use Rattle.law_tzx.proofs.Waves.{once, again-more, cycles-pulses, pilot-same, zero-none, zeros-none, data-same}
 
-abbrev pub soundWith : List ℕ → Length → Sound
+abbrev pub soundWith : List ℕ → Length → PulseTrain
 soundWith pulses pause = record { pulses = pulses; pause = pause }
 
 -- a block which sounds as the format says
-pub keep-one : (lent : Lent) (origin : Origin) (s : List ℕ) (t : Tape) (d : Birth) (x : Sound)
+pub keep-one : (lent : Lent) (origin : Origin) (s : List ℕ) (t : Parsed) (d : Sound) (x : PulseTrain)
     → ((n : ℕ) → long (wavesOf (d .tones) ++ dataIn s (rowOf origin d n)) ≡ long (x .pulses)) → ((n : ℕ) → pauseIn (rowOf origin d n) ≡ x .pause)
     → Sure (λ u. Keeps s t u (sounds x)) (addSounds lent origin (d ∷ []) t)
 unfolding lengthsOf blockLengths
@@ -61,17 +63,17 @@ turbo-same origin s d n p q =
     two : syncs ≡ d .sync1 ∷ d .sync2 ∷ []
     two = append-nil (again (max 1 1) (d .sync1 ∷ d .sync2 ∷ [])) ∙ once (d .sync1 ∷ d .sync2 ∷ [])
 
-pub turbo-pause : (origin : Origin) (d : TurboData) (n : ℕ) → pauseIn (rowOf origin (turboSound d) n) ≡ paused (d .pause)
+pub turbo-pause : (origin : Origin) (d : TurboData) (n : ℕ) → pauseIn (rowOf origin (turboSound d) n) ≡ pauseMs (d .pause)
 unfolding turboSound rowOf pauseIn
 turbo-pause origin d n = refl
 
-pub keep11 : (lent : Lent) (origin : Origin) (s : List ℕ) (t : Tape) (d : TurboData) → kept11 d ≡ true → Sure (λ u. Keeps s t u (format11 s d)) (addSounds lent origin (turboSound d ∷ []) t)
+pub keep11 : (lent : Lent) (origin : Origin) (s : List ℕ) (t : Parsed) (d : TurboData) → kept11 d ≡ true → Sure (λ u. Keeps s t u (format11 s d)) (addSounds lent origin (turboSound d ∷ []) t)
 unfolding kept11 format11 turboSound
 keep11 lent origin s t d e =
     let p = first (eqb (d .pilot) 0 || evenCount (d .pilots)) (bitsSaid (d .last) (d .size)) e in
     let q = second (eqb (d .pilot) 0 || evenCount (d .pilots)) (bitsSaid (d .last) (d .size)) e in
     rw q (keep-one lent origin s t (turboSound d)
-    (soundWith (again (d .pilots) (d .pilot ∷ []) ++ d .sync1 ∷ d .sync2 ∷ dataPulses s (d .zero) (d .one) (d .last) (d .from) (d .size)) (paused (d .pause)))
+    (soundWith (again (d .pilots) (d .pilot ∷ []) ++ d .sync1 ∷ d .sync2 ∷ dataPulses s (d .zero) (d .one) (d .last) (d .from) (d .size)) (pauseMs (d .pause)))
     (λ n. turbo-same origin s d n p q) (λ n. turbo-pause origin d n))
 
 -- 12: pulses of 0, or more than one
@@ -102,7 +104,7 @@ tone-same origin s half count n e = by-cases (eqb (count % 2) 0) refl
     wave = again (max 1 (count / 2)) (half ∷ half ∷ [])
 
     by-cases : (b : Bool) → eqb (count % 2) 0 ≡ b
-        → long (wavesOf (b ⇒ toneOf (count / 2) half half ∷ [] ∣ toneOf 1 0 half ∷ toneOf (count / 2) half half ∷ []) ++ []) ≡ long (again count (half ∷ []))
+        → long (wavesOf (b ⇒ plainTone (count / 2) half half ∷ [] ∣ plainTone 1 0 half ∷ plainTone (count / 2) half half ∷ []) ++ []) ≡ long (again count (half ∷ []))
     by-cases true q = ap long (append-nil (wave ++ []) ∙ append-nil wave) ∙ cycles-same half count e (eqb-true (count % 2) 0 q)
     by-cases false q = ap (λ (r : List ℕ). long (0 ∷ half ∷ r)) (append-nil (wave ++ []) ∙ append-nil wave) ∙ odd-same half count e (eqb-false (count % 2) 0 q)
 
@@ -110,7 +112,7 @@ tone-pause : (origin : Origin) (ts : List Tone) (n : ℕ) → pauseIn (rowOf ori
 unfolding rowOf pauseIn
 tone-pause origin ts n = refl
 
-pub keep12 : (lent : Lent) (origin : Origin) (s : List ℕ) (t : Tape) (half count : ℕ) → kept12 half count ≡ true
+pub keep12 : (lent : Lent) (origin : Origin) (s : List ℕ) (t : Parsed) (half count : ℕ) → kept12 half count ≡ true
     → Sure (λ u. Keeps s t u (format12 half count)) (addSounds lent origin (toneSound (pureToneTones half count) ∷ []) t)
 unfolding format12
 keep12 lent origin s t half count e =
@@ -119,19 +121,19 @@ keep12 lent origin s t half count e =
 
 -- 14
 pure-same : (origin : Origin) (s : List ℕ) (off one last pause from size n : ℕ) → bitsSaid last size ≡ true
-    → long (wavesOf pureTones ++ dataIn s (rowOf origin (pureSound (bitsAt from size off one last) (ms pause)) n)) ≡ long (dataPulses s off one last from size)
+    → long (wavesOf pureTones ++ dataIn s (rowOf origin (pureSound (dataBits from size off one last) (ms pause)) n)) ≡ long (dataPulses s off one last from size)
 unfolding pureTones wavesOf each pureSound rowOf lasting
 pure-same origin s off one last pause from size n e = ap long (data-same s off one last from size e)
 
-pure-pause : (origin : Origin) (off one last pause from size n : ℕ) → pauseIn (rowOf origin (pureSound (bitsAt from size off one last) (ms pause)) n) ≡ paused pause
+pure-pause : (origin : Origin) (off one last pause from size n : ℕ) → pauseIn (rowOf origin (pureSound (dataBits from size off one last) (ms pause)) n) ≡ pauseMs pause
 unfolding pureSound rowOf pauseIn
 pure-pause origin off one last pause from size n = refl
 
-pub keep14 : (lent : Lent) (origin : Origin) (s : List ℕ) (t : Tape) (off one last pause from size : ℕ) → bitsSaid last size ≡ true
-    → Sure (λ u. Keeps s t u (format14 s off one last pause from size)) (addSounds lent origin (pureSound (bitsAt from size off one last) (ms pause) ∷ []) t)
+pub keep14 : (lent : Lent) (origin : Origin) (s : List ℕ) (t : Parsed) (off one last pause from size : ℕ) → bitsSaid last size ≡ true
+    → Sure (λ u. Keeps s t u (format14 s off one last pause from size)) (addSounds lent origin (pureSound (dataBits from size off one last) (ms pause) ∷ []) t)
 unfolding format14 pureSound
 keep14 lent origin s t off one last pause from size e =
-    rw e (keep-one lent origin s t (pureSound (bitsAt from size off one last) (ms pause)) (soundWith (dataPulses s off one last from size) (paused pause))
+    rw e (keep-one lent origin s t (pureSound (dataBits from size off one last) (ms pause)) (soundWith (dataPulses s off one last from size) (pauseMs pause))
     (λ n. pure-same origin s off one last pause from size n e) (λ n. pure-pause origin off one last pause from size n))
 
 -- 20, 2A: a pause alone, or a stop
@@ -143,7 +145,7 @@ stop-pause : (origin : Origin) (n : ℕ) → pauseIn (rowOf origin stopSound n) 
 unfolding rowOf pauseIn
 stop-pause origin n = refl
 
-keep-stop : (lent : Lent) (origin : Origin) (s : List ℕ) (t : Tape) → Sure (λ u. Keeps s t u (sounds (soundWith [] forever))) (addSounds lent origin (stopSound ∷ []) t)
+keep-stop : (lent : Lent) (origin : Origin) (s : List ℕ) (t : Parsed) → Sure (λ u. Keeps s t u (sounds (soundWith [] forever))) (addSounds lent origin (stopSound ∷ []) t)
 keep-stop lent origin s t = keep-one lent origin s t stopSound (soundWith [] forever) (stop-same origin s) (stop-pause origin)
 
 silence-same : (origin : Origin) (s : List ℕ) (p n : ℕ) → long (wavesOf [] ++ dataIn s (rowOf origin (silentSound p) n)) ≡ long []
@@ -154,21 +156,21 @@ silence-pause : (origin : Origin) (p n : ℕ) → pauseIn (rowOf origin (silentS
 unfolding rowOf pauseIn
 silence-pause origin p n = refl
 
-pub keep20 : (lent : Lent) (origin : Origin) (s : List ℕ) (t : Tape) (n : ℕ) → Sure (λ u. Keeps s t u (format20 n)) (addSounds lent origin (pauseSound n ∷ []) t)
+pub keep20 : (lent : Lent) (origin : Origin) (s : List ℕ) (t : Parsed) (n : ℕ) → Sure (λ u. Keeps s t u (format20 n)) (addSounds lent origin (pauseSound n ∷ []) t)
 unfolding format20 pauseSound
 keep20 lent origin s t n = by-cases (eqb n 0)
   where
     by-cases : (b : Bool)
-        → Sure (λ u. Keeps s t u (b ⇒ sounds (soundWith [] forever) ∣ sounds (soundWith [] (paused n)))) (addSounds lent origin ((b ⇒ stopSound ∣ silentSound (ms n)) ∷ []) t)
+        → Sure (λ u. Keeps s t u (b ⇒ sounds (soundWith [] forever) ∣ sounds (soundWith [] (pauseMs n)))) (addSounds lent origin ((b ⇒ stopSound ∣ silentSound (ms n)) ∷ []) t)
     by-cases true = keep-stop lent origin s t
-    by-cases false = keep-one lent origin s t (silentSound (ms n)) (soundWith [] (paused n)) (silence-same origin s (ms n)) (silence-pause origin (ms n))
+    by-cases false = keep-one lent origin s t (silentSound (ms n)) (soundWith [] (pauseMs n)) (silence-same origin s (ms n)) (silence-pause origin (ms n))
 
 -- no sound of its own
-pub keep-none : {s : List ℕ} {t u : Tape} → u .blocks ≡ t .blocks → u .tones ≡ t .tones → Keeps s t u (sounds (soundWith [] (lasts 0)))
+pub keep-none : {s : List ℕ} {t u : Parsed} → u .blocks ≡ t .blocks → u .tones ≡ t .tones → Keeps s t u (sounds (soundWith [] (lasts 0)))
 unfolding lengthsOf lasting
 keep-none p q = as-said (plays-none p q refl)
 
-pub keep2A : (lent : Lent) (origin : Origin) (s : List ℕ) (t : Tape) (model length : ℕ) → eqb length 0 ≡ true → Sure (λ u. Keeps s t u (format2A (eqb model 0) length)) (does lent model origin (stop48Deed length) t)
+pub keep2A : (lent : Lent) (origin : Origin) (s : List ℕ) (t : Parsed) (model length : ℕ) → eqb length 0 ≡ true → Sure (λ u. Keeps s t u (format2A (eqb model 0) length)) (does lent model origin (stop48Deed length) t)
 unfolding format2A does stop48Deed
 keep2A lent origin s t model length e = rw e (by-cases (eqb model 0))
   where

@@ -9,8 +9,8 @@ use Rattle.cut_grammar.specs.declared.Piece.{Piece}
 use Rattle.cut_grammar.specs.declared.Piece.the-variants.{Standard, Turbo, Tone as PureTone, Pulses, Pure, Generalized, Pause, GroupStart, GroupEnd, LoopStart, LoopEnd, Stop48, Text, Message, Archive, Hardware, Custom, Glue}
 use Rattle.load_source.specs.Meaning.{deedOf}
 use Rattle.load_source.specs.Source.{act}
-use Rattle.load_state.specs.Parser.{Tape, pend, openLoop}
-use Rattle.load_state.proofs.Kept.{Sure, sure}
+use Rattle.load_state.specs.Parser.{Parsed, pend, openLoop}
+use Rattle.load_state.specs.Kept.{Sure, sure}
 use Rattle.load_blocks.specs.declared.Origin.{Origin}
 use Rattle.load_blocks.specs.Adds.{Lent}
 use Rattle.load_blocks.specs.Sounds.{addSounds}
@@ -23,7 +23,7 @@ use Rattle.law_tzx.proofs.KeepPulses.{keep13}
 use Rattle.law_tzx.proofs.KeepGeneral.{keep19}
 
 -- THE THEOREM: the blocks that a kept piece adds play the lengths above 0 that the format gives it, in order
-pub keeps : (lent : Lent) (origin : Origin) (s : List ℕ) (model : ℕ) (piece : Piece) (t : Tape) → Tables s piece → kept s piece ≡ true → Sure (λ u. Keeps s t u (formatOf (eqb model 0) s piece)) (act lent s model origin piece t)
+pub keeps : (lent : Lent) (origin : Origin) (s : List ℕ) (model : ℕ) (piece : Piece) (t : Parsed) → Tables s piece → kept s piece ≡ true → Sure (λ u. Keeps s t u (formatOf (eqb model 0) s piece)) (act lent s model origin piece t)
 unfolding kept formatOf act deedOf does addSounds pend openLoop
 keeps lent origin s model (Standard pause from size) t places e = absurd (differ (sym e))
 keeps lent origin s model (Turbo d) t places e = keep11 lent origin s t d e

@@ -15,7 +15,7 @@ use Rattle.rows.specs.declared.Block.{Block}
 use Rattle.rows.specs.declared.Tone.{Tone}
 use Rattle.play_entries.specs.declared.Duration.the-variants.{T, Endless}
 use Rattle.play_entries.specs.declared.Phase.the-variants.{Start, Pause}
-use Rattle.play_entries.specs.Entries.{Spot, spot, entryOf, toneAt, isSource, bitsAt, bitOf, halfOf, byteAt, wholePause, entriesOf}
+use Rattle.play_entries.specs.Entries.{Label, labelAt, entryOf, toneAt, isSource, bitsAt, bitOf, halfOf, byteAt, wholePause, entriesOf}
 use Rattle.play_entries.specs.Source.{sourceCycle, sourceTone, sourceBit, sourceByte, sourceEntries}
 use Rattle.play_entries.proofs.Sourced.{source-entries}
 use Rattle.law_tzx.specs.Format.{Length, lasts, forever, each, again, bitPulses, bitsIn, bytePulses, dataPulses, lasting}
@@ -85,10 +85,10 @@ byte-lengths s b r pos =
     run-each (sourceBit b r pos v) (λ k. bitPulses (r .zero) (r .one) (bitOf v k)) (bit-lengths b r pos v) 0 (bitsAt r pos)
 
 -- its data's entries, and its tone rows'
-abbrev bytesOf : List ℕ → ℕ → Block → List (Entry Spot)
+abbrev bytesOf : List ℕ → ℕ → Block → List (Entry Label)
 bytesOf s b r = run (sourceByte s b r) 0 (r .size)
 
-abbrev tonesOf : List ℕ → ℕ → Block → List (Entry Spot)
+abbrev tonesOf : List ℕ → ℕ → Block → List (Entry Label)
 tonesOf tt b r = run (sourceTone tt b r) 0 (r .tones)
 
 data-lengths : (s : List ℕ) (b : ℕ) (r : Block) → lengths (bytesOf s b r) ≡ map lasts (dataIn s r)
@@ -104,22 +104,22 @@ pauseIn r = eqb (r .endless) 1 ⇒ forever ∣ lasts (r .pause)
 unfoldable pub blockLengths : List ℕ → List Tone → Block → List Length
 blockLengths s ts r = long (wavesOf ts) ++ long (dataIn s r) ++ lasting (pauseIn r ∷ [])
 
-abbrev pauseEntry : ℕ → Block → Entry Spot
-pauseEntry b r = entryOf (spot b Pause) low (wholePause r)
+abbrev pauseEntry : ℕ → Block → Entry Label
+pauseEntry b r = entryOf (labelAt b Pause) low (wholePause r)
 
 pause-lengths : (b : ℕ) (r : Block) → lengths (pauseEntry b r ∷ []) ≡ pauseIn r ∷ []
 unfolding wholePause entryOf pauseIn lengthOf
 pause-lengths b r = by-cases (eqb (r .endless) 1)
   where
-    by-cases : (t : Bool) → lengthOf (entryOf (spot b Pause) low (t ⇒ Endless ∣ T (r .pause))) ∷ [] ≡ (t ⇒ forever ∣ lasts (r .pause)) ∷ []
+    by-cases : (t : Bool) → lengthOf (entryOf (labelAt b Pause) low (t ⇒ Endless ∣ T (r .pause))) ∷ [] ≡ (t ⇒ forever ∣ lasts (r .pause)) ∷ []
     by-cases true = refl
     by-cases false = refl
 
 -- a start has no length
-abbrev startOf : ℕ → Entry Spot
-startOf b = pulse (spot b Start) low 0
+abbrev startOf : ℕ → Entry Label
+startOf b = pulse (labelAt b Start) low 0
 
-start-none : (b : ℕ) (es : List (Entry Spot)) → lasting (lengths (startOf b ∷ es)) ≡ lasting (lengths es)
+start-none : (b : ℕ) (es : List (Entry Label)) → lasting (lengths (startOf b ∷ es)) ≡ lasting (lengths es)
 unfolding lasting lengthOf
 start-none b es = refl
 
@@ -140,7 +140,7 @@ module _ (s tt : List ℕ) (b : ℕ) (r : Block) (source : isSource r ≡ true) 
   unfolding sourceEntries blockLengths
   block-lengths =
       let sound = startOf b ∷ tonesOf tt b r ++ bytesOf s b r in
-      ap (λ (es : List (Entry Spot)). lasting (lengths es)) (source-entries tt b r source s)
+      ap (λ (es : List (Entry Label)). lasting (lengths es)) (source-entries tt b r source s)
       ∙ ap lasting (map-append lengthOf sound (pauseEntry b r ∷ []))
       ∙ lasting-append (lengths sound) (lengths (pauseEntry b r ∷ []))
       ∙ ap₂ (λ (x y : List Length). x ++ y) sound-lengths (ap lasting (pause-lengths b r))

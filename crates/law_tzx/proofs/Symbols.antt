@@ -7,12 +7,12 @@ use mathlib.Core.List.{List, [], _∷_, _++_}
 use lib.Dec.{ltb, eqb}
 use borrow.Author.Tests.{ltb-true, eqb-true, eqb-false, ne-eqb}
 use Rattle.law_base.specs.Rules.{_⇒_, _∣_}
-use Rattle.law_base.specs.Tests.{first, second}
+use Rattle.law_base.proofs.Tests.{first, second}
 use Rattle.cut_fields.specs.Field.{leAt}
 use Rattle.rows.specs.declared.Tone.{Tone}
 use Rattle.load_general.specs.declared.Row.{Row}
 use Rattle.load_general.specs.declared.Row.the-variants.{Gives}
-use Rattle.load_general.specs.General.{symbolAt, toneOf, Part, tones, before, rowsFrom, cycles}
+use Rattle.load_general.specs.General.{symbolAt, plainTone, Part, tones, before, rowsFrom, cycles}
 use Rattle.law_tzx.specs.Format.{Length, each, again, waveFrom, symbolPulse, waveOf, every, lasting}
 use Rattle.law_tzx.specs.Kept.{evenCount, firstPulse, secondPulse, wholeWave, keptTimes}
 use Rattle.law_tzx.proofs.Lengths.{long, long-append, waveIn, wavesOf}
@@ -101,7 +101,7 @@ pub times-wave : (a b n : ℕ) → keptTimes a b n ≡ true → Waves (cycles (r
 unfolding keptTimes cycles
 times-wave zero zero n e =
     let q = not-so (eqb n 65535) e in
-    record { tone = toneOf ((n + 1) / 2) 0 0; given = rw q; heard = zeros-none (max 1 ((n + 1) / 2)) ∙ sym (again-silent n) }
+    record { tone = plainTone ((n + 1) / 2) 0 0; given = rw q; heard = zeros-none (max 1 ((n + 1) / 2)) ∙ sym (again-silent n) }
 times-wave zero (suc b) n e =
     let z : suc b ≡ 0 = eqb-true (suc b) 0 (first (eqb (suc b) 0) (not (eqb n 65535)) e) in
     absurd (omega arith)
@@ -110,11 +110,11 @@ times-wave (suc a) zero n e =
     let c : evenCount n ≡ true = rw z at e in
     let h = even-of n c in
     let q : eqb n 65535 ≡ false = ne-eqb n 65535 (λ k. let z : 65535 % 2 ≡ 0 = ap (λ (x : ℕ). x % 2) (sym k) ∙ h .even in absurd (omega arith)) in
-    record { tone = toneOf ((n + 1) / 2) (suc a) (suc a); given = rw q; heard = pilot-same (suc a) n (rw (z, c)) ∙ rw z }
+    record { tone = plainTone ((n + 1) / 2) (suc a) (suc a); given = rw q; heard = pilot-same (suc a) n (rw (z, c)) ∙ rw z }
 times-wave (suc a) (suc b) n e =
     let z : eqb (suc a) 0 ≡ false = ne-eqb (suc a) 0 (omega arith) in
     let y : eqb (suc b) 0 ≡ false = ne-eqb (suc b) 0 (omega arith) in
     let c : ltb 0 n ≡ true = rw (z, y) at e in
     let h : 0 < n = ltb-true 0 n c in
     let m : max 1 n ≡ n = omega arith in
-    record { tone = toneOf n (suc a) (suc b); given = rw y; heard = rw (z, y, m) }
+    record { tone = plainTone n (suc a) (suc b); given = rw y; heard = rw (z, y, m) }

@@ -7,7 +7,7 @@ use mathlib.Core.List.{List, [], _∷_, _++_, append-assoc, append-nil}
 use lib.Dec.{ltb, leb, eqb}
 use borrow.Author.Tests.{ltb-true, leb-true, eqb-true, ne-eqb}
 use Rattle.law_base.specs.Arms.{between}
-use Rattle.law_base.specs.Tests.{first, second, other}
+use Rattle.law_base.proofs.Tests.{first, second, other}
 use Rattle.law_tzx.specs.Format.{Length, each, again, dataPulses, bitsSaid, lasting}
 use Rattle.law_tzx.specs.Kept.{evenCount}
 use Rattle.law_tzx.proofs.Lengths.{long, long-append}

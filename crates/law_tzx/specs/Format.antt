@@ -1,6 +1,7 @@
 -- What TZX 1.20 gives one piece: the lengths of its pulses in T-states, in order, and the pause behind them. Written from docs/FORMAT.md alone,
--- in its order and words. Lengths only: no levels, so a pause's first millisecond is not told apart. Assumes nothing.
-use Prim.Native.Nat.{ℕ, zero, suc, _+_, _*_, _-_, _/_, _%_, _^_}
+-- in its order and words; which bit of a byte is which is `bitOf`'s, as everywhere. Lengths only: no levels, so a pause's first
+-- millisecond is not told apart. Assumes nothing.
+use Prim.Native.Nat.{ℕ, zero, suc, _+_, _*_, _/_, _%_, _^_}
 use mathlib.Core.Bool.{Bool, true, _&&_, _||_}
 use mathlib.Core.List.{List, [], _∷_, _++_, map}
 use lib.ListN.{getD}
@@ -12,6 +13,7 @@ use Rattle.cut_grammar.specs.declared.GeneralizedData.{GeneralizedData}
 use Rattle.cut_grammar.specs.declared.TurboData.{TurboData}
 use Rattle.cut_grammar.specs.declared.Piece.{Piece}
 use Rattle.cut_grammar.specs.declared.Piece.the-variants.{Standard, Turbo, Tone, Pulses, Pure, Generalized, Pause, GroupStart, GroupEnd, LoopStart, LoopEnd, Stop48, Text, Message, Archive, Hardware, Custom, Glue}
+use Rattle.play_entries.specs.Entries.{bitOf}
 
 -- T-states, or none that ends it
 pub data Length : Type 0 where
@@ -19,25 +21,25 @@ pub data Length : Type 0 where
   forever : Length
 
 -- pulses, and the pause behind them: none is one of 0, a stop is one that never ends
-pub record Sound : Type 0 where
+pub record PulseTrain : Type 0 where
   pub pulses : List ℕ
   pub pause : Length
 
 -- what the format says of a piece; of some pieces it does not say what is played
 pub data Said : Type 0 where
-  sounds : Sound → Said
+  sounds : PulseTrain → Said
   unsaid : Said
 
-abbrev pub soundOf : List ℕ → Length → Said
-soundOf pulses pause = sounds (record { pulses = pulses; pause = pause })
+abbrev pub saidPulses : List ℕ → Length → Said
+saidPulses pulses pause = sounds (record { pulses = pulses; pause = pause })
 
 -- 1 ms is 3,500
-abbrev pub paused : ℕ → Length
-paused n = lasts (n * 3500)
+abbrev pub pauseMs : ℕ → Length
+pauseMs n = lasts (n * 3500)
 
 -- no sound of its own
 abbrev pub silent : Said
-silent = soundOf [] (lasts 0)
+silent = saidPulses [] (lasts 0)
 
 -- n items from item p on
 unfoldable pub each : (ℕ → List ℕ) → ℕ → ℕ → List ℕ
@@ -47,10 +49,6 @@ each item p (suc n) = item p ++ each item (p + 1) n
 -- a wave, so many times
 abbrev pub again : ℕ → List ℕ → List ℕ
 again n wave = each (λ i. wave) 0 n
-
--- bit k of a byte, from the top
-abbrev pub bitOf : ℕ → ℕ → ℕ
-bitOf v k = v / 2 ^ (7 - k) % 2
 
 -- a 0 bit is two pulses of one length, a 1 bit two of another
 unfoldable pub bitPulses : ℕ → ℕ → ℕ → List ℕ
@@ -77,27 +75,27 @@ pilotCount flag = ltb flag 128 ⇒ 8063 ∣ 3223
 unfoldable pub format10 : List ℕ → ℕ → ℕ → ℕ → Said
 format10 s pause from size =
     eqb size 0 ⇒ unsaid
-    ∣ soundOf (again (pilotCount (getD s from 0)) (2168 ∷ []) ++ 667 ∷ 735 ∷ dataPulses s 855 1710 8 from size) (paused pause)
+    ∣ saidPulses (again (pilotCount (getD s from 0)) (2168 ∷ []) ++ 667 ∷ 735 ∷ dataPulses s 855 1710 8 from size) (pauseMs pause)
 
 -- 11: as 10 with its own numbers
 unfoldable pub format11 : List ℕ → TurboData → Said
 format11 s d =
     bitsSaid (d .last) (d .size) ⇒
-    soundOf (again (d .pilots) (d .pilot ∷ []) ++ d .sync1 ∷ d .sync2 ∷ dataPulses s (d .zero) (d .one) (d .last) (d .from) (d .size)) (paused (d .pause))
+    saidPulses (again (d .pilots) (d .pilot ∷ []) ++ d .sync1 ∷ d .sync2 ∷ dataPulses s (d .zero) (d .one) (d .last) (d .from) (d .size)) (pauseMs (d .pause))
     ∣ unsaid
 
 -- 12: that many pulses of one length
 unfoldable pub format12 : ℕ → ℕ → Said
-format12 half count = soundOf (again count (half ∷ [])) (lasts 0)
+format12 half count = saidPulses (again count (half ∷ [])) (lasts 0)
 
 -- 13: pulses, each with its own length
 unfoldable pub format13 : List ℕ → ℕ → ℕ → Said
-format13 s count from = soundOf (each (λ i. leAt s (from + i * 2) 2 ∷ []) 0 count) (lasts 0)
+format13 s count from = saidPulses (each (λ i. leAt s (from + i * 2) 2 ∷ []) 0 count) (lasts 0)
 
 -- 14: data with neither pilot nor sync
 unfoldable pub format14 : List ℕ → ℕ → ℕ → ℕ → ℕ → ℕ → ℕ → Said
 format14 s nil one last pause from size =
-    bitsSaid last size ⇒ soundOf (dataPulses s nil one last from size) (paused pause) ∣ unsaid
+    bitsSaid last size ⇒ saidPulses (dataPulses s nil one last from size) (pauseMs pause) ∣ unsaid
 
 -- 19: a symbol is a flag byte and n pulse lengths of 2 bytes; a shorter wave ends at a pulse of length 0
 unfoldable pub waveFrom : (ℕ → ℕ) → ℕ → ℕ → List ℕ
@@ -146,16 +144,16 @@ symbolsSaid s g =
 
 unfoldable pub format19 : List ℕ → GeneralizedData → Said
 format19 s g =
-    symbolsSaid s g ⇒ soundOf (each (pilotPulses s g) 0 (g .totp) ++ each (symbolPulses s g) 0 (g .totd)) (paused (g .pause))
+    symbolsSaid s g ⇒ saidPulses (each (pilotPulses s g) 0 (g .totp) ++ each (symbolPulses s g) 0 (g .totd)) (pauseMs (g .pause))
     ∣ unsaid
 
 -- 20: silence; 0 means: stop the tape
 unfoldable pub format20 : ℕ → Said
-format20 n = eqb n 0 ⇒ soundOf [] forever ∣ soundOf [] (paused n)
+format20 n = eqb n 0 ⇒ saidPulses [] forever ∣ saidPulses [] (pauseMs n)
 
 -- 2A: length 0; stop the tape, only in 48K mode
 unfoldable pub format2A : Bool → ℕ → Said
-format2A on48 length = eqb length 0 ⇒ (on48 ⇒ soundOf [] forever ∣ silent) ∣ unsaid
+format2A on48 length = eqb length 0 ⇒ (on48 ⇒ saidPulses [] forever ∣ silent) ∣ unsaid
 
 -- WHAT THE FORMAT GIVES A PIECE that was cut with an alphabet size of 0 meaning 256. How often the pieces of a loop are played is no matter of one piece
 unfoldable pub formatOf : Bool → List ℕ → Piece → Said
@@ -179,11 +177,11 @@ formatOf on48 s (Custom id from size) = silent
 formatOf on48 s Glue = silent
 
 -- the alphabet size that 0 means
-abbrev pub full : ℕ
-full = 256
+abbrev pub formatFull : ℕ
+formatFull = 256
 
 -- the lengths, one after the other
-unfoldable pub lengthsOf : Sound → List Length
+unfoldable pub lengthsOf : PulseTrain → List Length
 lengthsOf x = map lasts (x .pulses) ++ x .pause ∷ []
 
 -- those above 0

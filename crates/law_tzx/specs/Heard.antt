@@ -15,8 +15,8 @@ use Rattle.load_state.specs.Parser.{Out, on, no as halt, empty}
 use Rattle.load_blocks.specs.Sounds.{originAt}
 use Rattle.load_blocks.specs.Adds.{Lent}
 use Rattle.load_source.specs.Source as source
-use Rattle.law_tzx.specs.Format.{Length, lasts, forever, Said, sounds, unsaid, formatOf, full, lengthsOf, lasting}
-use Rattle.law_tzx.specs.Kept.{kept, lengths, listOf}
+use Rattle.law_tzx.specs.Format.{Length, lasts, forever, Said, sounds, unsaid, formatOf, formatFull, lengthsOf, lasting}
+use Rattle.law_tzx.specs.Kept.{kept, lengths, entriesFrom}
 
 -- lengths; a refusal; an error; or nothing that is said
 pub data Heard : Type 0 where
@@ -30,7 +30,7 @@ heardIn (sounds x) = plays (lasting (lengthsOf x))
 heardIn unsaid = nothing
 
 unfoldable pub playedBy : List ℕ → Out → Heard
-playedBy s (on t) = plays (lasting (lengths (listOf s (tableOf tone (t .tones) 0) 0 (t .blocks))))
+playedBy s (on t) = plays (lasting (lengths (entriesFrom s (tableOf tone (t .tones) 0) 0 (t .blocks))))
 playedBy s (halt (Refusal k)) = refused k
 playedBy s (halt (Longer n)) = errs
 
@@ -60,10 +60,10 @@ keptOn s (taken.Short kind p w) = false
 keptOn s (taken.Overflow kind p) = false
 
 abbrev pub formatAt : List ℕ → Heard
-formatAt s = formatOn s (cutAt s 0 full)
+formatAt s = formatOn s (cutAt s 0 formatFull)
 
-abbrev pub sourceAt : List ℕ → Heard
-sourceAt s = sourceOn s (cutAt s 0 source.full)
+abbrev pub sourceHeard : List ℕ → Heard
+sourceHeard s = sourceOn s (cutAt s 0 source.full)
 
 abbrev pub keptAt : List ℕ → Bool
 keptAt s = keptOn s (cutAt s 0 source.full)

@@ -12,14 +12,20 @@ use Rattle.rows.specs.Table.{tableOf}
 use Rattle.rows.specs.Rows.{tone}
 use Rattle.rows.specs.declared.Block.{Block}
 use Rattle.rows.specs.declared.Tone.{Tone as ToneRow}
-use Rattle.play_entries.specs.Entries.{Spot, entriesOf}
-use Rattle.load_state.specs.Parser.{Tape}
+use Rattle.play_entries.specs.Entries.{Label, entriesOf}
+use Rattle.load_state.specs.Parser.{Parsed}
+use Rattle.load_state.specs.Kept.{Sure}
 use Rattle.cut_grammar.specs.declared.GeneralizedData.{GeneralizedData}
 use Rattle.cut_grammar.specs.Places.{Places}
 use Rattle.cut_grammar.specs.declared.TurboData.{TurboData}
 use Rattle.cut_grammar.specs.declared.Piece.{Piece}
 use Rattle.cut_grammar.specs.declared.Piece.the-variants.{Standard, Turbo, Tone, Pulses, Pure, Generalized, Pause, GroupStart, GroupEnd, LoopStart, LoopEnd, Stop48, Text, Message, Archive, Hardware, Custom, Glue}
-use Rattle.law_tzx.specs.Format.{Length, lasts, forever, Sound, Said, sounds, lengthsOf, lasting, bitsSaid, every, symbolPulse, pilotSymbol, repetitions, dataNumber}
+use Rattle.cut_grammar.specs.Cut.{cutAt}
+use Rattle.load_blocks.specs.declared.Origin.{Origin}
+use Rattle.load_blocks.specs.Adds.{Lent}
+use Rattle.load_source.specs.Source.{act}
+use Rattle.law_tzx.specs.Format.{Length, lasts, forever, PulseTrain, Said, sounds, lengthsOf, lasting, bitsSaid, every, symbolPulse, pilotSymbol, repetitions, dataNumber, formatOf, formatFull}
+use Rattle.cut_grammar.specs.declared.Taken.the-variants as taken
 
 -- 2, 4, 6 ..
 unfoldable pub evenCount : ℕ → Bool
@@ -111,25 +117,25 @@ kept s (Custom id from size) = true
 kept s Glue = true
 
 -- the kinds of which `kept` is exact
-unfoldable pub told : Piece → Bool
-told (Standard pause from size) = true
-told (Turbo d) = true
-told (Tone half count) = true
-told (Pulses count from) = true
-told (Pure nil one last pause from size) = true
-told (Generalized g) = false
-told (Pause n) = true
-told (GroupStart from size) = true
-told GroupEnd = false
-told (LoopStart times) = true
-told LoopEnd = false
-told (Stop48 length) = true
-told (Text from size) = true
-told (Message seconds from size) = true
-told (Archive count from) = true
-told (Hardware count from) = true
-told (Custom id from size) = true
-told Glue = true
+unfoldable pub exactKind : Piece → Bool
+exactKind (Standard pause from size) = true
+exactKind (Turbo d) = true
+exactKind (Tone half count) = true
+exactKind (Pulses count from) = true
+exactKind (Pure nil one last pause from size) = true
+exactKind (Generalized g) = false
+exactKind (Pause n) = true
+exactKind (GroupStart from size) = true
+exactKind GroupEnd = false
+exactKind (LoopStart times) = true
+exactKind LoopEnd = false
+exactKind (Stop48 length) = true
+exactKind (Text from size) = true
+exactKind (Message seconds from size) = true
+exactKind (Archive count from) = true
+exactKind (Hardware count from) = true
+exactKind (Custom id from size) = true
+exactKind Glue = true
 
 -- an entry's length
 unfoldable pub lengthOf : {A : Type 0} → Entry A → Length
@@ -140,22 +146,34 @@ abbrev pub lengths : {A : Type 0} → List (Entry A) → List Length
 lengths es = map lengthOf es
 
 -- the entries of blocks from block b on
-unfoldable pub listOf : List ℕ → List ℕ → ℕ → List Block → List (Entry Spot)
-listOf s tones b [] = []
-listOf s tones b (r ∷ rs) = entriesOf s tones b r ++ listOf s tones (b + 1) rs
+unfoldable pub entriesFrom : List ℕ → List ℕ → ℕ → List Block → List (Entry Label)
+entriesFrom s tones b [] = []
+entriesFrom s tones b (r ∷ rs) = entriesOf s tones b r ++ entriesFrom s tones (b + 1) rs
 
 -- from t to t′ blocks and tone rows were added that play these lengths: in any table that holds them, whatever stands behind
-pub record Plays (s : List ℕ) (ls : List Length) (t t′ : Tape) : Type 0 where
+pub record Plays (s : List ℕ) (ls : List Length) (t t′ : Parsed) : Type 0 where
   pub blocks : List Block
   pub tones : List ToneRow
   pub added : t′ .blocks ≡ t .blocks ++ blocks
   pub under : t′ .tones ≡ t .tones ++ tones
-  pub plays : (more : List ToneRow) (N b : ℕ) → lasting (lengths (listOf s (tableOf tone (t′ .tones ++ more) N) b blocks)) ≡ lasting ls
+  pub plays : (more : List ToneRow) (N b : ℕ) → lasting (lengths (entriesFrom s (tableOf tone (t′ .tones ++ more) N) b blocks)) ≡ lasting ls
 
 -- so of what the format says of a piece
-pub data Keeps (s : List ℕ) (t t′ : Tape) : Said → Type 0 where
-  as-said : {x : Sound} → Plays s (lengthsOf x) t t′ → Keeps s t t′ (sounds x)
+pub data Keeps (s : List ℕ) (t t′ : Parsed) : Said → Type 0 where
+  as-said : {x : PulseTrain} → Plays s (lengthsOf x) t t′ → Keeps s t t′ (sounds x)
 
 -- a 19's tables are where its numbers say
 abbrev pub Tables : List ℕ → Piece → Type 0
 Tables s piece = (g : GeneralizedData) → piece ≡ Generalized g → Places s g
+
+-- what the format cuts at a place where a kept piece was cut
+pub record FormatCut (s : List ℕ) (at next : ℕ) (piece : Piece) : Type 0 where
+  pub other : Piece
+  pub cut : cutAt s at formatFull ≡ taken.Whole (getD s at 0) at next other
+  pub said : (on48 : Bool) → formatOf on48 s other ≡ formatOf on48 s piece
+
+-- the piece that the format cuts at a place, and that the source reading's piece there is played as it says
+pub record KeptAt (lent : Lent) (origin : Origin) (s : List ℕ) (model at next : ℕ) (piece : Piece) (t : Parsed) : Type 0 where
+  pub other : Piece
+  pub cut : cutAt s at formatFull ≡ taken.Whole (getD s at 0) at next other
+  pub plays : Sure (λ u. Keeps s t u (formatOf (eqb model 0) s other)) (act lent s model origin piece t)

@@ -6,7 +6,7 @@ use Rattle.cut_grammar.specs.declared.Taken.{Taken}
 use Rattle.cut_grammar.specs.declared.Taken.the-variants as taken
 use Rattle.cut_grammar.specs.Cut.{cutAt}
 use Rattle.load_source.specs.Source as source
-use Rattle.law_tzx.specs.Format.{Length, Said, sounds, unsaid, formatOf, full, lengthsOf}
+use Rattle.law_tzx.specs.Format.{Length, Said, sounds, unsaid, formatOf, formatFull, lengthsOf}
 use Rattle.law_tzx.specs.Kept.{kept}
 
 -- a piece that is kept, and what is asked of the place past it
@@ -36,4 +36,4 @@ saidThen on48 s (taken.Overflow kind p) k = []
 -- the pieces from a place on, as the format cuts and plays them; none of them is a loop's end
 unfoldable pub formatFrom : Bool → List ℕ → ℕ → ℕ → List Length
 formatFrom on48 s zero at = []
-formatFrom on48 s (suc n) at = saidThen on48 s (cutAt s at full) (formatFrom on48 s n)
+formatFrom on48 s (suc n) at = saidThen on48 s (cutAt s at formatFull) (formatFrom on48 s n)

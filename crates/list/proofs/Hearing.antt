@@ -10,42 +10,42 @@ use borrow.Author.Tests.{le-leb, lt-leb}
 use Rattle.refusals.specs.Refusals.{badModel, tapeLong}
 use Rattle.io.specs.Counts.{Counts}
 use Rattle.listing.specs.Listing.{refused, listingOf}
-use Rattle.listing.specs.Printed.{refusedText, printedOf, Says}
+use Rattle.listing.specs.Printed.{printedNo, printedOf, Says}
 use Rattle.prog_model.specs.Models.{modelOf}
-use Rattle.list.specs.Heard.{heard}
+use Rattle.list.specs.Heard.{listingHeard}
 
-heard-none : (input : List ℕ) (more : Bool) → length input ≤ 0 → heard input more ≡ refused badModel
-unfolding heard
+heard-none : (input : List ℕ) (more : Bool) → length input ≤ 0 → listingHeard input more ≡ refused badModel
+unfolding listingHeard
 heard-none [] more h = refl
 heard-none (b ∷ tape) more h = absurd (omega arith)
 
-heard-bad : (input : List ℕ) (more : Bool) → 0 < length input → 3 ≤ modelOf (getD input 0 0) → heard input more ≡ refused badModel
-unfolding heard
+heard-bad : (input : List ℕ) (more : Bool) → 0 < length input → 3 ≤ modelOf (getD input 0 0) → listingHeard input more ≡ refused badModel
+unfolding listingHeard
 heard-bad [] more h k = refl
 heard-bad (b ∷ tape) more h k = rw (le-leb 3 (modelOf b) k)
 
-heard-long : (input : List ℕ) (more : Bool) → 0 < length input → modelOf (getD input 0 0) < 3 → more ≡ true → heard input more ≡ refused tapeLong
-unfolding heard
+heard-long : (input : List ℕ) (more : Bool) → 0 < length input → modelOf (getD input 0 0) < 3 → more ≡ true → listingHeard input more ≡ refused tapeLong
+unfolding listingHeard
 heard-long [] more h k e = absurd (omega arith)
 heard-long (b ∷ tape) more h k e = rw (lt-leb 3 (modelOf b) k, e)
 
-heard-tape : (input : List ℕ) (more : Bool) → 0 < length input → modelOf (getD input 0 0) < 3 → more ≡ false → heard input more ≡ listingOf (drop 1 input) (modelOf (getD input 0 0))
-unfolding heard
+heard-tape : (input : List ℕ) (more : Bool) → 0 < length input → modelOf (getD input 0 0) < 3 → more ≡ false → listingHeard input more ≡ listingOf (drop 1 input) (modelOf (getD input 0 0))
+unfolding listingHeard
 heard-tape [] more h k e = absurd (omega arith)
 heard-tape (b ∷ tape) more h k e = rw (lt-leb 3 (modelOf b) k, e)
 
 -- bytes that say what is heard
 abbrev pub Answers : List ℕ → Bool → ℕ → List ℕ → Type 0
-Answers input more r out = Counts r out × (take r out ≡ printedOf (heard input more))
+Answers input more r out = Counts r out × (take r out ≡ printedOf (listingHeard input more))
 
-answers : {t : List ℕ} {r : ℕ} {out : List ℕ} (input : List ℕ) (more : Bool) → t ≡ printedOf (heard input more) → Says t r out → Answers input more r out
+answers : {t : List ℕ} {r : ℕ} {out : List ℕ} (input : List ℕ) (more : Bool) → t ≡ printedOf (listingHeard input more) → Says t r out → Answers input more r out
 answers {r = r} {out} input more e s = ((s .count, sym (length-take-le r out (s .count))), s .front ∙ e)
 
-refuses : {r k : ℕ} {out : List ℕ} (input : List ℕ) (more : Bool) → heard input more ≡ refused k → Says (refusedText k) r out → Answers input more r out
+refuses : {r k : ℕ} {out : List ℕ} (input : List ℕ) (more : Bool) → listingHeard input more ≡ refused k → Says (printedNo k) r out → Answers input more r out
 unfolding printedOf
 refuses input more e s = answers input more (sym (ap printedOf e)) s
 
-pub says-none : {r : ℕ} {out : List ℕ} (input : List ℕ) (more : Bool) → length input ≤ 0 → Says (refusedText badModel) r out → Answers input more r out
+pub says-none : {r : ℕ} {out : List ℕ} (input : List ℕ) (more : Bool) → length input ≤ 0 → Says (printedNo badModel) r out → Answers input more r out
 says-none input more h s = refuses input more (heard-none input more h) s
 
 -- all from byte 1 on is the tape
@@ -54,10 +54,10 @@ behind input = take-all (length input - 1) (drop 1 input) (rw length-drop (omega
 
 -- the model's number as it was found
 module _ {r m : ℕ} {out : List ℕ} (input : List ℕ) (more : Bool) (h : 0 < length input) (e : m ≡ modelOf (getD input 0 0)) where
-  pub says-bad : 3 ≤ m → Says (refusedText badModel) r out → Answers input more r out
+  pub says-bad : 3 ≤ m → Says (printedNo badModel) r out → Answers input more r out
   says-bad k s = refuses input more (heard-bad input more h (omega arith)) s
 
-  pub says-long : m < 3 → more ≡ true → Says (refusedText tapeLong) r out → Answers input more r out
+  pub says-long : m < 3 → more ≡ true → Says (printedNo tapeLong) r out → Answers input more r out
   says-long k q s = refuses input more (heard-long input more h (omega arith) q) s
 
   pub says-tape : m < 3 → more ≡ false → Says (printedOf (listingOf (take (length input - 1) (drop 1 input)) m)) r out → Answers input more r out

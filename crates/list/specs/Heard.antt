@@ -9,6 +9,6 @@ use Rattle.prog_model.specs.Models.{modelOf}
 use Rattle.listing.specs.Listing.{Listing, refused, listingOf}
 
 -- of the first 65,536 bytes, and whether more followed: a bad or missing first byte is 1, longer is 2
-unfoldable pub heard : List ℕ → Bool → Listing
-heard [] more = refused badModel
-heard (b ∷ tape) more = leb 3 (modelOf b) ⇒ refused badModel ∣ more ⇒ refused tapeLong ∣ listingOf tape (modelOf b)
+unfoldable pub listingHeard : List ℕ → Bool → Listing
+listingHeard [] more = refused badModel
+listingHeard (b ∷ tape) more = leb 3 (modelOf b) ⇒ refused badModel ∣ more ⇒ refused tapeLong ∣ listingOf tape (modelOf b)

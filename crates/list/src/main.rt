@@ -9,13 +9,13 @@ ghost use Prim.Native.Nat.{_≤_};
 ghost use lib.ListN.{length, take};
 ghost use Rattle.io.specs.Counts.{Counts};
 ghost use Rattle.listing.specs.Printed.{printedOf};
-ghost use Rattle.list.specs.Heard.{heard};
+ghost use Rattle.list.specs.Heard.{listingHeard};
 
 // What is printed of the input, and of whether more followed, into the front of `out`; the count of its bytes.
 fn answer(input: &[u8], more: bool, out: &mut [u8]) -> usize
     requires { ⌜ 300000 ≤ length (now out) ⌝ }
     ensures { λ r. ⌜ Counts r (now (out .exit)) ⌝ }
-    ensures { λ r. ⌜ take r (now (out .exit)) ≡ printedOf (heard (now (input .entry)) more) ⌝ }
+    ensures { λ r. ⌜ take r (now (out .exit)) ≡ printedOf (listingHeard (now (input .entry)) more) ⌝ }
 {
     if input.len() == 0 {
         return say_refused(out, BAD_MODEL);

@@ -4,34 +4,22 @@ use Prim.Native.Nat.{ℕ, zero, suc, _+_, _≤_, _<_}
 use native.Mathlib.Omega.{arith}
 use mathlib.Core.Path.{_≡_, refl, sym, ap, subst, _∙_}
 use mathlib.Core.Bool.{Bool, true, false}
-use mathlib.Core.List.{List, [], _∷_, _++_}
+use mathlib.Core.List.{List, _++_}
 use mathlib.Core.Logic.{⊎-elim}
 use lib.ListN.{length, length-append}
 use lib.Dec.{ltb}
 use borrow.Author.Tests.{lt-leb, le-leb}
 use Rattle.law_base.specs.Rules.{_⇒_, _∣_}
-use Rattle.law_base.specs.Numbers.{lt-or-ge}
+use Rattle.law_base.proofs.Numbers.{lt-or-ge}
 use Rattle.refusals.specs.Refusals.{tapeLong}
 use Rattle.text_out.specs.Out.{fits}
-use Rattle.load_blocks.specs.Adds.{Lent}
-use Rattle.load_source.specs.Source.{Loaded as Load, tzx, tapped, no}
+use Rattle.load_source.specs.Source.{Load, tzx, tapped, no}
 use Rattle.load_source.specs.Reached.{reaches2A}
 use Rattle.load_source.proofs.Models.{models-equal, models-agree}
-use Rattle.load_tape.specs.Load.{named, loadNamed}
+use Rattle.load_tape.specs.Load.{namedLoad, loadNamed}
 use Rattle.text_page.specs.Page.{modelText, listingText}
-use Rattle.listing.specs.Listing.{loadedOf, Listing, text, refused, listed, listingOf}
-
-abbrev lent : Lent
-lent = record { blocks = 512; tones = 2048 }
-
--- `model `
-abbrev pub word : List ℕ
-word = 0x6D ∷ 0x6F ∷ 0x64 ∷ 0x65 ∷ 0x6C ∷ 0x20 ∷ []
-
--- the same refusal, or texts that are equal behind the model's name
-pub data Alike (m m′ : ℕ) : Listing → Listing → Type 0 where
-  refusals : {k : ℕ} → Alike m m′ (refused k) (refused k)
-  texts : (rest : List ℕ) → Alike m m′ (text (word ++ modelText m ++ rest)) (text (word ++ modelText m′ ++ rest))
+use Rattle.listing.specs.Listing.{listingLent, loadedOf, Listing, text, refused, listed, listingOf}
+use Rattle.listing.specs.Models.{modelWord, Alike, refusals, texts}
 
 -- one load listed for two models
 listed-alike : (s : List ℕ) (m m′ : ℕ) (l : Load) → Alike m m′ (listed s m l) (listed s m′ l)
@@ -52,13 +40,13 @@ module _ (s : List ℕ) where
 
   equal : loadedOf s 1 ≡ loadedOf s 2
   unfolding loadedOf loadNamed
-  equal = ap (named s) (models-equal lent s)
+  equal = ap (namedLoad s) (models-equal listingLent s)
 
-  agree : reaches2A lent s ≡ false → loadedOf s 0 ≡ loadedOf s 1
+  agree : reaches2A listingLent s ≡ false → loadedOf s 0 ≡ loadedOf s 1
   unfolding loadedOf loadNamed
-  agree e = ap (named s) (models-agree lent s e)
+  agree e = ap (namedLoad s) (models-agree listingLent s e)
 
-  as-128 : reaches2A lent s ≡ false → (m : ℕ) → m < 3 → loadedOf s m ≡ loadedOf s 1
+  as-128 : reaches2A listingLent s ≡ false → (m : ℕ) → m < 3 → loadedOf s m ≡ loadedOf s 1
   as-128 e zero h = agree e
   as-128 e (suc zero) h = refl
   as-128 e (suc (suc zero)) h = sym equal
@@ -68,18 +56,18 @@ module _ (s : List ℕ) where
   pub models-12 : Alike 1 2 (listingOf s 1) (listingOf s 2)
   models-12 = loads-alike 1 2 (omega arith) (omega arith) equal
 
-  pub models-all : reaches2A lent s ≡ false → (m m′ : ℕ) → m < 3 → m′ < 3 → Alike m m′ (listingOf s m) (listingOf s m′)
+  pub models-all : reaches2A listingLent s ≡ false → (m m′ : ℕ) → m < 3 → m′ < 3 → Alike m m′ (listingOf s m) (listingOf s m′)
   models-all e m m′ h h′ = loads-alike m m′ h h′ (as-128 e m h ∙ sym (as-128 e m′ h′))
 
 -- WHAT THE NAME'S LENGTH CAUSES: the texts' lengths differ by it, and bytes that are longer by it have room alike: 10 is given alike
-apart : (m m′ : ℕ) (rest : List ℕ) → length (word ++ modelText m ++ rest) + length (modelText m′) ≡ length (word ++ modelText m′ ++ rest) + length (modelText m)
+apart : (m m′ : ℕ) (rest : List ℕ) → length (modelWord ++ modelText m ++ rest) + length (modelText m′) ≡ length (modelWord ++ modelText m′ ++ rest) + length (modelText m)
 apart m m′ rest = simp length-append (omega arith)
 
 pub lengths-apart : {m m′ : ℕ} {l l′ : Listing} {t t′ : List ℕ} → Alike m m′ l l′ → l ≡ text t → l′ ≡ text t′ → length t + length (modelText m′) ≡ length t′ + length (modelText m)
 lengths-apart {t = t} refusals e f = absurd (let z : _≡_ {A = ℕ} 0 1 = cc in omega arith)
 lengths-apart {m} {m′} {t = t} {t′} (texts rest) e f =
-    let a : word ++ modelText m ++ rest ≡ t = cc in
-    let b : word ++ modelText m′ ++ rest ≡ t′ = cc in
+    let a : modelWord ++ modelText m ++ rest ≡ t = cc in
+    let b : modelWord ++ modelText m′ ++ rest ≡ t′ = cc in
     omega (arith, ap length a, ap length b, apart m m′ rest)
 
 pub room-alike : {m m′ : ℕ} {l l′ : Listing} {t t′ : List ℕ} → Alike m m′ l l′ → l ≡ text t → l′ ≡ text t′ → (out out′ : List ℕ) → length out + length (modelText m′) ≡ length out′ + length (modelText m)

@@ -10,9 +10,9 @@ use borrow.Author.Tests.{le-leb, lt-leb, lt-ltb, le-ltb}
 use Rattle.refusals.specs.Refusals.{badModel, tapeLong}
 use Rattle.rows.specs.Table.{tableOf}
 use Rattle.rows.specs.Rows.{block, tone}
-use Rattle.load_state.specs.Parser.{Tape as Rows}
+use Rattle.load_state.specs.Parser.{Parsed}
 use Rattle.load_blocks.specs.Does.{lentOf}
-use Rattle.load_source.specs.Source.{Loaded as Load, tzx, tapped, no, loadOf}
+use Rattle.load_source.specs.Source.{Load, tzx, tapped, no, loadOf}
 use Rattle.text_name.specs.Names.{nameAll}
 use Rattle.text_name.proofs.Selecting.{name-all-length}
 use Rattle.play_entries.specs.Places.{Tape}
@@ -20,12 +20,12 @@ use Rattle.play_entries.specs.Mounted.{tapeOf, wellRow}
 use Rattle.load_tape.specs.declared.Format.{Format}
 use Rattle.load_tape.specs.declared.Format.the-variants.{Tap, Tzx}
 use Rattle.load_tape.specs.declared.Loaded.{Loaded}
-use Rattle.load_tape.specs.Load.{namedTape, named, loadNamed, answerOf, blocksOf, tonesOf, Leaves}
+use Rattle.load_tape.specs.Load.{namedTape, namedLoad, loadNamed, answerOf, blockTable, toneTable, Leaves}
 use Rattle.law_every_load.specs.Sizes.{Bytes}
 use Rattle.law_every_load.specs.OfSource.{Reads, as-tzx, as-tap}
 use Rattle.law_every_load.proofs.Room.{load-within}
 use Rattle.law_every_load.proofs.Well.{table-length, loaded-well}
-use Rattle.law_every_load.proofs.Left.{mounted}
+use Rattle.law_every_load.proofs.Left.{mounted-same}
 use Rattle.law_every_load.proofs.Names.{loaded-names}
 use Rattle.load_tape.specs.declared.Loaded.the-variants as loaded
 use Rattle.text_lines.specs.Inner.{Ready}
@@ -38,7 +38,7 @@ unfolding loadedOf
 lent-words s model l = l
 
 -- ready rows of a tape that was read
-module _ (s : List ℕ) (model : ℕ) (b : Bytes s) {t : Rows} (r : Reads (loadOf (lentOf blockWords toneWords) s model) t) where
+module _ (s : List ℕ) (model : ℕ) (b : Bytes s) {t : Parsed} (r : Reads (loadOf (lentOf blockWords toneWords) s model) t) where
   rows-ready : Ready s (tableOf tone (t .tones) toneWords) (tableOf block (nameAll s false (t .blocks)) blockWords) (length (t .blocks))
   unfolding wellRow
   rows-ready =
@@ -57,10 +57,10 @@ same-ready {s} {tt} {tt₀} {bt} {bt₀} {n} {n₀} p q e r =
 
 -- EVERY LOAD'S TABLES ARE READY
 pub load-ready : (s : List ℕ) (model : ℕ) {f : Format} {n k : ℕ} {bt tt : List ℕ} → Bytes s → Leaves blockWords toneWords (loadedOf s model) (loaded.Tape f n k) bt tt → Ready s tt bt n
-unfolding loadedOf loadNamed named namedTape answerOf blocksOf tonesOf
+unfolding loadedOf loadNamed namedLoad namedTape answerOf blockTable toneTable
 load-ready s model {f} {n} {k} {bt} {tt} b l = by-cases (loadOf (lentOf blockWords toneWords) s model) refl l
   where
-    by-cases : (x : Load) → loadOf (lentOf blockWords toneWords) s model ≡ x → Leaves blockWords toneWords (named s x) (loaded.Tape f n k) bt tt → Ready s tt bt n
+    by-cases : (x : Load) → loadOf (lentOf blockWords toneWords) s model ≡ x → Leaves blockWords toneWords (namedLoad s x) (loaded.Tape f n k) bt tt → Ready s tt bt n
     by-cases (tzx t) e y =
         let a = y .answer in
         let m : n ≡ length (nameAll s false (t .blocks)) = cc in
@@ -79,12 +79,12 @@ module _ (s : List ℕ) (model : ℕ) {bt tt : List ℕ} where
       let a = l .answer in
       let e : n ≡ length (t .blocks) = cc in
       let g : f ≡ Tzx = cc in
-      rw g (ap (λ (w : Tape). text (listingText model Tzx w)) (sym (mounted s (l .tones) (l .blocks) e)))
+      rw g (ap (λ (w : Tape). text (listingText model Tzx w)) (sym (mounted-same s (l .tones) (l .blocks) e)))
   listed-text {f} {n} (tapped t) l =
       let a = l .answer in
       let e : n ≡ length (t .blocks) = cc in
       let g : f ≡ Tap = cc in
-      rw g (ap (λ (w : Tape). text (listingText model Tap w)) (sym (mounted s (l .tones) (l .blocks) e)))
+      rw g (ap (λ (w : Tape). text (listingText model Tap w)) (sym (mounted-same s (l .tones) (l .blocks) e)))
   listed-text (no j) l = let a = l .answer in absurd (let z : _≡_ {A = ℕ} 0 1 = cc in omega arith)
 
   listed-no : {k : ℕ} (x : Load) → Leaves blockWords toneWords x (loaded.Refused k) bt tt → listed s model x ≡ refused k
@@ -94,15 +94,15 @@ module _ (s : List ℕ) (model : ℕ) {bt tt : List ℕ} where
   listed-no {k} (no j) l = let a = l .answer in let e : j ≡ k = cc in ap refused e
 
 -- an answer and the bytes it leaves are what the contract says
-abbrev pub Answered : List ℕ → ℕ → List ℕ → ℕ → List ℕ → Type 0
-Answered s model out r out′ = (r ≡ answerTo (listingOf s model) out) × (out′ ≡ bytesAfter (listingOf s model) out)
+abbrev pub ListingAnswered : List ℕ → ℕ → List ℕ → ℕ → List ℕ → Type 0
+ListingAnswered s model out r out′ = (r ≡ answerTo (listingOf s model) out) × (out′ ≡ bytesAfter (listingOf s model) out)
 
 module _ (s : List ℕ) (model : ℕ) where
-  pub no-model : (out : List ℕ) → 3 ≤ model → Answered s model out badModel out
+  pub no-model : (out : List ℕ) → 3 ≤ model → ListingAnswered s model out badModel out
   unfolding listingOf answerTo bytesAfter
   no-model out h = (rw (le-leb 3 model h), rw (le-leb 3 model h))
 
-  pub too-long : (out : List ℕ) → model < 3 → 65535 < length s → Answered s model out tapeLong out
+  pub too-long : (out : List ℕ) → model < 3 → 65535 < length s → ListingAnswered s model out tapeLong out
   unfolding listingOf answerTo bytesAfter
   too-long out h k = (rw (lt-leb 3 model h, lt-ltb 65535 (length s) k), rw (lt-leb 3 model h, lt-ltb 65535 (length s) k))
 
@@ -111,16 +111,16 @@ module _ (s : List ℕ) (model : ℕ) where
     unfolding listingOf
     loads = rw (lt-leb 3 model h, le-ltb 65535 (length s) k)
 
-    pub load-refused : {bt tt : List ℕ} (out : List ℕ) {j : ℕ} → Leaves blockWords toneWords (loadedOf s model) (loaded.Refused j) bt tt → Answered s model out j out
+    pub load-refused : {bt tt : List ℕ} (out : List ℕ) {j : ℕ} → Leaves blockWords toneWords (loadedOf s model) (loaded.Refused j) bt tt → ListingAnswered s model out j out
     unfolding answerTo bytesAfter
     load-refused out l = let e = loads ∙ listed-no s model (loadedOf s model) l in (rw e, rw e)
 
     pub load-told : {bt tt out′ : List ℕ} {f : Format} {n m r : ℕ} (out : List ℕ) → Leaves blockWords toneWords (loadedOf s model) (loaded.Tape f n m) bt tt
-        → (r ≡ answerTo (text (listingText model f (tapeOf s tt bt n))) out) × (out′ ≡ bytesAfter (text (listingText model f (tapeOf s tt bt n))) out) → Answered s model out r out′
+        → (r ≡ answerTo (text (listingText model f (tapeOf s tt bt n))) out) × (out′ ≡ bytesAfter (text (listingText model f (tapeOf s tt bt n))) out) → ListingAnswered s model out r out′
     load-told out l p =
         let e = loads ∙ listed-text s model (loadedOf s model) l in
         (p .0 ∙ sym (ap (λ (x : Listing). answerTo x out) e), p .1 ∙ sym (ap (λ (x : Listing). bytesAfter x out) e))
 
 -- an answer that is told to be this one
-pub told : {B N : ℕ} {x : Load} {a a′ : Loaded} {bt tt : List ℕ} → Leaves B N x a bt tt → a ≡ a′ → Leaves B N x a′ bt tt
-told {B} {N} {x} {bt = bt} {tt} l e = subst (λ (y : Loaded). Leaves B N x y bt tt) e l
+pub leaves-told : {B N : ℕ} {x : Load} {a a′ : Loaded} {bt tt : List ℕ} → Leaves B N x a bt tt → a ≡ a′ → Leaves B N x a′ bt tt
+leaves-told {B} {N} {x} {bt = bt} {tt} l e = subst (λ (y : Loaded). Leaves B N x y bt tt) e l

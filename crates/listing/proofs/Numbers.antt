@@ -10,30 +10,32 @@ use borrow.Author.Tests.{leb-true, leb-false}
 use Rattle.law_base.specs.Rules.{_⇒_, _∣_}
 use Rattle.refusals.specs.Refusals.{badModel, tapeLong, lastBits, noRoom}
 use Rattle.text_out.specs.Out.{fits, told}
-use Rattle.load_source.specs.Source.{Loaded as Load}
+use Rattle.load_source.specs.Source.{Load}
 use Rattle.load_tape.specs.Load.{loadNamed}
 use Rattle.load_tape.specs.declared.Format.the-variants.{Tap, Tzx}
-use Rattle.law_every_load.proofs.Refusals.{Numbered, as-tzx, as-tap, by, load-numbered, named-numbered}
+use Rattle.law_every_load.proofs.Refusals.{load-numbered, named-numbered}
+use Rattle.law_every_load.specs.Numbered.{Numbered, as-tzx, as-tap, by}
 use Rattle.listing.specs.Listing.{loadedOf, Listing, text, refused, listed, listingOf, answerTo, bytesAfter}
+use Rattle.listing.specs.Printed.{Spoken, spoken}
 use Rattle.text_page.proofs.Texts.{text-least}
 
 -- a text of 37 bytes at least, or a refusal by a number from 1 to 7
-pub data Sized : Listing → Type 0 where
-  long : {t : List ℕ} → 37 ≤ length t → Sized (text t)
-  small : {k : ℕ} → badModel ≤ k → k ≤ lastBits → Sized (refused k)
+pub data TextOrNo : Listing → Type 0 where
+  long : {t : List ℕ} → 37 ≤ length t → TextOrNo (text t)
+  small : {k : ℕ} → badModel ≤ k → k ≤ lastBits → TextOrNo (refused k)
 
-listed-sized : (s : List ℕ) (model : ℕ) {l : Load} → Numbered l → Sized (listed s model l)
+listed-sized : (s : List ℕ) (model : ℕ) {l : Load} → Numbered l → TextOrNo (listed s model l)
 unfolding listed
 listed-sized s model as-tzx = long (text-least model Tzx _)
 listed-sized s model as-tap = long (text-least model Tap _)
 listed-sized s model (by a b) = small a b
 
 -- EVERY LISTING: so `text-length` is that of a text
-pub listing-sized : (s : List ℕ) (model : ℕ) → Sized (listingOf s model)
+pub listing-sized : (s : List ℕ) (model : ℕ) → TextOrNo (listingOf s model)
 unfolding listingOf loadedOf loadNamed
 listing-sized s model = by-cases (leb 3 model) (ltb 65535 (length s))
   where
-    by-cases : (a b : Bool) → Sized (a ⇒ refused badModel ∣ b ⇒ refused tapeLong ∣ listed s model (loadedOf s model))
+    by-cases : (a b : Bool) → TextOrNo (a ⇒ refused badModel ∣ b ⇒ refused tapeLong ∣ listed s model (loadedOf s model))
     by-cases true b = small {k = badModel} (omega arith) (omega arith)
     by-cases false true = small {k = tapeLong} (omega arith) (omega arith)
     by-cases false false = listed-sized s model (named-numbered s (load-numbered _ s model))
@@ -41,7 +43,7 @@ listing-sized s model = by-cases (leb 3 model) (ltb 65535 (length s))
 pub text-length : (s : List ℕ) (model : ℕ) {t : List ℕ} → listingOf s model ≡ text t → 37 ≤ length t
 text-length s model {t} e = of (listing-sized s model) e
   where
-    of : {l : Listing} → Sized l → l ≡ text t → 37 ≤ length t
+    of : {l : Listing} → TextOrNo l → l ≡ text t → 37 ≤ length t
     of (long {t = u} h) q = let z : u ≡ t = cc in rw (sym z) h
     of (small a b) q = absurd (let z : _≡_ {A = ℕ} 0 1 = cc in omega arith)
 
@@ -51,7 +53,7 @@ pub data Tells (l : Listing) (out : List ℕ) : ℕ → List ℕ → Type 0 wher
   no-room : {t : List ℕ} → l ≡ text t → length out < length t → Tells l out noRoom out
   listing : {t : List ℕ} → l ≡ text t → 37 ≤ length t → length t ≤ length out → Tells l out (length t) (t ++ drop (length t) out)
 
-pub tells-number : (l : Listing) (out : List ℕ) → Sized l → Tells l out (answerTo l out) (bytesAfter l out)
+pub tells-number : (l : Listing) (out : List ℕ) → TextOrNo l → Tells l out (answerTo l out) (bytesAfter l out)
 unfolding answerTo bytesAfter told
 tells-number (text t) out (long h) = by-room (fits t out) refl
   where
@@ -59,10 +61,6 @@ tells-number (text t) out (long h) = by-room (fits t out) refl
     by-room true e = listing refl h (leb-true _ _ e)
     by-room false e = no-room refl (leb-false _ _ e)
 tells-number (refused k) out (small a b) = refusal refl a b
-
--- the text of a listing, its length and the bytes with it in front
-pub data Spoken (l : Listing) (out : List ℕ) (r : ℕ) (out′ : List ℕ) : Type 0 where
-  spoken : {t : List ℕ} → l ≡ text t → r ≡ length t → out′ ≡ t ++ drop (length t) out → Spoken l out r out′
 
 -- BELOW 32 A REFUSAL, and no byte is written; ELSE THE TEXT'S LENGTH, and the text stands in front
 below : {l : Listing} {out out′ : List ℕ} {r : ℕ} → Tells l out r out′ → r < 32 → (r ≤ noRoom) × (out′ ≡ out)

@@ -7,25 +7,25 @@ use Rattle.law_pulses.specs.Play.{time, comesTo}
 use Rattle.law_pulses.specs.Runs.{run}
 use Rattle.cut_fields.specs.Field.{leAt, numberAt, fieldAt, placeOf}
 use Rattle.cut_fields.specs.Run.{times, eachAt, groupsAt}
-use Rattle.rows.specs.Table.{over}
-use Rattle.cut_grammar.specs.Grammar.{countedAt, passAt, textsAt, wholeAt, sealed, enclosed, fittingAt, readAt, digits as bits, orFull, heldIf}
+use Rattle.rows.specs.Table.{tableOver}
+use Rattle.cut_grammar.specs.Grammar.{countedAt, passAt, textsAt, wholeAt, sealed, enclosed, fittingAt, readAt, binaryDigits, orFull, heldIf}
 use Rattle.cut_grammar.specs.Kinds.{kind10, kind11, kind12, kind13, kind14, stream19, kind19, kind20, kind21, kind22, kind24, kind25, kind2A, kind30, kind31, info32, kind32, kind33, kind35, kind5A, kinds, kindOf}
-use Rattle.cut_grammar.specs.Cut.{signature, startsAt, headAt, named as kindNamed, cutAt, blockOf, tapAt}
-use Rattle.load_general.specs.General.{pilotOf, dataOf as generalData, withPilot, withData, generalOf}
+use Rattle.cut_grammar.specs.Cut.{signature, startsAt, headAt, takenAs, cutAt, tapBlock, tapAt}
+use Rattle.load_general.specs.General.{pilotOf, dataPart, withPilot, withData, generalOf}
 use Rattle.load_state.specs.Parser.{empty, _⟫_, addTones, addBlock, pend, endGroup, openLoop, copyRows, copies, closed, closeLoop, paused, lastPaused}
 use Rattle.load_blocks.specs.Sounds.{rowOf, addSound, addSounds}
-use Rattle.load_blocks.specs.Blocks.{isHeader, standardCycles, standardTones, standardPause, turboTones, pureTones, pureToneTones, pulseAt, standardSound, turboSound, pairSounds, pureSound, pauseSound}
+use Rattle.load_blocks.specs.Blocks.{standardHeader, standardCycles, standardTones, standardPause, turboTones, pureTones, pureToneTones, pulseAt, standardSound, turboSound, pairSounds, pureSound, pauseSound}
 use Rattle.load_blocks.specs.Adds.{addRows}
 use Rattle.load_blocks.specs.Deeds.{generalDeed, stop48Deed, does}
 use Rattle.load_source.specs.Meaning.{deedOf}
-use Rattle.load_source.specs.Source.{act, after, seeing, foldFrom, halted, tooManyBits, judged, tzxOf, tzxSee, headed, readTzx, tapOf, tapSee, readTap, orTap, orElse, loadOf}
-use Rattle.text_out.specs.Out.{ascii, decimal, digits, latin1, each}
+use Rattle.load_source.specs.Source.{act, readOn, seeing, foldFrom, halted, tooManyBits, bitsJudged, tzxOf, tzxSee, headed, readTzx, tapOf, tapSee, readTap, orTap, orElse, loadOf}
+use Rattle.text_out.specs.Out.{ascii, decimal, digits, latin1, eachByte}
 use Rattle.text_codes.specs.Encoding.{table, encoded}
 use Rattle.text_header.specs.Headers.{typeName, headerName}
-use Rattle.text_name.specs.Names.{isHeader as isHeading, sizeShown, sizeName, guessed, nameOf, unselected, passed, nameAll}
-use Rattle.play_entries.specs.Entries.{entryOf, cyclesOf, isSingle, startLevel, cycleLevel, bitLevel, edged, pauseLevel, toneOf, tonesOf as toneEntries, bitsAt, halfOf, byteOf, dataOf, pauseOf, soundOf, entriesOf, lastsOf}
+use Rattle.text_name.specs.Names.{isHeader, sizeShown, sizeName, guessed, nameOf, unselected, nameOne, nameAll}
+use Rattle.play_entries.specs.Entries.{entryOf, cyclesOf, isSingle, startLevel, cycleLevel, bitLevel, edged, pauseLevel, toneOf, tonesOf, bitsAt, halfOf, byteOf, dataOf, pauseOf, soundOf, entriesOf, lastsOf}
 use Rattle.play_entries.specs.Places.{listFrom}
-use Rattle.load_tape.specs.Load.{namedTape, named, loadNamed, blocksOf, tonesOf}
+use Rattle.load_tape.specs.Load.{namedTape, namedLoad, loadNamed, blockTable, toneTable}
 use Rattle.text_shown.specs.Shown.{shown}
 use Rattle.text_lines.specs.Lines.{timeText, markText, rowText, rowsText}
 use Rattle.text_page.specs.Page.{modelText, formatText, countText, loadingText, restText, listingText}
@@ -35,16 +35,16 @@ use Rattle.listing.specs.Listing.{loadedOf, Listing, text, refused, moun
 abbrev pieces : List ℕ → List ℕ
 pieces s = signature ++ (1 ∷ 20 ∷ s)
 
-pub record Reading : Type 0 where
+pub record ListReading : Type 0 where
   pub model : ℕ
   pub tape : List ℕ
   pub gives : Listing
 
-abbrev lists : ℕ → List ℕ → Listing → Reading
+abbrev lists : ℕ → List ℕ → Listing → ListReading
 lists model tape gives = record { model = model; tape = tape; gives = gives }
 
 -- each with its lines
-abbrev pub readings : List Reading
+abbrev pub readings : List ListReading
 readings =
     -- the printed listing, and the same tape on the others
     lists 0 (pieces (0x12 ∷ 0x64 ∷ 0x00 ∷ 0x04 ∷ 0x00 ∷ 0x20 ∷ 0x01 ∷ 0x00 ∷ 0x2A ∷ 0x00 ∷ 0x00 ∷ 0x00 ∷ 0x00 ∷ [])) (text (ascii "model 48K format TZX blocks 3\n0 - 0 400 0 bytes\n1 - 0 3500 0 bytes\n2 * 0 stop stop\ntime 3900\n")) ∷
@@ -78,6 +78,6 @@ readings =
     lists 0 (pieces (0x19 ∷ 0x00 ∷ 0x00 ∷ 0x00 ∷ 0x00 ∷ 0x00 ∷ 0x00 ∷ 0x00 ∷ 0x00 ∷ 0x00 ∷ 0x00 ∷ 0x00 ∷ 0x00 ∷ 0x00 ∷ 0x00 ∷ 0x00 ∷ 0x00 ∷ 0x00 ∷ 0x00 ∷ [])) (refused generalised) ∷
     []
 
-pub listings-said : map (λ (e : Reading). listingOf (e .tape) (e .model)) readings ≡ map (λ (e : Reading). e .gives) readings
-unfolding leAt numberAt fieldAt placeOf times eachAt groupsAt countedAt passAt textsAt wholeAt sealed enclosed fittingAt readAt bits orFull heldIf kind10 kind11 kind12 kind13 kind14 stream19 kind19 kind20 kind21 kind22 kind24 kind25 kind2A kind30 kind31 info32 kind32 kind33 kind35 kind5A kinds kindOf startsAt headAt kindNamed cutAt blockOf tapAt pilotOf generalData withPilot withData generalOf empty _⟫_ addTones addBlock pend endGroup openLoop copyRows copies closed closeLoop paused lastPaused isHeader standardCycles standardTones standardPause turboTones pureTones pureToneTones pulseAt addRows rowOf standardSound turboSound pairSounds pureSound pauseSound addSound addSounds generalDeed stop48Deed does deedOf act after seeing foldFrom halted tooManyBits judged tzxOf tzxSee headed readTzx tapOf tapSee readTap orTap orElse loadOf decimal digits latin1 each table encoded isHeading typeName headerName sizeShown sizeName guessed nameOf unselected passed nameAll namedTape named loadNamed blocksOf tonesOf over time comesTo run entryOf cyclesOf isSingle startLevel cycleLevel bitLevel edged pauseLevel toneOf toneEntries bitsAt halfOf byteOf dataOf pauseOf soundOf entriesOf lastsOf listFrom shown timeText markText rowText rowsText modelText formatText countText loadingText restText listingText loadedOf mounted listed listingOf
+pub listings-said : map (λ (e : ListReading). listingOf (e .tape) (e .model)) readings ≡ map (λ (e : ListReading). e .gives) readings
+unfolding leAt numberAt fieldAt placeOf times eachAt groupsAt countedAt passAt textsAt wholeAt sealed enclosed fittingAt readAt binaryDigits orFull heldIf kind10 kind11 kind12 kind13 kind14 stream19 kind19 kind20 kind21 kind22 kind24 kind25 kind2A kind30 kind31 info32 kind32 kind33 kind35 kind5A kinds kindOf startsAt headAt takenAs cutAt tapBlock tapAt pilotOf dataPart withPilot withData generalOf empty _⟫_ addTones addBlock pend endGroup openLoop copyRows copies closed closeLoop paused lastPaused standardHeader standardCycles standardTones standardPause turboTones pureTones pureToneTones pulseAt addRows rowOf standardSound turboSound pairSounds pureSound pauseSound addSound addSounds generalDeed stop48Deed does deedOf act readOn seeing foldFrom halted tooManyBits bitsJudged tzxOf tzxSee headed readTzx tapOf tapSee readTap orTap orElse loadOf decimal digits latin1 eachByte table encoded isHeader typeName headerName sizeShown sizeName guessed nameOf unselected nameOne nameAll namedTape namedLoad loadNamed blockTable toneTable tableOver time comesTo run entryOf cyclesOf isSingle startLevel cycleLevel bitLevel edged pauseLevel toneOf tonesOf bitsAt halfOf byteOf dataOf pauseOf soundOf entriesOf lastsOf listFrom shown timeText markText rowText rowsText modelText formatText countText loadingText restText listingText loadedOf mounted listed listingOf
 listings-said = refl

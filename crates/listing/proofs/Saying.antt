@@ -10,13 +10,13 @@ use lib.Dec.{leb, ltb}
 use Rattle.law_base.specs.Rules.{_⇒_, _∣_}
 use Rattle.refusals.specs.Refusals.{badModel, tapeLong}
 use Rattle.text_out.specs.Out.{Wrote}
-use Rattle.text_out.proofs.Writing.{counted, same-len}
-use Rattle.load_source.specs.Source.{Loaded as Load, tzx, tapped, no}
+use Rattle.text_out.proofs.Writing.{wrote-counted, same-len}
+use Rattle.load_source.specs.Source.{Load, tzx, tapped, no}
 use Rattle.load_tape.specs.declared.Format.the-variants.{Tap, Tzx}
-use Rattle.load_tape.specs.Load.{answerOf, blocksOf, tonesOf, Leaves}
+use Rattle.load_tape.specs.Load.{answerOf, blockTable, toneTable, Leaves}
 use Rattle.law_every_load.specs.Sizes.{Bytes}
 use Rattle.listing.specs.Listing.{blockWords, toneWords, loadedOf, Listing, text, refused, mounted, listed, listingOf, answerTo, bytesAfter}
-use Rattle.listing.specs.Printed.{refusedText, printedOf, Says}
+use Rattle.listing.specs.Printed.{printedNo, printedOf, Says}
 use Rattle.text_shown.proofs.Shown.{name-part}
 use Rattle.text_lines.proofs.Texts.{decimal-long}
 use Rattle.text_page.proofs.Texts.{text-most}
@@ -32,11 +32,11 @@ module _ (s : List ℕ) (model : ℕ) (b : Bytes s) where
   listed-fits : (l : Load) → loadedOf s model ≡ l → Fits (listed s model l)
   unfolding listed mounted answerOf
   listed-fits (tzx t) e =
-      let y : Leaves blockWords toneWords (tzx t) (answerOf (tzx t)) (blocksOf blockWords (tzx t)) (tonesOf toneWords (tzx t)) = record { answer = refl; blocks = refl; tones = refl } in
-      fit (text-most model Tzx (load-ready s model b (subst (λ (x : Load). Leaves blockWords toneWords x (answerOf (tzx t)) (blocksOf blockWords (tzx t)) (tonesOf toneWords (tzx t))) (sym e) y)))
+      let y : Leaves blockWords toneWords (tzx t) (answerOf (tzx t)) (blockTable blockWords (tzx t)) (toneTable toneWords (tzx t)) = record { answer = refl; blocks = refl; tones = refl } in
+      fit (text-most model Tzx (load-ready s model b (subst (λ (x : Load). Leaves blockWords toneWords x (answerOf (tzx t)) (blockTable blockWords (tzx t)) (toneTable toneWords (tzx t))) (sym e) y)))
   listed-fits (tapped t) e =
-      let y : Leaves blockWords toneWords (tapped t) (answerOf (tapped t)) (blocksOf blockWords (tapped t)) (tonesOf toneWords (tapped t)) = record { answer = refl; blocks = refl; tones = refl } in
-      fit (text-most model Tap (load-ready s model b (subst (λ (x : Load). Leaves blockWords toneWords x (answerOf (tapped t)) (blocksOf blockWords (tapped t)) (tonesOf toneWords (tapped t))) (sym e) y)))
+      let y : Leaves blockWords toneWords (tapped t) (answerOf (tapped t)) (blockTable blockWords (tapped t)) (toneTable toneWords (tapped t)) = record { answer = refl; blocks = refl; tones = refl } in
+      fit (text-most model Tap (load-ready s model b (subst (λ (x : Load). Leaves blockWords toneWords x (answerOf (tapped t)) (blockTable blockWords (tapped t)) (toneTable toneWords (tapped t))) (sym e) y)))
   listed-fits (no k) e = none
 
   -- EVERY TEXT FITS
@@ -58,7 +58,7 @@ module _ (s : List ℕ) (model : ℕ) (b : Bytes s) where
 
 -- a text written from the front of bytes that have room for it
 pub says-written : {d d1 t : List ℕ} {n : ℕ} → Wrote d 0 t d1 n → length t ≤ length d → Says t n d1
-says-written p h = record { count = omega (arith, counted p, same-len p); front = name-part p h }
+says-written p h = record { count = omega (arith, wrote-counted p, same-len p); front = name-part p h }
 
 -- a listing for which there is room
 abbrev Roomy : Listing → List ℕ → Type 0
@@ -85,13 +85,13 @@ module _ (s out : List ℕ) (model : ℕ) {r : ℕ} {out′ : List ℕ} (b : Byt
   roomy t q = omega (arith, text-fits s model b q)
 
   -- below 32: the load's refusal, which is then printed; else the text
-  pub say-refusal : {n : ℕ} {out″ : List ℕ} → r < 32 → Says (refusedText r) n out″ → Says (printedOf (listingOf s model)) n out″
+  pub say-refusal : {n : ℕ} {out″ : List ℕ} → r < 32 → Says (printedNo r) n out″ → Says (printedOf (listingOf s model)) n out″
   unfolding printedOf
   say-refusal h p = rw (refusal-told roomy told h) p
 
   pub say-text : 32 ≤ r → Says (printedOf (listingOf s model)) r out′
   say-text h = text-told told h
 
-pub refused-most : (k : ℕ) → length (refusedText k) ≤ 29
-unfolding refusedText
+pub refused-most : (k : ℕ) → length (printedNo k) ≤ 29
+unfolding printedNo
 refused-most k = let a = decimal-long k in simp length-append (omega arith)

@@ -9,10 +9,11 @@ use Rattle.text_out.specs.Out.{fits, told}
 use Rattle.rows.specs.Rows.{block, tone}
 use Rattle.play_entries.specs.Places.{Tape}
 use Rattle.play_entries.specs.Mounted.{tapeOf}
-use Rattle.load_source.specs.Source.{Loaded as Load, tzx, tapped, no}
+use Rattle.load_source.specs.Source.{Load, tzx, tapped, no}
 use Rattle.load_tape.specs.declared.Format.the-variants.{Tap, Tzx}
-use Rattle.load_tape.specs.Load.{loadNamed, blocksOf, tonesOf}
+use Rattle.load_tape.specs.Load.{loadNamed, blockTable, toneTable}
 use Rattle.text_page.specs.Page.{listingText}
+use Rattle.load_blocks.specs.Adds.{Lent}
 
 -- the words of 512 block and 2,048 tone rows
 abbrev pub blockWords : ℕ
@@ -21,8 +22,12 @@ blockWords = 512 * block .width
 abbrev pub toneWords : ℕ
 toneWords = 2048 * tone .width
 
+-- as many rows are lent to the load
+abbrev pub listingLent : Lent
+listingLent = record { blocks = 512; tones = 2048 }
+
 unfoldable pub loadedOf : List ℕ → ℕ → Load
-loadedOf s model = loadNamed (record { blocks = 512; tones = 2048 }) s model
+loadedOf s model = loadNamed listingLent s model
 
 -- a load's listing: a text, or the refusal's number
 pub data Listing : Type 0 where
@@ -31,7 +36,7 @@ pub data Listing : Type 0 where
 
 -- the tape as the load leaves it in the tables
 unfoldable pub mounted : List ℕ → Load → ℕ → Tape
-mounted s l n = tapeOf s (tonesOf toneWords l) (blocksOf blockWords l) n
+mounted s l n = tapeOf s (toneTable toneWords l) (blockTable blockWords l) n
 
 unfoldable pub listed : List ℕ → ℕ → Load → Listing
 listed s model (tzx t) = text (listingText model Tzx (mounted s (tzx t) (length (t .blocks))))

@@ -2,18 +2,22 @@
 use Prim.Native.Nat.{ℕ, _≤_}
 use mathlib.Core.Path.{_≡_}
 use mathlib.Core.List.{List, _++_}
-use lib.ListN.{length, take}
+use lib.ListN.{length, take, drop}
 use Rattle.text_out.specs.Out.{ascii, decimal}
 use Rattle.listing.specs.Listing.{Listing, text, refused}
 
-unfoldable pub refusedText : ℕ → List ℕ
-refusedText k = ascii "refused " ++ decimal k ++ ascii "\n"
+unfoldable pub printedNo : ℕ → List ℕ
+printedNo k = ascii "refused " ++ decimal k ++ ascii "\n"
 
 unfoldable pub printedOf : Listing → List ℕ
 printedOf (text t) = t
-printedOf (refused k) = refusedText k
+printedOf (refused k) = printedNo k
 
 -- the first r bytes of `out` are the text
 pub record Says (t : List ℕ) (r : ℕ) (out : List ℕ) : Type 0 where
   pub count : r ≤ length out
   pub front : take r out ≡ t
+
+-- the text of a listing, its length and the bytes with it in front
+pub data Spoken (l : Listing) (out : List ℕ) (r : ℕ) (out′ : List ℕ) : Type 0 where
+  spoken : {t : List ℕ} → l ≡ text t → r ≡ length t → out′ ≡ t ++ drop (length t) out → Spoken l out r out′

@@ -16,7 +16,7 @@ ghost use lib.ListN.{length};
 ghost use Rattle.play_entries.specs.Mounted.{tapeOf};
 ghost use Rattle.text_lines.specs.Inner.{Ready};
 ghost use Rattle.text_page.specs.Page.{listingText};
-ghost use Rattle.listing.specs.Printed.{refusedText, printedOf, Says};
+ghost use Rattle.listing.specs.Printed.{printedNo, printedOf, Says};
 ghost use Rattle.listing.specs.Listing.{text, listingOf, answerTo, bytesAfter};
 
 // Bytes that hold the text: where `len` are as many, its most, which is 576 a row; else its own length, by a dry run.
@@ -89,7 +89,7 @@ pub extern "C" fn glyvrask_listing(tape: &[u8], model: u32, out: &mut [u8]) -> u
 // `refused n` and a line feed; our programs call it, and lend 32 bytes.
 pub fn say_refused(out: &mut [u8], k: u32) -> usize
     requires { ⌜ 32 ≤ length (now out) ⌝ }
-    ensures { λ r. ⌜ Says (refusedText k) r (now (out .exit)) ⌝ }
+    ensures { λ r. ⌜ Says (printedNo k) r (now (out .exit)) ⌝ }
 {
     let a = put_all(out, 0, b"refused ");
     let b = put_decimal(out, a, k as u64);

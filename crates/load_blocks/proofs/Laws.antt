@@ -9,7 +9,7 @@ use Rattle.rows.specs.declared.Block.{Block}
 use Rattle.rows.specs.declared.Tone.{Tone}
 use Rattle.load_state.specs.declared.State.{State}
 use Rattle.load_state.specs.declared.Step.{Step}
-use Rattle.load_state.specs.Parser.{Tape, Out, on, no, _⟫_, addTones, addBlock}
+use Rattle.load_state.specs.Parser.{Parsed, Out, on, no, _⟫_, addTones, addBlock}
 use Rattle.load_state.specs.Holds.{Holds, toneRoom, blockRoom}
 use Rattle.load_state.proofs.Laws.{chain-assoc, tones-append}
 use Rattle.load_blocks.specs.Adds.{Lent, addRows}
@@ -20,14 +20,14 @@ use Rattle.load_blocks.specs.Deeds.{adds, does}
 use Rattle.load_blocks.specs.Does.{lentOf, Does}
 
 -- no tone rows: the block alone
-pub rows-none : {B N : ℕ} {s : State} {bt tt : List ℕ} (r : Block) (t : Tape) → Holds B N s bt tt t → addRows (lentOf B N) [] r t ≡ addBlock (blockRoom B) r t
+pub rows-none : {B N : ℕ} {s : State} {bt tt : List ℕ} (r : Block) (t : Parsed) → Holds B N s bt tt t → addRows (lentOf B N) [] r t ≡ addBlock (blockRoom B) r t
 unfolding addRows addTones _⟫_
 rows-none {N = N} r t h =
     let k : length (t .tones) + 0 ≤ toneRoom N = omega (arith, h .roomT) in
     rw (le-leb (length (t .tones) + 0) (toneRoom N) k, append-nil (t .tones))
 
 -- one tone row, then the others
-pub rows-more : (lent : Lent) (a : Tone) (ts : List Tone) (r : Block) (t : Tape) → addRows lent (a ∷ ts) r t ≡ addTones (lent .tones) (a ∷ []) t ⟫ addRows lent ts r
+pub rows-more : (lent : Lent) (a : Tone) (ts : List Tone) (r : Block) (t : Parsed) → addRows lent (a ∷ ts) r t ≡ addTones (lent .tones) (a ∷ []) t ⟫ addRows lent ts r
 unfolding addRows
 rows-more lent a ts r t =
     ap (λ (o : Out). o ⟫ addBlock (lent .blocks) r) (tones-append (lent .tones) (a ∷ []) ts t)
@@ -46,7 +46,7 @@ then-nothing (on t) = refl
 then-nothing (no k) = refl
 
 -- one block
-pub one-sound : (lent : Lent) (origin : Origin) (d : Sound) (t : Tape) → addSounds lent origin (d ∷ []) t ≡ addSound lent origin d t
+pub one-sound : (lent : Lent) (origin : Origin) (d : Sound) (t : Parsed) → addSounds lent origin (d ∷ []) t ≡ addSound lent origin d t
 unfolding addSounds
 one-sound lent origin d t = then-nothing (addSound lent origin d t)
 
@@ -57,11 +57,11 @@ unfolding does
 does-one model origin d f B N t h = rw (one-sound (lentOf B N) origin d t) (f B N t h)
 
 -- what a loop that keeps nothing more knows of its tape
-abbrev pub Any : Tape → Type 0
+abbrev pub Any : Parsed → Type 0
 Any t = Unit {0}
 
 -- one pair, then the others
-pub pairs-more : (lent : Lent) (origin : Origin) (s : List ℕ) (from i n : ℕ) (t : Tape) → 0 < n
+pub pairs-more : (lent : Lent) (origin : Origin) (s : List ℕ) (from i n : ℕ) (t : Parsed) → 0 < n
     → addSounds lent origin (pairSounds s from i n) t ≡ addSound lent origin (pairSound s from i) t ⟫ addSounds lent origin (pairSounds s from (i + 2) (n - 1))
 unfolding addSounds pairSounds
 pairs-more lent origin s from i zero t h = absurd (omega arith)

@@ -3,7 +3,7 @@ use Prim.Native.Nat.{ℕ}
 use mathlib.Core.List.{List}
 use Rattle.rows.specs.declared.Block.{Block}
 use Rattle.rows.specs.declared.Tone.{Tone}
-use Rattle.load_state.specs.Parser.{Tape, Out, _⟫_, addTones, addBlock}
+use Rattle.load_state.specs.Parser.{Parsed, Out, _⟫_, addTones, addBlock}
 
 -- how many rows are lent
 pub record Lent : Type 0 where
@@ -11,5 +11,5 @@ pub record Lent : Type 0 where
   pub tones : ℕ
 
 -- a block that needs these tone rows: 5, then 6
-unfoldable pub addRows : Lent → List Tone → Block → Tape → Out
+unfoldable pub addRows : Lent → List Tone → Block → Parsed → Out
 addRows lent ts r t = addTones (lent .tones) ts t ⟫ addBlock (lent .blocks) r

@@ -10,10 +10,10 @@ use Rattle.load_general.specs.General.{Given, refused4, stop, plain, toned}
 use Rattle.load_state.specs.declared.Pending.{Pending}
 use Rattle.load_state.specs.declared.Pending.the-variants.{Nothing, First, Text}
 use Rattle.load_state.specs.declared.Halt.the-variants.{Refusal, Length}
-use Rattle.load_state.specs.Parser.{Tape, Out, on, no, pend, endGroup, openLoop, closeLoop}
+use Rattle.load_state.specs.Parser.{Parsed, Out, on, no, pend, endGroup, openLoop, closeLoop}
 use Rattle.load_blocks.specs.declared.Origin.{Origin}
 use Rattle.load_blocks.specs.Adds.{Lent}
-use Rattle.load_blocks.specs.Sounds.{Sound, ms, bitsAt, noBits, addSounds}
+use Rattle.load_blocks.specs.Sounds.{Sound, ms, dataBits, noBits, addSounds}
 use Rattle.load_blocks.specs.Blocks.{dataSound, stopSound}
 
 pub data Deed : Type 0 where
@@ -40,7 +40,7 @@ abbrev pub nothing : Deed
 nothing = adds []
 
 -- THE INTERPRETER, for a piece of this origin
-unfoldable pub does : Lent → ℕ → Origin → Deed → Tape → Out
+unfoldable pub does : Lent → ℕ → Origin → Deed → Parsed → Out
 does lent model origin (adding only48 ds) t = (only48 && not (eqb model 0)) ⇒ on t ∣ addSounds lent origin ds t
 does lent model origin (groups from size) t = pend (First from size) t
 does lent model origin (texts from size) t = pend (Text from size) t
@@ -87,7 +87,7 @@ asks48 (errs n) = false
 unfoldable pub generalDeed : GeneralizedData → Given → Deed
 generalDeed g refused4 = panics
 generalDeed g stop = adds (stopSound ∷ [])
-generalDeed g (plain ts nil one last) = adds (dataSound ts (bitsAt (g .from) (g .size) nil one last) (ms (g .pause)) ∷ [])
+generalDeed g (plain ts nil one last) = adds (dataSound ts (dataBits (g .from) (g .size) nil one last) (ms (g .pause)) ∷ [])
 generalDeed g (toned ts) = adds (dataSound ts noBits (ms (g .pause)) ∷ [])
 
 -- 2A: nonzero errs; a stop block on 48K only

@@ -3,7 +3,7 @@ use Prim.Native.Nat.{ℕ}
 use mathlib.Core.List.{List}
 use Rattle.load_state.specs.declared.State.{State}
 use Rattle.load_state.specs.declared.Step.{Step}
-use Rattle.load_state.specs.Parser.{Tape, Out}
+use Rattle.load_state.specs.Parser.{Parsed, Out}
 use Rattle.load_state.specs.Holds.{Holds, Gives, blockRoom, toneRoom}
 use Rattle.load_blocks.specs.Adds.{Lent}
 
@@ -11,8 +11,8 @@ use Rattle.load_blocks.specs.Adds.{Lent}
 abbrev pub lentOf : ℕ → ℕ → Lent
 lentOf B N = record { blocks = blockRoom B; tones = toneRoom N }
 
-abbrev pub Does : (Lent → Tape → Out) → State → Step → List ℕ → List ℕ → List ℕ → List ℕ → Type 0
-Does f s a bt tt bt′ tt′ = (B N : ℕ) (t : Tape) → Holds B N s bt tt t → Gives B N a bt′ tt′ (f (lentOf B N) t)
+abbrev pub Does : (Lent → Parsed → Out) → State → Step → List ℕ → List ℕ → List ℕ → List ℕ → Type 0
+Does f s a bt tt bt′ tt′ = (B N : ℕ) (t : Parsed) → Holds B N s bt tt t → Gives B N a bt′ tt′ (f (lentOf B N) t)
 
 -- a state with another count of tone rows
 abbrev pub withUsed : ℕ → State → State

@@ -4,7 +4,7 @@ use mathlib.Core.List.{List, [], _∷_}
 use lib.ListN.{length}
 use Rattle.rows.specs.declared.Block.{Block}
 use Rattle.rows.specs.declared.Tone.{Tone}
-use Rattle.load_state.specs.Parser.{Tape, Out, on, _⟫_}
+use Rattle.load_state.specs.Parser.{Parsed, Out, on, _⟫_}
 use Rattle.load_blocks.specs.declared.Origin.{Origin}
 use Rattle.load_blocks.specs.declared.Bits.{Bits}
 use Rattle.load_blocks.specs.declared.Ending.{Ending}
@@ -14,18 +14,15 @@ use Rattle.load_blocks.specs.Adds.{Lent, addRows}
 abbrev pub ms : ℕ → ℕ
 ms n = n * 3500
 
-abbrev pub toneOf : ℕ → ℕ → ℕ → Tone
-toneOf num len1 len2 = record { num = num; len1 = len1; len2 = len2; wave = 0 }
-
 -- where a block comes from: its piece's kind, and where that piece stands in the tape
 abbrev pub originAt : ℕ → ℕ → Origin
 originAt kind place = record { kind = kind; place = place }
 
-abbrev pub bitsAt : ℕ → ℕ → ℕ → ℕ → ℕ → Bits
-bitsAt start size nil one last = record { start = start; size = size; zero = nil; one = one; last = last }
+abbrev pub dataBits : ℕ → ℕ → ℕ → ℕ → ℕ → Bits
+dataBits start size nil one last = record { start = start; size = size; zero = nil; one = one; last = last }
 
 abbrev pub noBits : Bits
-noBits = bitsAt 0 0 0 0 0
+noBits = dataBits 0 0 0 0 0
 
 -- so many T-states follow; or the tape stops, in a block named `stop`
 abbrev pub lasts : ℕ → Ending
@@ -68,9 +65,9 @@ rowOf origin d tone = rowFor origin tone (length (d .tones)) (d .bits) (d .endin
 
 module _ (lent : Lent) (origin : Origin) where
   -- 5, then 6
-  unfoldable pub addSound : Sound → Tape → Out
+  unfoldable pub addSound : Sound → Parsed → Out
   addSound d t = addRows lent (d .tones) (rowOf origin d (length (t .tones))) t
 
-  unfoldable pub addSounds : List Sound → Tape → Out
+  unfoldable pub addSounds : List Sound → Parsed → Out
   addSounds [] t = on t
   addSounds (d ∷ ds) t = addSound d t ⟫ addSounds ds

@@ -10,7 +10,7 @@ ghost use mathlib.Core.List.{List, [], _∷_};
 ghost use Prim.Native.Nat.{ℕ};
 ghost use Rattle.load_blocks.specs.Adds.{addRows};
 ghost use Rattle.load_blocks.specs.Sounds.{noBits, lasts, stops, rowFor, addSound};
-ghost use Rattle.load_blocks.specs.Blocks.{isHeader, standardCycles, standardPause, standardSound};
+ghost use Rattle.load_blocks.specs.Blocks.{standardHeader, standardCycles, standardPause, standardSound};
 ghost use Rattle.load_blocks.specs.Does.{Does};
 
 // Where a block comes from: its piece's kind, and where that piece stands in the tape. What a row takes from outside its sound is a field here; no word has any of it yet.
@@ -137,7 +137,7 @@ pub fn two_tones(
 
 // Whether a standard block is a header.
 pub fn is_header(tape: &[u8], start: u64, size: u32) -> bool
-    ensures { λ b. ⌜ b ≡ isHeader (now (tape .entry)) start size ⌝ }
+    ensures { λ b. ⌜ b ≡ standardHeader (now (tape .entry)) start size ⌝ }
 {
     if size == 0 {
         return true;

@@ -10,11 +10,11 @@ use lib.ListN.{getD}
 use lib.Dec.{leb, ltb}
 use borrow.Author.Tests.{leb-true, ltb-true, lt-ltb, le-ltb, lt-leb, le-leb}
 use Rattle.law_base.specs.Rules.{_⇒_, _∣_}
-use Rattle.law_base.specs.Numbers.{lt-or-ge}
+use Rattle.law_base.proofs.Numbers.{lt-or-ge}
 use Rattle.cut_grammar.specs.declared.GeneralizedData.{GeneralizedData}
 use Rattle.load_general.specs.declared.Row.{Row}
 use Rattle.load_general.specs.declared.Row.the-variants.{Refused, Gives}
-use Rattle.load_general.specs.General.{toneOf, numberAt, singleRow, pairRow, rowsFrom}
+use Rattle.load_general.specs.General.{plainTone, symbolNumber, singleRow, pairRow, rowsFrom}
 use Rattle.load_general.specs.Made.{isGiven, isTones}
 use Rattle.load_general.specs.Held.{Kept}
 use Rattle.load_general.proofs.Parts.{all-given}
@@ -43,17 +43,17 @@ second-of false true e = refl
 second-of false false e = e
 
 module _ (s : List ℕ) (g : GeneralizedData) where
-  pub single-given : (i : ℕ) → isGiven (singleRow s g i) ≡ ltb (numberAt s g (i * g .nb) 0) (g .asd)
+  pub single-given : (i : ℕ) → isGiven (singleRow s g i) ≡ ltb (symbolNumber s g (i * g .nb) 0) (g .asd)
   unfolding singleRow isGiven
-  single-given i = rule (g .asd) (numberAt s g (i * g .nb) 0) _ ∙ last _
+  single-given i = rule (g .asd) (symbolNumber s g (i * g .nb) 0) _ ∙ last _
 
-  pub pair-given : (i : ℕ) → isGiven (pairRow s g i) ≡ (ltb (numberAt s g (2 * i * g .nb) 0) (g .asd) && ltb (numberAt s g (2 * i * g .nb) 1) (g .asd))
+  pub pair-given : (i : ℕ) → isGiven (pairRow s g i) ≡ (ltb (symbolNumber s g (2 * i * g .nb) 0) (g .asd) && ltb (symbolNumber s g (2 * i * g .nb) 1) (g .asd))
   unfolding pairRow isGiven
-  pair-given i = rule (g .asd) (numberAt s g (2 * i * g .nb) 0) _ ∙ rw (rule (g .asd) (numberAt s g (2 * i * g .nb) 1), last)
+  pair-given i = rule (g .asd) (symbolNumber s g (2 * i * g .nb) 0) _ ∙ rw (rule (g .asd) (symbolNumber s g (2 * i * g .nb) 1), last)
 
   -- a number of nb bits is below a size that every such number is below
-  number-below : leb (2 ^ g .nb) (g .asd) ≡ true → (bit more : ℕ) → ltb (numberAt s g bit more) (g .asd) ≡ true
-  unfolding numberAt
+  number-below : leb (2 ^ g .nb) (g .asd) ≡ true → (bit more : ℕ) → ltb (symbolNumber s g bit more) (g .asd) ≡ true
+  unfolding symbolNumber
   number-below h bit more = lt-ltb _ _ (lt-of-lt-of-le (mod-lt _ (pow-pos (g .nb))) (leb-true _ _ h))
 
   pub every-single : leb (2 ^ g .nb) (g .asd) ≡ true → isTones (rowsFrom (singleRow s g) 0 (g .totd)) ≡ true
@@ -64,23 +64,23 @@ module _ (s : List ℕ) (g : GeneralizedData) where
 
   -- the numbers of what is given, and the tone, from the array that holds the alphabet
   module _ (i : ℕ) (e : isGiven (singleRow s g i) ≡ true) where
-    pub single-below : numberAt s g (i * g .nb) 0 < g .asd
+    pub single-below : symbolNumber s g (i * g .nb) 0 < g .asd
     single-below = ltb-true _ _ (sym (single-given i) ∙ e)
 
-    pub single-tone : (a : List (List ℕ)) → Kept s (g .symbols) (g .npd) (g .asd) a → (b : ℕ) → b ≡ numberAt s g (i * g .nb) 0 → singleRow s g i ≡ Gives (toneOf 1 (getD (getD a b []) 0 0) (getD (getD a b []) 1 0))
+    pub single-tone : (a : List (List ℕ)) → Kept s (g .symbols) (g .npd) (g .asd) a → (b : ℕ) → b ≡ symbolNumber s g (i * g .nb) 0 → singleRow s g i ≡ Gives (plainTone 1 (getD (getD a b []) 0 0) (getD (getD a b []) 1 0))
     unfolding singleRow
     single-tone a k b q =
         let h = single-below in
-        rw (q, kept-first s (g .symbols) (g .npd) (g .asd) a k (numberAt s g (i * g .nb) 0) h, kept-second s (g .symbols) (g .npd) (g .asd) a k (numberAt s g (i * g .nb) 0) h, lt-leb (g .asd) (numberAt s g (i * g .nb) 0) h)
+        rw (q, kept-first s (g .symbols) (g .npd) (g .asd) a k (symbolNumber s g (i * g .nb) 0) h, kept-second s (g .symbols) (g .npd) (g .asd) a k (symbolNumber s g (i * g .nb) 0) h, lt-leb (g .asd) (symbolNumber s g (i * g .nb) 0) h)
 
   module _ (i : ℕ) (e : isGiven (pairRow s g i) ≡ true) where
-    pub pair-below : numberAt s g (2 * i * g .nb) 0 < g .asd
+    pub pair-below : symbolNumber s g (2 * i * g .nb) 0 < g .asd
     pair-below = ltb-true _ _ (first-of _ _ (sym (pair-given i) ∙ e))
 
-    pub pair-below-2 : numberAt s g (2 * i * g .nb) 1 < g .asd
-    pair-below-2 = ltb-true _ _ (second-of (ltb (numberAt s g (2 * i * g .nb) 0) (g .asd)) _ (sym (pair-given i) ∙ e))
+    pub pair-below-2 : symbolNumber s g (2 * i * g .nb) 1 < g .asd
+    pair-below-2 = ltb-true _ _ (second-of (ltb (symbolNumber s g (2 * i * g .nb) 0) (g .asd)) _ (sym (pair-given i) ∙ e))
 
-    pub pair-tone : (a : List (List ℕ)) → Kept s (g .symbols) (g .npd) (g .asd) a → (b d : ℕ) → b ≡ numberAt s g (2 * i * g .nb) 0 → d ≡ numberAt s g (2 * i * g .nb) 1 → pairRow s g i ≡ Gives (toneOf 1 (getD (getD a b []) 0 0) (getD (getD a d []) 0 0))
+    pub pair-tone : (a : List (List ℕ)) → Kept s (g .symbols) (g .npd) (g .asd) a → (b d : ℕ) → b ≡ symbolNumber s g (2 * i * g .nb) 0 → d ≡ symbolNumber s g (2 * i * g .nb) 1 → pairRow s g i ≡ Gives (plainTone 1 (getD (getD a b []) 0 0) (getD (getD a d []) 0 0))
     unfolding pairRow
     pair-tone a k b d q r =
-        rw (q, r, kept-first s (g .symbols) (g .npd) (g .asd) a k (numberAt s g (2 * i * g .nb) 0) pair-below, kept-first s (g .symbols) (g .npd) (g .asd) a k (numberAt s g (2 * i * g .nb) 1) pair-below-2, lt-leb (g .asd) (numberAt s g (2 * i * g .nb) 0) pair-below, lt-leb (g .asd) (numberAt s g (2 * i * g .nb) 1) pair-below-2)
+        rw (q, r, kept-first s (g .symbols) (g .npd) (g .asd) a k (symbolNumber s g (2 * i * g .nb) 0) pair-below, kept-first s (g .symbols) (g .npd) (g .asd) a k (symbolNumber s g (2 * i * g .nb) 1) pair-below-2, lt-leb (g .asd) (symbolNumber s g (2 * i * g .nb) 0) pair-below, lt-leb (g .asd) (symbolNumber s g (2 * i * g .nb) 1) pair-below-2)

@@ -12,7 +12,7 @@ use Rattle.rows.specs.declared.Tone.{Tone}
 use Rattle.load_general.specs.declared.Row.{Row}
 use Rattle.load_general.specs.declared.Row.the-variants.{Gives}
 use Rattle.load_general.specs.General.{rowsFrom}
-use Rattle.load_general.specs.Made.{isGiven, putGiven, isTones, tonesOf}
+use Rattle.load_general.specs.Made.{isGiven, putGiven, isTones, partTones}
 use Rattle.load_general.proofs.Parts.{turn-refused, turn-given, turn-row, turn-put, turn-puts, end-tones, end-put}
 
 -- what is judged of the rows from i on is what is judged of all
@@ -36,14 +36,14 @@ module _ (row : ℕ → Row) (n : ℕ) where
 abbrev pub Writing : (ℕ → Row) → ℕ → ℕ → List ℕ → List ℕ → ℕ → Type 0
 Writing row n used t₀ t i =
     (i ≤ n) × (length t ≡ length t₀) × (isTones (rowsFrom row i (n - i)) ≡ true)
-    × (putAll tone t (used + i) (tonesOf (rowsFrom row i (n - i))) ≡ putAll tone t₀ used (tonesOf (rowsFrom row 0 n)))
+    × (putAll tone t (used + i) (partTones (rowsFrom row i (n - i))) ≡ putAll tone t₀ used (partTones (rowsFrom row 0 n)))
 
 module _ (row : ℕ → Row) (n used : ℕ) (t₀ : List ℕ) where
   pub writing-starts : isTones (rowsFrom row 0 n) ≡ true → Writing row n used t₀ t₀ 0
   writing-starts e =
       let z : n - 0 ≡ n = omega arith in let u : used + 0 ≡ used = omega arith in (omega arith, refl, rw z e, rw (z, u) refl)
 
-  pub writing-over : (t : List ℕ) (i : ℕ) → n ≤ i → Writing row n used t₀ t i → t ≡ putAll tone t₀ used (tonesOf (rowsFrom row 0 n))
+  pub writing-over : (t : List ℕ) (i : ℕ) → n ≤ i → Writing row n used t₀ t i → t ≡ putAll tone t₀ used (partTones (rowsFrom row 0 n))
   writing-over t i h v = let e : i ≡ n = omega arith in sym (end-put row n (used + n) t) ∙ (rw e at (v .3))
 
   module _ (t : List ℕ) (i : ℕ) (h : i < n) (v : Writing row n used t₀ t i) where

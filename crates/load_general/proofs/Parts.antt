@@ -15,8 +15,8 @@ use Rattle.rows.specs.declared.Tone.{Tone}
 use Rattle.load_general.specs.declared.Row.{Row}
 use Rattle.load_general.specs.declared.Row.the-variants.{Refused, Gives}
 use Rattle.load_general.specs.declared.Judged.the-variants as judged
-use Rattle.load_general.specs.General.{Part, refused, stops, tones, before, rowsFrom, entrySymbol, entryRow, singleRow, pairRow, pilotOf, singlesOf, pairsOf, dataOf}
-use Rattle.load_general.specs.Made.{isGiven, putGiven, judgedOf, isTones, tonesOf}
+use Rattle.load_general.specs.General.{Part, refused, stops, tones, before, rowsFrom, entrySymbol, entryRow, singleRow, pairRow, pilotOf, singlesOf, pairsOf, dataPart}
+use Rattle.load_general.specs.Made.{isGiven, putGiven, judgedOf, isTones, partTones}
 
 -- two truths
 pub differ : true ≡ false → ⊥
@@ -42,10 +42,10 @@ before-row (Gives t) p e = refl
 -- a row before tones is put before them
 pub record Put (r : Row) (p : Part) : Type 0 where
   pub rest : isTones p ≡ true
-  pub puts : (t : List ℕ) (k : ℕ) → putAll tone t k (tonesOf (before r p)) ≡ putAll tone (putGiven t k r) (k + 1) (tonesOf p)
+  pub puts : (t : List ℕ) (k : ℕ) → putAll tone t k (partTones (before r p)) ≡ putAll tone (putGiven t k r) (k + 1) (partTones p)
 
 before-put : (r : Row) (p : Part) → isTones (before r p) ≡ true → Put r p
-unfolding before isTones tonesOf putGiven putAll
+unfolding before isTones partTones putGiven putAll
 before-put Refused p e = absurd (differ (sym e))
 before-put (Gives t) refused e = absurd (differ (sym e))
 before-put (Gives t) stops e = absurd (differ (sym e))
@@ -96,10 +96,10 @@ module _ (row : ℕ → Row) (i n : ℕ) (h : i < n) where
   turn-put e = before-put (row i) (rowsFrom row (i + 1) (n - (i + 1))) (rw turn at e)
 
   pub turn-puts : isTones (rowsFrom row i (n - i)) ≡ true → (t : List ℕ) (used : ℕ)
-      → putAll tone t (used + i) (tonesOf (rowsFrom row i (n - i))) ≡ putAll tone (putGiven t (used + i) (row i)) (used + (i + 1)) (tonesOf (rowsFrom row (i + 1) (n - (i + 1))))
+      → putAll tone t (used + i) (partTones (rowsFrom row i (n - i))) ≡ putAll tone (putGiven t (used + i) (row i)) (used + (i + 1)) (partTones (rowsFrom row (i + 1) (n - (i + 1))))
   turn-puts e t used =
       let k : used + i + 1 ≡ used + (i + 1) = omega arith in
-      rw turn (turn-put e .puts t (used + i) ∙ ap (λ (m : ℕ). putAll tone (putGiven t (used + i) (row i)) m (tonesOf (rowsFrom row (i + 1) (n - (i + 1))))) k)
+      rw turn (turn-put e .puts t (used + i) ∙ ap (λ (m : ℕ). putAll tone (putGiven t (used + i) (row i)) m (partTones (rowsFrom row (i + 1) (n - (i + 1))))) k)
 
 -- rows that are all given
 pub all-given : (row : ℕ → Row) → ((j : ℕ) → isGiven (row j) ≡ true) → (i n : ℕ) → isTones (rowsFrom row i n) ≡ true
@@ -112,8 +112,8 @@ pub end-tones : (row : ℕ → Row) (n : ℕ) → isTones (rowsFrom row n (n - n
 unfolding rowsFrom isTones
 end-tones row n = let e : n - n ≡ 0 = omega arith in rw e
 
-pub end-put : (row : ℕ → Row) (n k : ℕ) (t : List ℕ) → putAll tone t k (tonesOf (rowsFrom row n (n - n))) ≡ t
-unfolding rowsFrom tonesOf putAll
+pub end-put : (row : ℕ → Row) (n k : ℕ) (t : List ℕ) → putAll tone t k (partTones (rowsFrom row n (n - n))) ≡ t
+unfolding rowsFrom partTones putAll
 end-put row n k t = let e : n - n ≡ 0 = omega arith in rw e
 
 -- what the tests of a part say
@@ -126,8 +126,8 @@ some-bits zero totd e h = absurd (omega (arith, ltb-false 1 totd e))
 some-bits (suc n) totd e h = omega arith
 
 -- a part whose answer is known
-pub told-rows : (p : Part) {n : ℕ} → judgedOf p ≡ judged.Rows n → (p ≡ tones (tonesOf p)) × (length (tonesOf p) ≡ n)
-unfolding judgedOf tonesOf
+pub told-rows : (p : Part) {n : ℕ} → judgedOf p ≡ judged.Rows n → (p ≡ tones (partTones p)) × (length (partTones p) ≡ n)
+unfolding judgedOf partTones
 told-rows refused e = absurd (let z : _≡_ {A = ℕ} 0 1 = cc in omega arith)
 told-rows stops e = absurd (let z : _≡_ {A = ℕ} 0 1 = cc in omega arith)
 told-rows (tones ts) e = (refl, cc)
@@ -145,8 +145,8 @@ told-stop stops e = refl
 told-stop (tones ts) e = absurd (let z : _≡_ {A = ℕ} 0 1 = cc in omega arith)
 
 -- n rows that are tones are n tones
-pub rowed-length : {n : ℕ} {p : Part} → Rowed n p → isTones p ≡ true → length (tonesOf p) ≡ n
-unfolding isTones tonesOf
+pub rowed-length : {n : ℕ} {p : Part} → Rowed n p → isTones p ≡ true → length (partTones p) ≡ n
+unfolding isTones partTones
 rowed-length none e = absurd (differ (sym e))
 rowed-length (all h) e = h
 
@@ -179,32 +179,32 @@ module _ (s : List ℕ) (g : GeneralizedData) where
       record { ready = some-pulses (g .npp) p; rows = rw (z, p) }
 
   -- where the data part is tones, there are symbols, of fewer than 8 bits
-  module _ (e : isTones (dataOf s g) ≡ true) where
+  module _ (e : isTones (dataPart s g) ≡ true) where
     used : eqb (g .totd) 0 ≡ false
-    unfolding dataOf
+    unfolding dataPart
     used = passes (eqb (g .totd) 0) _ e
 
     narrow : leb 8 (g .nb) ≡ false
-    unfolding dataOf
+    unfolding dataPart
     narrow = passes (leb 8 (g .nb)) _ (rw used at e)
 
     by-pulses : isTones (eqb (g .npd) 2 ⇒ singlesOf s g ∣ eqb (g .npd) 1 ⇒ pairsOf s g ∣ stops) ≡ true
-    unfolding dataOf
+    unfolding dataPart
     by-pulses = rw narrow at (rw used at e)
 
     some : 0 < g .totd
     some = let z = eqb-false (g .totd) 0 used in omega arith
 
-    pub singles-sorted : g .npd ≡ 2 → Sorted ((0 < g .totd) × (0 < g .npd) × (0 < g .nb) × (g .nb < 8)) (singleRow s g) (g .totd) (dataOf s g)
-    unfolding dataOf singlesOf
+    pub singles-sorted : g .npd ≡ 2 → Sorted ((0 < g .totd) × (0 < g .npd) × (0 < g .nb) × (g .nb < 8)) (singleRow s g) (g .totd) (dataPart s g)
+    unfolding dataPart singlesOf
     singles-sorted h =
         let p = eq-eqb (g .npd) 2 h in
         let b = passes (eqb (g .nb) 0) _ (rw p at by-pulses) in
         let z = eqb-false (g .nb) 0 b in
         record { ready = (some, omega arith, omega arith, leb-false 8 (g .nb) narrow); rows = rw (used, narrow, p, b) }
 
-    pub pairs-sorted : (g .npd ≡ 2 → ⊥) → Sorted ((0 < g .totd) × (0 < g .npd) × (1 < g .totd → 0 < g .nb) × (g .nb < 8)) (pairRow s g) (g .totd / 2) (dataOf s g)
-    unfolding dataOf pairsOf isTones
+    pub pairs-sorted : (g .npd ≡ 2 → ⊥) → Sorted ((0 < g .totd) × (0 < g .npd) × (1 < g .totd → 0 < g .nb) × (g .nb < 8)) (pairRow s g) (g .totd / 2) (dataPart s g)
+    unfolding dataPart pairsOf isTones
     pairs-sorted h =
         let p = ne-eqb (g .npd) 2 h in
         let l = rw p at by-pulses in
@@ -218,9 +218,9 @@ module _ {Ready : Type 0} {row : ℕ → Row} {n : ℕ} {p : Part} (o : Sorted R
   pub sorted-tones : isTones (rowsFrom row 0 n) ≡ true
   sorted-tones = rw (o .rows) at e
 
-  pub sorted-count : {room : ℕ} → length (tonesOf p) ≤ room → n ≤ room
+  pub sorted-count : {room : ℕ} → length (partTones p) ≤ room → n ≤ room
   sorted-count h =
-      let l = rowed-length (rowed row 0 n) sorted-tones in omega (arith, ap (λ (q : Part). length (tonesOf q)) (o .rows))
+      let l = rowed-length (rowed row 0 n) sorted-tones in omega (arith, ap (λ (q : Part). length (partTones q)) (o .rows))
 
 pub told-tones : (p : Part) {n : ℕ} → judgedOf p ≡ judged.Rows n → isTones p ≡ true
 unfolding isTones

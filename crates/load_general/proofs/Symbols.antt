@@ -8,12 +8,12 @@ use native.Mathlib.Nat.{suc-mul, mul-comm, mul-assoc, mul-le-mul-right, mul-lt-m
 use lib.ListN.{length, getD, set}
 use lib.Seq.{getD-set-same, getD-set-other}
 use borrow.Author.Tests.{ne-eqb}
-use Rattle.law_base.specs.Numbers.{lt-or-ge}
+use Rattle.law_base.proofs.Numbers.{lt-or-ge}
 use Rattle.cut_grammar.specs.declared.GeneralizedData.{GeneralizedData}
 use Rattle.cut_grammar.specs.Grammar.{heldIf}
 use Rattle.cut_grammar.specs.Places.{Places}
 use Rattle.load_general.specs.General.{Symbol, symbolAt}
-use Rattle.load_general.specs.Held.{Kept, pulsesOf, symbolOf}
+use Rattle.load_general.specs.Held.{Kept, symbolWords, symbolOf}
 
 -- an alphabet in use is there
 held : (uses size : ℕ) → 0 < uses → heldIf uses size ≡ size
@@ -31,7 +31,7 @@ pub below : (i n w : ℕ) → i < n → i * w + w ≤ n * w
 below i n w h = omega (arith, mul-le-mul-right w h, suc-mul i w)
 
 -- one symbol more
-pub kept-more : (s : List ℕ) (place pulses i : ℕ) (a : List (List ℕ)) (row : List ℕ) → Kept s place pulses i a → i < length a → row ≡ pulsesOf (symbolAt s place pulses i) → Kept s place pulses (i + 1) (set a i row)
+pub kept-more : (s : List ℕ) (place pulses i : ℕ) (a : List (List ℕ)) (row : List ℕ) → Kept s place pulses i a → i < length a → row ≡ symbolWords (symbolAt s place pulses i) → Kept s place pulses (i + 1) (set a i row)
 kept-more s place pulses i a row k h e j l =
     ⊎-elim
     (λ (b : j < i). getD-set-other a i j row [] (λ q. omega arith) ∙ k j b)
@@ -54,8 +54,8 @@ pub two-inside : (s : List ℕ) (g : GeneralizedData) → Places s g → 0 < g .
 two-inside s g p h a n = rw (a, n) at (data-inside s g p h)
 
 -- a symbol as the code keeps it, and back again
-pub symbol-back : {w : List ℕ} {y : Symbol} → w ≡ pulsesOf y → symbolOf w ≡ y
-unfolding symbolOf pulsesOf
+pub symbol-back : {w : List ℕ} {y : Symbol} → w ≡ symbolWords y → symbolOf w ≡ y
+unfolding symbolOf symbolWords
 symbol-back e = rw e
 
 -- what an array that holds an alphabet has at a symbol's number

@@ -22,8 +22,8 @@ symbolAt s place n i =
     let at = place + i * (1 + n * 2) + 1 in
     record { first = leAt s at 2; second = ltb 1 n ⇒ leAt s (at + 2) 2 ∣ 0 }
 
-abbrev pub toneOf : ℕ → ℕ → ℕ → Tone
-toneOf num len1 len2 = record { num = num; len1 = len1; len2 = len2; wave = 0 }
+abbrev pub plainTone : ℕ → ℕ → ℕ → Tone
+plainTone num len1 len2 = record { num = num; len1 = len1; len2 = len2; wave = 0 }
 
 -- one part's answer: the piece is refused, it is a stop block, or the part is these tones
 pub data Part : Type 0 where
@@ -46,8 +46,8 @@ rowsFrom row i (suc n) = before (row i) (rowsFrom row (i + 1) n)
 -- one pulse, or second pulse 0, gives (repeat + 1)/2 cycles, refused with repeat 65,535; two give repeat cycles
 unfoldable pub cycles : Symbol → ℕ → Row
 cycles y repeat =
-    eqb (y .second) 0 ⇒ (eqb repeat 65535 ⇒ Refused ∣ Gives (toneOf ((repeat + 1) / 2) (y .first) (y .first)))
-    ∣ Gives (toneOf repeat (y .first) (y .second))
+    eqb (y .second) 0 ⇒ (eqb repeat 65535 ⇒ Refused ∣ Gives (plainTone ((repeat + 1) / 2) (y .first) (y .first)))
+    ∣ Gives (plainTone repeat (y .first) (y .second))
 
 -- pilot entry i: a symbol's number and its repetitions
 unfoldable pub entrySymbol : List ℕ → GeneralizedData → ℕ → ℕ
@@ -79,12 +79,12 @@ ordinary s g =
     eqb (g .asd) 2 && (eqb (g .npd) 2 && (equalHalves (symbolAt s (g .symbols) 2 0) && equalHalves (symbolAt s (g .symbols) 2 1)))
 
 -- last bits totd mod 8 or 8
-unfoldable pub lastBits : ℕ → ℕ
-lastBits totd = eqb (totd % 8) 0 ⇒ 8 ∣ totd % 8
+unfoldable pub usedBits : ℕ → ℕ
+usedBits totd = eqb (totd % 8) 0 ⇒ 8 ∣ totd % 8
 
 -- the symbol number at a bit of the data bytes: the byte shifted right by 7 - r, r the bit's place in its byte, less `more`, cut to nb bits
-unfoldable pub numberAt : List ℕ → GeneralizedData → ℕ → ℕ → ℕ
-numberAt s g bit more = getD s (g .from + bit / 8) 0 / 2 ^ (7 - bit % 8 - more) % 2 ^ (g .nb)
+unfoldable pub symbolNumber : List ℕ → GeneralizedData → ℕ → ℕ → ℕ
+symbolNumber s g bit more = getD s (g .from + bit / 8) 0 / 2 ^ (7 - bit % 8 - more) % 2 ^ (g .nb)
 
 abbrev pub dataSymbol : List ℕ → GeneralizedData → ℕ → Symbol
 dataSymbol s g b = symbolAt s (g .symbols) (g .npd) b
@@ -92,18 +92,18 @@ dataSymbol s g b = symbolAt s (g .symbols) (g .npd) b
 -- npd 2: one tone for each symbol; refused with a used symbol not below asd
 unfoldable pub singleRow : List ℕ → GeneralizedData → ℕ → Row
 singleRow s g i =
-    let b = numberAt s g (i * g .nb) 0 in
+    let b = symbolNumber s g (i * g .nb) 0 in
     leb (g .asd) b ⇒ Refused
-    ∣ Gives (toneOf 1 (dataSymbol s g b .first) (dataSymbol s g b .second))
+    ∣ Gives (plainTone 1 (dataSymbol s g b .first) (dataSymbol s g b .second))
 
 -- npd 1: one tone for each pair, the second symbol shifted by one less at the first one's bit
 unfoldable pub pairRow : List ℕ → GeneralizedData → ℕ → Row
 pairRow s g i =
-    let b = numberAt s g (2 * i * g .nb) 0 in
-    let d = numberAt s g (2 * i * g .nb) 1 in
+    let b = symbolNumber s g (2 * i * g .nb) 0 in
+    let d = symbolNumber s g (2 * i * g .nb) 1 in
     leb (g .asd) b ⇒ Refused
     ∣ leb (g .asd) d ⇒ Refused
-    ∣ Gives (toneOf 1 (dataSymbol s g b .first) (dataSymbol s g d .first))
+    ∣ Gives (plainTone 1 (dataSymbol s g b .first) (dataSymbol s g d .first))
 
 -- nb 0 is refused with npd 2, and with npd 1 and totd above 1; an odd last symbol is dropped
 unfoldable pub singlesOf : List ℕ → GeneralizedData → Part
@@ -113,8 +113,8 @@ unfoldable pub pairsOf : List ℕ → GeneralizedData → Part
 pairsOf s g = (eqb (g .nb) 0 && ltb 1 (g .totd)) ⇒ refused ∣ rowsFrom (pairRow s g) 0 (g .totd / 2)
 
 -- the data part where it is no ordinary block: refused for totd 0 and nb 8; npd above 2 or 0, a stop block
-unfoldable pub dataOf : List ℕ → GeneralizedData → Part
-dataOf s g =
+unfoldable pub dataPart : List ℕ → GeneralizedData → Part
+dataPart s g =
     eqb (g .totd) 0 ⇒ refused
     ∣ leb 8 (g .nb) ⇒ refused
     ∣ eqb (g .npd) 2 ⇒ singlesOf s g
@@ -137,8 +137,8 @@ unfoldable pub withPilot : List ℕ → GeneralizedData → Part → Given
 withPilot s g refused = refused4
 withPilot s g stops = stop
 withPilot s g (tones ps) =
-    (ltb 0 (g .totd) && ordinary s g) ⇒ plain ps (symbolAt s (g .symbols) 2 0 .first) (symbolAt s (g .symbols) 2 1 .first) (lastBits (g .totd))
-    ∣ withData ps (dataOf s g)
+    (ltb 0 (g .totd) && ordinary s g) ⇒ plain ps (symbolAt s (g .symbols) 2 0 .first) (symbolAt s (g .symbols) 2 1 .first) (usedBits (g .totd))
+    ∣ withData ps (dataPart s g)
 
 unfoldable pub generalOf : List ℕ → GeneralizedData → Given
 generalOf s g = withPilot s g (pilotOf s g)

@@ -14,12 +14,12 @@ pub record Held (s : List ℕ) (g : GeneralizedData) : Type 0 where
   pub asd : g .asd ≤ 255
 
 -- a symbol as the code keeps it
-unfoldable pub pulsesOf : Symbol → List ℕ
-pulsesOf y = y .first ∷ y .second ∷ []
+unfoldable pub symbolWords : Symbol → List ℕ
+symbolWords y = y .first ∷ y .second ∷ []
 
 unfoldable pub symbolOf : List ℕ → Symbol
 symbolOf w = record { first = getD w 0 0; second = getD w 1 0 }
 
 -- an array that holds the n symbols of an alphabet
 abbrev pub Kept : List ℕ → ℕ → ℕ → ℕ → List (List ℕ) → Type 0
-Kept s place pulses n a = (i : ℕ) → i < n → getD a i [] ≡ pulsesOf (symbolAt s place pulses i)
+Kept s place pulses n a = (i : ℕ) → i < n → getD a i [] ≡ symbolWords (symbolAt s place pulses i)

@@ -29,10 +29,10 @@ isTones refused = false
 isTones stops = false
 isTones (tones ts) = true
 
-unfoldable pub tonesOf : Part → List Tone
-tonesOf refused = []
-tonesOf stops = []
-tonesOf (tones ts) = ts
+unfoldable pub partTones : Part → List Tone
+partTones refused = []
+partTones stops = []
+partTones (tones ts) = ts
 
 -- a row is a tone or refused; a tone is put at row i
 unfoldable pub isGiven : Row → Bool

@@ -7,9 +7,9 @@ ghost use Prim.Native.Nat.{ℕ, _+_, _*_, _-_, _/_, _%_, _^_, _≤_, _<_};
 ghost use lib.ListN.{length, getD};
 ghost use Rattle.cut_fields.specs.Field.{leAt};
 ghost use Rattle.load_general.specs.declared.Row.{Row};
-ghost use Rattle.load_general.specs.General.{symbolAt, rowsFrom, numberAt};
+ghost use Rattle.load_general.specs.General.{symbolAt, rowsFrom, symbolNumber};
 ghost use Rattle.load_general.specs.Made.{judgedOf, isTones};
-ghost use Rattle.load_general.specs.Held.{Held, Kept, pulsesOf};
+ghost use Rattle.load_general.specs.Held.{Held, Kept, symbolWords};
 
 // The symbols of an alphabet at the most.
 pub const SYMBOLS: usize = 255;
@@ -62,7 +62,7 @@ fn pulse(tape: &[u8], at: u64) -> u16
 // Symbol i of an alphabet, a flag byte, which the source ignores, and n pulses, of which two are kept; its callers know it to lie in the tape.
 pub fn symbol(tape: &[u8], place: u64, n: u32, i: u32) -> [u16; 2]
     requires { ⌜ (0 < n) × (place + i * (1 + n * 2) + (1 + n * 2) ≤ length (now tape)) ⌝ }
-    ensures { λ r. ⌜ r ≡ pulsesOf (symbolAt (now (tape .entry)) place n i) ⌝ }
+    ensures { λ r. ⌜ r ≡ symbolWords (symbolAt (now (tape .entry)) place n i) ⌝ }
 {
     let at = place + i as u64 * (1 + n as u64 * 2) + 1;
     let first = pulse(tape, at);
@@ -107,7 +107,7 @@ fn shift(bit: u32, more: u32) -> u32
 // The symbol number at a bit of the data bytes, or `more` bits further down its byte; its callers know the piece to be one of this tape, and the bits to lie in it.
 pub fn number_at(tape: &[u8], g: GeneralizedData, bit: u32, more: u32) -> u32
     requires { ⌜ Held (now tape) g × (g .nb < 8) × (bit < g .nb * g .totd) × (bit % 8 + more ≤ 7) ⌝ }
-    ensures { λ r. ⌜ r ≡ numberAt (now (tape .entry)) g bit more ⌝ }
+    ensures { λ r. ⌜ r ≡ symbolNumber (now (tape .entry)) g bit more ⌝ }
 {
     let byte = byte_at(tape, g.from + bit as u64 / 8);
     (byte >> shift(bit, more)) & (power(g.nb) - 1)

@@ -9,7 +9,7 @@ ghost use mathlib.Core.Path.{_≡_};
 ghost use mathlib.Core.Bool.{_&&_};
 ghost use Prim.Native.Nat.{_/_, _^_, _<_};
 ghost use lib.Dec.{leb, ltb, eqb};
-ghost use Rattle.load_general.specs.General.{singleRow, pairRow, rowsFrom, singlesOf, pairsOf, dataOf};
+ghost use Rattle.load_general.specs.General.{singleRow, pairRow, rowsFrom, singlesOf, pairsOf, dataPart};
 ghost use Rattle.load_general.specs.Made.{judgedOf, isGiven, isTones};
 ghost use Rattle.load_general.specs.Held.{Held};
 
@@ -109,7 +109,7 @@ fn pairs_part(tape: &[u8], g: GeneralizedData) -> Judged
 // What the data part comes to where it is no ordinary data block; its callers know the piece to be one of this tape.
 pub fn data_part(tape: &[u8], g: GeneralizedData) -> Judged
     requires { ⌜ Held (now tape) g ⌝ }
-    ensures { λ r. ⌜ r ≡ judgedOf (dataOf (now (tape .entry)) g) ⌝ }
+    ensures { λ r. ⌜ r ≡ judgedOf (dataPart (now (tape .entry)) g) ⌝ }
 {
     if g.totd == 0 {
         return Judged::Refused;

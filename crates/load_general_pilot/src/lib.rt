@@ -13,13 +13,13 @@ ghost use mathlib.Core.Bool.{_||_};
 ghost use Prim.Native.Nat.{_≤_, _<_};
 ghost use lib.Dec.{eqb};
 ghost use Rattle.load_general.specs.declared.Row.the-variants.{Gives};
-ghost use Rattle.load_general.specs.General.{toneOf, cycles, entryRow, rowsFrom, pilotOf};
+ghost use Rattle.load_general.specs.General.{plainTone, cycles, entryRow, rowsFrom, pilotOf};
 ghost use Rattle.load_general.specs.Made.{judgedOf, isGiven, isTones};
 ghost use Rattle.load_general.specs.Held.{Held, Kept, symbolOf};
 
 // A row of cycles.
 fn gives(num: u32, len1: u16, len2: u16) -> Row
-    ensures { λ r. ⌜ r ≡ Gives (toneOf num len1 len2) ⌝ }
+    ensures { λ r. ⌜ r ≡ Gives (plainTone num len1 len2) ⌝ }
 {
     Row::Gives(Tone {
         num: num as u64,

@@ -12,7 +12,7 @@ use Rattle.rows.specs.declared.Tone.{Tone}
 use Rattle.rows.proofs.Tables.{put-all-append}
 use Rattle.cut_grammar.specs.declared.GeneralizedData.{GeneralizedData}
 use Rattle.load_general.specs.declared.Made.the-variants as made
-use Rattle.load_general.specs.General.{Part, refused, stops, tones, symbolAt, ordinary, lastBits, dataOf, pilotOf, refused4, stop, plain, toned, withData, withPilot, generalOf}
+use Rattle.load_general.specs.General.{Part, refused, stops, tones, symbolAt, ordinary, usedBits, dataPart, pilotOf, refused4, stop, plain, toned, withData, withPilot, generalOf}
 use Rattle.load_general.specs.Made.{madeOf, leaves, Done}
 use Rattle.load_general.proofs.Parts.{differ}
 
@@ -79,11 +79,11 @@ module _ (s : List ℕ) (g : GeneralizedData) where
   pilot-stop e = rw e
 
   module _ {p : Part} (ps : List Tone) (e : p ≡ tones ps) where
-    pub pilot-plain : (ltb 0 (g .totd) && ordinary s g) ≡ true → withPilot s g p ≡ plain ps (symbolAt s (g .symbols) 2 0 .first) (symbolAt s (g .symbols) 2 1 .first) (lastBits (g .totd))
+    pub pilot-plain : (ltb 0 (g .totd) && ordinary s g) ≡ true → withPilot s g p ≡ plain ps (symbolAt s (g .symbols) 2 0 .first) (symbolAt s (g .symbols) 2 1 .first) (usedBits (g .totd))
     unfolding withPilot
     pilot-plain b = rw (e, b)
 
-    pub pilot-data : (ltb 0 (g .totd) && ordinary s g) ≡ false → withPilot s g p ≡ withData ps (dataOf s g)
+    pub pilot-data : (ltb 0 (g .totd) && ordinary s g) ≡ false → withPilot s g p ≡ withData ps (dataPart s g)
     unfolding withPilot
     pilot-data b = rw (e, b)
 

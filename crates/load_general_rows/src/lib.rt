@@ -24,8 +24,8 @@ ghost use Rattle.rows.specs.Rows.{tone, toneMost};
 ghost use Rattle.load_general.specs.declared.Row.the-variants.{Gives};
 ghost use Rattle.load_general.specs.declared.Judged.the-variants.{Rows};
 ghost use Rattle.load_general.specs.declared.Made.the-variants.{Data};
-ghost use Rattle.load_general.specs.General.{toneOf, entryRow, singleRow, pairRow, rowsFrom, pilotOf, equalHalves, ordinary, lastBits, dataOf, withData, withPilot, generalOf};
-ghost use Rattle.load_general.specs.Made.{judgedOf, isGiven, putGiven, isTones, tonesOf, Done};
+ghost use Rattle.load_general.specs.General.{plainTone, entryRow, singleRow, pairRow, rowsFrom, pilotOf, equalHalves, ordinary, usedBits, dataPart, withData, withPilot, generalOf};
+ghost use Rattle.load_general.specs.Made.{judgedOf, isGiven, putGiven, isTones, partTones, Done};
 ghost use Rattle.load_general.specs.Held.{Held, Kept, symbolOf};
 
 // Whether both halves of a symbol are equal.
@@ -69,7 +69,7 @@ fn put_row(tones: &mut [u64], i: usize, r: Row)
 // The pilot entries, all of which are given and fit, from row `used` on.
 fn put_entries(tape: &[u8], g: GeneralizedData, tones: &mut [u64], used: usize)
     requires { ⌜ Held (now tape) g × (0 < g .totp) × (0 < g .npp) × (isTones (rowsFrom (entryRow (now tape) g) 0 (g .totp)) ≡ true) × (g .totp ≤ capacityOf tone toneMost (now tones) - used) ⌝ }
-    ensures { λ _. ⌜ now (tones .exit) ≡ putAll tone (now (tones .entry)) used (tonesOf (rowsFrom (entryRow (now (tape .entry)) g) 0 (g .totp))) ⌝ }
+    ensures { λ _. ⌜ now (tones .exit) ≡ putAll tone (now (tones .entry)) used (partTones (rowsFrom (entryRow (now (tape .entry)) g) 0 (g .totp))) ⌝ }
 {
     let a = alphabet(tape, g.pilot, g.asp, g.npp);
     let mut i = 0;
@@ -81,7 +81,7 @@ fn put_entries(tape: &[u8], g: GeneralizedData, tones: &mut [u64], used: usize)
 
 // One cycle.
 fn one_cycle(len1: u16, len2: u16) -> Tone
-    ensures { λ r. ⌜ r ≡ toneOf 1 len1 len2 ⌝ }
+    ensures { λ r. ⌜ r ≡ plainTone 1 len1 len2 ⌝ }
 {
     Tone {
         num: 1,
@@ -117,7 +117,7 @@ fn pair_tone(tape: &[u8], a: &[[u16; 2]; SYMBOLS], g: GeneralizedData, i: u32) -
 // The data symbols, all of which are given and fit, from row `used` on.
 fn put_singles(tape: &[u8], g: GeneralizedData, tones: &mut [u64], used: usize)
     requires { ⌜ Held (now tape) g × (0 < g .totd) × (0 < g .npd) × (0 < g .nb) × (g .nb < 8) × (isTones (rowsFrom (singleRow (now tape) g) 0 (g .totd)) ≡ true) × (g .totd ≤ capacityOf tone toneMost (now tones) - used) ⌝ }
-    ensures { λ _. ⌜ now (tones .exit) ≡ putAll tone (now (tones .entry)) used (tonesOf (rowsFrom (singleRow (now (tape .entry)) g) 0 (g .totd))) ⌝ }
+    ensures { λ _. ⌜ now (tones .exit) ≡ putAll tone (now (tones .entry)) used (partTones (rowsFrom (singleRow (now (tape .entry)) g) 0 (g .totd))) ⌝ }
 {
     let a = alphabet(tape, g.symbols, g.asd, g.npd);
     let mut i = 0;
@@ -130,7 +130,7 @@ fn put_singles(tape: &[u8], g: GeneralizedData, tones: &mut [u64], used: usize)
 // The pairs of data symbols, all of which are given and fit, from row `used` on.
 fn put_pairs(tape: &[u8], g: GeneralizedData, tones: &mut [u64], used: usize)
     requires { ⌜ Held (now tape) g × (0 < g .totd) × (0 < g .npd) × (1 < g .totd → 0 < g .nb) × (g .nb < 8) × (isTones (rowsFrom (pairRow (now tape) g) 0 (g .totd / 2)) ≡ true) × (g .totd / 2 ≤ capacityOf tone toneMost (now tones) - used) ⌝ }
-    ensures { λ _. ⌜ now (tones .exit) ≡ putAll tone (now (tones .entry)) used (tonesOf (rowsFrom (pairRow (now (tape .entry)) g) 0 (g .totd / 2))) ⌝ }
+    ensures { λ _. ⌜ now (tones .exit) ≡ putAll tone (now (tones .entry)) used (partTones (rowsFrom (pairRow (now (tape .entry)) g) 0 (g .totd / 2))) ⌝ }
 {
     let a = alphabet(tape, g.symbols, g.asd, g.npd);
     let n = pairs_of(g.totd);
@@ -155,8 +155,8 @@ fn room_for(tones: &[u64], used: usize, rows: u64) -> bool
 
 // The pilot's rows, which are tones and fit.
 fn put_pilot(tape: &[u8], g: GeneralizedData, tones: &mut [u64], used: usize)
-    requires { ⌜ Held (now tape) g × (isTones (pilotOf (now tape) g) ≡ true) × (length (tonesOf (pilotOf (now tape) g)) ≤ capacityOf tone toneMost (now tones) - used) ⌝ }
-    ensures { λ _. ⌜ now (tones .exit) ≡ putAll tone (now (tones .entry)) used (tonesOf (pilotOf (now (tape .entry)) g)) ⌝ }
+    requires { ⌜ Held (now tape) g × (isTones (pilotOf (now tape) g) ≡ true) × (length (partTones (pilotOf (now tape) g)) ≤ capacityOf tone toneMost (now tones) - used) ⌝ }
+    ensures { λ _. ⌜ now (tones .exit) ≡ putAll tone (now (tones .entry)) used (partTones (pilotOf (now (tape .entry)) g)) ⌝ }
 {
     if 0 < g.totp {
         put_entries(tape, g, tones, used)
@@ -165,8 +165,8 @@ fn put_pilot(tape: &[u8], g: GeneralizedData, tones: &mut [u64], used: usize)
 
 // The data's rows, which are tones and fit.
 fn put_data(tape: &[u8], g: GeneralizedData, tones: &mut [u64], used: usize)
-    requires { ⌜ Held (now tape) g × (isTones (dataOf (now tape) g) ≡ true) × (length (tonesOf (dataOf (now tape) g)) ≤ capacityOf tone toneMost (now tones) - used) ⌝ }
-    ensures { λ _. ⌜ now (tones .exit) ≡ putAll tone (now (tones .entry)) used (tonesOf (dataOf (now (tape .entry)) g)) ⌝ }
+    requires { ⌜ Held (now tape) g × (isTones (dataPart (now tape) g) ≡ true) × (length (partTones (dataPart (now tape) g)) ≤ capacityOf tone toneMost (now tones) - used) ⌝ }
+    ensures { λ _. ⌜ now (tones .exit) ≡ putAll tone (now (tones .entry)) used (partTones (dataPart (now (tape .entry)) g)) ⌝ }
 {
     if g.npd == 2 {
         put_singles(tape, g, tones, used)
@@ -177,7 +177,7 @@ fn put_data(tape: &[u8], g: GeneralizedData, tones: &mut [u64], used: usize)
 
 // The bits of the last data byte.
 fn last_bits(totd: u32) -> u32
-    ensures { λ r. ⌜ r ≡ lastBits totd ⌝ }
+    ensures { λ r. ⌜ r ≡ usedBits totd ⌝ }
 {
     if totd % 8 == 0 { 8 } else { totd % 8 }
 }
@@ -218,8 +218,8 @@ fn tone_block(
     n: u32,
     m: u32,
 ) -> Made
-    requires { ⌜ Held (now tape) g × (judgedOf (pilotOf (now tape) g) ≡ Rows n) × (judgedOf (dataOf (now tape) g) ≡ Rows m) ⌝ }
-    ensures { λ r. ⌜ Done (withData (tonesOf (pilotOf (now (tape .entry)) g)) (dataOf (now (tape .entry)) g)) used (now (tones .entry)) (now (tones .exit)) r ⌝ }
+    requires { ⌜ Held (now tape) g × (judgedOf (pilotOf (now tape) g) ≡ Rows n) × (judgedOf (dataPart (now tape) g) ≡ Rows m) ⌝ }
+    ensures { λ r. ⌜ Done (withData (partTones (pilotOf (now (tape .entry)) g)) (dataPart (now (tape .entry)) g)) used (now (tones .entry)) (now (tones .exit)) r ⌝ }
 {
     let rows = n as u64 + m as u64;
     if room_for(tones, used, rows) {

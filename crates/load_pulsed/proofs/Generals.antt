@@ -23,11 +23,11 @@ use Rattle.load_state.specs.declared.State.{State}
 use Rattle.load_state.specs.declared.Halt.the-variants.{Refusal}
 use Rattle.load_state.specs.declared.Step.{Step}
 use Rattle.load_state.specs.declared.Step.the-variants.{No}
-use Rattle.load_state.specs.Parser.{Tape, no, _⟫_, withTones, addTones, addBlock}
+use Rattle.load_state.specs.Parser.{Parsed, no, _⟫_, withTones, addTones, addBlock}
 use Rattle.load_state.specs.Holds.{Holds, Gives, refuses, toneRoom, blockRoom}
 use Rattle.load_blocks.specs.declared.Origin.{Origin}
 use Rattle.load_blocks.specs.Adds.{Lent, addRows}
-use Rattle.load_blocks.specs.Sounds.{Sound, ms, bitsAt, noBits, lasts, rowFor, rowOf, addSound}
+use Rattle.load_blocks.specs.Sounds.{Sound, ms, dataBits, noBits, lasts, rowFor, rowOf, addSound}
 use Rattle.load_blocks.specs.Blocks.{dataSound, stopSound}
 use Rattle.load_blocks.specs.Deeds.{generalDeed, does}
 use Rattle.load_blocks.proofs.Laws.{one-sound}
@@ -96,11 +96,11 @@ module _ (room : ℕ) where
       (ts, refl, cc, l .0)
 
 -- rows that do not fit
-no-room : (lent : Lent) (origin : Origin) (d : Sound) (t : Tape) → lent .tones < length (t .tones) + length (d .tones) → addSound lent origin d t ≡ no (Refusal tonesFull)
+no-room : (lent : Lent) (origin : Origin) (d : Sound) (t : Parsed) → lent .tones < length (t .tones) + length (d .tones) → addSound lent origin d t ≡ no (Refusal tonesFull)
 unfolding addSound addRows addTones _⟫_
 no-room lent origin d t h = rw (lt-leb (length (t .tones) + length (d .tones)) (lent .tones) h)
 
-made-full : (lent : Lent) (model : ℕ) (origin : Origin) (g : GeneralizedData) (t : Tape) (given : Given) → Full ≡ madeOf (lent .tones - length (t .tones)) given → does lent model origin (generalDeed g given) t ≡ no (Refusal tonesFull)
+made-full : (lent : Lent) (model : ℕ) (origin : Origin) (g : GeneralizedData) (t : Parsed) (given : Given) → Full ≡ madeOf (lent .tones - length (t .tones)) given → does lent model origin (generalDeed g given) t ≡ no (Refusal tonesFull)
 unfolding madeOf does generalDeed
 made-full lent model origin g t refused4 e = absurd (let z : _≡_ {A = ℕ} 0 1 = cc in omega arith)
 made-full lent model origin g t stop e = absurd (let z : _≡_ {A = ℕ} 0 1 = cc in omega arith)
@@ -118,14 +118,14 @@ data-fits {given} {used} {tt = tt} d e = let m = made-data (capacityOf tone tone
 pub tones-fit : {given : Given} {used n : ℕ} {tt tt′ : List ℕ} {r : Made} → Done given used tt tt′ r → r ≡ Tones n → n ≤ capacityOf tone toneMost tt - used
 tones-fit {given} {used} {tt = tt} d e = let m = made-tones (capacityOf tone toneMost tt - used) given (sym e ∙ d .answer) in omega (arith, m .2, leb-true (length (m .0)) (capacityOf tone toneMost tt - used) (m .3))
 
-module _ {B N : ℕ} {s : State} {bt tt : List ℕ} {t : Tape} (h : Holds B N s bt tt t) where
+module _ {B N : ℕ} {s : State} {bt tt : List ℕ} {t : Parsed} (h : Holds B N s bt tt t) where
   room-left : capacityOf tone toneMost tt - s .tones ≡ toneRoom N - length (t .tones)
   room-left = rw (h .lenT, h .nt)
 
   -- rows put after the tape's own, and the block over them
   rows-then : {x : Step} {bt′ tt′ : List ℕ} {a : State} {b : Block} {n : ℕ} (origin : Origin) (d : Sound) → n ≡ length (d .tones) → length (d .tones) ≤ capacityOf tone toneMost tt - s .tones
       → tt′ ≡ putAll tone tt (s .tones) (d .tones) → length tt′ ≡ length tt → a ≡ withUsed (s .tones + n) s → b ≡ rowOf origin d (s .tones)
-      → ((u : Tape) → Holds B N a bt tt′ u → Gives B N x bt′ tt′ (addBlock (blockRoom B) b u)) → Gives B N x bt′ tt′ (addSound (lentOf B N) origin d t)
+      → ((u : Parsed) → Holds B N a bt tt′ u → Gives B N x bt′ tt′ (addBlock (blockRoom B) b u)) → Gives B N x bt′ tt′ (addSound (lentOf B N) origin d t)
   unfolding addSound addRows addTones _⟫_
   rows-then {tt′ = tt′} {n = n} origin d i f p l a b k =
       let ts = d .tones in
@@ -150,19 +150,19 @@ module _ {B N : ℕ} {s : State} {bt tt : List ℕ} {t : Tape} (h : Holds B N s 
         rw (q, w, one-sound (lentOf B N) origin stopSound t) k
 
     pub general-data : {x : Step} {bt′ : List ℕ} {n nil one last : ℕ} {a : State} {b : Block} → r ≡ Data n nil one last → length tt′ ≡ length tt → a ≡ withUsed (s .tones + n) s
-        → b ≡ rowFor origin (s .tones) n (bitsAt (g .from) (g .size) nil one last) (lasts (ms (g .pause))) 1
-        → ((u : Tape) → Holds B N a bt tt′ u → Gives B N x bt′ tt′ (addBlock (blockRoom B) b u)) → Gives B N x bt′ tt′ (does (lentOf B N) model origin (generalDeed g given) t)
+        → b ≡ rowFor origin (s .tones) n (dataBits (g .from) (g .size) nil one last) (lasts (ms (g .pause))) 1
+        → ((u : Parsed) → Holds B N a bt tt′ u → Gives B N x bt′ tt′ (addBlock (blockRoom B) b u)) → Gives B N x bt′ tt′ (does (lentOf B N) model origin (generalDeed g given) t)
     unfolding does generalDeed leaves rowOf
     general-data {nil = nil} {one} {last} e l a b k =
         let m = made-data (capacityOf tone toneMost tt - s .tones) given (sym e ∙ d .answer) in
         let ts = m .0 in
         let w : tt′ ≡ putAll tone tt (s .tones) ts = rw (m .1, m .3) at (d .table) in
-        let d = dataSound ts (bitsAt (g .from) (g .size) nil one last) (ms (g .pause)) in
-        rw (m .1, one-sound (lentOf B N) origin d t) (rows-then origin d (m .2) (leb-true (length ts) (capacityOf tone toneMost tt - s .tones) (m .3)) w l a (b ∙ ap (λ (i : ℕ). rowFor origin (s .tones) i (bitsAt (g .from) (g .size) nil one last) (lasts (ms (g .pause))) 1) (m .2)) k)
+        let d = dataSound ts (dataBits (g .from) (g .size) nil one last) (ms (g .pause)) in
+        rw (m .1, one-sound (lentOf B N) origin d t) (rows-then origin d (m .2) (leb-true (length ts) (capacityOf tone toneMost tt - s .tones) (m .3)) w l a (b ∙ ap (λ (i : ℕ). rowFor origin (s .tones) i (dataBits (g .from) (g .size) nil one last) (lasts (ms (g .pause))) 1) (m .2)) k)
 
     pub general-tones : {x : Step} {bt′ : List ℕ} {n : ℕ} {a : State} {b : Block} → r ≡ Tones n → length tt′ ≡ length tt → a ≡ withUsed (s .tones + n) s
         → b ≡ rowFor origin (s .tones) n noBits (lasts (ms (g .pause))) 1
-        → ((u : Tape) → Holds B N a bt tt′ u → Gives B N x bt′ tt′ (addBlock (blockRoom B) b u)) → Gives B N x bt′ tt′ (does (lentOf B N) model origin (generalDeed g given) t)
+        → ((u : Parsed) → Holds B N a bt tt′ u → Gives B N x bt′ tt′ (addBlock (blockRoom B) b u)) → Gives B N x bt′ tt′ (does (lentOf B N) model origin (generalDeed g given) t)
     unfolding does generalDeed leaves rowOf
     general-tones e l a b k =
         let m = made-tones (capacityOf tone toneMost tt - s .tones) given (sym e ∙ d .answer) in

@@ -13,7 +13,7 @@ use Rattle.rows.specs.Table.{get, tableOf, capacityOf, zeros}
 use Rattle.rows.specs.Rows.{block, blockMost}
 use Rattle.rows.proofs.Tables.{get-row}
 use Rattle.load_state.specs.declared.State.{State}
-use Rattle.load_state.specs.Parser.{Tape}
+use Rattle.load_state.specs.Parser.{Parsed}
 use Rattle.load_state.specs.Holds.{Holds}
 use Rattle.cut_grammar.specs.declared.Heading.{Heading}
 use Rattle.cut_grammar.specs.Cut.{headAt}
@@ -21,7 +21,7 @@ use Rattle.load_source.specs.declared.Failure.{Failure}
 use Rattle.load_source.specs.declared.Reading.{Reading}
 use Rattle.load_source.specs.declared.Reading.the-variants.{Done, Failed, Refused}
 use Rattle.load_blocks.specs.Adds.{Lent}
-use Rattle.load_source.specs.Source.{Read, done, failed, refused, tooManyBits, judged, headed, readTzx}
+use Rattle.load_source.specs.Source.{Verdict, done, failed, refused, tooManyBits, bitsJudged, headed, readTzx}
 use Rattle.load_source.specs.Does.{Finds, ends, fails, refuses}
 
 bits-more : (rs : List Block) (i : ℕ) (d : Block) → i < length rs → tooManyBits (drop i rs) ≡ ((ltb 0 (getD rs i d .size) && ltb 8 (getD rs i d .last)) ⇒ true ∣ tooManyBits (drop (i + 1) rs))
@@ -46,12 +46,12 @@ bits-none [] (suc i) h = refl
 bits-none (r ∷ rs) zero h = absurd (omega arith)
 bits-none (r ∷ rs) (suc i) h = bits-none rs i (omega arith)
 
-module _ {B N : ℕ} {r : Reading} {bt tt : List ℕ} {o : Read} (f : Finds B N r bt tt o) where
+module _ {B N : ℕ} {r : Reading} {bt tt : List ℕ} {o : Verdict} (f : Finds B N r bt tt o) where
   -- a reading that is done holds a tape
-  pub found-done : {s : State} → r ≡ Done s → (t : Tape) × (o ≡ done t) × Holds B N s bt tt t
+  pub found-done : {s : State} → r ≡ Done s → (t : Parsed) × (o ≡ done t) × Holds B N s bt tt t
   found-done = by-cases f
     where
-      by-cases : {r : Reading} {o : Read} {s : State} → Finds B N r bt tt o → r ≡ Done s → (t : Tape) × (o ≡ done t) × Holds B N s bt tt t
+      by-cases : {r : Reading} {o : Verdict} {s : State} → Finds B N r bt tt o → r ≡ Done s → (t : Parsed) × (o ≡ done t) × Holds B N s bt tt t
       by-cases {s = s} (ends {s = s₁} {t = t} h) e = let q : s₁ ≡ s = cc in (t, refl, rw q at h)
       by-cases (fails) e = let z : _≡_ {A = ℕ} 0 1 = cc in absurd (omega arith)
       by-cases (refuses) e = let z : _≡_ {A = ℕ} 0 1 = cc in absurd (omega arith)
@@ -59,7 +59,7 @@ module _ {B N : ℕ} {r : Reading} {bt tt : List ℕ} {o : Read} (f : Finds B N 
   pub found-failed : {x : Failure} → r ≡ Failed x → o ≡ failed x
   found-failed = by-cases f
     where
-      by-cases : {r : Reading} {o : Read} {x : Failure} → Finds B N r bt tt o → r ≡ Failed x → o ≡ failed x
+      by-cases : {r : Reading} {o : Verdict} {x : Failure} → Finds B N r bt tt o → r ≡ Failed x → o ≡ failed x
       by-cases (ends h) e = let z : _≡_ {A = ℕ} 0 1 = cc in absurd (omega arith)
       by-cases {x = x} (fails {f = y}) e = let q : y ≡ x = cc in ap failed q
       by-cases (refuses) e = let z : _≡_ {A = ℕ} 0 1 = cc in absurd (omega arith)
@@ -67,7 +67,7 @@ module _ {B N : ℕ} {r : Reading} {bt tt : List ℕ} {o : Read} (f : Finds B N 
   pub found-refused : {k : ℕ} → r ≡ Refused k → o ≡ refused k
   found-refused = by-cases f
     where
-      by-cases : {r : Reading} {o : Read} {k : ℕ} → Finds B N r bt tt o → r ≡ Refused k → o ≡ refused k
+      by-cases : {r : Reading} {o : Verdict} {k : ℕ} → Finds B N r bt tt o → r ≡ Refused k → o ≡ refused k
       by-cases (ends h) e = let z : _≡_ {A = ℕ} 0 1 = cc in absurd (omega arith)
       by-cases (fails) e = let z : _≡_ {A = ℕ} 0 1 = cc in absurd (omega arith)
       by-cases {k = k} (refuses {k = j}) e = let q : j ≡ k = cc in ap refused q
@@ -77,24 +77,24 @@ module _ {B N : ℕ} {r : Reading} {bt tt : List ℕ} {o : Read} (f : Finds B N 
   done-room e = let h = found-done e .2 in rw (h .lenB) (omega (arith, h .nb, h .roomB))
 
   module _ {s : State} (e : r ≡ Done s) {b : Bool} (k : (B : ℕ) (rs : List Block) → s .blocks ≡ length rs → bt ≡ tableOf block rs B → b ≡ tooManyBits rs) where
-    pub judged-seven : b ≡ true → Finds B N (Refused lastBits) bt tt (judged o)
-    unfolding judged
+    pub judged-seven : b ≡ true → Finds B N (Refused lastBits) bt tt (bitsJudged o)
+    unfolding bitsJudged
     judged-seven q =
         let d = found-done e in
         rw (d .1, sym (k B (d .0 .blocks) (d .2 .nb) (d .2 .isB)) ∙ q) refuses
 
-    pub judged-done : b ≡ false → Finds B N (Done s) bt tt (judged o)
-    unfolding judged
+    pub judged-done : b ≡ false → Finds B N (Done s) bt tt (bitsJudged o)
+    unfolding bitsJudged
     judged-done q =
         let d = found-done e in
         rw (d .1, sym (k B (d .0 .blocks) (d .2 .nb) (d .2 .isB)) ∙ q) (ends (d .2))
 
-  pub judged-failed : {x : Failure} → r ≡ Failed x → Finds B N (Failed x) bt tt (judged o)
-  unfolding judged
+  pub judged-failed : {x : Failure} → r ≡ Failed x → Finds B N (Failed x) bt tt (bitsJudged o)
+  unfolding bitsJudged
   judged-failed e = rw (found-failed e) fails
 
-  pub judged-refused : {k : ℕ} → r ≡ Refused k → Finds B N (Refused k) bt tt (judged o)
-  unfolding judged
+  pub judged-refused : {k : ℕ} → r ≡ Refused k → Finds B N (Refused k) bt tt (bitsJudged o)
+  unfolding bitsJudged
   judged-refused e = rw (found-refused e) refuses
 
 module _ (lent : Lent) (s : List ℕ) (model : ℕ) where

@@ -4,17 +4,17 @@ use mathlib.Core.List.{List, [], _∷_}
 use Rattle.cut_grammar.specs.declared.Piece.{Piece}
 use Rattle.cut_grammar.specs.declared.Piece.the-variants.{Standard, Turbo, Tone as PureTone, Pulses, Pure, Generalized, Pause, GroupStart, GroupEnd, LoopStart, LoopEnd, Stop48, Text, Message, Archive, Hardware, Custom, Glue}
 use Rattle.load_general.specs.General.{generalOf}
-use Rattle.load_blocks.specs.Sounds.{ms, bitsAt}
-use Rattle.load_blocks.specs.Blocks.{isHeader, standardSound, turboSound, pureToneTones, toneSound, pairSounds, pureSound, pauseSound}
+use Rattle.load_blocks.specs.Sounds.{ms, dataBits}
+use Rattle.load_blocks.specs.Blocks.{standardHeader, standardSound, turboSound, pureToneTones, toneSound, pairSounds, pureSound, pauseSound}
 use Rattle.load_blocks.specs.Deeds.{Deed, adds, groups, texts, groupEnds, opens, closes, nothing, generalDeed, stop48Deed}
 
 -- in the tape s
 unfoldable pub deedOf : List ℕ → Piece → Deed
-deedOf s (Standard pause from size) = adds (standardSound (isHeader s from size) from size (ms pause) ∷ [])
+deedOf s (Standard pause from size) = adds (standardSound (standardHeader s from size) from size (ms pause) ∷ [])
 deedOf s (Turbo d) = adds (turboSound d ∷ [])
 deedOf s (PureTone half count) = adds (toneSound (pureToneTones half count) ∷ [])
 deedOf s (Pulses count from) = adds (pairSounds s from 0 (count / 2))
-deedOf s (Pure nil one last pause from size) = adds (pureSound (bitsAt from size nil one last) (ms pause) ∷ [])
+deedOf s (Pure nil one last pause from size) = adds (pureSound (dataBits from size nil one last) (ms pause) ∷ [])
 deedOf s (Generalized g) = generalDeed g (generalOf s g)
 deedOf s (Pause n) = adds (pauseSound n ∷ [])
 deedOf s (GroupStart from size) = groups from size

@@ -10,7 +10,7 @@ use Rattle.cut_grammar.specs.declared.Taken.the-variants as taken
 use Rattle.cut_grammar.specs.declared.Heading.{Heading}
 use Rattle.cut_grammar.specs.declared.Heading.the-variants as heading
 use Rattle.cut_grammar.specs.Cut.{cutAt, headAt}
-use Rattle.load_state.specs.Parser.{Tape, Out, on, no as halt, empty}
+use Rattle.load_state.specs.Parser.{Parsed, Out, on, no as halt, empty}
 use Rattle.load_blocks.specs.Adds.{Lent}
 use Rattle.load_blocks.specs.Deeds.{asks48}
 use Rattle.load_source.specs.Meaning.{deedOf}
@@ -24,12 +24,12 @@ stopsAt s (taken.Unknown kind described) = false
 stopsAt s (taken.Short kind p w) = false
 stopsAt s (taken.Overflow kind p) = false
 
--- a reading that goes on goes on with what stands next: as `after` and `seeing` of Source do
-unfoldable pub goingOn : Out → (Tape → Bool) → Bool
+-- a reading that goes on goes on with what stands next: as `readOn` and `seeing` of Source do
+unfoldable pub goingOn : Out → (Parsed → Bool) → Bool
 goingOn (on t) k = k t
 goingOn (halt j) k = false
 
-unfoldable pub passing : See → Tape → (ℕ → Tape → Bool) → Bool
+unfoldable pub passing : See → Parsed → (ℕ → Parsed → Bool) → Bool
 passing over t k = false
 passing (bad f) t k = false
 passing (refuses j) t k = false
@@ -37,7 +37,7 @@ passing (thing next does) t k = goingOn (does t) (k next)
 
 module _ (lent : Lent) (s : List ℕ) where
   -- n things at the most, from a place on, as `foldFrom` takes them
-  unfoldable pub reachedFrom : ℕ → ℕ → ℕ → Tape → Bool
+  unfoldable pub reachedFrom : ℕ → ℕ → ℕ → Parsed → Bool
   reachedFrom model zero at t = false
   reachedFrom model (suc n) at t = stopsAt s (cutAt s at full) || passing (tzxSee lent s model at) t (reachedFrom model n)
 

@@ -19,18 +19,18 @@ use Rattle.cut_grammar.specs.declared.Heading.the-variants as heading
 use Rattle.cut_grammar.specs.Cut.{cutAt, tapAt, headAt}
 use Rattle.load_state.specs.declared.Halt.{Halt}
 use Rattle.load_state.specs.declared.Halt.the-variants.{Refusal, Length}
-use Rattle.load_state.specs.Parser.{Tape, Out, on, no as halt, empty}
+use Rattle.load_state.specs.Parser.{Parsed, Out, on, no as halt, empty}
 use Rattle.load_blocks.specs.declared.Origin.{Origin}
 use Rattle.load_blocks.specs.Adds.{Lent}
 use Rattle.load_blocks.specs.Sounds.{originAt, addSound}
-use Rattle.load_blocks.specs.Blocks.{isHeader, standardSound, standardPause}
+use Rattle.load_blocks.specs.Blocks.{standardHeader, standardSound, standardPause}
 use Rattle.load_blocks.specs.Deeds.{does}
 use Rattle.load_source.specs.declared.Failure.{Failure}
 use Rattle.load_source.specs.declared.Failure.the-variants as failure
 use Rattle.load_source.specs.Meaning.{deedOf}
 
 -- what a piece of this origin does
-unfoldable pub act : Lent → List ℕ → ℕ → Origin → Piece → Tape → Out
+unfoldable pub act : Lent → List ℕ → ℕ → Origin → Piece → Parsed → Out
 act lent s model origin p t = does lent model origin (deedOf s p) t
 
 -- what stands at a place: the end; a failure; a refusal; or a thing, the place past it and what it does
@@ -38,31 +38,31 @@ pub data See : Type 0 where
   over : See
   bad : Failure → See
   refuses : ℕ → See
-  thing : ℕ → (Tape → Out) → See
+  thing : ℕ → (Parsed → Out) → See
 
 -- a reading's answer
-pub data Read : Type 0 where
-  done : Tape → Read
-  failed : Failure → Read
-  refused : ℕ → Read
+pub data Verdict : Type 0 where
+  done : Parsed → Verdict
+  failed : Failure → Verdict
+  refused : ℕ → Verdict
 
 -- a reading that halts: by a refusal, or by a failure
-unfoldable pub halted : Halt → Read
+unfoldable pub halted : Halt → Verdict
 halted (Refusal j) = refused j
 halted (Length n) = failed (failure.Length n)
 
-unfoldable pub after : Out → (Tape → Read) → Read
-after (on t) k = k t
-after (halt j) k = halted j
+unfoldable pub readOn : Out → (Parsed → Verdict) → Verdict
+readOn (on t) k = k t
+readOn (halt j) k = halted j
 
-unfoldable pub seeing : See → Tape → (ℕ → Tape → Read) → Read
+unfoldable pub seeing : See → Parsed → (ℕ → Parsed → Verdict) → Verdict
 seeing over t k = done t
 seeing (bad f) t k = failed f
 seeing (refuses j) t k = refused j
-seeing (thing next does) t k = after (does t) (k next)
+seeing (thing next does) t k = readOn (does t) (k next)
 
 -- things from a place to the end, n of them at the most: each takes one byte at least, so as many as there are bytes are enough
-unfoldable pub foldFrom : (ℕ → See) → ℕ → ℕ → Tape → Read
+unfoldable pub foldFrom : (ℕ → See) → ℕ → ℕ → Parsed → Verdict
 foldFrom see zero at t = done t
 foldFrom see (suc n) at t = seeing (see at) t (foldFrom see n)
 
@@ -79,10 +79,10 @@ unfoldable pub tooManyBits : List Block → Bool
 tooManyBits [] = false
 tooManyBits (r ∷ rs) = (ltb 0 (r .size) && ltb 8 (r .last)) ⇒ true ∣ tooManyBits rs
 
-unfoldable pub judged : Read → Read
-judged (done t) = tooManyBits (t .blocks) ⇒ refused lastBits ∣ done t
-judged (failed f) = failed f
-judged (refused j) = refused j
+unfoldable pub bitsJudged : Verdict → Verdict
+bitsJudged (done t) = tooManyBits (t .blocks) ⇒ refused lastBits ∣ done t
+bitsJudged (failed f) = failed f
+bitsJudged (refused j) = refused j
 
 module _ (lent : Lent) (s : List ℕ) where
   -- a kind not named is skipped as one byte; the overflow of 19 is a 4
@@ -97,12 +97,12 @@ module _ (lent : Lent) (s : List ℕ) where
   tzxSee model at = tzxOf model at (cutAt s at full)
 
   -- TZX: a head, version ignored; then pieces up to the end
-  unfoldable pub headed : ℕ → Heading → Read
-  headed model (heading.Version major minor) = judged (foldFrom (tzxSee model) (length s) 10 empty)
+  unfoldable pub headed : ℕ → Heading → Verdict
+  headed model (heading.Version major minor) = bitsJudged (foldFrom (tzxSee model) (length s) 10 empty)
   headed model heading.BadSignature = failed failure.BadSignature
   headed model (heading.Short p w) = failed (failure.Short p w)
 
-  unfoldable pub readTzx : ℕ → Read
+  unfoldable pub readTzx : ℕ → Verdict
   readTzx model = headed model (headAt s)
 
   -- TAP: standard blocks; zero or one byte left ends the list; short data errs
@@ -110,36 +110,36 @@ module _ (lent : Lent) (s : List ℕ) where
   tapOf at tap.End = over
   tapOf at tap.Lone = over
   tapOf at (tap.Block from size next) =
-      let header = isHeader s from size in
+      let header = standardHeader s from size in
       thing next (addSound lent (originAt tapKind at) (standardSound header from size (standardPause header)))
   tapOf at (tap.Short p w) = bad (failure.Short p w)
 
   unfoldable pub tapSee : ℕ → See
   tapSee at = tapOf at (tapAt s at)
 
-  unfoldable pub readTap : Read
+  unfoldable pub readTap : Verdict
   readTap = foldFrom tapSee (length s) 0 empty
 
 -- a load's answer: the tape in its format, or the refusal's number alone
-pub data Loaded : Type 0 where
-  tzx : Tape → Loaded
-  tapped : Tape → Loaded
-  no : ℕ → Loaded
+pub data Load : Type 0 where
+  tzx : Parsed → Load
+  tapped : Parsed → Load
+  no : ℕ → Load
 
 -- 3: TZX and TAP reading both err
-unfoldable pub orTap : Read → Loaded
+unfoldable pub orTap : Verdict → Load
 orTap (done t) = tapped t
 orTap (failed f) = no tapeBad
 orTap (refused j) = no j
 
 -- a short read or bad signature is an error, and the same bytes are read as TAP; 4 to 7 don't fall back
-unfoldable pub orElse : Read → Read → Loaded
+unfoldable pub orElse : Verdict → Verdict → Load
 orElse (done t) other = tzx t
 orElse (failed f) other = orTap other
 orElse (refused j) other = no j
 
 -- load checks 1, 2, then reads
-unfoldable pub loadOf : Lent → List ℕ → ℕ → Loaded
+unfoldable pub loadOf : Lent → List ℕ → ℕ → Load
 loadOf lent s model =
     leb 3 model ⇒ no badModel
     ∣ ltb 1048576 (length s) ⇒ no tapeLong

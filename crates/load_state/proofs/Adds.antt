@@ -14,7 +14,7 @@ use Rattle.rows.specs.Rows.{block, tone}
 use Rattle.rows.proofs.Tables.{append-next, put-set, get-row}
 use Rattle.load_state.specs.declared.State.{State}
 use Rattle.load_state.specs.declared.Pending.{Pending}
-use Rattle.load_state.specs.Parser.{Tape, tapeOf, withTones, used, paused, lastPaused}
+use Rattle.load_state.specs.Parser.{Parsed, parsedOf, withTones, used, paused, lastPaused}
 use Rattle.load_state.specs.Holds.{Holds, blockRoom, toneRoom}
 
 -- what an append that minds the capacity tells, for any codec
@@ -22,14 +22,14 @@ module _ {R : Type 0} (C : Codec R) (most : ℕ) (t : List ℕ) {b : Bool} (rs :
   room : ltb (length rs) (min most (N / C .width)) ≡ b
   room = ap (λ (l : ℕ). ltb l (min most (N / C .width))) (sym k) ∙ ap (λ (l : ℕ). ltb n (min most (l / C .width))) (sym len) ∙ sym q
 
-  pub full : b ≡ false → min most (N / C .width) ≤ length rs
-  full e = ltb-false (length rs) (min most (N / C .width)) (room ∙ e)
+  pub row-full : b ≡ false → min most (N / C .width) ≤ length rs
+  row-full e = ltb-false (length rs) (min most (N / C .width)) (room ∙ e)
 
-  pub fits : b ≡ true → length rs < min most (N / C .width)
-  fits e = ltb-true (length rs) (min most (N / C .width)) (room ∙ e)
+  pub row-fits : b ≡ true → length rs < min most (N / C .width)
+  row-fits e = ltb-true (length rs) (min most (N / C .width)) (room ∙ e)
 
-  pub adds : {t′ : List ℕ} (r : R) → t ≡ tableOf C rs N → t′ ≡ appended C most t n r → b ≡ true → t′ ≡ tableOf C (rs ++ r ∷ []) N
-  adds r is p e = p ∙ append-next C most rs N n r is k ∙ rw (← q, e)
+  pub row-adds : {t′ : List ℕ} (r : R) → t ≡ tableOf C rs N → t′ ≡ appended C most t n r → b ≡ true → t′ ≡ tableOf C (rs ++ r ∷ []) N
+  row-adds r is p e = p ∙ append-next C most rs N n r is k ∙ rw (← q, e)
 
 pub paused-length : (rs : List Block) → length (lastPaused rs) ≡ length rs
 unfolding lastPaused
@@ -37,8 +37,8 @@ paused-length [] = refl
 paused-length (r ∷ []) = refl
 paused-length (r ∷ q ∷ rs) = ap suc (paused-length (q ∷ rs))
 
-module _ {B N : ℕ} {s : State} {bt tt : List ℕ} {t : Tape} (h : Holds B N s bt tt t) where
-  pub holds-block : {bt′ : List ℕ} {p : Pending} (r : Block) → length (t .blocks) < blockRoom B → length bt′ ≡ B → bt′ ≡ tableOf block (t .blocks ++ r ∷ []) B → p ≡ used (t .pending) → Holds B N (record { blocks = s .blocks + 1; tones = s .tones; pending = p; body = s .body }) bt′ tt (tapeOf (t .blocks ++ r ∷ []) (t .tones) (used (t .pending)) (t .body))
+module _ {B N : ℕ} {s : State} {bt tt : List ℕ} {t : Parsed} (h : Holds B N s bt tt t) where
+  pub holds-block : {bt′ : List ℕ} {p : Pending} (r : Block) → length (t .blocks) < blockRoom B → length bt′ ≡ B → bt′ ≡ tableOf block (t .blocks ++ r ∷ []) B → p ≡ used (t .pending) → Holds B N (record { blocks = s .blocks + 1; tones = s .tones; pending = p; body = s .body }) bt′ tt (parsedOf (t .blocks ++ r ∷ []) (t .tones) (used (t .pending)) (t .body))
   holds-block r k len is e =
       record { nb = rw length-append (omega (arith, h .nb)); nt = h .nt; pends = e; loops = h .loops; roomB = rw length-append (omega arith); roomT = h .roomT; lenB = len; lenT = h .lenT; isB = is; isT = h .isT }
 
@@ -46,7 +46,7 @@ module _ {B N : ℕ} {s : State} {bt tt : List ℕ} {t : Tape} (h : Holds B N s 
   holds-tone r k len is =
       record { nb = h .nb; nt = rw length-append (omega (arith, h .nt)); pends = h .pends; loops = h .loops; roomB = h .roomB; roomT = rw length-append (omega arith); lenB = h .lenB; lenT = len; isB = h .isB; isT = is }
 
-  pub holds-paused : {bt′ : List ℕ} → length bt′ ≡ B → bt′ ≡ tableOf block (lastPaused (t .blocks)) B → Holds B N s bt′ tt (tapeOf (lastPaused (t .blocks)) (t .tones) (t .pending) (t .body))
+  pub holds-paused : {bt′ : List ℕ} → length bt′ ≡ B → bt′ ≡ tableOf block (lastPaused (t .blocks)) B → Holds B N s bt′ tt (parsedOf (lastPaused (t .blocks)) (t .tones) (t .pending) (t .body))
   holds-paused len is =
       let l = paused-length (t .blocks) in
       record { nb = h .nb ∙ sym l; nt = h .nt; pends = h .pends; loops = h .loops; roomB = rw l (h .roomB); roomT = h .roomT; lenB = len; lenT = h .lenT; isB = is; isT = h .isT }

@@ -8,41 +8,41 @@ use Rattle.rows.specs.declared.Tone.{Tone}
 use Rattle.rows.specs.Rows.{decodeTone, decodeBlock}
 use Rattle.load_state.specs.declared.Pending.the-variants.{First, Text}
 use Rattle.load_state.specs.declared.Halt.the-variants.{Refusal, Length}
-use Rattle.load_state.specs.Parser.{Tape, empty, Out, on, no, _⟫_, paused, lastPaused, addTones, addBlock, pend, endGroup, openLoop, copyRows, copies, closed, closeLoop}
+use Rattle.load_state.specs.Parser.{Parsed, empty, Out, on, no, _⟫_, paused, lastPaused, addTones, addBlock, pend, endGroup, openLoop, copyRows, copies, closed, closeLoop}
 
 -- a block as it is born, with tone rows from row n on, and these words: pause, endless, selectable, case of name
-abbrev born : ℕ → ℕ → ℕ → ℕ → ℕ → Tape → Out
+abbrev born : ℕ → ℕ → ℕ → ℕ → ℕ → Parsed → Out
 born n pause endless selectable case = addBlock 6 (decodeBlock (n ∷ 2 ∷ 0 ∷ 0 ∷ 0 ∷ 0 ∷ 0 ∷ pause ∷ endless ∷ selectable ∷ case ∷ []))
 
 -- selectable, with a pause; not selectable, with pause 0; a stop
-abbrev a : Tape → Out
+abbrev a : Parsed → Out
 a = born 7 9 0 1 0
 
-abbrev b : Tape → Out
+abbrev b : Parsed → Out
 b = born 8 0 0 0 0
 
-abbrev stop : Tape → Out
+abbrev stop : Parsed → Out
 stop = born 9 0 1 1 1
 
-abbrev three : Tape → Out
+abbrev three : Parsed → Out
 three t = a t ⟫ a ⟫ a
 
-abbrev group : Tape → Out
+abbrev group : Parsed → Out
 group = pend (First 50 4)
 
-abbrev text : Tape → Out
+abbrev text : Parsed → Out
 text = pend (Text 40 3)
 
-abbrev close : Tape → Out
+abbrev close : Parsed → Out
 close = closeLoop 6
 
-abbrev tones : List Tone → Tape → Out
+abbrev tones : List Tone → Parsed → Out
 tones = addTones 3
 
 abbrev tone : Tone
 tone = decodeTone (1 ∷ 2 ∷ 3 ∷ [])
 
-abbrev after : List (Tape → Out) → Out → Out
+abbrev after : List (Parsed → Out) → Out → Out
 after [] o = o
 after (f ∷ fs) o = after fs (o ⟫ f)
 
@@ -73,7 +73,7 @@ abbrev Stop′ : List ℕ
 Stop′ = 9 ∷ 2 ∷ 0 ∷ 1 ∷ 0 ∷ 0 ∷ 0 ∷ 0 ∷ []
 
 -- steps, and what is read
-abbrev table : List (List (Tape → Out) × ℕ × List (List ℕ))
+abbrev table : List (List (Parsed → Out) × ℕ × List (List ℕ))
 table =
     -- a loop of 2 round one block gives three rows; copies share tone rows
     (openLoop 2 ∷ a ∷ close ∷ [], 0, A ∷ A′ ∷ A′ ∷ []) ∷

@@ -15,33 +15,23 @@ use Rattle.rows.specs.declared.Tone.{Tone}
 use Rattle.load_state.specs.declared.Pending.{Pending}
 use Rattle.load_state.specs.declared.Pending.the-variants.{Nothing, First, Text}
 use Rattle.load_state.specs.declared.Loop.{Loop}
-use Rattle.load_state.specs.declared.Halt.{Halt}
 use Rattle.load_state.specs.declared.Halt.the-variants.{Refusal}
 use Rattle.load_state.specs.declared.Loop.the-variants.{Closed, Open}
-use Rattle.load_state.specs.Parser.{Tape, tapeOf, empty, withTones, withBlock, withPending, withBody, opened, Out, on, no, _⟫_, named, used, inGroup, paused, lastPaused, nameless, addTones, addBlock, pend, endGroup, openLoop, copyRows, copies, closed, closeLoop}
+use Rattle.load_state.specs.Parser.{Parsed, empty, withTones, withBlock, withPending, withBody, opened, Out, on, no, _⟫_, named, inGroup, lastPaused, nameless, addTones, addBlock, pend, endGroup, openLoop, copyRows, copies, closed, closeLoop}
+use Rattle.load_state.specs.Kept.{Sure, sure, none, All, nil, cons, withBlocks, Steps, Lasting, KeptSoFar}
 
--- where an answer is a tape, it has the property K
-pub data Sure (K : Tape → Type 0) : Out → Type 0 where
-  sure : {t : Tape} → K t → Sure K (on t)
-  none : {k : Halt} → Sure K (no k)
-
-pub sure-of : {K : Tape → Type 0} {o : Out} {t : Tape} → Sure K o → o ≡ on t → K t
+pub sure-of : {K : Parsed → Type 0} {o : Out} {t : Parsed} → Sure K o → o ≡ on t → K t
 sure-of {t = t} (sure {t = u} k) e = let q : u ≡ t = cc in rw q at k
 sure-of (none) e = let z : _≡_ {A = ℕ} 0 1 = cc in absurd (omega arith)
 
-pub sure-then : {K L : Tape → Type 0} {o : Out} (f : Tape → Out) → Sure K o → ((t : Tape) → K t → Sure L (f t)) → Sure L (o ⟫ f)
+pub sure-then : {K L : Parsed → Type 0} {o : Out} (f : Parsed → Out) → Sure K o → ((t : Parsed) → K t → Sure L (f t)) → Sure L (o ⟫ f)
 unfolding _⟫_
 sure-then f (sure {t = t} k) g = g t k
 sure-then f (none) g = none
 
-pub sure-also : {K L : Tape → Type 0} {o : Out} → ((t : Tape) → K t → L t) → Sure K o → Sure L o
+pub sure-also : {K L : Parsed → Type 0} {o : Out} → ((t : Parsed) → K t → L t) → Sure K o → Sure L o
 sure-also f (sure {t = t} k) = sure (f t k)
 sure-also f (none) = none
-
--- all elements of a list
-pub data All {A : Type 0} (P : A → Type 0) : List A → Type 0 where
-  nil : All P []
-  cons : {x : A} {xs : List A} → P x → All P xs → All P (x ∷ xs)
 
 module _ {A : Type 0} {P : A → Type 0} where
   pub all-append : {xs ys : List A} → All P xs → All P ys → All P (xs ++ ys)
@@ -76,8 +66,8 @@ members [] = nil
 members (x ∷ xs) = cons (List·Memᴰ·head refl) (all-also (λ y m. List·Memᴰ·tail m) (members xs))
 
 -- a property that one more block keeps, where it has room, is kept by copies
-module _ (P : Block → Type 0) (K : Tape → Type 0) (m : ℕ) (keep : (r : Block) (t : Tape) → length (t .blocks) < m → P r → K t → K (withBlock r t)) where
-  pub block-keeps : (r : Block) (t : Tape) → P r → K t → Sure K (addBlock m r t)
+module _ (P : Block → Type 0) (K : Parsed → Type 0) (m : ℕ) (keep : (r : Block) (t : Parsed) → length (t .blocks) < m → P r → K t → K (withBlock r t)) where
+  pub block-keeps : (r : Block) (t : Parsed) → P r → K t → Sure K (addBlock m r t)
   unfolding addBlock
   block-keeps r t p k = by-cases (ltb (length (t .blocks)) m) refl
     where
@@ -85,63 +75,53 @@ module _ (P : Block → Type 0) (K : Tape → Type 0) (m : ℕ) (keep : (r : Blo
       by-cases true e = sure (keep r t (ltb-true _ _ e) p k)
       by-cases false e = none
 
-  pub rows-keep : {rs : List Block} → All (λ r. P (nameless r)) rs → (t : Tape) → K t → Sure K (copyRows m rs t)
+  pub rows-keep : {rs : List Block} → All (λ r. P (nameless r)) rs → (t : Parsed) → K t → Sure K (copyRows m rs t)
   unfolding copyRows
   rows-keep nil t k = sure k
   rows-keep (cons {x = r} {xs = rs} p ps) t k = sure-then (copyRows m rs) (block-keeps (nameless r) t p k) (rows-keep ps)
 
-  pub copies-keep : (n : ℕ) {rs : List Block} → All (λ r. P (nameless r)) rs → (t : Tape) → K t → Sure K (copies m n rs t)
+  pub copies-keep : (n : ℕ) {rs : List Block} → All (λ r. P (nameless r)) rs → (t : Parsed) → K t → Sure K (copies m n rs t)
   unfolding copies
   copies-keep zero ps t k = sure k
   copies-keep (suc n) {rs} ps t k = sure-then (copies m n rs) (rows-keep ps t k) (copies-keep n ps)
-
-abbrev pub withBlocks : List Block → Tape → Tape
-withBlocks bs t = tapeOf bs (t .tones) (t .pending) (t .body)
-
--- K of tapes is kept by a copy of a block that is there and has room, by a pending name with Q, by 22's pause and by a loop's start and end
-pub record Steps (m : ℕ) (Q : Pending → Type 0) (K : Tape → Type 0) : Type 0 where
-  pub copying : (r : Block) (t : Tape) → List·Memᴰ r (t .blocks) → length (t .blocks) < m → K t → K (withBlock (nameless r) t)
-  pub naming : (p : Pending) (t : Tape) → Q p → K t → K (withPending p t)
-  pub pausing : (t : Tape) → K t → K (withBlocks (lastPaused (t .blocks)) t)
-  pub looping : (l : Loop) (t : Tape) → K t → K (withBody l t)
 
 -- a copy of one of the rows l
 data Copy (l : List Block) : Block → Type 0 where
   copy : {q : Block} → List·Memᴰ q l → Copy l (nameless q)
 
 -- a tape with K that has the rows l
-record Has (K : Tape → Type 0) (l : List Block) (t : Tape) : Type 0 where
+record Has (K : Parsed → Type 0) (l : List Block) (t : Parsed) : Type 0 where
   kept : K t
   rows : (q : Block) → List·Memᴰ q l → List·Memᴰ q (t .blocks)
 
 -- WHAT SUCH STEPS KEEP, the parser's names and loops keep
-module _ {m : ℕ} {Q : Pending → Type 0} {K : Tape → Type 0} (k : Steps m Q K) where
+module _ {m : ℕ} {Q : Pending → Type 0} {K : Parsed → Type 0} (k : Steps m Q K) where
   -- inside a group nothing is renamed
-  renames : (b : Bool) (p : Pending) (t : Tape) → Q p → K t → K (withPending (b ⇒ t .pending ∣ p) t)
+  renames : (b : Bool) (p : Pending) (t : Parsed) → Q p → K t → K (withPending (b ⇒ t .pending ∣ p) t)
   renames true p t q h = h
   renames false p t q h = k .naming p t q h
 
-  pub keeps-pend : (p : Pending) {t : Tape} → Q p → K t → Sure K (pend p t)
+  pub keeps-pend : (p : Pending) {t : Parsed} → Q p → K t → Sure K (pend p t)
   unfolding pend
   keeps-pend p {t} q h = sure (renames (inGroup (t .pending)) p t q h)
 
-  closes : (b : Bool) (t : Tape) → Q Nothing → K t → K (withPending (b ⇒ Nothing ∣ t .pending) t)
+  closes : (b : Bool) (t : Parsed) → Q Nothing → K t → K (withPending (b ⇒ Nothing ∣ t .pending) t)
   closes true t q h = k .naming Nothing t q h
   closes false t q h = h
 
-  pub keeps-end : {t : Tape} → Q Nothing → K t → Sure K (endGroup t)
+  pub keeps-end : {t : Parsed} → Q Nothing → K t → Sure K (endGroup t)
   unfolding endGroup
   keeps-end {t} q h = sure (closes (inGroup (t .pending)) (withBlocks (lastPaused (t .blocks)) t) q (k .pausing t h))
 
-  pub keeps-open : (times : ℕ) {t : Tape} → K t → Sure K (openLoop times t)
+  pub keeps-open : (times : ℕ) {t : Parsed} → K t → Sure K (openLoop times t)
   unfolding openLoop
   keeps-open times {t} h = sure (k .looping (opened (length (t .blocks)) times (t .body)) t h)
 
-  pub keeps-close : {t : Tape} → K t → Sure K (closeLoop m t)
+  pub keeps-close : {t : Parsed} → K t → Sure K (closeLoop m t)
   unfolding closeLoop closed
   keeps-close {t} h = closing (t .body)
     where
-      more : (r : Block) (u : Tape) → length (u .blocks) < m → Copy (t .blocks) r → Has K (t .blocks) u → Has K (t .blocks) (withBlock r u)
+      more : (r : Block) (u : Parsed) → length (u .blocks) < m → Copy (t .blocks) r → Has K (t .blocks) u → Has K (t .blocks) (withBlock r u)
       more r u room (copy {q} i) o =
           record { kept = k .copying q u (o .rows q i) room (o .kept); rows = λ p j. Memᴰ·append-left (named (u .pending) (nameless q) ∷ []) (o .rows p j) }
 
@@ -151,21 +131,8 @@ module _ {m : ℕ} {Q : Pending → Type 0} {K : Tape → Type 0} (k : Steps m Q
           sure-also (λ u o. o .kept)
           (copies-keep (Copy (t .blocks)) (Has K (t .blocks)) m more times (all-drop start (all-also (λ q i. copy i) (members (t .blocks)))) (withBody Closed t) (record { kept = k .looping Closed t h; rows = λ q i. i }))
 
--- P of blocks is kept by every pending name with Q, by a copy and by a pause; a used name with Q has Q, and so has none
-pub record Lasting (P : Block → Type 0) (Q : Pending → Type 0) : Type 0 where
-  pub naming : (p : Pending) (r : Block) → Q p → P r → P (named p r)
-  pub copying : (r : Block) → P r → P (nameless r)
-  pub pausing : (r : Block) → P r → P (paused r)
-  pub uses : (p : Pending) → Q p → Q (used p)
-  pub nothing : Q Nothing
-
--- all blocks have P, and the pending name has Q
-pub record Kept (P : Block → Type 0) (Q : Pending → Type 0) (t : Tape) : Type 0 where
-  pub rows : All P (t .blocks)
-  pub name : Q (t .pending)
-
 module _ {P : Block → Type 0} {Q : Pending → Type 0} (k : Lasting P Q) where
-  pub kept-empty : Kept P Q empty
+  pub kept-empty : KeptSoFar P Q empty
   unfolding empty
   kept-empty = record { rows = nil; name = k .nothing }
 
@@ -175,10 +142,10 @@ module _ {P : Block → Type 0} {Q : Pending → Type 0} (k : Lasting P Q) where
   last-keeps (cons {x = r} h nil) = cons (k .pausing r h) nil
   last-keeps (cons h (cons g p)) = cons h (last-keeps (cons g p))
 
-  pub with-block : (r : Block) (t : Tape) → P r → Kept P Q t → Kept P Q (withBlock r t)
+  pub with-block : (r : Block) (t : Parsed) → P r → KeptSoFar P Q t → KeptSoFar P Q (withBlock r t)
   with-block r t h s = record { rows = all-append (s .rows) (cons (k .naming (t .pending) r (s .name) h) nil); name = k .uses (t .pending) (s .name) }
 
-  pub kept-steps : (m : ℕ) → Steps m Q (Kept P Q)
+  pub kept-steps : (m : ℕ) → Steps m Q (KeptSoFar P Q)
   kept-steps m =
       record {
         copying = λ r t i _ s. with-block (nameless r) t (k .copying r (all-at (s .rows) i)) s;

@@ -22,16 +22,16 @@ use Rattle.load_state.specs.declared.Loop.{Loop}
 use Rattle.load_state.specs.declared.Halt.{Halt}
 use Rattle.load_state.specs.declared.Halt.the-variants.{Refusal}
 use Rattle.load_state.specs.declared.Loop.the-variants.{Closed}
-use Rattle.load_state.specs.Parser.{Tape, withTones, withPending, withBody, empty, Out, on, no, _⟫_, addTones}
+use Rattle.load_state.specs.Parser.{Parsed, withTones, withPending, withBody, empty, Out, on, no, _⟫_, addTones}
 use Rattle.load_state.specs.Holds.{Holds, nowPending, withLoop, Gives, goes, refuses}
 
-pub chain-assoc : (o : Out) (f g : Tape → Out) → o ⟫ f ⟫ g ≡ o ⟫ (λ t. f t ⟫ g)
+pub chain-assoc : (o : Out) (f g : Parsed → Out) → o ⟫ f ⟫ g ≡ o ⟫ (λ t. f t ⟫ g)
 unfolding _⟫_
 chain-assoc (on t) f g = refl
 chain-assoc (no k) f g = refl
 
 -- tone rows may be added part by part
-pub tones-append : (m : ℕ) (xs ys : List Tone) (t : Tape) → addTones m (xs ++ ys) t ≡ addTones m xs t ⟫ addTones m ys
+pub tones-append : (m : ℕ) (xs ys : List Tone) (t : Parsed) → addTones m (xs ++ ys) t ≡ addTones m xs t ⟫ addTones m ys
 unfolding addTones _⟫_
 tones-append m xs ys t = by-cases (leb (length (t .tones) + length xs) m) refl
   where
@@ -44,7 +44,7 @@ tones-append m xs ys t = by-cases (leb (length (t .tones) + length xs) m) refl
         rw (lt-leb _ _ n)
 
 -- a held tape with another pending name, and with another loop
-module _ {B N : ℕ} {s : State} {bt tt : List ℕ} {t : Tape} (h : Holds B N s bt tt t) where
+module _ {B N : ℕ} {s : State} {bt tt : List ℕ} {t : Parsed} (h : Holds B N s bt tt t) where
   pub holds-name : {p q : Pending} → p ≡ q → Holds B N (nowPending p s) bt tt (withPending q t)
   holds-name e =
       record { nb = h .nb; nt = h .nt; pends = e; loops = h .loops; roomB = h .roomB; roomT = h .roomT; lenB = h .lenB; lenT = h .lenT; isB = h .isB; isT = h .isT }
@@ -55,32 +55,32 @@ module _ {B N : ℕ} {s : State} {bt tt : List ℕ} {t : Tape} (h : Holds B N s 
 
 -- what an answer that went on, or that refused, says of the definition's
 module _ {B N : ℕ} {bt tt : List ℕ} where
-  pub went-on : {x : Step} {s : State} {o : Out} → Gives B N x bt tt o → x ≡ On s → (t : Tape) × (o ≡ on t) × Holds B N s bt tt t
+  pub went-on : {x : Step} {s : State} {o : Out} → Gives B N x bt tt o → x ≡ On s → (t : Parsed) × (o ≡ on t) × Holds B N s bt tt t
   went-on {s = s} (goes {s = s₁} {t = t} h) e = let q : s₁ ≡ s = cc in (t, refl, rw q at h)
   went-on (refuses) e = let z : _≡_ {A = ℕ} 0 1 = cc in absurd (omega arith)
 
-  pub refused : {x : Step} {k : Halt} {o : Out} → Gives B N x bt tt o → x ≡ No k → o ≡ no k
-  refused (goes h) e = let z : _≡_ {A = ℕ} 0 1 = cc in absurd (omega arith)
-  refused (refuses) e = cc
+  pub was-refused : {x : Step} {k : Halt} {o : Out} → Gives B N x bt tt o → x ≡ No k → o ≡ no k
+  was-refused (goes h) e = let z : _≡_ {A = ℕ} 0 1 = cc in absurd (omega arith)
+  was-refused (refuses) e = cc
 
   -- two calls in turn: where the first went on, what the second gives from there is what both give; where it refused, so do both
-  pub then-on : {x y : Step} {s : State} {bt′ tt′ : List ℕ} {o : Out} {f : Tape → Out} → Gives B N x bt tt o → x ≡ On s → ((t : Tape) → Holds B N s bt tt t → Gives B N y bt′ tt′ (f t)) → Gives B N y bt′ tt′ (o ⟫ f)
+  pub then-on : {x y : Step} {s : State} {bt′ tt′ : List ℕ} {o : Out} {f : Parsed → Out} → Gives B N x bt tt o → x ≡ On s → ((t : Parsed) → Holds B N s bt tt t → Gives B N y bt′ tt′ (f t)) → Gives B N y bt′ tt′ (o ⟫ f)
   unfolding _⟫_
   then-on e q k = let w = went-on e q in rw (w .1) (k (w .0) (w .2))
 
-  pub then-no : {x : Step} {k : Halt} {bt′ tt′ : List ℕ} {o : Out} (f : Tape → Out) → Gives B N x bt tt o → x ≡ No k → Gives B N (No k) bt′ tt′ (o ⟫ f)
+  pub then-no : {x : Step} {k : Halt} {bt′ tt′ : List ℕ} {o : Out} (f : Parsed → Out) → Gives B N x bt tt o → x ≡ No k → Gives B N (No k) bt′ tt′ (o ⟫ f)
   unfolding _⟫_
-  then-no f e q = rw (refused e q) refuses
+  then-no f e q = rw (was-refused e q) refuses
 
 -- what a loop keeps: a tape that the state holds, known to be P, from which what is left gives what the whole gives
-pub record Going (P : Tape → Type 0) (B N : ℕ) (s : State) (bt tt : List ℕ) (rest : Tape → Out) (whole : Out) : Type 0 where
-  pub at : Tape
+pub record Going (P : Parsed → Type 0) (B N : ℕ) (s : State) (bt tt : List ℕ) (rest : Parsed → Out) (whole : Out) : Type 0 where
+  pub at : Parsed
   pub known : P at
   pub holds : Holds B N s bt tt at
   pub same : rest at ≡ whole
 
-module _ {P : Tape → Type 0} {B N : ℕ} {s : State} {bt tt : List ℕ} {rest : Tape → Out} where
-  pub going-starts : {t : Tape} → P t → Holds B N s bt tt t → Going P B N s bt tt rest (rest t)
+module _ {P : Parsed → Type 0} {B N : ℕ} {s : State} {bt tt : List ℕ} {rest : Parsed → Out} where
+  pub going-starts : {t : Parsed} → P t → Holds B N s bt tt t → Going P B N s bt tt rest (rest t)
   going-starts {t = t} p h = record { at = t; known = p; holds = h; same = refl }
 
   module _ {whole : Out} (g : Going P B N s bt tt rest whole) where
@@ -89,11 +89,11 @@ module _ {P : Tape → Type 0} {B N : ℕ} {s : State} {bt tt : List ℕ} {rest 
     going-ends e = rw (← g .same, e) (goes (g .holds))
 
     -- one turn of the step f
-    module _ {x : Step} {bt′ tt′ : List ℕ} (f next : Tape → Out) (split : rest (g .at) ≡ f (g .at) ⟫ next) (e : Gives B N x bt′ tt′ (f (g .at))) where
+    module _ {x : Step} {bt′ tt′ : List ℕ} (f next : Parsed → Out) (split : rest (g .at) ≡ f (g .at) ⟫ next) (e : Gives B N x bt′ tt′ (f (g .at))) where
       pub going-no : {k : Halt} → x ≡ No k → Gives B N (No k) bt′ tt′ whole
       going-no q = rw (← g .same, split) (then-no next e q)
 
-      pub going-on : {s′ : State} → x ≡ On s′ → ((t : Tape) → f (g .at) ≡ on t → P t) → Going P B N s′ bt′ tt′ next whole
+      pub going-on : {s′ : State} → x ≡ On s′ → ((t : Parsed) → f (g .at) ≡ on t → P t) → Going P B N s′ bt′ tt′ next whole
       unfolding _⟫_
       going-on q keep =
           let w = went-on e q in

@@ -12,7 +12,7 @@ use Rattle.load_state.specs.declared.Step.the-variants.{On, No}
 use Rattle.load_state.specs.declared.Loop.{Loop}
 use Rattle.load_state.specs.declared.Halt.{Halt}
 use Rattle.load_state.specs.declared.Pending.{Pending}
-use Rattle.load_state.specs.Parser.{Tape, Out, on, no}
+use Rattle.load_state.specs.Parser.{Parsed, Out, on, no}
 
 -- a state with another pending name, and with another loop
 abbrev pub nowPending : Pending → State → State
@@ -29,7 +29,7 @@ abbrev pub toneRoom : ℕ → ℕ
 toneRoom words = min toneMost (words / tone .width)
 
 -- in tables of B and N words
-pub record Holds (B N : ℕ) (s : State) (bt tt : List ℕ) (t : Tape) : Type 0 where
+pub record Holds (B N : ℕ) (s : State) (bt tt : List ℕ) (t : Parsed) : Type 0 where
   pub nb : s .blocks ≡ length (t .blocks)
   pub nt : s .tones ≡ length (t .tones)
   pub pends : s .pending ≡ t .pending
@@ -43,5 +43,5 @@ pub record Holds (B N : ℕ) (s : State) (bt tt : List ℕ) (t : Tape) : Type 0 
 
 -- the code's answer is the definition's; a refusal says nothing of the tables, which the load then blanks
 pub data Gives (B N : ℕ) : Step → List ℕ → List ℕ → Out → Type 0 where
-  goes : {s : State} {bt tt : List ℕ} {t : Tape} → Holds B N s bt tt t → Gives B N (On s) bt tt (on t)
+  goes : {s : State} {bt tt : List ℕ} {t : Parsed} → Holds B N s bt tt t → Gives B N (On s) bt tt (on t)
   refuses : {k : Halt} {bt tt : List ℕ} → Gives B N (No k) bt tt (no k)

@@ -17,25 +17,25 @@ use Rattle.load_state.specs.declared.Halt.the-variants.{Refusal}
 use Rattle.load_state.specs.declared.Loop.the-variants.{Closed, Open}
 
 -- what was read so far: the blocks, the tone rows, the pending name, the open loop
-pub record Tape : Type 0 where
+pub record Parsed : Type 0 where
   pub blocks : List Block
   pub tones : List Tone
   pub pending : Pending
   pub body : Loop
 
-abbrev pub tapeOf : List Block → List Tone → Pending → Loop → Tape
-tapeOf bs ts p l = record { blocks = bs; tones = ts; pending = p; body = l }
+abbrev pub parsedOf : List Block → List Tone → Pending → Loop → Parsed
+parsedOf bs ts p l = record { blocks = bs; tones = ts; pending = p; body = l }
 
-unfoldable pub empty : Tape
-empty = tapeOf [] [] Nothing Closed
+unfoldable pub empty : Parsed
+empty = parsedOf [] [] Nothing Closed
 
 -- a step's answer: the tape read so far, or why there is none
 pub data Out : Type 0 where
-  on : Tape → Out
+  on : Parsed → Out
   no : Halt → Out
 
 infixl 30 _⟫_
-unfoldable pub _⟫_ : Out → (Tape → Out) → Out
+unfoldable pub _⟫_ : Out → (Parsed → Out) → Out
 _⟫_ (on t) f = f t
 _⟫_ (no k) f = no k
 
@@ -57,18 +57,18 @@ used (First text chars) = Later text chars
 used (Later text chars) = Later text chars
 used (Text text chars) = Nothing
 
-abbrev pub withTones : List Tone → Tape → Tape
-withTones ts t = tapeOf (t .blocks) (t .tones ++ ts) (t .pending) (t .body)
+abbrev pub withTones : List Tone → Parsed → Parsed
+withTones ts t = parsedOf (t .blocks) (t .tones ++ ts) (t .pending) (t .body)
 
-abbrev pub withBlock : Block → Tape → Tape
-withBlock r t = tapeOf (t .blocks ++ named (t .pending) r ∷ []) (t .tones) (used (t .pending)) (t .body)
+abbrev pub withBlock : Block → Parsed → Parsed
+withBlock r t = parsedOf (t .blocks ++ named (t .pending) r ∷ []) (t .tones) (used (t .pending)) (t .body)
 
 -- tone rows, where no more than `most` are then used: otherwise 5
-unfoldable pub addTones : ℕ → List Tone → Tape → Out
+unfoldable pub addTones : ℕ → List Tone → Parsed → Out
 addTones most ts t = leb (length (t .tones) + length ts) most ⇒ on (withTones ts t) ∣ no (Refusal tonesFull)
 
 -- a block, where one row at least remains of `most`: otherwise 6
-unfoldable pub addBlock : ℕ → Block → Tape → Out
+unfoldable pub addBlock : ℕ → Block → Parsed → Out
 addBlock most r t = ltb (length (t .blocks)) most ⇒ on (withBlock r t) ∣ no (Refusal blocksFull)
 
 abbrev pub inGroup : Pending → Bool
@@ -85,10 +85,10 @@ pended new p = inGroup p ⇒ p ∣ new
 abbrev pub ended : Pending → Pending
 ended p = inGroup p ⇒ Nothing ∣ p
 
-abbrev pub withPending : Pending → Tape → Tape
-withPending p t = tapeOf (t .blocks) (t .tones) p (t .body)
+abbrev pub withPending : Pending → Parsed → Parsed
+withPending p t = parsedOf (t .blocks) (t .tones) p (t .body)
 
-unfoldable pub pend : Pending → Tape → Out
+unfoldable pub pend : Pending → Parsed → Out
 pend new t = on (withPending (pended new (t .pending)) t)
 
 -- then, if the last block, if any, has finite pause 0, it becomes 3,500, group open or not
@@ -100,37 +100,37 @@ lastPaused [] = []
 lastPaused (r ∷ []) = paused r ∷ []
 lastPaused (r ∷ q ∷ rs) = r ∷ lastPaused (q ∷ rs)
 
-unfoldable pub endGroup : Tape → Out
-endGroup t = on (tapeOf (lastPaused (t .blocks)) (t .tones) (ended (t .pending)) (t .body))
+unfoldable pub endGroup : Parsed → Out
+endGroup t = on (parsedOf (lastPaused (t .blocks)) (t .tones) (ended (t .pending)) (t .body))
 
 -- a loop start; a nested start is ignored
 abbrev pub opened : ℕ → ℕ → Loop → Loop
 opened start times Closed = Open start times
 opened start times (Open p n) = Open p n
 
-abbrev pub withBody : Loop → Tape → Tape
-withBody l t = tapeOf (t .blocks) (t .tones) (t .pending) l
+abbrev pub withBody : Loop → Parsed → Parsed
+withBody l t = parsedOf (t .blocks) (t .tones) (t .pending) l
 
-unfoldable pub openLoop : ℕ → Tape → Out
+unfoldable pub openLoop : ℕ → Parsed → Out
 openLoop times t = on (withBody (opened (length (t .blocks)) times (t .body)) t)
 
 -- a copy is nameless and unselectable before naming, and shares its original's tone rows
 abbrev pub nameless : Block → Block
 nameless r = renamed 0 0 0 0 r
 
-unfoldable pub copyRows : ℕ → List Block → Tape → Out
+unfoldable pub copyRows : ℕ → List Block → Parsed → Out
 copyRows most [] t = on t
 copyRows most (r ∷ rs) t = addBlock most (nameless r) t ⟫ copyRows most rs
 
 -- n further copies of the body
-unfoldable pub copies : ℕ → ℕ → List Block → Tape → Out
+unfoldable pub copies : ℕ → ℕ → List Block → Parsed → Out
 copies most zero rs t = on t
 copies most (suc n) rs t = copyRows most rs t ⟫ copies most n rs
 
 -- a loop end appends them; an end without a start is ignored
-unfoldable pub closed : ℕ → Loop → Tape → Out
+unfoldable pub closed : ℕ → Loop → Parsed → Out
 closed most Closed t = on t
 closed most (Open start times) t = copies most times (drop start (t .blocks)) (withBody Closed t)
 
-unfoldable pub closeLoop : ℕ → Tape → Out
+unfoldable pub closeLoop : ℕ → Parsed → Out
 closeLoop most t = closed most (t .body) t

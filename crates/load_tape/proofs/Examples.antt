@@ -10,27 +10,27 @@ use Rattle.cut_fields.specs.Field.{leAt, numberAt, fieldAt, placeOf}
 use Rattle.cut_fields.specs.Run.{times, eachAt, groupsAt}
 use Rattle.rows.specs.Rows.{encodeBlock, encodeTone, block, tone}
 use Rattle.rows.proofs.Samples.{rowWords}
-use Rattle.cut_grammar.specs.Grammar.{countedAt, passAt, textsAt, wholeAt, sealed, enclosed, fittingAt, readAt, digits, orFull, heldIf}
+use Rattle.cut_grammar.specs.Grammar.{countedAt, passAt, textsAt, wholeAt, sealed, enclosed, fittingAt, readAt, binaryDigits, orFull, heldIf}
 use Rattle.cut_grammar.specs.Kinds.{kind10, kind11, kind12, kind13, kind14, stream19, kind19, kind20, kind21, kind22, kind24, kind25, kind2A, kind30, kind31, info32, kind32, kind33, kind35, kind5A, kinds, kindOf}
-use Rattle.cut_grammar.specs.Cut.{signature, startsAt, headAt, named, cutAt, blockOf, tapAt}
-use Rattle.load_general.specs.General.{pilotOf, dataOf, withPilot, withData, generalOf}
+use Rattle.cut_grammar.specs.Cut.{signature, startsAt, headAt, takenAs, cutAt, tapBlock, tapAt}
+use Rattle.load_general.specs.General.{pilotOf, dataPart, withPilot, withData, generalOf}
 use Rattle.load_state.specs.Parser.{empty, _⟫_, addTones, addBlock, pend, endGroup, openLoop, copyRows, copies, closed, closeLoop, paused, lastPaused}
 use Rattle.load_blocks.specs.Sounds.{rowOf, addSound, addSounds}
-use Rattle.load_blocks.specs.Blocks.{isHeader, standardCycles, standardTones, standardPause, turboTones, pureTones, pureToneTones, pulseAt, standardSound, turboSound, pairSounds, pureSound, pauseSound}
+use Rattle.load_blocks.specs.Blocks.{standardHeader, standardCycles, standardTones, standardPause, turboTones, pureTones, pureToneTones, pulseAt, standardSound, turboSound, pairSounds, pureSound, pauseSound}
 use Rattle.load_blocks.specs.Does.{lentOf}
 use Rattle.load_blocks.specs.Adds.{Lent, addRows}
 use Rattle.load_blocks.specs.Deeds.{generalDeed, stop48Deed, does}
 use Rattle.load_source.specs.Meaning.{deedOf}
-use Rattle.load_source.specs.Source.{act, after, seeing, foldFrom, halted, tooManyBits, judged, tzxOf, tzxSee, headed, readTzx, tapOf, tapSee, readTap, Loaded, tzx, tapped, no, orTap, orElse, loadOf}
-use Rattle.text_out.specs.Out.{decimal, digits as digitsOf, latin1, each}
+use Rattle.load_source.specs.Source.{act, readOn, seeing, foldFrom, halted, tooManyBits, bitsJudged, tzxOf, tzxSee, headed, readTzx, tapOf, tapSee, readTap, Load, tzx, tapped, no, orTap, orElse, loadOf}
+use Rattle.text_out.specs.Out.{decimal, digits, latin1, eachByte}
 use Rattle.text_codes.specs.Encoding.{table, encoded}
 use Rattle.text_header.specs.Headers.{typeName, headerName as namedAs}
-use Rattle.text_name.specs.Names.{isHeader as isHeading, sizeShown, sizeName, guessed, nameOf, unselected, passed, nameAll}
-use Rattle.rows.specs.Table.{over as tableOver}
+use Rattle.text_name.specs.Names.{isHeader, sizeShown, sizeName, guessed, nameOf, unselected, nameOne, nameAll}
+use Rattle.rows.specs.Table.{tableOver}
 use Rattle.load_tape.specs.declared.Format.the-variants.{Tap}
-use Rattle.load_tape.specs.declared.Loaded.{Loaded as Answer}
+use Rattle.load_tape.specs.declared.Loaded.{Loaded}
 use Rattle.load_tape.specs.declared.Loaded.the-variants.{Tape}
-use Rattle.load_tape.specs.Load.{namedTape, named as naming, loadNamed, answerOf, blocksOf, Leaves}
+use Rattle.load_tape.specs.Load.{namedTape, namedLoad, loadNamed, answerOf, blockTable, Leaves}
 
 -- room for three blocks and four tone rows
 abbrev room : Lent
@@ -57,7 +57,7 @@ taken format blocks tones names = ((format ∷ []) ∷ []) ∷ blocks ∷ tones 
 abbrev refusal : ℕ → View
 refusal k = ((k ∷ []) ∷ []) ∷ []
 
-abbrev view : List ℕ → Loaded → View
+abbrev view : List ℕ → Load → View
 view s (tzx t) = taken 1 (map encodeBlock (t .blocks)) (map encodeTone (t .tones)) (map (nameOf s) (t .blocks))
 view s (tapped t) = taken 0 (map encodeBlock (t .blocks)) (map encodeTone (t .tones)) (map (nameOf s) (t .blocks))
 view s (no k) = refusal k
@@ -156,15 +156,15 @@ examples =
     of 0 (pieces (0x27 ∷ 0x20 ∷ 1 ∷ 0 ∷ 0xFF ∷ [])) (taken 1 (pause 0 ∷ []) [] (sized 0 ∷ [])) ∷ []
 
 shown : map (λ (e : Example). view (e .tape) (loadNamed (e .lent) (e .tape) (e .model))) examples ≡ map (λ (e : Example). e .gives) examples
-unfolding leAt numberAt fieldAt placeOf times eachAt groupsAt countedAt passAt textsAt wholeAt sealed enclosed fittingAt readAt digits orFull heldIf kind10 kind11 kind12 kind13 kind14 stream19 kind19 kind20 kind21 kind22 kind24 kind25 kind2A kind30 kind31 info32 kind32 kind33 kind35 kind5A kinds kindOf startsAt headAt named cutAt blockOf tapAt pilotOf dataOf withPilot withData generalOf empty _⟫_ addTones addBlock pend endGroup openLoop copyRows copies closed closeLoop paused lastPaused isHeader standardCycles standardTones standardPause turboTones pureTones pureToneTones pulseAt addRows rowOf standardSound turboSound pairSounds pureSound pauseSound addSound addSounds generalDeed stop48Deed does deedOf act after seeing foldFrom halted tooManyBits judged tzxOf tzxSee headed readTzx tapOf tapSee readTap orTap orElse loadOf decimal digitsOf latin1 each table encoded isHeading typeName namedAs sizeShown sizeName guessed nameOf unselected passed nameAll namedTape naming loadNamed
+unfolding leAt numberAt fieldAt placeOf times eachAt groupsAt countedAt passAt textsAt wholeAt sealed enclosed fittingAt readAt binaryDigits orFull heldIf kind10 kind11 kind12 kind13 kind14 stream19 kind19 kind20 kind21 kind22 kind24 kind25 kind2A kind30 kind31 info32 kind32 kind33 kind35 kind5A kinds kindOf startsAt headAt takenAs cutAt tapBlock tapAt pilotOf dataPart withPilot withData generalOf empty _⟫_ addTones addBlock pend endGroup openLoop copyRows copies closed closeLoop paused lastPaused standardHeader standardCycles standardTones standardPause turboTones pureTones pureToneTones pulseAt addRows rowOf standardSound turboSound pairSounds pureSound pauseSound addSound addSounds generalDeed stop48Deed does deedOf act readOn seeing foldFrom halted tooManyBits bitsJudged tzxOf tzxSee headed readTzx tapOf tapSee readTap orTap orElse loadOf decimal digits latin1 eachByte table encoded isHeader typeName namedAs sizeShown sizeName guessed nameOf unselected nameOne nameAll namedTape namedLoad loadNamed
 shown = refl
 
 -- a tape over the limit, whatever its bytes
 pub too-long : (lent : Lent) (s : List ℕ) (model : ℕ) → model < 3 → 1048576 < length s → loadNamed lent s model ≡ no tapeLong
-unfolding loadNamed naming loadOf
+unfolding loadNamed namedLoad loadOf
 too-long lent s model h k = rw (lt-leb 3 model h, lt-ltb 1048576 (length s) k)
 
 -- two tapes are accepted and leave different block rows: so a load that refuses all tapes, or has one listing for all, does not meet the contract
-pub two-lists : {a a′ : Answer} {bt bt′ tt tt′ : List ℕ} → Leaves threeBlocks fourTones (loadNamed (lentOf threeBlocks fourTones) (0 ∷ 0 ∷ []) 0) a bt tt → Leaves threeBlocks fourTones (loadNamed (lentOf threeBlocks fourTones) (1 ∷ 0 ∷ 0xFF ∷ []) 0) a′ bt′ tt′ → (a ≡ Tape Tap 1 2) × (a′ ≡ Tape Tap 1 2) × (bt ≡ bt′ → ⊥)
-unfolding leAt numberAt fieldAt placeOf times eachAt groupsAt countedAt passAt textsAt wholeAt sealed enclosed fittingAt readAt digits orFull heldIf kind10 kind11 kind12 kind13 kind14 stream19 kind19 kind20 kind21 kind22 kind24 kind25 kind2A kind30 kind31 info32 kind32 kind33 kind35 kind5A kinds kindOf startsAt headAt named cutAt blockOf tapAt pilotOf dataOf withPilot withData generalOf empty _⟫_ addTones addBlock pend endGroup openLoop copyRows copies closed closeLoop paused lastPaused isHeader standardCycles standardTones standardPause turboTones pureTones pureToneTones pulseAt addRows rowOf standardSound turboSound pairSounds pureSound pauseSound addSound addSounds generalDeed stop48Deed does deedOf act after seeing foldFrom halted tooManyBits judged tzxOf tzxSee headed readTzx tapOf tapSee readTap orTap orElse loadOf decimal digitsOf latin1 each table encoded isHeading typeName namedAs sizeShown sizeName guessed nameOf unselected passed nameAll namedTape naming loadNamed answerOf blocksOf tableOver
+pub two-lists : {a a′ : Loaded} {bt bt′ tt tt′ : List ℕ} → Leaves threeBlocks fourTones (loadNamed (lentOf threeBlocks fourTones) (0 ∷ 0 ∷ []) 0) a bt tt → Leaves threeBlocks fourTones (loadNamed (lentOf threeBlocks fourTones) (1 ∷ 0 ∷ 0xFF ∷ []) 0) a′ bt′ tt′ → (a ≡ Tape Tap 1 2) × (a′ ≡ Tape Tap 1 2) × (bt ≡ bt′ → ⊥)
+unfolding leAt numberAt fieldAt placeOf times eachAt groupsAt countedAt passAt textsAt wholeAt sealed enclosed fittingAt readAt binaryDigits orFull heldIf kind10 kind11 kind12 kind13 kind14 stream19 kind19 kind20 kind21 kind22 kind24 kind25 kind2A kind30 kind31 info32 kind32 kind33 kind35 kind5A kinds kindOf startsAt headAt takenAs cutAt tapBlock tapAt pilotOf dataPart withPilot withData generalOf empty _⟫_ addTones addBlock pend endGroup openLoop copyRows copies closed closeLoop paused lastPaused standardHeader standardCycles standardTones standardPause turboTones pureTones pureToneTones pulseAt addRows rowOf standardSound turboSound pairSounds pureSound pauseSound addSound addSounds generalDeed stop48Deed does deedOf act readOn seeing foldFrom halted tooManyBits bitsJudged tzxOf tzxSee headed readTzx tapOf tapSee readTap orTap orElse loadOf decimal digits latin1 eachByte table encoded isHeader typeName namedAs sizeShown sizeName guessed nameOf unselected nameOne nameAll namedTape namedLoad loadNamed answerOf blockTable tableOver
 two-lists x y = (x .answer, y .answer, λ e. suc-ne-zero 0 (ap (λ (l : List ℕ). getD l 3 0) (sym (y .blocks) ∙ sym e ∙ x .blocks)))

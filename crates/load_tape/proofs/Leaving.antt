@@ -12,14 +12,14 @@ use Rattle.load_source.specs.declared.Failure.{Failure}
 use Rattle.load_source.specs.declared.Reading.{Reading}
 use Rattle.load_source.specs.declared.Reading.the-variants.{Done, Failed, Refused}
 use Rattle.load_blocks.specs.Adds.{Lent}
-use Rattle.load_source.specs.Source.{Read, Loaded as Load, no, orTap, orElse, readTzx, readTap, loadOf}
+use Rattle.load_source.specs.Source.{Verdict, Load, no, orTap, orElse, readTzx, readTap, loadOf}
 use Rattle.load_blocks.specs.Does.{lentOf}
 use Rattle.load_source.specs.Does.{Blank, Finds}
 use Rattle.load_source.proofs.Judged.{found-done, found-failed, found-refused}
 use Rattle.load_tape.specs.declared.Format.the-variants.{Tap, Tzx}
 use Rattle.load_tape.specs.declared.Loaded.{Loaded}
 use Rattle.load_tape.specs.declared.Loaded.the-variants.{Tape, Refused as No}
-use Rattle.load_tape.specs.Load.{answerOf, blocksOf, tonesOf, Leaves}
+use Rattle.load_tape.specs.Load.{answerOf, blockTable, toneTable, Leaves}
 
 -- any two outcomes that the contract permits are equal
 pub one-outcome : {B N : ℕ} {l : Load} {a a′ : Loaded} {bt bt′ tt tt′ : List ℕ} → Leaves B N l a bt tt → Leaves B N l a′ bt′ tt′ → (a ≡ a′) × (bt ≡ bt′) × (tt ≡ tt′)
@@ -29,12 +29,12 @@ pub blanked : {t : List ℕ} (n : ℕ) → t ≡ zeros n → Blank t
 blanked n e = e ∙ ap zeros (sym (ap length e ∙ length-replicate n 0))
 
 pub no-leaves : {B N k : ℕ} {bt tt : List ℕ} → bt ≡ zeros B → tt ≡ zeros N → Leaves B N (no k) (No k) bt tt
-unfolding answerOf blocksOf tonesOf
+unfolding answerOf blockTable toneTable
 no-leaves b t = record { answer = refl; blocks = b; tones = t }
 
-module _ {B N : ℕ} {r : Reading} {bt tt : List ℕ} {o : Read} (f : Finds B N r bt tt o) where
+module _ {B N : ℕ} {r : Reading} {bt tt : List ℕ} {o : Verdict} (f : Finds B N r bt tt o) where
   pub tap-leaves : {s : State} → r ≡ Done s → Leaves B N (orTap o) (Tape Tap (s .blocks) (s .tones)) bt tt
-  unfolding orTap answerOf blocksOf tonesOf
+  unfolding orTap answerOf blockTable toneTable
   tap-leaves {s} e =
       let d = found-done f e in
       let n : Tape Tap (s .blocks) (s .tones) ≡ Tape Tap (length (d .0 .blocks)) (length (d .0 .tones)) =
@@ -49,19 +49,19 @@ module _ {B N : ℕ} {r : Reading} {bt tt : List ℕ} {o : Read} (f : Finds B N 
   unfolding orTap
   tap-refuses e = rw (found-refused f e)
 
-  pub tzx-leaves : (other : Read) {s : State} → r ≡ Done s → Leaves B N (orElse o other) (Tape Tzx (s .blocks) (s .tones)) bt tt
-  unfolding orElse answerOf blocksOf tonesOf
+  pub tzx-leaves : (other : Verdict) {s : State} → r ≡ Done s → Leaves B N (orElse o other) (Tape Tzx (s .blocks) (s .tones)) bt tt
+  unfolding orElse answerOf blockTable toneTable
   tzx-leaves other {s} e =
       let d = found-done f e in
       let n : Tape Tzx (s .blocks) (s .tones) ≡ Tape Tzx (length (d .0 .blocks)) (length (d .0 .tones)) =
       ap (λ (x : ℕ). Tape Tzx x (s .tones)) (d .2 .nb) ∙ ap (λ (x : ℕ). Tape Tzx (length (d .0 .blocks)) x) (d .2 .nt) in
       rw (d .1) (record { answer = n; blocks = d .2 .isB; tones = d .2 .isT })
 
-  pub tzx-fails : (other : Read) {x : Failure} → r ≡ Failed x → orElse o other ≡ orTap other
+  pub tzx-fails : (other : Verdict) {x : Failure} → r ≡ Failed x → orElse o other ≡ orTap other
   unfolding orElse
   tzx-fails other e = rw (found-failed f e)
 
-  pub tzx-refuses : (other : Read) {k : ℕ} → r ≡ Refused k → orElse o other ≡ no k
+  pub tzx-refuses : (other : Verdict) {k : ℕ} → r ≡ Refused k → orElse o other ≡ no k
   unfolding orElse
   tzx-refuses other e = rw (found-refused f e)
 

@@ -6,21 +6,21 @@ use mathlib.Core.Bool.{false}
 use mathlib.Core.List.{List}
 use Rattle.load_blocks.specs.Adds.{Lent}
 use Rattle.load_blocks.specs.Does.{lentOf}
-use Rattle.load_source.specs.Source.{Loaded as Load}
+use Rattle.load_source.specs.Source.{Load}
 use Rattle.load_source.specs.Reached.{reaches2A}
 use Rattle.load_source.proofs.Models.{models-equal, models-agree}
 use Rattle.load_tape.specs.declared.Loaded.{Loaded}
-use Rattle.load_tape.specs.Load.{named, loadNamed, Leaves}
+use Rattle.load_tape.specs.Load.{namedLoad, loadNamed, Leaves}
 use Rattle.load_tape.proofs.Leaving.{one-outcome}
 
 module _ (lent : Lent) (s : List ℕ) where
   named-equal : loadNamed lent s 1 ≡ loadNamed lent s 2
   unfolding loadNamed
-  named-equal = ap (named s) (models-equal lent s)
+  named-equal = ap (namedLoad s) (models-equal lent s)
 
   named-agree : reaches2A lent s ≡ false → loadNamed lent s 0 ≡ loadNamed lent s 1
   unfolding loadNamed
-  named-agree e = ap (named s) (models-agree lent s e)
+  named-agree e = ap (namedLoad s) (models-agree lent s e)
 
   -- each of the three models as the 128K
   named-as : reaches2A lent s ≡ false → (m : ℕ) → m < 3 → loadNamed lent s m ≡ loadNamed lent s 1

@@ -7,7 +7,7 @@ use mathlib.Core.Bool.{Bool, true, false}
 use mathlib.Core.Logic.{⊎-elim}
 use mathlib.Core.List.{List, [], _∷_, _++_}
 use lib.ListN.{length}
-use Rattle.law_base.specs.Numbers.{lt-or-ge}
+use Rattle.law_base.proofs.Numbers.{lt-or-ge}
 use Rattle.law_base.specs.Rules.{_⇒_, _∣_}
 use Rattle.law_pulses.specs.Play.{Entry, pulse, endless, time}
 use Rattle.law_pulses.proofs.Joined.{time-append}
@@ -19,7 +19,7 @@ use Rattle.play_entries.specs.declared.Phase.{Phase}
 use Rattle.play_entries.specs.declared.Phase.the-variants.{Start, Tones, Data, Edge, Pause}
 use Rattle.play_entries.specs.declared.Duration.{Duration}
 use Rattle.play_entries.specs.declared.Duration.the-variants.{T, Endless}
-use Rattle.play_entries.specs.Entries.{Spot, spot, entryOf, entriesOf}
+use Rattle.play_entries.specs.Entries.{Label, labelAt, entryOf, entriesOf}
 use Rattle.play_entries.specs.Places.{Tape, blockIn, listFrom, leftAt, hasEntry, levelIn, valid, hasIn, lengthIn}
 use Rattle.play_entries.proofs.Bounds.{block-below}
 use Rattle.play_entries.proofs.Valid.{valid-start}
@@ -28,9 +28,9 @@ use Rattle.play_steps.specs.declared.Step.{Step}
 use Rattle.play_steps.specs.Steps.{oneStep}
 use Rattle.play_ahead.specs.Drops.{dropOf}
 use Rattle.play_walk.specs.declared.Position.{Position}
-use Rattle.play_entries.specs.Mounted.{sizeOf, wellRow, cutTo, formed}
+use Rattle.play_entries.specs.Mounted.{tapeSize, wellRow, cutTo, formed}
 use Rattle.play_walk.specs.Heads.{droppedFrom, Walkable}
-use Rattle.play_steps.proofs.Leaps.{fullAt, behind, One, leap-one}
+use Rattle.play_steps.proofs.Leaps.{fullAt, leftBehind, One, leap-one}
 use Rattle.play_walk.proofs.Needed.{Needs}
 use Rattle.play_walk.proofs.Turns.{On, on-has, cutOf, rows-of, on-first}
 use Rattle.play_ahead.proofs.Sheds.{Sheds, time-none, full-valid, shed}
@@ -60,11 +60,11 @@ unfolding wellRow listFrom
 list-most {w} {b₀} {k} x h b l =
     let v = cutTo w k in
     let n = run-most (λ i. entriesOf (v .bytes) (v .tones) i (blockIn v i)) 1125899906842624 b (k - b)
-    (λ i y z. omega (arith, block-below (sizeOf (v .bytes)) (v .bytes) (v .tones) i (blockIn v i) (x .well i (omega arith) (omega arith)) (omega arith))) in
+    (λ i y z. omega (arith, block-below (tapeSize (v .bytes)) (v .bytes) (v .tones) i (blockIn v i) (x .well i (omega arith) (omega arith)) (omega arith))) in
     omega (arith, n, x .most)
 
 -- what is left behind a turn: the block's entries from a phase on, or the blocks behind it
-abbrev pub cur : Tape → ℕ → Phase → Bool → List (Entry Spot)
+abbrev pub cur : Tape → ℕ → Phase → Bool → List (Entry Label)
 cur v b f over = over ⇒ listFrom v (b + 1) ∣ fullAt v b f
 
 pub cur-most : {w : Tape} {b₀ k : ℕ} → Needs w b₀ k → w .count ≤ 4096 → (b : ℕ) → b₀ ≤ b → b < k → (f : Phase) (over : Bool) → (over ≡ false → hasIn w b f ≡ true)
@@ -73,7 +73,7 @@ cur-most {w} {b₀} {k} x h b l g f true s d = omega (arith, drops-most (listFro
 cur-most {w} {b₀} {k} x h b l g f false s d =
     let v = cutTo w k in
     let p = left-part v b g f (lengthIn v b f) (full-valid v b g d f (s refl)) in
-    let e : listFrom v b ≡ p .entry .gone ++ fullAt v b f = p .entry .whole ∙ ap (λ (y : List (Entry Spot)). p .entry .gone ++ y) (sym (p .rest)) in
+    let e : listFrom v b ≡ p .entry .gone ++ fullAt v b f = p .entry .whole ∙ ap (λ (y : List (Entry Label)). p .entry .gone ++ y) (sym (p .rest)) in
     omega (arith, drops-most (fullAt v b f) d, list-most x h b l, ap time e, time-append (p .entry .gone) (fullAt v b f) (p .entry .finite))
 
 -- a turn's state, on the tape cut to k
@@ -90,7 +90,7 @@ cur-out v b f over d z = ap (λ (x : Bool). drops (cur v b f x) d) z
 
 pub drops-nil : (v : Tape) (b d : ℕ) → listFrom v b ≡ [] → drops (listFrom v b) d ≡ 0
 unfolding drops
-drops-nil v b d e = ap (λ (x : List (Entry Spot)). drops x d) e
+drops-nil v b d e = ap (λ (x : List (Entry Label)). drops x d) e
 
 module _ (w : Tape) (b : ℕ) (f : Phase) (over : Bool) (d : ℕ) (has : over ≡ false → hasIn w b f ≡ true) (z : over ≡ false) (r : Block) (er : r ≡ blockIn w b) (s : Step) (es : s ≡ dropOf (w .bytes) (w .tones) r f d) where
   pub shed-here : (n : ℕ) → b < n → Sheds (cutTo w n) b (fullAt (cutTo w n) b f) d s
@@ -119,14 +119,14 @@ module _ (v : Tape) (b : ℕ) (below : b < v .count) (f : Phase) (left : Duratio
   unfolding entryOf runsAhead
   ahead-stop z =
       let x = left-part v b below f left e in
-      ap (λ (y : List (Entry Spot)). runsAhead y n) (x .rest ∙ ap (λ (y : Duration). entryOf (spot b f) (levelIn v b f) y ∷ x .next) z)
+      ap (λ (y : List (Entry Label)). runsAhead y n) (x .rest ∙ ap (λ (y : Duration). entryOf (labelAt b f) (levelIn v b f) y ∷ x .next) z)
 
   pub ahead-short : (t : ℕ) → left ≡ T t → n < t → runsAhead (leftAt v b f left) n ≡ 0
   unfolding entryOf
   ahead-short t z l =
       let x = left-part v b below f left e in
-      ap (λ (y : List (Entry Spot)). runsAhead y n) (x .rest ∙ ap (λ (y : Duration). entryOf (spot b f) (levelIn v b f) y ∷ x .next) z)
-      ∙ ahead-here (spot b f) (levelIn v b f) t (x .next) n l
+      ap (λ (y : List (Entry Label)). runsAhead y n) (x .rest ∙ ap (λ (y : Duration). entryOf (labelAt b f) (levelIn v b f) y ∷ x .next) z)
+      ∙ ahead-here (labelAt b f) (levelIn v b f) t (x .next) n l
 
   own-time : (t : ℕ) → left ≡ T t → (g : Phase) → g ≡ f → oneStep (v .tones) (blockIn v b) g t .time ≡ t
   unfolding oneStep
@@ -141,15 +141,15 @@ module _ (v : Tape) (b : ℕ) (below : b < v .count) (f : Phase) (left : Duratio
   own-time t z Pause g = refl
 
   pub ahead-long : (t : ℕ) → left ≡ T t → t ≤ n → hasIn v b f ≡ true → (r : Block) → r ≡ blockIn v b → (s : Step) → s ≡ oneStep (v .tones) r f t
-      → runsAhead (leftAt v b f left) n ≡ drops (behind v b s) (n - t)
+      → runsAhead (leftAt v b f left) n ≡ drops (leftBehind v b s) (n - t)
   ahead-long t z l h r er s es =
       let q : s ≡ oneStep (v .tones) (blockIn v b) f t = es ∙ ap (λ (x : Block). oneStep (v .tones) x f t) er in
       let o = subst (λ (x : Step). One v b (leftAt v b f (T t)) x) (sym q) (leap-one v b below f t h) in
       let k : s .time ≡ t = ap (λ (x : Step). x .time) q ∙ own-time t z f refl in
       ap (λ (x : Duration). runsAhead (leftAt v b f x) n) z
-      ∙ ap (λ (y : List (Entry Spot)). runsAhead y n) (o .split)
-      ∙ ahead-past (o .label) (o .level) (s .time) (behind v b s) n (omega arith)
-      ∙ ap (λ (x : ℕ). drops (behind v b s) (n - x)) k
+      ∙ ap (λ (y : List (Entry Label)). runsAhead y n) (o .split)
+      ∙ ahead-past (o .label) (o .level) (s .time) (leftBehind v b s) n (omega arith)
+      ∙ ap (λ (x : ℕ). drops (leftBehind v b s) (n - x)) k
 
 -- WHAT A CALL DROPS, by the head's own entry and the entry behind it
 module _ (w : Tape) (q : Position) (a : Walkable w q) (n : ℕ) where

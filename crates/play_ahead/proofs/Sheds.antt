@@ -9,7 +9,7 @@ use Rattle.law_base.specs.Rules.{_⇒_, _∣_}
 use mathlib.Core.Logic.{⊎-elim}
 use mathlib.Core.List.{List, [], _∷_}
 use lib.ListN.{length, length-append}
-use Rattle.law_base.specs.Numbers.{lt-or-ge}
+use Rattle.law_base.proofs.Numbers.{lt-or-ge}
 use Rattle.law_pulses.specs.Play.{Level, Entry, pulse, time}
 use Rattle.law_pulses.proofs.Ahead.{drops, drops-here, drops-past}
 use Rattle.law_pulses.proofs.Dropped.{Within, drops-run, run-within}
@@ -19,7 +19,7 @@ use Rattle.play_entries.specs.declared.Phase.{Phase}
 use Rattle.play_entries.specs.declared.Phase.the-variants.{Start, Tones, Data, Edge, Pause}
 use Rattle.play_entries.specs.declared.Duration.{Duration}
 use Rattle.play_entries.specs.declared.Duration.the-variants.{T, Endless}
-use Rattle.play_entries.specs.Entries.{Spot, spot, entryOf, isSingle, bitsAt, bitOf, halfOf, bitEntries, byteOf}
+use Rattle.play_entries.specs.Entries.{Label, labelAt, entryOf, isSingle, bitsAt, bitOf, halfOf, bitEntries, byteOf}
 use Rattle.play_entries.specs.Places.{Tape, blockIn, toneIn, byteIn, leftAt, levelIn, cyclesIn, cycleItem, bitIn, valid, hasIn, lengthIn}
 use Rattle.play_entries.proofs.Bounds.{bits-some}
 use Rattle.play_entries.proofs.Valid.{tone-entry, data-entry, remains-full, stands-valid}
@@ -27,38 +27,38 @@ use Rattle.play_entries.proofs.Parts.{left-part}
 use Rattle.play_steps.specs.declared.Step.{Step}
 use Rattle.play_steps.specs.Steps.{cyclesStep, byteStep, oneStep}
 use Rattle.play_ahead.specs.Drops.{noStep, dropOne, dropEntry, secondTime, dropOf}
-use Rattle.play_steps.proofs.Leaps.{fullAt, behind, One, Leap, leap-one, leap-cycles, leap-byte, runs-some, one-time}
+use Rattle.play_steps.proofs.Leaps.{fullAt, leftBehind, One, Leap, leap-one, leap-cycles, leap-byte, runs-some, one-time}
 
 -- what a turn drops of es, d being the count left
-pub record Sheds (w : Tape) (b : ℕ) (es : List (Entry Spot)) (d : ℕ) (s : Step) : Type 0 where
-  pub goes : (s .passed ≡ 0 → ⊥) → drops es d ≡ s .time + drops (behind w b s) d
-  pub less : (s .passed ≡ 0 → ⊥) → length (behind w b s) < length es
+pub record Sheds (w : Tape) (b : ℕ) (es : List (Entry Label)) (d : ℕ) (s : Step) : Type 0 where
+  pub goes : (s .passed ≡ 0 → ⊥) → drops es d ≡ s .time + drops (leftBehind w b s) d
+  pub less : (s .passed ≡ 0 → ⊥) → length (leftBehind w b s) < length es
   pub rests : s .passed ≡ 0 → drops es d ≡ 0
   pub has : s .over ≡ false → hasIn w b (s .phase) ≡ true
 
-one-sheds : (w : Tape) (b : ℕ) (es : List (Entry Spot)) (s : Step) (d : ℕ) → One w b es s → s .time ≤ d → Sheds w b es d s
+one-sheds : (w : Tape) (b : ℕ) (es : List (Entry Label)) (s : Step) (d : ℕ) → One w b es s → s .time ≤ d → Sheds w b es d s
 one-sheds w b es s d o h =
     record {
-      goes = λ n. ap (λ (x : List (Entry Spot)). drops x d) (o .split) ∙ drops-past (o .label) (o .level) (s .time) (behind w b s) d h;
+      goes = λ n. ap (λ (x : List (Entry Label)). drops x d) (o .split) ∙ drops-past (o .label) (o .level) (s .time) (leftBehind w b s) d h;
       less = λ n. omega (arith, ap length (o .split));
       rests = λ z. absurd (omega (arith, o .many));
       has = o .has;
     }
 
-leap-sheds : (w : Tape) (b : ℕ) (es : List (Entry Spot)) (s : Step) {gone : List (Entry Spot)} (d : ℕ) → Leap w b es s gone → Within gone d → 0 < s .passed → Sheds w b es d s
+leap-sheds : (w : Tape) (b : ℕ) (es : List (Entry Label)) (s : Step) {gone : List (Entry Label)} (d : ℕ) → Leap w b es s gone → Within gone d → 0 < s .passed → Sheds w b es d s
 leap-sheds w b es s {gone} d l h p =
     record {
       goes =
           λ n.
-          ap (λ (x : List (Entry Spot)). drops x d) (l .split)
-          ∙ drops-run gone (behind w b s) d h
-          ∙ ap (λ (x : ℕ). x + drops (behind w b s) d) (l .lasts);
-      less = λ n. omega (arith, ap length (l .split), length-append gone (behind w b s), l .many);
+          ap (λ (x : List (Entry Label)). drops x d) (l .split)
+          ∙ drops-run gone (leftBehind w b s) d h
+          ∙ ap (λ (x : ℕ). x + drops (leftBehind w b s) d) (l .lasts);
+      less = λ n. omega (arith, ap length (l .split), length-append gone (leftBehind w b s), l .many);
       rests = λ z. absurd (omega arith);
       has = l .has;
     }
 
-none-sheds : (w : Tape) (b : ℕ) (f : Phase) (es : List (Entry Spot)) (d : ℕ) → hasIn w b f ≡ true → drops es d ≡ 0 → Sheds w b es d (noStep f)
+none-sheds : (w : Tape) (b : ℕ) (f : Phase) (es : List (Entry Label)) (d : ℕ) → hasIn w b f ≡ true → drops es d ≡ 0 → Sheds w b es d (noStep f)
 none-sheds w b f es d h e = record { goes = λ n. absurd (n refl); less = λ n. absurd (n refl); rests = λ z. e; has = λ z. h }
 
 half-within : (r : Block) (d x : ℕ) → r .zero ≤ d → r .one ≤ d → halfOf r x ≤ d
@@ -78,7 +78,7 @@ many-some : (tones : List ℕ) (t : Tone) (r : Block) (i p k : ℕ) → 0 < k �
 unfolding cyclesStep
 many-some tones t r i p k l = runs-some (isSingle r t) k l
 
-second-within : (o : Bool) (a : Spot) (v : Level) (n d : ℕ) → (o ⇒ 0 ∣ n) ≤ d → Within (o ⇒ [] ∣ pulse a v n ∷ []) d
+second-within : (o : Bool) (a : Label) (v : Level) (n d : ℕ) → (o ⇒ 0 ∣ n) ≤ d → Within (o ⇒ [] ∣ pulse a v n ∷ []) d
 unfolding Within
 second-within true a v n d h = tt
 second-within false a v n d h = (h, tt)
@@ -99,14 +99,14 @@ module _ (w : Tape) (b : ℕ) (below : b < w .count) (d : ℕ) where
       let x = left-part w b below f (T t) v in
       rw (lt-leb t d l)
       (none-sheds w b f (leftAt w b f (T t)) d h
-      (ap (λ (y : List (Entry Spot)). drops y d) (x .rest) ∙ drops-here (spot b f) (levelIn w b f) t (x .next) d l)))
+      (ap (λ (y : List (Entry Label)). drops y d) (x .rest) ∙ drops-here (labelAt b f) (levelIn w b f) t (x .next) d l)))
       (λ g.
       rw (le-leb t d g)
       (one-sheds w b (leftAt w b f (T t)) (oneStep (w .tones) (blockIn w b) f t) d (leap-one w b below f t h) (one-time (w .tones) (blockIn w b) f t d g)))
       (lt-or-ge d t)
   shed-left f Endless h v =
       let x = left-part w b below f Endless v in
-      none-sheds w b f (leftAt w b f Endless) d h (ap (λ (y : List (Entry Spot)). drops y d) (x .rest))
+      none-sheds w b f (leftAt w b f Endless) d h (ap (λ (y : List (Entry Label)). drops y d) (x .rest))
 
   pub full-valid : (f : Phase) → hasIn w b f ≡ true → valid w b f (lengthIn w b f) ≡ true
   full-valid f h = stands-valid w b f (lengthIn w b f) (record { below = below; entry = h; some = remains-full (lengthIn w b f) })

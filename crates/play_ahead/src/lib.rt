@@ -27,7 +27,7 @@ ghost use Rattle.rows.specs.Rows.{tone, toneMost};
 ghost use Rattle.rows.specs.Well.{wellBlock};
 ghost use Rattle.play_entries.specs.Places.{hasEntry};
 ghost use Rattle.play_ahead.specs.Drops.{dropOne, dropEntry, secondTime, dropOf};
-ghost use Rattle.play_entries.specs.Mounted.{sizeOf, tapeOf};
+ghost use Rattle.play_entries.specs.Mounted.{tapeSize, tapeOf};
 ghost use Rattle.play_walk.specs.Heads.{Walkable, droppedFrom};
 ghost use Rattle.play_entries.specs.declared.Phase.the-variants.{Tones, Data};
 
@@ -50,7 +50,7 @@ fn drop_one(tones: &[u64], r: Block, f: Phase, length: Duration, d: u64) -> Step
 
 // Behind one full entry, if it is no longer than d.
 fn drop_entry(tape: &[u8], tones: &[u64], r: Block, f: Phase, d: u64) -> Step
-    requires { ⌜ wellBlock (sizeOf (now tape)) (now tones) r ≡ true ⌝ }
+    requires { ⌜ wellBlock (tapeSize (now tape)) (now tones) r ≡ true ⌝ }
     requires { ⌜ hasEntry (now tones) r f ≡ true ⌝ }
     ensures { λ s. ⌜ s ≡ dropEntry (now (tape .entry)) (now (tones .entry)) r f d ⌝ }
 {
@@ -69,7 +69,7 @@ fn second_time(r: Block, t: Tone) -> u64
 
 // The rest of a tone row's cycles if neither half is longer than d, or this half if it isn't.
 fn drop_cycles(tape: &[u8], tones: &[u64], r: Block, i: u64, p: u64, d: u64) -> Step
-    requires { ⌜ wellBlock (sizeOf (now tape)) (now tones) r ≡ true ⌝ }
+    requires { ⌜ wellBlock (tapeSize (now tape)) (now tones) r ≡ true ⌝ }
     requires { ⌜ hasEntry (now tones) r (Tones i p false) ≡ true ⌝ }
     ensures { λ s. ⌜ s ≡ dropOf (now (tape .entry)) (now (tones .entry)) r (Tones i p false) d ⌝ }
 {
@@ -93,7 +93,7 @@ fn drop_cycles(tape: &[u8], tones: &[u64], r: Block, i: u64, p: u64, d: u64) -> 
 
 // A data byte if no half of a bit can be longer than d, or its first half if it isn't.
 fn drop_byte(tape: &[u8], tones: &[u64], r: Block, pos: u64, d: u64) -> Step
-    requires { ⌜ wellBlock (sizeOf (now tape)) (now tones) r ≡ true ⌝ }
+    requires { ⌜ wellBlock (tapeSize (now tape)) (now tones) r ≡ true ⌝ }
     requires { ⌜ hasEntry (now tones) r (Data pos 0 false) ≡ true ⌝ }
     ensures { λ s. ⌜ s ≡ dropOf (now (tape .entry)) (now (tones .entry)) r (Data pos 0 false) d ⌝ }
 {
@@ -114,7 +114,7 @@ fn drop_byte(tape: &[u8], tones: &[u64], r: Block, pos: u64, d: u64) -> Step
 
 // One turn of the source's walk, from a full entry that its callers know to be there in a well-formed row.
 fn drop(tape: &[u8], tones: &[u64], r: Block, f: Phase, d: u64) -> Step
-    requires { ⌜ wellBlock (sizeOf (now tape)) (now tones) r ≡ true ⌝ }
+    requires { ⌜ wellBlock (tapeSize (now tape)) (now tones) r ≡ true ⌝ }
     requires { ⌜ hasEntry (now tones) r f ≡ true ⌝ }
     ensures { λ s. ⌜ s ≡ dropOf (now (tape .entry)) (now (tones .entry)) r f d ⌝ }
 {

@@ -8,34 +8,31 @@ use Rattle.law_pulses.specs.Play.{Entry, Answer, answer, calls, sum, Positive}
 use Rattle.law_pulses.specs.Source.{Outcome, isEnded, sources, heard, Short, Agrees}
 use Rattle.law_pulses.proofs.Demand.{any-cut}
 use Rattle.law_pulses.proofs.Agreement.{agrees-short}
-use Rattle.play_entries.specs.Entries.{Spot}
+use Rattle.play_entries.specs.Entries.{Label}
 use Rattle.play_entries.specs.Places.{Tape}
-use Rattle.play_entries.proofs.Formed.{Whole}
+use Rattle.play_entries.specs.Mounted.{WholeTape}
 use Rattle.play_walk.specs.declared.Position.{Position}
 use Rattle.play_walk.specs.declared.Reached.{Reached}
-use Rattle.play_walk.specs.Heads.{ahead, told}
+use Rattle.play_walk.specs.Heads.{ahead, toldReached}
 use Rattle.play_deck.specs.Deck.{validAt}
-use Rattle.play_deck.proofs.Answers.{positionIn, endedIn, told-ended}
-use Rattle.play_deck.proofs.Plays.{runCalls, play-place, calls-told, cut-at-will}
-use Rattle.play_deck.proofs.Sources.{runSources, sources-told, sources-place}
+use Rattle.play_deck.specs.Calls.{positionIn, endedIn, runCalls, runSources, outcomeIn}
+use Rattle.play_deck.proofs.Answers.{told-ended}
+use Rattle.play_deck.proofs.Plays.{play-place, calls-told, cut-at-will}
+use Rattle.play_deck.proofs.Sources.{sources-told, sources-place}
 
--- what an answer comes to: what is left to play from where it leaves the head, and whether the tape has ended
-unfoldable pub outcomeIn : Tape → Position → Reached → Outcome Spot
-outcomeIn w q r = record { place = ahead w (positionIn q r); done = endedIn r }
-
-abbrev outcome : List (Entry Spot) → Bool → Outcome Spot
+abbrev outcome : List (Entry Label) → Bool → Outcome Label
 outcome es b = record { place = es; done = b }
 
-module _ (w : Tape) (whole : Whole w) (q : Position) (n : ℕ) (ms : List ℕ) (v : validAt w q ≡ true) (p : 0 < n) (h : Positive ms) where
+module _ (w : Tape) (whole : WholeTape w) (q : Position) (n : ℕ) (ms : List ℕ) (v : validAt w q ≡ true) (p : 0 < n) (h : Positive ms) where
   calls-place : ahead w (positionIn q (runCalls w q n ms)) ≡ calls (ahead w q) n ms .place
   unfolding answer
   calls-place =
       ap (λ (r : Reached). ahead w (positionIn q r)) (cut-at-will w whole q n ms v p h)
       ∙ play-place w whole q (n + sum ms) v (omega arith) .0
-      ∙ sym (ap (λ (a : Answer Spot). a .place) (any-cut (ahead w q) n ms h))
+      ∙ sym (ap (λ (a : Answer Label). a .place) (any-cut (ahead w q) n ms h))
 
   calls-ended : endedIn (runCalls w q n ms) ≡ isEnded (calls (ahead w q) n ms .tells)
-  unfolding told
+  unfolding toldReached
   calls-ended = ap endedIn (calls-told w whole q n ms v p h) ∙ told-ended (calls (ahead w q) n ms .tells) _
 
   calls-outcome : outcomeIn w q (runCalls w q n ms) ≡ heard (calls (ahead w q) n ms)

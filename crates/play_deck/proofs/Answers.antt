@@ -1,41 +1,14 @@
 -- WHAT AN ANSWER HOLDS: where it leaves the head, the entries it counts, its level, whether it is the end; one answer is permitted. Assumes nothing.
-use Prim.Native.Nat.{ℕ, _+_, _-_}
+use Prim.Native.Nat.{ℕ, _-_}
 use mathlib.Core.Path.{_≡_, refl}
-use mathlib.Core.Bool.{Bool, true, false}
-use Rattle.law_pulses.specs.Play.{Level, low, Status, standing, stopped, ended, Answer, counted}
+use Rattle.law_pulses.specs.Play.{Status, standing, stopped, ended, Answer, counted}
 use Rattle.law_pulses.specs.Source.{isEnded}
-use Rattle.play_entries.specs.Entries.{Spot}
+use Rattle.play_entries.specs.Entries.{Label}
 use Rattle.play_entries.specs.Places.{Tape}
 use Rattle.play_walk.specs.declared.Position.{Position}
 use Rattle.play_walk.specs.declared.Stand.{Stand}
-use Rattle.play_walk.specs.declared.Reached.{Reached}
-use Rattle.play_walk.specs.declared.Reached.the-variants.{At, Stopped, Ended, NotValid, NotFormed}
-use Rattle.play_walk.specs.Heads.{stand, levelHere, restLevel, toldAs, told}
-
--- where an answer leaves the head, and the entries it counts; a refusal leaves it where it was and counts none
-unfoldable pub positionIn : Position → Reached → Position
-positionIn q (At s) = s .position
-positionIn q (Stopped s) = s .position
-positionIn q (Ended s) = s .position
-positionIn q NotValid = q
-positionIn q NotFormed = q
-
-unfoldable pub passedIn : Reached → ℕ
-passedIn (At s) = s .passed
-passedIn (Stopped s) = s .passed
-passedIn (Ended s) = s .passed
-passedIn NotValid = 0
-passedIn NotFormed = 0
-
-abbrev pub more : ℕ → Stand → Stand
-more j s = stand (s .position) (j + s .passed) (s .level)
-
-unfoldable pub counting : ℕ → Reached → Reached
-counting j (At s) = At (more j s)
-counting j (Stopped s) = Stopped (more j s)
-counting j (Ended s) = Ended (more j s)
-counting j NotValid = NotValid
-counting j NotFormed = NotFormed
+use Rattle.play_walk.specs.Heads.{levelHere, restLevel, toldAs, toldReached}
+use Rattle.play_deck.specs.Calls.{positionIn, passedIn, passedMore, counting, answerLevel, endedIn}
 
 pub told-position : (q : Position) (st : Status) (s : Stand) → positionIn q (toldAs st s) ≡ s .position
 unfolding toldAs positionIn
@@ -49,45 +22,29 @@ told-passed standing s = refl
 told-passed stopped s = refl
 told-passed ended s = refl
 
-pub told-counted : (j : ℕ) (st : Status) (s : Stand) → counting j (toldAs st s) ≡ toldAs st (more j s)
+pub told-counted : (j : ℕ) (st : Status) (s : Stand) → counting j (toldAs st s) ≡ toldAs st (passedMore j s)
 unfolding toldAs counting
 told-counted j standing s = refl
 told-counted j stopped s = refl
 told-counted j ended s = refl
 
-pub passed-of : (w v : Tape) (a : Answer Spot) → passedIn (told w v a) ≡ a .passed
-unfolding told
+pub passed-of : (w v : Tape) (a : Answer Label) → passedIn (toldReached w v a) ≡ a .passed
+unfolding toldReached
 passed-of w v a = told-passed (a .tells) _
 
-pub counted-told : (w v : Tape) (j : ℕ) (a : Answer Spot) → counting j (told w v a) ≡ told w v (counted j a)
-unfolding told counted
+pub counted-told : (w v : Tape) (j : ℕ) (a : Answer Label) → counting j (toldReached w v a) ≡ toldReached w v (counted j a)
+unfolding toldReached counted
 counted-told w v j a = told-counted j (a .tells) _
 
--- the level in an answer; low where it is refused
-unfoldable pub levelIn : Reached → Level
-levelIn (At s) = s .level
-levelIn (Stopped s) = s .level
-levelIn (Ended s) = s .level
-levelIn NotValid = low
-levelIn NotFormed = low
-
-pub told-level : (st : Status) (s : Stand) → levelIn (toldAs st s) ≡ s .level
-unfolding toldAs levelIn
+pub told-level : (st : Status) (s : Stand) → answerLevel (toldAs st s) ≡ s .level
+unfolding toldAs answerLevel
 told-level standing s = refl
 told-level stopped s = refl
 told-level ended s = refl
 
-pub level-told : (w v : Tape) (a : Answer Spot) → levelIn (told w v a) ≡ levelHere (restLevel w (v .count)) (a .place)
-unfolding told
+pub level-told : (w v : Tape) (a : Answer Label) → answerLevel (toldReached w v a) ≡ levelHere (restLevel w (v .count)) (a .place)
+unfolding toldReached
 level-told w v a = told-level (a .tells) _
-
--- both have ended or neither has
-unfoldable pub endedIn : Reached → Bool
-endedIn (At s) = false
-endedIn (Stopped s) = false
-endedIn (Ended s) = true
-endedIn NotValid = false
-endedIn NotFormed = false
 
 pub told-ended : (st : Status) (s : Stand) → endedIn (toldAs st s) ≡ isEnded st
 unfolding toldAs endedIn

@@ -6,10 +6,10 @@ use mathlib.Core.Path.{_≡_, refl, sym, ap, subst, _∙_}
 use mathlib.Core.Bool.{Bool, true, false, not, _&&_}
 use mathlib.Core.Logic.{⊎-elim}
 use mathlib.Core.List.{List, [], _∷_}
-use Rattle.law_base.specs.Numbers.{lt-or-ge}
+use Rattle.law_base.proofs.Numbers.{lt-or-ge}
 use Rattle.law_base.specs.Rules.{_⇒_, _∣_}
-use Rattle.law_base.specs.Tests.{first, second}
-use Rattle.law_pulses.specs.Play.{low, Entry, shown}
+use Rattle.law_base.proofs.Tests.{first, second}
+use Rattle.law_pulses.specs.Play.{low, Entry, statusHere}
 use Rattle.law_pulses.proofs.Lead.{lead-here, lead-by}
 use Rattle.rows.specs.Table.{capacityOf}
 use Rattle.rows.specs.Rows.{tone, toneMost, block, blockMost}
@@ -17,7 +17,7 @@ use Rattle.play_entries.specs.declared.Phase.{Phase}
 use Rattle.play_entries.specs.declared.Phase.the-variants.{Start, Tones, Data, Edge, Pause}
 use Rattle.play_entries.specs.declared.Duration.{Duration}
 use Rattle.play_entries.specs.declared.Duration.the-variants.{T, Endless}
-use Rattle.play_entries.specs.Entries.{Spot, spot, entryOf}
+use Rattle.play_entries.specs.Entries.{Label, labelAt, entryOf}
 use Rattle.play_entries.specs.Places.{Tape, blockIn, hasEntry, leftAt, levelIn, remains, isStart, isNone, valid, hasIn, lengthIn}
 use Rattle.rows.specs.declared.Block.{Block}
 use Rattle.play_entries.proofs.Lent.{row-lent}
@@ -135,27 +135,27 @@ module _ (w : Tape) (q : Position) (fine : judged w q ≡ Fine) where
   past-nil h k l = ap (λ (f : Phase). leftAt (cutTo w k) (q .block) f (q .left)) (fine-start h) ∙ list-out (cutTo w k) (q .block) l
 
   -- a call of 0
-  stays-by : (es : List (Entry Spot)) → ahead w q ≡ es → stays w q ≡ toldAs (shown es) (stand q 0 (levelHere low es))
+  stays-by : (es : List (Entry Label)) → ahead w q ≡ es → stays w q ≡ toldAs (statusHere es) (stand q 0 (levelHere low es))
   unfolding stays
-  stays-by es e = ap (λ (x : List (Entry Spot)). toldAs (shown x) (stand q 0 (levelHere low x))) e
+  stays-by es e = ap (λ (x : List (Entry Label)). toldAs (statusHere x) (stand q 0 (levelHere low x))) e
 
   pub stays-at : (t : ℕ) → q .left ≡ T t → q .block < w .count → stays w q ≡ At (stand q 0 (levelIn w (q .block) (q .phase)))
-  unfolding toldAs shown levelHere entryOf
+  unfolding toldAs statusHere levelHere entryOf
   stays-at t e h =
       let x = left-part w (q .block) h (q .phase) (q .left) (tests .valid) in
-      stays-by _ (x .rest ∙ ap (λ (y : Duration). entryOf (spot (q .block) (q .phase)) (levelIn w (q .block) (q .phase)) y ∷ x .next) e)
+      stays-by _ (x .rest ∙ ap (λ (y : Duration). entryOf (labelAt (q .block) (q .phase)) (levelIn w (q .block) (q .phase)) y ∷ x .next) e)
 
   pub stays-past : w .count ≤ q .block → stays w q ≡ At (stand q 0 low)
-  unfolding toldAs shown levelHere
+  unfolding toldAs statusHere levelHere
   stays-past h = stays-by [] (past-nil h (w .count) h)
 
   pub stays-endless : q .left ≡ Endless → stays w q ≡ Stopped (stand q 0 (levelIn w (q .block) (q .phase)))
-  unfolding toldAs shown levelHere entryOf
+  unfolding toldAs statusHere levelHere entryOf
   stays-endless e =
       ⊎-elim
       (λ h.
       let x = left-part w (q .block) h (q .phase) (q .left) (tests .valid) in
-      stays-by _ (x .rest ∙ ap (λ (y : Duration). entryOf (spot (q .block) (q .phase)) (levelIn w (q .block) (q .phase)) y ∷ x .next) e))
+      stays-by _ (x .rest ∙ ap (λ (y : Duration). entryOf (labelAt (q .block) (q .phase)) (levelIn w (q .block) (q .phase)) y ∷ x .next) e))
       (λ h. let z = fine-none h in absurd (apart (sym z ∙ e)))
       (lt-or-ge (q .block) (w .count))
     where

@@ -9,11 +9,11 @@ use mathlib.Core.Logic.{⊎-elim}
 use mathlib.Core.List.{List, [], _∷_}
 use lib.ListN.{length}
 use Rattle.law_base.specs.Rules.{_⇒_, _∣_}
-use Rattle.law_pulses.specs.Play.{Entry, pulse, endless, Status, ended, Answer, made, rest, over, shown, status, answer}
+use Rattle.law_pulses.specs.Play.{Entry, pulse, endless, Status, ended, Answer, made, rest, over, statusHere, status, answer}
 use Rattle.law_pulses.proofs.Demand.{status-left, status-over}
 use Rattle.law_pulses.specs.Source.{Outcome, isEnded, dropped, heard}
 use Rattle.law_pulses.proofs.Agreement.{source-heard}
-use Rattle.play_entries.specs.Entries.{Spot}
+use Rattle.play_entries.specs.Entries.{Label}
 use Rattle.play_entries.specs.Places.{Tape, blockIn}
 use Rattle.play_walk.specs.declared.Position.{Position}
 use Rattle.play_entries.specs.Mounted.{wellRow, formed}
@@ -21,24 +21,24 @@ use Rattle.play_walk.specs.Heads.{ahead, walked, walkFrom, droppedFrom}
 use Rattle.play_deck.specs.declared.Selected.the-variants.{Block, BadRow}
 use Rattle.play_deck.specs.Deck.{sourceAnswer, sourceFrom, backTo}
 
-never-ended : (rs : List (Entry Spot)) → (isEnded (shown rs) ⇒ ended ∣ shown rs) ≡ shown rs
-unfolding shown
+never-ended : (rs : List (Entry Label)) → (isEnded (statusHere rs) ⇒ ended ∣ statusHere rs) ≡ statusHere rs
+unfolding statusHere
 never-ended [] = refl
 never-ended (pulse a v t ∷ es) = refl
 never-ended (endless a v ∷ es) = refl
 
-told-again : (rs : List (Entry Spot)) (u : ℕ) → (isEnded (status rs u) ⇒ ended ∣ shown rs) ≡ status rs u
+told-again : (rs : List (Entry Label)) (u : ℕ) → (isEnded (status rs u) ⇒ ended ∣ statusHere rs) ≡ status rs u
 told-again rs u =
     ⊎-elim
-    (λ z. ap (λ (s : Status). isEnded s ⇒ ended ∣ shown rs) (status-left rs u z) ∙ never-ended rs ∙ sym (status-left rs u z))
-    (λ p. ap (λ (s : Status). isEnded s ⇒ ended ∣ shown rs) (status-over rs u p) ∙ sym (status-over rs u p))
+    (λ z. ap (λ (s : Status). isEnded s ⇒ ended ∣ statusHere rs) (status-left rs u z) ∙ never-ended rs ∙ sym (status-left rs u z))
+    (λ p. ap (λ (s : Status). isEnded s ⇒ ended ∣ statusHere rs) (status-over rs u p) ∙ sym (status-over rs u p))
     (eq-zero-or-pos u)
 
-abbrev asAnswer : List (Entry Spot) → Outcome Spot → Answer Spot
-asAnswer es o = made (o .place) (o .done ⇒ ended ∣ shown (o .place)) (length es - length (o .place))
+abbrev asAnswer : List (Entry Label) → Outcome Label → Answer Label
+asAnswer es o = made (o .place) (o .done ⇒ ended ∣ statusHere (o .place)) (length es - length (o .place))
 
 -- the source's answer is the measured one for the count and the sum dropped
-pub source-answer : (es : List (Entry Spot)) (n : ℕ) → sourceAnswer es n ≡ answer es (n + dropped es n)
+pub source-answer : (es : List (Entry Label)) (n : ℕ) → sourceAnswer es n ≡ answer es (n + dropped es n)
 unfolding sourceAnswer answer heard
 source-answer es n =
     let m = n + dropped es n in

@@ -9,26 +9,23 @@ use Rattle.law_pulses.specs.Play.{Entry, answer, calls, Positive}
 use Rattle.law_pulses.specs.Source.{Outcome, source, dropped, sources, heard, Short, Agrees}
 use Rattle.law_pulses.proofs.Agreement.{source-heard, agrees, agrees-short}
 use Rattle.rows.specs.Rows.{block}
-use Rattle.play_entries.specs.Entries.{Spot}
+use Rattle.play_entries.specs.Entries.{Label}
 use Rattle.play_entries.specs.Places.{Tape}
 use Rattle.play_walk.specs.declared.Position.{Position}
 use Rattle.play_walk.specs.declared.Reached.{Reached}
-use Rattle.play_walk.specs.Heads.{ahead, told}
+use Rattle.play_walk.specs.Heads.{ahead, toldReached}
 use Rattle.play_deck.specs.Deck.{validAt, unless, playMeasured, sourceAnswer, sourceFrom, playSource}
+use Rattle.play_deck.specs.Calls.{positionIn, endedIn, runSources}
 use Rattle.play_deck.proofs.Sourced.{source-answer}
-use Rattle.play_deck.proofs.Answers.{positionIn, endedIn, told-position, told-ended}
+use Rattle.play_deck.proofs.Answers.{told-position, told-ended}
 use Rattle.play_deck.proofs.Whole.{all-walked, whole-fine}
-use Rattle.play_entries.proofs.Formed.{Whole, whole-formed}
+use Rattle.play_entries.proofs.Formed.{whole-formed}
+use Rattle.play_entries.specs.Mounted.{WholeTape}
 use Rattle.play_deck.proofs.Plays.{play-told, play-place}
 
--- a call of n of the source's play and then of each of ms: the last's answer
-unfoldable pub runSources : Tape → Position → ℕ → List ℕ → Reached
-runSources w q n [] = playSource w q n
-runSources w q n (m ∷ ms) = runSources w (positionIn q (playSource w q n)) m ms
-
-module _ (w : Tape) (whole : Whole w) where
+module _ (w : Tape) (whole : WholeTape w) where
   -- THE SOURCE'S PLAY answers what its turns over the list come to
-  pub source-told : (q : Position) (n : ℕ) → validAt w q ≡ true → 0 < n → playSource w q n ≡ told w w (sourceAnswer (ahead w q) n)
+  pub source-told : (q : Position) (n : ℕ) → validAt w q ≡ true → 0 < n → playSource w q n ≡ toldReached w w (sourceAnswer (ahead w q) n)
   unfolding playSource unless sourceFrom
   source-told q n v p =
       rw (whole-fine w whole q v, ne-eqb n 0 (omega arith), whole-formed w whole (q .block)) (all-walked w (sourceAnswer (ahead w q) n))
@@ -37,7 +34,7 @@ module _ (w : Tape) (whole : Whole w) where
   pub source-agrees : (q : Position) (n : ℕ) → validAt w q ≡ true → 0 < n
       → (playSource w q n ≡ playMeasured w q (n + dropped (ahead w q) n)) × Agrees (source (ahead w q) n) (heard (answer (ahead w q) (n + dropped (ahead w q) n)))
   source-agrees q n v p = (
-    source-told q n v p ∙ ap (told w w) (source-answer (ahead w q) n) ∙ sym (play-told w whole q (n + dropped (ahead w q) n) v (omega arith)),
+    source-told q n v p ∙ ap (toldReached w w) (source-answer (ahead w q) n) ∙ sym (play-told w whole q (n + dropped (ahead w q) n) v (omega arith)),
     agrees (ahead w q) n,
   )
 
@@ -49,18 +46,18 @@ module _ (w : Tape) (whole : Whole w) where
       let m = n + dropped (ahead w q) n in
       let e = source-agrees q n v p .0 in
       let x = play-place w whole q m v (omega arith) in (
-        ap (λ (r : Reached). ahead w (positionIn q r)) e ∙ x .0 ∙ sym (ap (λ (o : Outcome Spot). o .place) (source-heard (ahead w q) n)),
+        ap (λ (r : Reached). ahead w (positionIn q r)) e ∙ x .0 ∙ sym (ap (λ (o : Outcome Label). o .place) (source-heard (ahead w q) n)),
         ap (λ (r : Reached). validAt w (positionIn q r)) e ∙ x .1,
       )
 
   -- and whether it has ended
   source-ended : (q : Position) (n : ℕ) → validAt w q ≡ true → 0 < n → endedIn (playSource w q n) ≡ source (ahead w q) n .done
-  unfolding heard told
+  unfolding heard toldReached
   source-ended q n v p =
       let m = n + dropped (ahead w q) n in
       ap endedIn (source-agrees q n v p .0 ∙ play-told w whole q m v (omega arith))
       ∙ told-ended (answer (ahead w q) m .tells) _
-      ∙ sym (ap (λ (o : Outcome Spot). o .done) (source-heard (ahead w q) n))
+      ∙ sym (ap (λ (o : Outcome Label). o .done) (source-heard (ahead w q) n))
 
   -- ANY CALLS of the source's play come to what the turns over the list come to
   pub sources-told : (q : Position) (n : ℕ) (ms : List ℕ) → validAt w q ≡ true → 0 < n → Positive ms → endedIn (runSources w q n ms) ≡ sources (ahead w q) n ms .done
@@ -68,11 +65,11 @@ module _ (w : Tape) (whole : Whole w) where
   sources-told q n [] v p h = source-ended q n v p
   sources-told q n (m ∷ ms) v p h =
       let x = source-place q n v p in
-      sources-told (positionIn q (playSource w q n)) m ms (x .1) (h .0) (h .1) ∙ ap (λ (r : List (Entry Spot)). sources r m ms .done) (x .0)
+      sources-told (positionIn q (playSource w q n)) m ms (x .1) (h .0) (h .1) ∙ ap (λ (r : List (Entry Label)). sources r m ms .done) (x .0)
 
   -- (not refused, so whatever the head's old place was)
   any-old : (q o : Position) (n : ℕ) → validAt w q ≡ true → 0 < n → positionIn o (playSource w q n) ≡ positionIn q (playSource w q n)
-  unfolding told
+  unfolding toldReached
   any-old q o n v p =
       let e = source-told q n v p in
       ap (positionIn o) e ∙ told-position o _ _ ∙ sym (ap (positionIn q) e ∙ told-position q _ _)
@@ -83,7 +80,7 @@ module _ (w : Tape) (whole : Whole w) where
   sources-place q o n [] v p h = ap (ahead w) (any-old q o n v p) ∙ source-place q n v p .0
   sources-place q o n (m ∷ ms) v p h =
       let x = source-place q n v p in
-      sources-place (positionIn q (playSource w q n)) o m ms (x .1) (h .0) (h .1) ∙ ap (λ (r : List (Entry Spot)). sources r m ms .place) (x .0)
+      sources-place (positionIn q (playSource w q n)) o m ms (x .1) (h .0) (h .1) ∙ ap (λ (r : List (Entry Label)). sources r m ms .place) (x .0)
 
   -- DEMAND 3's CLAUSE on the source's play: calls below every finite duration but 0 agree with the measured player's
   pub short-agrees : (q : Position) (n : ℕ) (ms : List ℕ) → Short (ahead w q) (n ∷ ms) → Agrees (sources (ahead w q) n ms) (heard (calls (ahead w q) n ms))

@@ -6,16 +6,17 @@ use mathlib.Core.Path.{_≡_, refl}
 use mathlib.Core.Bool.{Bool, true, false, _&&_, _||_}
 use mathlib.Core.Logic.{⊎-elim}
 use lib.Dec.{ltb, leb}
-use Rattle.law_base.specs.Numbers.{lt-or-ge}
+use Rattle.law_base.proofs.Numbers.{lt-or-ge}
 use Rattle.law_pulses.specs.Play.{Answer}
 use Rattle.law_pulses.specs.Source.{isEnded}
 use Rattle.rows.specs.Table.{capacityOf}
 use Rattle.rows.specs.Rows.{block, blockMost}
-use Rattle.play_entries.specs.Entries.{Spot}
+use Rattle.play_entries.specs.Entries.{Label}
 use Rattle.play_entries.specs.Places.{Tape, valid, hasIn, lengthIn, remains}
 use Rattle.play_walk.specs.declared.Position.{Position}
-use Rattle.play_walk.specs.Heads.{told, walked}
-use Rattle.play_entries.proofs.Formed.{Whole, not-both}
+use Rattle.play_walk.specs.Heads.{toldReached, walked}
+use Rattle.play_entries.proofs.Formed.{not-both}
+use Rattle.play_entries.specs.Mounted.{WholeTape}
 use Rattle.play_deck.specs.declared.Check.the-variants.{Fine}
 use Rattle.play_deck.specs.Deck.{atStart, ruledOut, illFormed, validAt, judged}
 
@@ -37,7 +38,7 @@ ruled-out w q v =
     rw (or-false (atStart q) _ v e) (and-not (leb (w .count) (q .block))))
     (lt-or-ge (q .block) (w .count))
 
-ill-formed : (w : Tape) → Whole w → (q : Position) → illFormed w q ≡ false
+ill-formed : (w : Tape) → WholeTape w → (q : Position) → illFormed w q ≡ false
 unfolding illFormed
 ill-formed w whole q =
     ⊎-elim
@@ -46,11 +47,11 @@ ill-formed w whole q =
     (lt-or-ge (q .block) (w .count))
 
 -- on the whole tape no walk meets a bad row
-pub all-walked : (w : Tape) (a : Answer Spot) → walked w w a ≡ told w w a
+pub all-walked : (w : Tape) (a : Answer Label) → walked w w a ≡ toldReached w w a
 unfolding walked
 all-walked w a = rw (le-ltb (w .count) (w .count) (omega arith), and-not (isEnded (a .tells)))
 
-module _ (w : Tape) (whole : Whole w) where
+module _ (w : Tape) (whole : WholeTape w) where
   -- a valid position passes the checks
   pub whole-fine : (q : Position) → validAt w q ≡ true → judged w q ≡ Fine
   unfolding judged

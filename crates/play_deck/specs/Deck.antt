@@ -6,9 +6,9 @@ use lib.Dec.{ltb, leb, eqb}
 use lib.ListN.{length}
 use Rattle.law_base.specs.Rules.{_⇒_, _∣_}
 use Rattle.refusals.specs.Refusals.{noPosition, badRow}
-use Rattle.law_pulses.specs.Play.{low, Entry, ended, Answer, made, shown, answer}
+use Rattle.law_pulses.specs.Play.{low, Entry, ended, Answer, made, statusHere, answer}
 use Rattle.law_pulses.specs.Source.{source}
-use Rattle.play_entries.specs.Entries.{Spot}
+use Rattle.play_entries.specs.Entries.{Label}
 use Rattle.play_entries.specs.Places.{Tape, blockIn, isStart, isNone, valid}
 use Rattle.play_walk.specs.declared.Position.{Position}
 use Rattle.play_walk.specs.declared.Reached.{Reached}
@@ -20,7 +20,7 @@ use Rattle.play_deck.specs.declared.Played.{Played}
 use Rattle.play_deck.specs.declared.Selected.{Selected}
 use Rattle.play_deck.specs.declared.Selected.the-variants.{Block, BadPosition, BadRow}
 use Rattle.play_entries.specs.Mounted.{overfull, wellRow, formed}
-use Rattle.play_walk.specs.Heads.{refused, stand, ahead, levelHere, toldAs, walked, walkFrom}
+use Rattle.play_walk.specs.Heads.{notReached, stand, ahead, levelHere, toldAs, walked, walkFrom}
 
 -- a start with 0 left
 abbrev pub atStart : Position → Bool
@@ -49,22 +49,22 @@ judged w q =
 -- the refusal, or r where there is none
 unfoldable pub unless : Check → Reached → Reached
 unless Fine r = r
-unless NotValid r = refused noPosition
-unless NotFormed r = refused badRow
+unless NotValid r = notReached noPosition
+unless NotFormed r = notReached badRow
 
 -- a call of 0 alters nothing and answers stopped at an endless pause, otherwise standing
 unfoldable pub stays : Tape → Position → Reached
-stays w q = toldAs (shown (ahead w q)) (stand q 0 (levelHere low (ahead w q)))
+stays w q = toldAs (statusHere (ahead w q)) (stand q 0 (levelHere low (ahead w q)))
 
 -- THE MEASURED PLAYER'S ANSWER to a call of n
 unfoldable pub playMeasured : Tape → Position → ℕ → Reached
 playMeasured w q n = unless (judged w q) (eqb n 0 ⇒ stays w q ∣ walkFrom w q n)
 
 -- what the source's play comes to, as an answer: past the last block with T-states left is the end
-unfoldable pub sourceAnswer : List (Entry Spot) → ℕ → Answer Spot
+unfoldable pub sourceAnswer : List (Entry Label) → ℕ → Answer Label
 sourceAnswer es n =
     let o = source es n in
-    made (o .place) (o .done ⇒ ended ∣ shown (o .place)) (length es - length (o .place))
+    made (o .place) (o .done ⇒ ended ∣ statusHere (o .place)) (length es - length (o .place))
 
 -- the source's walk of n T-states from a position
 unfoldable pub sourceFrom : Tape → Position → ℕ → Reached

@@ -11,9 +11,9 @@ use Rattle.play_walk.specs.declared.Reached.the-variants.{At}
 use Rattle.play_walk.specs.Heads.{placed, stand}
 
 -- n T-states are less than what is left
-unfoldable pub inside : Duration → ℕ → Bool
-inside (T t) n = ltb n t
-inside Endless n = false
+unfoldable pub endsInside : Duration → ℕ → Bool
+endsInside (T t) n = ltb n t
+endsInside Endless n = false
 
 unfoldable pub lessBy : Duration → ℕ → Duration
 lessBy (T t) n = T (t - n)

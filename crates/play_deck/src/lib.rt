@@ -19,12 +19,12 @@ ghost use mathlib.Core.Path.{_≡_};
 ghost use mathlib.Core.Bool.{true, _&&_};
 ghost use Rattle.rows.specs.Well.{wellBlock};
 ghost use Rattle.play_entries.specs.Places.{hasEntry, lengthAt, isNone, remains};
-ghost use Rattle.play_entries.specs.Mounted.{sizeOf, tapeOf};
+ghost use Rattle.play_entries.specs.Mounted.{tapeSize, tapeOf};
 ghost use lib.Dec.{eqb};
 ghost use Rattle.law_base.specs.Rules.{_⇒_, _∣_};
 ghost use Rattle.play_walk.specs.Heads.{walkFrom, Walkable};
 ghost use Rattle.play_deck.specs.declared.Check.the-variants.{Fine};
-ghost use Rattle.play_deck.specs.Inside.{inside, lessBy, inPlace};
+ghost use Rattle.play_deck.specs.Inside.{endsInside, lessBy, inPlace};
 ghost use Rattle.play_deck.specs.Deck.{atStart, judged, stays, playMeasured, sourceFrom, playSource};
 
 // What the checks of a position come to.
@@ -60,7 +60,7 @@ fn none_left(left: Duration) -> bool
 
 // Whether so much may be left of a block's entry; its callers know the row to be well formed.
 fn has_left(tape: &[u8], tones: &[u64], r: Block, f: Phase, left: Duration) -> bool
-    requires { ⌜ wellBlock (sizeOf (now tape)) (now tones) r ≡ true ⌝ }
+    requires { ⌜ wellBlock (tapeSize (now tape)) (now tones) r ≡ true ⌝ }
     ensures { λ v. ⌜ v ≡ (hasEntry (now (tones .entry)) r f && remains left (lengthAt (now (tape .entry)) (now (tones .entry)) r f)) ⌝ }
 {
     if !has_entry(tones, r, f) {
@@ -122,7 +122,7 @@ fn stay(tape: &[u8], tones: &[u64], blocks: &[u64], count: u64, pos: Position) -
 
 // Whether a call of n ends inside an entry of which so much is left.
 fn ends_inside(left: Duration, n: u64) -> bool
-    ensures { λ v. ⌜ v ≡ inside left n ⌝ }
+    ensures { λ v. ⌜ v ≡ endsInside left n ⌝ }
 {
     match left {
         Duration::T(t) => n < t,
@@ -132,7 +132,7 @@ fn ends_inside(left: Duration, n: u64) -> bool
 
 // What is left of an entry in which a call of n ends.
 fn less(left: Duration, n: u64) -> Duration
-    requires { ⌜ inside left n ≡ true ⌝ }
+    requires { ⌜ endsInside left n ≡ true ⌝ }
     ensures { λ d. ⌜ d ≡ lessBy left n ⌝ }
 {
     match left {
@@ -151,7 +151,7 @@ fn stand_inside(
     n: u64,
 ) -> Reached
     requires { ⌜ Walkable (tapeOf (now tape) (now tones) (now blocks) count) pos ⌝ }
-    requires { ⌜ inside (pos .left) n ≡ true ⌝ }
+    requires { ⌜ endsInside (pos .left) n ≡ true ⌝ }
     ensures { λ r. ⌜ r ≡ inPlace (tapeOf (now (tape .entry)) (now (tones .entry)) (now (blocks .entry)) count) pos n ⌝ }
 {
     let phase = pos.phase;

@@ -19,7 +19,7 @@ use Rattle.rows.specs.Rows.{tone}
 use Rattle.rows.specs.Well.{wellTone, wellTones, wellNumbers, wellBlock}
 use Rattle.rows.proofs.WellLaws.{block-clauses, ranges-inside, numbers-most, tone-most, tones-each}
 use Rattle.play_levels.specs.Closed.{pulsesOf, timesOf}
-use Rattle.play_entries.specs.Entries.{isSource, cyclesOf, isSingle, bitLevel, cycleTime, toneOf, rowOf, tonesOf, bitsAt, bitOf, halfOf, bitEntries, byteOf, byteEntries, dataOf, soundOf, entriesOf}
+use Rattle.play_entries.specs.Entries.{isSource, cyclesOf, isSingle, bitLevel, cycleTime, toneOf, rowEntries, tonesOf, bitsAt, bitOf, halfOf, bitEntries, byteOf, byteEntries, dataOf, soundOf, entriesOf}
 use Rattle.play_entries.proofs.Ends.{endOf, end-time, end-none}
 use Rattle.play_entries.proofs.Runs.{tone-time, bit-finite, bit-time, row-finite, bytes-finite, sound-finite, sound-time}
 
@@ -49,9 +49,9 @@ tone-most-time b i r t v e =
     omega (arith, tone-time b i r t v)
 
 pub rows-most-time : (tones : List ℕ) (b : ℕ) (r : Block) (n : ℕ) → wellTones tones (r .tone) (r .tones) ≡ true → n ≤ r .tones
-    → time (run (rowOf tones b r) 0 n) ≤ n * 8589672450
+    → time (run (rowEntries tones b r) 0 n) ≤ n * 8589672450
 rows-most-time tones b r n e h =
-    run-time-most (rowOf tones b r) (row-finite tones b r) 8589672450 0 n
+    run-time-most (rowEntries tones b r) (row-finite tones b r) 8589672450 0 n
     (λ i l g. tone-most-time b i r _ _ (tones-each tones (r .tone) (r .tones) i e (omega arith)))
 
 half-most : (r : Block) (d : ℕ) → wellNumbers r ≡ true → halfOf r d ≤ 65535

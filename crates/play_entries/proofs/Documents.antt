@@ -10,10 +10,10 @@ use Rattle.play_levels.specs.declared.Line.{Line}
 use Rattle.play_levels.specs.Voiced.{Bare, lined, quiet, bare}
 use Rattle.play_levels.specs.Closed.{timesOf, turned, firstLevel, lineBefore, lineAfter}
 use Rattle.play_entries.specs.Entries.{entryOf, cyclesOf, isSingle, lineAt, startLevel, cycleLevel, bitLevel, edged, pauseLevel, toneOf, tonesOf, bitsAt, halfOf, byteOf, dataOf, pauseOf, soundOf, entriesOf}
-use Rattle.play_entries.specs.Sounds.{lineData, lineBehind}
+use Rattle.play_entries.specs.Signals.{lineData, lineBehind}
 
 -- a row: its tone rows, what of its words is data (start, size, zero, one, last), its pause and flag, its level and played
-pub record Given : Type 0 where
+pub record DocumentRow : Type 0 where
   pub tones : List ℕ
   pub rows : ℕ
   pub data-words : List ℕ
@@ -22,7 +22,7 @@ pub record Given : Type 0 where
   pub level : ℕ
   pub played : ℕ
 
-abbrev heardOf : List ℕ → Given → List Bare × Line
+abbrev heardOf : List ℕ → DocumentRow → List Bare × Line
 heardOf tape g =
     let r = decodeBlock (0 ∷ g .rows ∷ g .data-words ++ g .pause ∷ g .endless ∷ 0 ∷ 0 ∷ 0 ∷ 0 ∷ 1 ∷ g .level ∷ g .played ∷ []) in
     (bare (entriesOf tape (g .tones) 7 r), lineBehind (g .tones) r)
@@ -30,7 +30,7 @@ heardOf tape g =
 abbrev none : List ℕ
 none = 0 ∷ 0 ∷ 0 ∷ 0 ∷ 0 ∷ []
 
-abbrev tonal : List ℕ → ℕ → ℕ → ℕ → Given
+abbrev tonal : List ℕ → ℕ → ℕ → ℕ → DocumentRow
 tonal tones rows level played = record { tones = tones; rows = rows; data-words = none; pause = 0; endless = 0; level = level; played = played }
 
 abbrev L : ℕ → Bare
@@ -39,7 +39,7 @@ L n = pulse tt low n
 abbrev H : ℕ → Bare
 H n = pulse tt high n
 
-abbrev cases : List (Given × (List Bare × Line))
+abbrev cases : List (DocumentRow × (List Bare × Line))
 cases =
     -- 12 of 100, counts 0, 1, 3, one behind the other
     (tonal (0 ∷ 100 ∷ 0 ∷ 1 ∷ []) 1 0 0, (L 0 ∷ L 0 ∷ [], lined low low)) ∷

@@ -9,10 +9,10 @@ use lib.Dec.{ltb}
 use Rattle.law_base.specs.Rules.{_⇒_, _∣_}
 use Rattle.law_pulses.specs.Play.{Level, Entry, pulse, stopped, time, comesTo}
 use Rattle.rows.specs.declared.Block.{Block}
-use Rattle.play_entries.specs.Entries.{Spot, entryOf, isSource, edged, edgeOf, pauseOf, pauseEntry}
+use Rattle.play_entries.specs.Entries.{Label, entryOf, isSource, edged, edgeOf, pauseOf, pauseEntry}
 
 -- the end of block b
-abbrev pub endOf : List ℕ → ℕ → Block → List (Entry Spot)
+abbrev pub endOf : List ℕ → ℕ → Block → List (Entry Label)
 endOf tones b r = edgeOf tones b r ++ pauseEntry tones b r ∷ []
 
 -- a stop has no edge
@@ -20,19 +20,19 @@ pub stop-edge : (r : Block) → r .endless ≡ 1 → edged r ≡ false
 unfolding edged
 stop-edge r e = rw (eq-eqb (r .endless) 1 e) (and-false (not (isSource r)))
 
-by-edge : (x : Bool) (a d : Spot) (v u : Level) (n : ℕ) (es : List (Entry Spot))
+by-edge : (x : Bool) (a d : Label) (v u : Level) (n : ℕ) (es : List (Entry Label))
     → time ((x ⇒ pulse a v (min 3500 n) ∷ [] ∣ []) ++ pulse d u (x ⇒ n - 3500 ∣ n) ∷ es) ≡ n + time es
 unfolding time
 by-edge true a d v u n es = omega arith
 by-edge false a d v u n es = refl
 
-by-comes : (x : Bool) (es : List (Entry Spot)) (n : ℕ) (a d : Spot) (v u : Level) (m : ℕ)
+by-comes : (x : Bool) (es : List (Entry Label)) (n : ℕ) (a d : Label) (v u : Level) (m : ℕ)
     → comesTo ((x ⇒ pulse a v n ∷ [] ∣ []) ++ pulse d u m ∷ es) ≡ comesTo es
 unfolding comesTo
 by-comes true es n a d v u m = refl
 by-comes false es n a d v u m = refl
 
-module _ (tones : List ℕ) (b : ℕ) (r : Block) (es : List (Entry Spot)) where
+module _ (tones : List ℕ) (b : ℕ) (r : Block) (es : List (Entry Label)) where
   pub end-time : (r .endless ≡ 1 → ⊥) → time (edgeOf tones b r ++ pauseEntry tones b r ∷ es) ≡ r .pause + time es
   unfolding pauseOf entryOf
   end-time e = rw (ne-eqb (r .endless) 1 e) (by-edge (edged r) _ _ _ _ (r .pause) es)

@@ -13,7 +13,7 @@ use Rattle.play_entries.specs.declared.Phase.{Phase}
 use Rattle.play_entries.specs.declared.Phase.the-variants.{Start, Tones, Data, Edge, Pause}
 use Rattle.play_entries.specs.declared.Duration.{Duration}
 use Rattle.play_entries.specs.declared.Duration.the-variants.{T, Endless}
-use Rattle.play_entries.specs.Entries.{spot, entryOf, cyclesOf, isSingle, startLevel, cycleLevel, bitLevel, edged, pauseLevel, toneOf, tonesOf, bitsAt, halfOf, byteOf, dataOf, pauseOf, soundOf, entriesOf}
+use Rattle.play_entries.specs.Entries.{labelAt, entryOf, cyclesOf, isSingle, startLevel, cycleLevel, bitLevel, edged, pauseLevel, toneOf, tonesOf, bitsAt, halfOf, byteOf, dataOf, pauseOf, soundOf, entriesOf}
 use Rattle.play_entries.specs.Places.{Tape, levelAt, fromEdge, fromSecond, hasEntry, lengthAt, remains, valid, listFrom, fromPause, fromByte, fromBit, fromTone, fromCycle, leftAt}
 
 -- a block with two bytes of data, zero 10, one 20 and these last bits
@@ -21,15 +21,15 @@ abbrev withLast : ℕ → Block
 withLast last = decodeBlock (0 ∷ 0 ∷ 1 ∷ 2 ∷ 10 ∷ 20 ∷ last ∷ [])
 
 -- tone row 2 of block 5: a count of 0 is one cycle; and three cycles, the first half of each of no length
-count-none : toneOf 5 2 (withLast 0) (decodeTone (0 ∷ 30 ∷ 40 ∷ 0 ∷ [])) (λ p. low) ≡ pulse (spot 5 (Tones 2 0 false)) low 30 ∷ pulse (spot 5 (Tones 2 0 true)) high 40 ∷ []
+count-none : toneOf 5 2 (withLast 0) (decodeTone (0 ∷ 30 ∷ 40 ∷ 0 ∷ [])) (λ p. low) ≡ pulse (labelAt 5 (Tones 2 0 false)) low 30 ∷ pulse (labelAt 5 (Tones 2 0 true)) high 40 ∷ []
 unfolding toneOf cyclesOf isSingle run
 count-none = refl
 
 count-three :
     toneOf 5 2 (withLast 0) (decodeTone (3 ∷ 0 ∷ 40 ∷ 0 ∷ [])) (λ p. low)
-    ≡ pulse (spot 5 (Tones 2 0 false)) low 0 ∷ pulse (spot 5 (Tones 2 0 true)) high 40
-    ∷ pulse (spot 5 (Tones 2 1 false)) low 0 ∷ pulse (spot 5 (Tones 2 1 true)) high 40
-    ∷ pulse (spot 5 (Tones 2 2 false)) low 0 ∷ pulse (spot 5 (Tones 2 2 true)) high 40 ∷ []
+    ≡ pulse (labelAt 5 (Tones 2 0 false)) low 0 ∷ pulse (labelAt 5 (Tones 2 0 true)) high 40
+    ∷ pulse (labelAt 5 (Tones 2 1 false)) low 0 ∷ pulse (labelAt 5 (Tones 2 1 true)) high 40
+    ∷ pulse (labelAt 5 (Tones 2 2 false)) low 0 ∷ pulse (labelAt 5 (Tones 2 2 true)) high 40 ∷ []
 unfolding toneOf cyclesOf isSingle run
 count-three = refl
 
@@ -41,22 +41,22 @@ bits = refl
 -- byte A3 as the last of two, 3 bits of it; and all 8 of it before the last: from the top
 byte-three :
     byteOf 5 (withLast 3) low 1 0xA3
-    ≡ pulse (spot 5 (Data 1 0 false)) low 20 ∷ pulse (spot 5 (Data 1 0 true)) high 20
-    ∷ pulse (spot 5 (Data 1 1 false)) low 10 ∷ pulse (spot 5 (Data 1 1 true)) high 10
-    ∷ pulse (spot 5 (Data 1 2 false)) low 20 ∷ pulse (spot 5 (Data 1 2 true)) high 20 ∷ []
+    ≡ pulse (labelAt 5 (Data 1 0 false)) low 20 ∷ pulse (labelAt 5 (Data 1 0 true)) high 20
+    ∷ pulse (labelAt 5 (Data 1 1 false)) low 10 ∷ pulse (labelAt 5 (Data 1 1 true)) high 10
+    ∷ pulse (labelAt 5 (Data 1 2 false)) low 20 ∷ pulse (labelAt 5 (Data 1 2 true)) high 20 ∷ []
 unfolding byteOf bitsAt halfOf run
 byte-three = refl
 
 byte-eight :
     byteOf 5 (withLast 3) low 0 0xA3
-    ≡ pulse (spot 5 (Data 0 0 false)) low 20 ∷ pulse (spot 5 (Data 0 0 true)) high 20
-    ∷ pulse (spot 5 (Data 0 1 false)) low 10 ∷ pulse (spot 5 (Data 0 1 true)) high 10
-    ∷ pulse (spot 5 (Data 0 2 false)) low 20 ∷ pulse (spot 5 (Data 0 2 true)) high 20
-    ∷ pulse (spot 5 (Data 0 3 false)) low 10 ∷ pulse (spot 5 (Data 0 3 true)) high 10
-    ∷ pulse (spot 5 (Data 0 4 false)) low 10 ∷ pulse (spot 5 (Data 0 4 true)) high 10
-    ∷ pulse (spot 5 (Data 0 5 false)) low 10 ∷ pulse (spot 5 (Data 0 5 true)) high 10
-    ∷ pulse (spot 5 (Data 0 6 false)) low 20 ∷ pulse (spot 5 (Data 0 6 true)) high 20
-    ∷ pulse (spot 5 (Data 0 7 false)) low 20 ∷ pulse (spot 5 (Data 0 7 true)) high 20 ∷ []
+    ≡ pulse (labelAt 5 (Data 0 0 false)) low 20 ∷ pulse (labelAt 5 (Data 0 0 true)) high 20
+    ∷ pulse (labelAt 5 (Data 0 1 false)) low 10 ∷ pulse (labelAt 5 (Data 0 1 true)) high 10
+    ∷ pulse (labelAt 5 (Data 0 2 false)) low 20 ∷ pulse (labelAt 5 (Data 0 2 true)) high 20
+    ∷ pulse (labelAt 5 (Data 0 3 false)) low 10 ∷ pulse (labelAt 5 (Data 0 3 true)) high 10
+    ∷ pulse (labelAt 5 (Data 0 4 false)) low 10 ∷ pulse (labelAt 5 (Data 0 4 true)) high 10
+    ∷ pulse (labelAt 5 (Data 0 5 false)) low 10 ∷ pulse (labelAt 5 (Data 0 5 true)) high 10
+    ∷ pulse (labelAt 5 (Data 0 6 false)) low 20 ∷ pulse (labelAt 5 (Data 0 6 true)) high 20
+    ∷ pulse (labelAt 5 (Data 0 7 false)) low 20 ∷ pulse (labelAt 5 (Data 0 7 true)) high 20 ∷ []
 unfolding byteOf bitsAt halfOf run
 byte-eight = refl
 
@@ -69,10 +69,10 @@ tones = 9 ∷ 9 ∷ 9 ∷ 0 ∷ 1 ∷ 667 ∷ 735 ∷ 0 ∷ []
 
 small-entries :
     entriesOf (7 ∷ 0x80 ∷ []) tones 3 (decodeBlock small)
-    ≡ pulse (spot 3 Start) low 0
-    ∷ pulse (spot 3 (Tones 0 0 false)) low 667 ∷ pulse (spot 3 (Tones 0 0 true)) high 735
-    ∷ pulse (spot 3 (Data 0 0 false)) low 20 ∷ pulse (spot 3 (Data 0 0 true)) high 20
-    ∷ pulse (spot 3 Pause) low 3500 ∷ []
+    ≡ pulse (labelAt 3 Start) low 0
+    ∷ pulse (labelAt 3 (Tones 0 0 false)) low 667 ∷ pulse (labelAt 3 (Tones 0 0 true)) high 735
+    ∷ pulse (labelAt 3 (Data 0 0 false)) low 20 ∷ pulse (labelAt 3 (Data 0 0 true)) high 20
+    ∷ pulse (labelAt 3 Pause) low 3500 ∷ []
 unfolding entriesOf soundOf tonesOf toneOf cyclesOf isSingle startLevel cycleLevel bitLevel edged pauseLevel dataOf byteOf bitsAt halfOf pauseOf entryOf run
 small-entries = refl
 
@@ -80,7 +80,7 @@ small-entries = refl
 abbrev stop : List ℕ
 stop = rowWords (0 ∷ 0 ∷ 0 ∷ 0 ∷ 0 ∷ 0 ∷ 0 ∷ 77 ∷ 1 ∷ 1 ∷ 1 ∷ [])
 
-stop-entries : entriesOf [] [] 2 (decodeBlock stop) ≡ pulse (spot 2 Start) low 0 ∷ endless (spot 2 Pause) low ∷ []
+stop-entries : entriesOf [] [] 2 (decodeBlock stop) ≡ pulse (labelAt 2 Start) low 0 ∷ endless (labelAt 2 Pause) low ∷ []
 unfolding entriesOf soundOf tonesOf dataOf startLevel bitLevel edged pauseLevel pauseOf entryOf run
 stop-entries = refl
 
@@ -90,15 +90,15 @@ small-tape = record { bytes = 7 ∷ 0x80 ∷ []; tones = tones; blocks = small +
 
 left-tone :
     leftAt small-tape 0 (Tones 0 0 false) (T 5)
-    ≡ pulse (spot 0 (Tones 0 0 false)) low 5 ∷ pulse (spot 0 (Tones 0 0 true)) high 735
-    ∷ pulse (spot 0 (Data 0 0 false)) low 20 ∷ pulse (spot 0 (Data 0 0 true)) high 20
-    ∷ pulse (spot 0 Pause) low 3500 ∷ pulse (spot 1 Start) low 0 ∷ endless (spot 1 Pause) low ∷ []
+    ≡ pulse (labelAt 0 (Tones 0 0 false)) low 5 ∷ pulse (labelAt 0 (Tones 0 0 true)) high 735
+    ∷ pulse (labelAt 0 (Data 0 0 false)) low 20 ∷ pulse (labelAt 0 (Data 0 0 true)) high 20
+    ∷ pulse (labelAt 0 Pause) low 3500 ∷ pulse (labelAt 1 Start) low 0 ∷ endless (labelAt 1 Pause) low ∷ []
 unfolding leftAt fromSecond fromEdge fromCycle fromTone fromByte fromPause listFrom entriesOf soundOf tonesOf toneOf cyclesOf isSingle startLevel cycleLevel bitLevel edged pauseLevel dataOf byteOf bitsAt halfOf pauseOf entryOf run
 left-tone = refl
 
 left-bit :
     leftAt small-tape 0 (Data 0 0 true) (T 20)
-    ≡ pulse (spot 0 (Data 0 0 true)) high 20 ∷ pulse (spot 0 Pause) low 3500 ∷ pulse (spot 1 Start) low 0 ∷ endless (spot 1 Pause) low ∷ []
+    ≡ pulse (labelAt 0 (Data 0 0 true)) high 20 ∷ pulse (labelAt 0 Pause) low 3500 ∷ pulse (labelAt 1 Start) low 0 ∷ endless (labelAt 1 Pause) low ∷ []
 unfolding leftAt fromBit fromByte fromEdge fromPause levelAt listFrom entriesOf soundOf tonesOf dataOf startLevel bitLevel edged pauseLevel bitsAt pauseOf entryOf run
 left-bit = refl
 

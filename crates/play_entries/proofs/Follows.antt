@@ -10,33 +10,33 @@ use Rattle.law_pulses.specs.Play.{Entry, pulse}
 use Rattle.law_pulses.specs.Runs.{run}
 use Rattle.law_pulses.proofs.Runs.{run-split, run-next, run-none}
 use Rattle.play_entries.specs.declared.Phase.the-variants.{Tones, Edge}
-use Rattle.play_entries.specs.Entries.{Spot, spot, isSingle, edged, edgeTime, startOf, toneOf, rowOf, tonesOf, bitsAt, bitEntries, byteOf, byteEntries, dataOf, edgeOf, pauseEntry, soundOf, entriesOf}
+use Rattle.play_entries.specs.Entries.{Label, labelAt, isSingle, edged, edgeTime, startOf, toneOf, rowEntries, tonesOf, bitsAt, bitEntries, byteOf, byteEntries, dataOf, edgeOf, pauseEntry, soundOf, entriesOf}
 use Rattle.play_entries.specs.Places.{Tape, blockIn, toneIn, byteIn, bitIn, cycleIn, cyclesIn, cycleItem, listFrom, fromPause, fromEdge, fromByte, fromBit, fromTone, fromCycle, fromSecond}
 
 -- n items are those below p, and those from p on
-reach : (item : ℕ → List (Entry Spot)) (p n : ℕ) (ys : List (Entry Spot)) → p ≤ n → run item 0 (n - 0) ++ ys ≡ run item 0 p ++ (run item p (n - p) ++ ys)
+reach : (item : ℕ → List (Entry Label)) (p n : ℕ) (ys : List (Entry Label)) → p ≤ n → run item 0 (n - 0) ++ ys ≡ run item 0 p ++ (run item p (n - p) ++ ys)
 reach item p n ys h =
     let e : n - 0 ≡ p + (n - p) = omega arith in
     let z : 0 + p ≡ p = omega arith in
     ap (λ (m : ℕ). run item 0 m ++ ys) e
-    ∙ ap (λ (r : List (Entry Spot)). r ++ ys) (run-split item 0 p (n - p) ∙ ap (λ (x : ℕ). run item 0 p ++ run item x (n - p)) z)
+    ∙ ap (λ (r : List (Entry Label)). r ++ ys) (run-split item 0 p (n - p) ∙ ap (λ (x : ℕ). run item 0 p ++ run item x (n - p)) z)
     ∙ append-assoc (run item 0 p) (run item p (n - p)) ys
 
 -- those from p on: item p, and those after it
-next : (item : ℕ → List (Entry Spot)) (p n : ℕ) (ys : List (Entry Spot)) → p < n
+next : (item : ℕ → List (Entry Label)) (p n : ℕ) (ys : List (Entry Label)) → p < n
     → run item p (n - p) ++ ys ≡ item p ++ (run item (p + 1) (n - (p + 1)) ++ ys)
 next item p n ys h =
-    ap (λ (r : List (Entry Spot)). r ++ ys) (run-next item p n h) ∙ append-assoc (item p) (run item (p + 1) (n - (p + 1))) ys
+    ap (λ (r : List (Entry Label)). r ++ ys) (run-next item p n h) ∙ append-assoc (item p) (run item (p + 1) (n - (p + 1))) ys
 
-none : (item : ℕ → List (Entry Spot)) (p n : ℕ) (ys : List (Entry Spot)) → n ≤ p → run item p (n - p) ++ ys ≡ ys
-none item p n ys h = ap (λ (r : List (Entry Spot)). r ++ ys) (run-none item p n h)
+none : (item : ℕ → List (Entry Label)) (p n : ℕ) (ys : List (Entry Label)) → n ≤ p → run item p (n - p) ++ ys ≡ ys
+none item p n ys h = ap (λ (r : List (Entry Label)). r ++ ys) (run-none item p n h)
 
-joined : (s p : Entry Spot) (xs ys es zs : List (Entry Spot)) → ((s ∷ xs ++ ys) ++ (es ++ p ∷ [])) ++ zs ≡ s ∷ xs ++ (ys ++ (es ++ p ∷ zs))
+joined : (s p : Entry Label) (xs ys es zs : List (Entry Label)) → ((s ∷ xs ++ ys) ++ (es ++ p ∷ [])) ++ zs ≡ s ∷ xs ++ (ys ++ (es ++ p ∷ zs))
 joined s p xs ys es zs =
-    ap (λ (x : List (Entry Spot)). s ∷ x)
+    ap (λ (x : List (Entry Label)). s ∷ x)
     (append-assoc (xs ++ ys) (es ++ p ∷ []) zs
     ∙ append-assoc xs ys ((es ++ p ∷ []) ++ zs)
-    ∙ ap (λ (x : List (Entry Spot)). xs ++ (ys ++ x)) (append-assoc es (p ∷ []) zs))
+    ∙ ap (λ (x : List (Entry Label)). xs ++ (ys ++ x)) (append-assoc es (p ∷ []) zs))
 
 module _ (w : Tape) where
   pub list-in : (b : ℕ) → b < w .count → listFrom w b ≡ startOf b (blockIn w b) ∷ fromTone w b 0
@@ -46,7 +46,7 @@ module _ (w : Tape) where
       let behind = listFrom w (b + 1) in
       run-next (λ i. entriesOf (w .bytes) (w .tones) i (blockIn w i)) b (w .count) h
       ∙ joined (startOf b r) (pauseEntry (w .tones) b r) (tonesOf (w .tones) b r) (dataOf (w .bytes) b r (bitIn w b)) (edgeOf (w .tones) b r) behind
-      ∙ ap₂ (λ (x y : ℕ). startOf b r ∷ run (rowOf (w .tones) b r) 0 x ++ (run (byteEntries (w .bytes) b r (bitIn w b)) 0 y ++ (edgeOf (w .tones) b r ++ pauseEntry (w .tones) b r ∷ behind))) (sym (sub-zero (r .tones))) (sym (sub-zero (r .size)))
+      ∙ ap₂ (λ (x y : ℕ). startOf b r ∷ run (rowEntries (w .tones) b r) 0 x ++ (run (byteEntries (w .bytes) b r (bitIn w b)) 0 y ++ (edgeOf (w .tones) b r ++ pauseEntry (w .tones) b r ∷ behind))) (sym (sub-zero (r .tones))) (sym (sub-zero (r .size)))
 
   pub list-out : (b : ℕ) → w .count ≤ b → listFrom w b ≡ []
   unfolding listFrom
@@ -57,26 +57,26 @@ module _ (w : Tape) where
     unfolding fromTone fromCycle toneOf
     tone-in i h =
         let r = blockIn w b in
-        next (rowOf (w .tones) b r) i (r .tones) (fromByte w b 0) h
+        next (rowEntries (w .tones) b r) i (r .tones) (fromByte w b 0) h
         ∙ ap (λ (n : ℕ). run (cycleItem w b i) 0 n ++ fromTone w b (i + 1)) (sym (sub-zero _))
 
     pub tone-out : (i : ℕ) → blockIn w b .tones ≤ i → fromTone w b i ≡ fromByte w b 0
     unfolding fromTone
-    tone-out i h = none (rowOf (w .tones) b (blockIn w b)) i (blockIn w b .tones) (fromByte w b 0) h
+    tone-out i h = none (rowEntries (w .tones) b (blockIn w b)) i (blockIn w b .tones) (fromByte w b 0) h
 
     pub tone-reach : (i : ℕ) → i ≤ blockIn w b .tones
-        → fromTone w b 0 ≡ run (rowOf (w .tones) b (blockIn w b)) 0 i ++ fromTone w b i
+        → fromTone w b 0 ≡ run (rowEntries (w .tones) b (blockIn w b)) 0 i ++ fromTone w b i
     unfolding fromTone
-    tone-reach i h = reach (rowOf (w .tones) b (blockIn w b)) i (blockIn w b .tones) (fromByte w b 0) h
+    tone-reach i h = reach (rowEntries (w .tones) b (blockIn w b)) i (blockIn w b .tones) (fromByte w b 0) h
 
     pub cycle-in : (i p : ℕ) → p < cyclesIn w b i
-        → fromCycle w b i p ≡ pulse (spot b (Tones i p false)) (cycleIn w b i p) (toneIn w b i .len1) ∷ fromSecond w b i p
+        → fromCycle w b i p ≡ pulse (labelAt b (Tones i p false)) (cycleIn w b i p) (toneIn w b i .len1) ∷ fromSecond w b i p
     unfolding fromCycle fromSecond
     cycle-in i p h = next (cycleItem w b i) p _ (fromTone w b (i + 1)) h
 
     -- behind a repetition's first pulse: its second, or the next repetition
     pub second-in : (i p : ℕ) → isSingle (blockIn w b) (toneIn w b i) ≡ false
-        → fromSecond w b i p ≡ pulse (spot b (Tones i p true)) (not (cycleIn w b i p)) (toneIn w b i .len2) ∷ fromCycle w b i (p + 1)
+        → fromSecond w b i p ≡ pulse (labelAt b (Tones i p true)) (not (cycleIn w b i p)) (toneIn w b i .len2) ∷ fromCycle w b i (p + 1)
     unfolding fromSecond
     second-in i p e = rw e
 
@@ -124,7 +124,7 @@ module _ (w : Tape) where
     bit-reach pos k h = reach (bitEntries b (blockIn w b) (bitIn w b) pos (byteIn w b pos)) k _ (fromByte w b (pos + 1)) h
 
     -- the edge, if there is one
-    pub edge-in : edged (blockIn w b) ≡ true → fromEdge w b ≡ pulse (spot b Edge) (bitIn w b) (edgeTime (blockIn w b)) ∷ fromPause w b
+    pub edge-in : edged (blockIn w b) ≡ true → fromEdge w b ≡ pulse (labelAt b Edge) (bitIn w b) (edgeTime (blockIn w b)) ∷ fromPause w b
     unfolding fromEdge
     edge-in e = rw e
 

@@ -4,26 +4,24 @@ use native.Mathlib.Omega.{arith}
 use mathlib.Core.Path.{_≡_, refl, sym, ap, _∙_}
 use mathlib.Core.Bool.{Bool, true, false}
 use mathlib.Core.Logic.{⊎-elim}
-use Rattle.law_base.specs.Numbers.{lt-or-ge}
+use Rattle.law_base.proofs.Numbers.{lt-or-ge}
 use Rattle.law_base.specs.Rules.{_⇒_, _∣_}
-use Rattle.rows.specs.Table.{capacityOf}
-use Rattle.rows.specs.Rows.{block, blockMost}
 use Rattle.play_entries.specs.Places.{Tape}
-use Rattle.play_entries.specs.Mounted.{wellRow, firstBad, cutTo, formed}
+use Rattle.play_entries.specs.Mounted.{wellRow, firstBad, cutTo, formed, WholeTape}
 
 -- of the m rows from b on to the count
-pub record Needs (w : Tape) (b k : ℕ) : Type 0 where
+pub record WellUpTo (w : Tape) (b k : ℕ) : Type 0 where
   pub from : b ≤ k
   pub most : k ≤ w .count
   pub well : (i : ℕ) → b ≤ i → i < k → wellRow w i ≡ true
   pub bad : k < w .count → wellRow w k ≡ false
 
-needs-of : (w : Tape) (b m : ℕ) → b + m ≡ w .count → Needs w b (firstBad w b m)
+needs-of : (w : Tape) (b m : ℕ) → b + m ≡ w .count → WellUpTo w b (firstBad w b m)
 unfolding firstBad
 needs-of w b zero e = record { from = omega arith; most = omega arith; well = λ i l g. absurd (omega arith); bad = λ h. absurd (omega arith) }
 needs-of w b (suc m) e = by-cases (wellRow w b) refl (needs-of w (b + 1) m (omega arith))
   where
-    by-cases : (t : Bool) → wellRow w b ≡ t → Needs w (b + 1) (firstBad w (b + 1) m) → Needs w b (t ⇒ firstBad w (b + 1) m ∣ b)
+    by-cases : (t : Bool) → wellRow w b ≡ t → WellUpTo w (b + 1) (firstBad w (b + 1) m) → WellUpTo w b (t ⇒ firstBad w (b + 1) m ∣ b)
     by-cases true f x =
         record {
           from = omega (arith, x .from);
@@ -33,27 +31,22 @@ needs-of w b (suc m) e = by-cases (wellRow w b) refl (needs-of w (b + 1) m (omeg
         }
     by-cases false f x = record { from = omega arith; most = omega arith; well = λ i l g. absurd (omega arith); bad = λ h. f }
 
-pub needed : (w : Tape) (b : ℕ) → b ≤ w .count → Needs w b (firstBad w b (w .count - b))
+pub needed : (w : Tape) (b : ℕ) → b ≤ w .count → WellUpTo w b (firstBad w b (w .count - b))
 needed w b h = needs-of w b (w .count - b) (omega arith)
 
 pub not-both : {x : Bool} → x ≡ true → x ≡ false → ⊥
 not-both {x} e f = let y : _≡_ {A = ℕ} 0 1 = ap (λ (t : Bool). t ⇒ 0 ∣ 1) (sym e ∙ f) in absurd (omega arith)
 
 -- a well-formed row up to the bad one stands before it
-pub well-before : {w : Tape} {b k : ℕ} → Needs w b k → (i : ℕ) → i ≤ k → i < w .count → wellRow w i ≡ true → i < k
+pub well-before : {w : Tape} {b k : ℕ} → WellUpTo w b k → (i : ℕ) → i ≤ k → i < w .count → wellRow w i ≡ true → i < k
 well-before {w} {b} {k} x i l g e =
     ⊎-elim (λ q. q) (λ q. let z : i ≡ k = omega arith in absurd (not-both (ap (wellRow w) (sym z) ∙ e) (x .bad (omega arith)))) (lt-or-ge i k)
 
 -- and one that is not well formed is that one
-pub bad-there : {w : Tape} {b k : ℕ} → Needs w b k → (i : ℕ) → b ≤ i → i ≤ k → wellRow w i ≡ false → k ≡ i
+pub bad-there : {w : Tape} {b k : ℕ} → WellUpTo w b k → (i : ℕ) → b ≤ i → i ≤ k → wellRow w i ≡ false → k ≡ i
 bad-there {w} {b} {k} x i l g e = ⊎-elim (λ q. absurd (not-both (x .well i l q) e)) (λ q. omega arith) (lt-or-ge i k)
 
--- a tape whose counted rows are all lent and well formed
-pub record Whole (w : Tape) : Type 0 where
-  pub lent : w .count ≤ capacityOf block blockMost (w .blocks)
-  pub rows : (b : ℕ) → b < w .count → wellRow w b ≡ true
-
-module _ (w : Tape) (whole : Whole w) where
+module _ (w : Tape) (whole : WholeTape w) where
   -- nothing of it is cut
   whole-count : (b : ℕ) → firstBad w b (w .count - b) ≡ w .count
   unfolding firstBad

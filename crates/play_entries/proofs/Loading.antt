@@ -7,7 +7,7 @@ use mathlib.Core.List.{List, [], _∷_, _++_, append-assoc}
 use Rattle.law_pulses.specs.Play.{Entry, stopped, ended, time, comesTo}
 use Rattle.law_pulses.proofs.Joined.{time-append, comes-append}
 use Rattle.law_pulses.proofs.Runs.{run-next}
-use Rattle.play_entries.specs.Entries.{Spot, edgeOf, pauseEntry, soundOf, entriesOf}
+use Rattle.play_entries.specs.Entries.{Label, edgeOf, pauseEntry, soundOf, entriesOf}
 use Rattle.play_entries.specs.Places.{Tape, blockIn, listFrom, fromPause, fromEdge}
 use Rattle.play_entries.proofs.Runs.{sound-finite}
 use Rattle.play_entries.proofs.Follows.{list-out}
@@ -30,7 +30,7 @@ module _ (w : Tape) (b : ℕ) where
         let r = blockIn w b in
         run-next (λ i. entriesOf (w .bytes) (w .tones) i (blockIn w i)) b (w .count) h
         ∙ append-assoc (soundOf (w .bytes) (w .tones) b r) (endOf (w .tones) b r) (listFrom w (b + 1))
-        ∙ ap (λ (x : List (Entry Spot)). soundOf (w .bytes) (w .tones) b r ++ x) (append-assoc (edgeOf (w .tones) b r) (pauseEntry (w .tones) b r ∷ []) (listFrom w (b + 1)))
+        ∙ ap (λ (x : List (Entry Label)). soundOf (w .bytes) (w .tones) b r ++ x) (append-assoc (edgeOf (w .tones) b r) (pauseEntry (w .tones) b r ∷ []) (listFrom w (b + 1)))
 
     block-time : time (listFrom w b) ≡ time (soundOf (w .bytes) (w .tones) b (blockIn w b)) + time (fromEdge w b)
     block-time = ap time block-list ∙ time-append _ _ (sound-finite (w .bytes) (w .tones) b (blockIn w b))

@@ -3,7 +3,7 @@ use Prim.Native.Nat.{ℕ}
 use mathlib.Core.Path.{_≡_, refl}
 use mathlib.Core.Bool.{true, false}
 use mathlib.Core.List.{List, [], _∷_, map}
-use Rattle.law_pulses.specs.Play.{low, high, Entry, pulse, rest, over, shown, status, answer, time, comesTo}
+use Rattle.law_pulses.specs.Play.{low, high, Entry, pulse, rest, over, statusHere, status, answer, time, comesTo}
 use Rattle.law_pulses.specs.Source.{Outcome, heard, source, sourced, reached, turns, turn, after}
 use Rattle.law_pulses.specs.Runs.{run}
 use Rattle.rows.specs.Rows.{decodeBlock}
@@ -11,20 +11,20 @@ use Rattle.rows.proofs.Samples.{rowWords}
 use Rattle.play_entries.specs.declared.Phase.the-variants.{Tones, Pause}
 use Rattle.play_entries.specs.declared.Duration.{Duration}
 use Rattle.play_entries.specs.declared.Duration.the-variants.{T}
-use Rattle.play_entries.specs.Entries.{Spot, spot, entryOf, cyclesOf, isSingle, startLevel, cycleLevel, bitLevel, edged, pauseLevel, toneOf, tonesOf, bitsAt, halfOf, byteOf, dataOf, pauseOf, soundOf, entriesOf, lastsOf}
+use Rattle.play_entries.specs.Entries.{Label, labelAt, entryOf, cyclesOf, isSingle, startLevel, cycleLevel, bitLevel, edged, pauseLevel, toneOf, tonesOf, bitsAt, halfOf, byteOf, dataOf, pauseOf, soundOf, entriesOf, lastsOf}
 use Rattle.play_entries.specs.Places.{listFrom}
 
 -- a reading: the tape's bytes, the tone table and the block row that it gives, and the T-states it is to have
-pub record Reading : Type 0 where
+pub record TimeReading : Type 0 where
   pub tape : List ℕ
   pub tones : List ℕ
   pub row : List ℕ
   pub lasts : Duration
 
-abbrev reading : List ℕ → List ℕ → List ℕ → ℕ → Reading
+abbrev reading : List ℕ → List ℕ → List ℕ → ℕ → TimeReading
 reading tape tones row t = record { tape = tape; tones = tones; row = row; lasts = T t }
 
-abbrev pub readings : List Reading
+abbrev pub readings : List TimeReading
 readings =
     -- 12 with length 100, count 1: a tone 0/100, then 0 cycles, which are one
     reading [] (1 ∷ 0 ∷ 100 ∷ 0 ∷ 0 ∷ 100 ∷ 100 ∷ 0 ∷ []) (0 ∷ 2 ∷ 0 ∷ 0 ∷ 0 ∷ 0 ∷ 0 ∷ 0 ∷ 0 ∷ 0 ∷ 0 ∷ 0 ∷ 0 ∷ 0 ∷ 0 ∷ 0 ∷ []) 300 ∷
@@ -43,26 +43,26 @@ unfolding lastsOf comesTo time entriesOf soundOf tonesOf toneOf cyclesOf isSingl
 times-said = refl
 
 -- a sole 12 of 100 and 4: its list, from its start
-abbrev sole : List (Entry Spot)
+abbrev sole : List (Entry Label)
 sole = listFrom (record { bytes = []; tones = 2 ∷ 100 ∷ 100 ∷ 0 ∷ []; blocks = rowWords (0 ∷ 1 ∷ []); count = 1 }) 0
 
-abbrev at : List (Entry Spot) → Outcome Spot
+abbrev at : List (Entry Label) → Outcome Label
 at es = record { place = es; done = false }
 
-abbrev highs : List (Entry Spot)
+abbrev highs : List (Entry Label)
 highs =
-    pulse (spot 0 (Tones 0 0 true)) high 100
-    ∷ pulse (spot 0 (Tones 0 1 false)) low 100 ∷ pulse (spot 0 (Tones 0 1 true)) high 100 ∷ pulse (spot 0 Pause) low 0 ∷ []
+    pulse (labelAt 0 (Tones 0 0 true)) high 100
+    ∷ pulse (labelAt 0 (Tones 0 1 false)) low 100 ∷ pulse (labelAt 0 (Tones 0 1 true)) high 100 ∷ pulse (labelAt 0 Pause) low 0 ∷ []
 
 -- where each count leaves the measured player and the source's
-abbrev pub places : List (ℕ × (Outcome Spot × Outcome Spot))
+abbrev pub places : List (ℕ × (Outcome Label × Outcome Label))
 places =
     -- 99: both in the first half with 1 left
-    (99, (at (pulse (spot 0 (Tones 0 0 false)) low 1 ∷ highs), at (pulse (spot 0 (Tones 0 0 false)) low 1 ∷ highs))) ∷
+    (99, (at (pulse (labelAt 0 (Tones 0 0 false)) low 1 ∷ highs), at (pulse (labelAt 0 (Tones 0 0 false)) low 1 ∷ highs))) ∷
     -- 100: the measured one at the high half, full, the source's ended
     (100, (at highs, record { place = []; done = true })) ∷
     []
 
 pub places-said : map (λ e. (heard (answer sole (e .0)), source sole (e .0))) places ≡ map (λ e. e .1) places
-unfolding heard answer rest over status shown sourced reached turns turn after listFrom entriesOf soundOf tonesOf toneOf cyclesOf isSingle startLevel cycleLevel bitLevel edged pauseLevel dataOf pauseOf entryOf run
+unfolding heard answer rest over status statusHere sourced reached turns turn after listFrom entriesOf soundOf tonesOf toneOf cyclesOf isSingle startLevel cycleLevel bitLevel edged pauseLevel dataOf pauseOf entryOf run
 places-said = refl

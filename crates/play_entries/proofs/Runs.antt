@@ -19,21 +19,21 @@ use Rattle.rows.specs.declared.Tone.{Tone}
 use Rattle.rows.specs.declared.Block.{Block}
 use Rattle.play_entries.specs.declared.Duration.the-variants.{T, Endless}
 use Rattle.play_entries.specs.Counted.{bitsTime}
-use Rattle.play_entries.specs.Entries.{Spot, cyclesOf, isSingle, bitLevel, cycleOf, cyclePulses, cycleTime, toneOf, rowOf, tonesOf, bitsAt, bitOf, halfOf, bitEntries, byteOf, byteEntries, dataOf, soundOf, entriesOf, lastsOf}
+use Rattle.play_entries.specs.Entries.{Label, cyclesOf, isSingle, bitLevel, cycleOf, cyclePulses, cycleTime, toneOf, rowEntries, tonesOf, bitsAt, bitOf, halfOf, bitEntries, byteOf, byteEntries, dataOf, soundOf, entriesOf, lastsOf}
 use Rattle.play_entries.proofs.Ends.{endOf, end-time, end-comes, end-on}
 
 -- a repetition's second pulse, if there is one
-second-finite : (o : Bool) (a : Spot) (v : Level) (n : ℕ) → Finite (o ⇒ [] ∣ pulse a v n ∷ [])
+second-finite : (o : Bool) (a : Label) (v : Level) (n : ℕ) → Finite (o ⇒ [] ∣ pulse a v n ∷ [])
 unfolding Finite
 second-finite true a v n = tt
 second-finite false a v n = tt
 
-second-time : (o : Bool) (a : Spot) (v : Level) (n : ℕ) → time (o ⇒ [] ∣ pulse a v n ∷ []) ≡ (o ⇒ 0 ∣ n)
+second-time : (o : Bool) (a : Label) (v : Level) (n : ℕ) → time (o ⇒ [] ∣ pulse a v n ∷ []) ≡ (o ⇒ 0 ∣ n)
 unfolding time
 second-time true a v n = refl
 second-time false a v n = omega arith
 
-second-length : (o : Bool) (e : Entry Spot) → suc (length (o ⇒ [] ∣ e ∷ [])) ≡ (o ⇒ 1 ∣ 2)
+second-length : (o : Bool) (e : Entry Label) → suc (length (o ⇒ [] ∣ e ∷ [])) ≡ (o ⇒ 1 ∣ 2)
 second-length true e = refl
 second-length false e = refl
 
@@ -123,12 +123,12 @@ module _ (b : ℕ) (r : Block) (c : Level) (pos v : ℕ) where
       ∙ ap (λ (x : ℕ). bitsTime r x (n + 1)) (sym (next-ones v n (omega arith))))
 
 module _ (tones : List ℕ) (b : ℕ) (r : Block) where
-  pub row-finite : (i : ℕ) → Finite (rowOf tones b r i)
+  pub row-finite : (i : ℕ) → Finite (rowEntries tones b r i)
   row-finite i = tone-finite b i r _ _
 
   pub tones-finite : Finite (tonesOf tones b r)
   unfolding tonesOf
-  tones-finite = run-finite (rowOf tones b r) row-finite 0 (r .tones)
+  tones-finite = run-finite (rowEntries tones b r) row-finite 0 (r .tones)
 
 module _ (tape : List ℕ) (b : ℕ) (r : Block) (c : Level) where
   pub bytes-finite : (pos : ℕ) → Finite (byteEntries tape b r c pos)

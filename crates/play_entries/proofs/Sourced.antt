@@ -13,7 +13,7 @@ use Rattle.play_levels.proofs.Voices.{run-same}
 use Rattle.play_entries.specs.declared.Phase.{Phase}
 use Rattle.play_entries.specs.declared.Phase.the-variants.{Start, Tones, Data, Edge, Pause}
 use Rattle.play_entries.specs.declared.Duration.the-variants.{T, Endless}
-use Rattle.play_entries.specs.Entries.{Spot, spot, entryOf, toneAt, isSource, cyclesOf, isSingle, startLevel, cycleLevel, bitLevel, edged, cycleOf, toneOf, rowOf, tonesOf, bitsAt, bitEntries, byteOf, byteAt, byteEntries, dataOf, edgeOf, wholePause, pauseOf, pauseLevel, pauseEntry, soundOf, entriesOf}
+use Rattle.play_entries.specs.Entries.{Label, labelAt, entryOf, toneAt, isSource, cyclesOf, isSingle, startLevel, cycleLevel, bitLevel, edged, cycleOf, toneOf, rowEntries, tonesOf, bitsAt, bitEntries, byteOf, byteAt, byteEntries, dataOf, edgeOf, wholePause, pauseOf, pauseLevel, pauseEntry, soundOf, entriesOf}
 use Rattle.play_entries.specs.Places.{levelAt}
 use Rattle.play_entries.specs.Source.{sourceCycle, sourceTone, sourceBit, sourceByte, sourceEntries, levelOf}
 
@@ -43,11 +43,11 @@ module _ (tones : List ℕ) (b : ℕ) (r : Block) (s : isSource r ≡ true) wher
   unfolding isSingle cycleLevel
   cycle-same i p = rw s
 
-  row-same : (i : ℕ) → rowOf tones b r i ≡ sourceTone tones b r i
+  row-same : (i : ℕ) → rowEntries tones b r i ≡ sourceTone tones b r i
   unfolding toneOf sourceTone cyclesOf
   row-same i = rw s (run-same _ _ (cycle-same i) 0 _)
 
-  end-same : edgeOf tones b r ++ pauseEntry tones b r ∷ [] ≡ entryOf (spot b Pause) low (wholePause r) ∷ []
+  end-same : edgeOf tones b r ++ pauseEntry tones b r ∷ [] ≡ entryOf (labelAt b Pause) low (wholePause r) ∷ []
   unfolding pauseOf wholePause
   end-same = rw (no-edge, pause-low)
 

@@ -5,31 +5,27 @@ use mathlib.Core.Path.{_≡_, refl, sym, subst, _∙_}
 use mathlib.Core.Bool.{Bool, true, false, not}
 use mathlib.Core.Logic.{⊎-elim}
 use mathlib.Core.List.{List, [], _∷_}
-use Rattle.law_base.specs.Numbers.{lt-or-ge}
+use Rattle.law_base.proofs.Numbers.{lt-or-ge}
 use Rattle.law_pulses.specs.Play.{Level, Entry, pulse, endless, rest}
 use Rattle.law_pulses.proofs.Steps.{rest-nil, rest-stop, rest-ways}
 use Rattle.play_entries.specs.declared.Phase.{Phase}
 use Rattle.play_entries.specs.declared.Phase.the-variants.{Start, Tones, Data, Edge, Pause}
 use Rattle.play_entries.specs.declared.Duration.{Duration}
 use Rattle.play_entries.specs.declared.Duration.the-variants.{T, Endless}
-use Rattle.play_entries.specs.Entries.{Spot, spot, entryOf, isSingle, startLevel, edged, bitsAt, halfOf, bitOf, pauseOf}
+use Rattle.play_entries.specs.Entries.{Label, labelAt, entryOf, isSingle, startLevel, edged, bitsAt, bitOf, halfOf, pauseOf}
 use Rattle.play_entries.specs.Places.{Tape, blockIn, toneIn, byteIn, bitIn, cycleIn, cyclesIn, levelAt, levelIn, listFrom, fromPause, fromEdge, fromByte, fromBit, fromTone, fromCycle, fromSecond, leftAt, hasEntry, lengthAt, isStart, valid, headOf, leftOf, lengthIn}
+use Rattle.play_entries.specs.Tails.{Tail}
 use Rattle.play_entries.proofs.Bounds.{bits-some}
 use Rattle.play_entries.proofs.Follows.{list-in, list-out, tone-in, tone-out, cycle-in, cycle-out, second-in, second-out, byte-in, byte-out, bit-in, bit-out, edge-in, edge-out}
 use Rattle.play_entries.proofs.Valid.{remains-full, remains-less, tone-entry, has-tone, has-second, data-entry, has-data, stands-valid, valid-stands, start-valid, valid-start}
 
--- es is what is left to play from the position at its head, and that position is valid
-pub record Tail (w : Tape) (es : List (Entry Spot)) : Type 0 where
-  pub ahead : leftAt w (headOf w es .block) (headOf w es .phase) (leftOf es) ≡ es
-  pub stands : valid w (headOf w es .block) (headOf w es .phase) (leftOf es) ≡ true
-
 module _ (w : Tape) where
-  tail-by : {es fs : List (Entry Spot)} → es ≡ fs → Tail w fs → Tail w es
+  tail-by : {es fs : List (Entry Label)} → es ≡ fs → Tail w fs → Tail w es
   tail-by e t = subst (Tail w) (sym e) t
 
   -- from an entry whose position is valid
-  tail-at : (b : ℕ) (f : Phase) (v : Level) (left : Duration) (es : List (Entry Spot))
-      → leftAt w b f left ≡ entryOf (spot b f) v left ∷ es → valid w b f left ≡ true → Tail w (entryOf (spot b f) v left ∷ es)
+  tail-at : (b : ℕ) (f : Phase) (v : Level) (left : Duration) (es : List (Entry Label))
+      → leftAt w b f left ≡ entryOf (labelAt b f) v left ∷ es → valid w b f left ≡ true → Tail w (entryOf (labelAt b f) v left ∷ es)
   unfolding headOf leftOf entryOf
   tail-at b f v (T t) es e s = record { ahead = e; stands = s }
   tail-at b f v Endless es e s = record { ahead = e; stands = s }
@@ -131,7 +127,7 @@ module _ (w : Tape) where
         by-single false e = tail-by (second-in w b i p e) (tail-second i p l g e)
 
   -- an entry spent
-  next-of : (b : ℕ) (f : Phase) (v : Level) (t : ℕ) (es : List (Entry Spot)) → leftAt w b f (T t) ≡ pulse (spot b f) v t ∷ es → valid w b f (T t) ≡ true → Tail w es
+  next-of : (b : ℕ) (f : Phase) (v : Level) (t : ℕ) (es : List (Entry Label)) → leftAt w b f (T t) ≡ pulse (labelAt b f) v t ∷ es → valid w b f (T t) ≡ true → Tail w es
   unfolding leftAt entryOf
   next-of b Start v t es e s =
       ⊎-elim
@@ -150,7 +146,7 @@ module _ (w : Tape) where
   next-of b (Data pos k false) v t es e s =
       let a = valid-stands w b (Data pos k false) (T t) refl s in
       let l = data-entry (w .tones) (blockIn w b) pos k false (a .entry) in
-      let y : es ≡ pulse (spot b (Data pos k true)) (not (bitIn w b)) (halfOf (blockIn w b) (bitOf (byteIn w b pos) k)) ∷ fromBit w b pos (k + 1) = cc in
+      let y : es ≡ pulse (labelAt b (Data pos k true)) (not (bitIn w b)) (halfOf (blockIn w b) (bitOf (byteIn w b pos) k)) ∷ fromBit w b pos (k + 1) = cc in
       tail-by y (tail-bit-half b (a .below) pos k (l .0) (l .1) .1)
   next-of b (Data pos k true) v t es e s =
       let a = valid-stands w b (Data pos k true) (T t) refl s in
@@ -162,13 +158,13 @@ module _ (w : Tape) where
       tail-by y (tail-pause b (a .below))
   next-of b Pause v t es e s = let y : es ≡ listFrom w (b + 1) = cc in tail-by y (tail-list (b + 1))
 
-  pub tail-next : (a : Spot) (v : Level) (t : ℕ) (es : List (Entry Spot)) → Tail w (pulse a v t ∷ es) → Tail w es
+  pub tail-next : (a : Label) (v : Level) (t : ℕ) (es : List (Entry Label)) → Tail w (pulse a v t ∷ es) → Tail w es
   unfolding headOf leftOf
   tail-next a v t es x = next-of (a .block) (a .phase) v t es (x .ahead) (x .stands)
 
   -- less of an entry left
-  shorter : (b : ℕ) (f : Phase) (v : Level) (t u : ℕ) (es : List (Entry Spot)) → isStart f ≡ false
-      → leftAt w b f (T t) ≡ pulse (spot b f) v t ∷ es → leftAt w b f (T u) ≡ pulse (spot b f) v u ∷ es
+  shorter : (b : ℕ) (f : Phase) (v : Level) (t u : ℕ) (es : List (Entry Label)) → isStart f ≡ false
+      → leftAt w b f (T t) ≡ pulse (labelAt b f) v t ∷ es → leftAt w b f (T u) ≡ pulse (labelAt b f) v u ∷ es
   unfolding leftAt entryOf
   shorter b Start v t u es n e = let z : _≡_ {A = ℕ} 0 1 = cc in absurd (omega arith)
   shorter b (Tones i p false) v t u es n e = cc
@@ -178,27 +174,27 @@ module _ (w : Tape) where
   shorter b Edge v t u es n e = cc
   shorter b Pause v t u es n e = cc
 
-  less-entry : (b : ℕ) (f : Phase) (v : Level) (t u : ℕ) (es : List (Entry Spot)) → isStart f ≡ false
-      → leftAt w b f (T t) ≡ pulse (spot b f) v t ∷ es → valid w b f (T t) ≡ true → 0 < u → u ≤ t → Tail w (pulse (spot b f) v u ∷ es)
+  less-entry : (b : ℕ) (f : Phase) (v : Level) (t u : ℕ) (es : List (Entry Label)) → isStart f ≡ false
+      → leftAt w b f (T t) ≡ pulse (labelAt b f) v t ∷ es → valid w b f (T t) ≡ true → 0 < u → u ≤ t → Tail w (pulse (labelAt b f) v u ∷ es)
   unfolding headOf leftOf
   less-entry b f v t u es n e d p h =
       let a = valid-stands w b f (T t) n d in
       record { ahead = shorter b f v t u es n e; stands = stands-valid w b f (T u) (record { below = a .below; entry = a .entry; some = remains-less t u (lengthIn w b f) p h (a .some) }) }
 
-  less-of : (b : ℕ) (f : Phase) (v : Level) (t u : ℕ) (es : List (Entry Spot))
-      → leftAt w b f (T t) ≡ pulse (spot b f) v t ∷ es → valid w b f (T t) ≡ true → 0 < u → u ≤ t → Tail w (pulse (spot b f) v u ∷ es)
+  less-of : (b : ℕ) (f : Phase) (v : Level) (t u : ℕ) (es : List (Entry Label))
+      → leftAt w b f (T t) ≡ pulse (labelAt b f) v t ∷ es → valid w b f (T t) ≡ true → 0 < u → u ≤ t → Tail w (pulse (labelAt b f) v u ∷ es)
   less-of b Start v t u es e d p h = let z = valid-start w b (T t) d in let y : t ≡ 0 = cc in absurd (omega arith)
   less-of b (Tones i q l) v t u es e d p h = less-entry b (Tones i q l) v t u es refl e d p h
   less-of b (Data pos k l) v t u es e d p h = less-entry b (Data pos k l) v t u es refl e d p h
   less-of b Edge v t u es e d p h = less-entry b Edge v t u es refl e d p h
   less-of b Pause v t u es e d p h = less-entry b Pause v t u es refl e d p h
 
-  pub tail-less : (a : Spot) (v : Level) (t u : ℕ) (es : List (Entry Spot)) → Tail w (pulse a v t ∷ es) → 0 < u → u ≤ t → Tail w (pulse a v u ∷ es)
+  pub tail-less : (a : Label) (v : Level) (t u : ℕ) (es : List (Entry Label)) → Tail w (pulse a v t ∷ es) → 0 < u → u ≤ t → Tail w (pulse a v u ∷ es)
   unfolding headOf leftOf
   tail-less a v t u es x p h = less-of (a .block) (a .phase) v t u es (x .ahead) (x .stands) p h
 
   -- PLAYING leads from such a place to such a place
-  pub tail-rest : (es : List (Entry Spot)) (n : ℕ) → Tail w es → Tail w (rest es n)
+  pub tail-rest : (es : List (Entry Label)) (n : ℕ) → Tail w es → Tail w (rest es n)
   tail-rest [] n x = tail-by (rest-nil n) x
   tail-rest (endless a v ∷ es) n x = tail-by (rest-stop a v es n) x
   tail-rest (pulse a v t ∷ es) n x =

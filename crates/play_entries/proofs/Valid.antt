@@ -8,7 +8,7 @@ use mathlib.Core.Bool.{Bool, true, false, not, _&&_, _||_}
 use mathlib.Core.Logic.{⊎-elim}
 use mathlib.Core.List.{List}
 use lib.Dec.{leb, ltb, eqb}
-use Rattle.law_base.specs.Tests.{first, second, other}
+use Rattle.law_base.proofs.Tests.{first, second, other}
 use Rattle.rows.specs.declared.Block.{Block}
 use Rattle.play_entries.specs.declared.Phase.{Phase}
 use Rattle.play_entries.specs.declared.Phase.the-variants.{Start, Tones, Data, Edge, Pause}

@@ -21,15 +21,15 @@ use Rattle.play_entries.specs.declared.Duration.{Duration}
 use Rattle.play_entries.specs.declared.Duration.the-variants.{T, Endless}
 
 -- an entry's label: its block's number, and its phase there
-pub record Spot : Type 0 where
+pub record Label : Type 0 where
   pub block : ℕ
   pub phase : Phase
 
-abbrev pub spot : ℕ → Phase → Spot
-spot b f = record { block = b; phase = f }
+abbrev pub labelAt : ℕ → Phase → Label
+labelAt b f = record { block = b; phase = f }
 
 -- an entry of this duration
-unfoldable pub entryOf : Spot → Level → Duration → Entry Spot
+unfoldable pub entryOf : Label → Level → Duration → Entry Label
 entryOf s v (T t) = pulse s v t
 entryOf s v Endless = endless s v
 
@@ -72,15 +72,15 @@ unfoldable pub edged : Block → Bool
 edged r = not (isSource r) && not (eqb (r .endless) 1 || eqb (r .pause) 0)
 
 -- ENTRIES. A start: 0 T
-abbrev pub startOf : ℕ → Block → Entry Spot
-startOf b r = pulse (spot b Start) (startLevel r) 0
+abbrev pub startOf : ℕ → Block → Entry Label
+startOf b r = pulse (labelAt b Start) (startLevel r) 0
 
 -- repetition p of tone row i, whose first pulse is at level v: its second pulse, if it has one; and both
-abbrev pub secondOf : ℕ → ℕ → Block → Tone → Level → ℕ → List (Entry Spot)
-secondOf b i r t v p = isSingle r t ⇒ [] ∣ pulse (spot b (Tones i p true)) (not v) (t .len2) ∷ []
+abbrev pub secondOf : ℕ → ℕ → Block → Tone → Level → ℕ → List (Entry Label)
+secondOf b i r t v p = isSingle r t ⇒ [] ∣ pulse (labelAt b (Tones i p true)) (not v) (t .len2) ∷ []
 
-abbrev pub cycleOf : ℕ → ℕ → Block → Tone → (ℕ → Level) → ℕ → List (Entry Spot)
-cycleOf b i r t v p = pulse (spot b (Tones i p false)) (v p) (t .len1) ∷ secondOf b i r t (v p) p
+abbrev pub cycleOf : ℕ → ℕ → Block → Tone → (ℕ → Level) → ℕ → List (Entry Label)
+cycleOf b i r t v p = pulse (labelAt b (Tones i p false)) (v p) (t .len1) ∷ secondOf b i r t (v p) p
 
 -- how many pulses a repetition has, and its T-states
 abbrev pub cyclePulses : Block → Tone → ℕ
@@ -90,15 +90,15 @@ abbrev pub cycleTime : Block → Tone → ℕ
 cycleTime r t = t .len1 + (isSingle r t ⇒ 0 ∣ t .len2)
 
 -- each repetition of tone row i
-unfoldable pub toneOf : ℕ → ℕ → Block → Tone → (ℕ → Level) → List (Entry Spot)
+unfoldable pub toneOf : ℕ → ℕ → Block → Tone → (ℕ → Level) → List (Entry Label)
 toneOf b i r t v = run (cycleOf b i r t v) 0 (cyclesOf r t)
 
-abbrev pub rowOf : List ℕ → ℕ → Block → ℕ → List (Entry Spot)
-rowOf tones b r i = toneOf b i r (toneAt tones r i) (cycleLevel tones r i)
+abbrev pub rowEntries : List ℕ → ℕ → Block → ℕ → List (Entry Label)
+rowEntries tones b r i = toneOf b i r (toneAt tones r i) (cycleLevel tones r i)
 
 -- each tone row
-unfoldable pub tonesOf : List ℕ → ℕ → Block → List (Entry Spot)
-tonesOf tones b r = run (rowOf tones b r) 0 (r .tones)
+unfoldable pub tonesOf : List ℕ → ℕ → Block → List (Entry Label)
+tonesOf tones b r = run (rowEntries tones b r) 0 (r .tones)
 
 -- 8 bits a byte, the last byte max(1, last bits)
 unfoldable pub bitsAt : Block → ℕ → ℕ
@@ -113,31 +113,31 @@ unfoldable pub halfOf : Block → ℕ → ℕ
 halfOf r bit = eqb bit 0 ⇒ r .zero ∣ r .one
 
 -- bit k of the byte at pos, whose value is v: two equal halves, at level c and the other
-abbrev pub bitEntries : ℕ → Block → Level → ℕ → ℕ → ℕ → List (Entry Spot)
+abbrev pub bitEntries : ℕ → Block → Level → ℕ → ℕ → ℕ → List (Entry Label)
 bitEntries b r c pos v k =
-    pulse (spot b (Data pos k false)) c (halfOf r (bitOf v k)) ∷ pulse (spot b (Data pos k true)) (not c) (halfOf r (bitOf v k)) ∷ []
+    pulse (labelAt b (Data pos k false)) c (halfOf r (bitOf v k)) ∷ pulse (labelAt b (Data pos k true)) (not c) (halfOf r (bitOf v k)) ∷ []
 
 -- each bit of that byte
-unfoldable pub byteOf : ℕ → Block → Level → ℕ → ℕ → List (Entry Spot)
+unfoldable pub byteOf : ℕ → Block → Level → ℕ → ℕ → List (Entry Label)
 byteOf b r c pos v = run (bitEntries b r c pos v) 0 (bitsAt r pos)
 
 -- a block's data byte at pos, and its entries
 abbrev pub byteAt : List ℕ → Block → ℕ → ℕ
 byteAt tape r pos = getD tape (r .start + pos) 0
 
-abbrev pub byteEntries : List ℕ → ℕ → Block → Level → ℕ → List (Entry Spot)
+abbrev pub byteEntries : List ℕ → ℕ → Block → Level → ℕ → List (Entry Label)
 byteEntries tape b r c pos = byteOf b r c pos (byteAt tape r pos)
 
 -- each data byte
-unfoldable pub dataOf : List ℕ → ℕ → Block → Level → List (Entry Spot)
+unfoldable pub dataOf : List ℕ → ℕ → Block → Level → List (Entry Label)
 dataOf tape b r c = run (byteEntries tape b r c) 0 (r .size)
 
 -- an edge: the pause's first millisecond, at the level of a bit's first half
 abbrev pub edgeTime : Block → ℕ
 edgeTime r = min 3500 (r .pause)
 
-abbrev pub edgeOf : List ℕ → ℕ → Block → List (Entry Spot)
-edgeOf tones b r = edged r ⇒ pulse (spot b Edge) (bitLevel tones r) (edgeTime r) ∷ [] ∣ []
+abbrev pub edgeOf : List ℕ → ℕ → Block → List (Entry Label)
+edgeOf tones b r = edged r ⇒ pulse (labelAt b Edge) (bitLevel tones r) (edgeTime r) ∷ [] ∣ []
 
 -- a row's whole pause: a stop's never ends
 unfoldable pub wholePause : Block → Duration
@@ -154,15 +154,15 @@ pauseOf r = eqb (r .endless) 1 ⇒ Endless ∣ T (restOf r)
 unfoldable pub pauseLevel : List ℕ → Block → Level
 pauseLevel tones r = eqb (r .endless) 1 ⇒ low ∣ eqb (r .pause) 0 ⇒ bitLevel tones r ∣ low
 
-abbrev pub pauseEntry : List ℕ → ℕ → Block → Entry Spot
-pauseEntry tones b r = entryOf (spot b Pause) (pauseLevel tones r) (pauseOf r)
+abbrev pub pauseEntry : List ℕ → ℕ → Block → Entry Label
+pauseEntry tones b r = entryOf (labelAt b Pause) (pauseLevel tones r) (pauseOf r)
 
 -- a block's entries without its pause
-unfoldable pub soundOf : List ℕ → List ℕ → ℕ → Block → List (Entry Spot)
+unfoldable pub soundOf : List ℕ → List ℕ → ℕ → Block → List (Entry Label)
 soundOf tape tones b r = startOf b r ∷ tonesOf tones b r ++ dataOf tape b r (bitLevel tones r)
 
 -- A BLOCK'S ENTRIES: a start, each pulse of its tone rows, each half of its data bits, the edge if there is one, the pause
-unfoldable pub entriesOf : List ℕ → List ℕ → ℕ → Block → List (Entry Spot)
+unfoldable pub entriesOf : List ℕ → List ℕ → ℕ → Block → List (Entry Label)
 entriesOf tape tones b r = soundOf tape tones b r ++ (edgeOf tones b r ++ pauseEntry tones b r ∷ [])
 
 -- what a list lasts: its sum, or endless

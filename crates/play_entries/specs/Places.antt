@@ -14,7 +14,7 @@ use Rattle.play_entries.specs.declared.Phase.the-variants.{Start, Tones,
 use Rattle.play_entries.specs.declared.Duration.{Duration}
 use Rattle.play_entries.specs.declared.Duration.the-variants.{T, Endless}
 use Rattle.play_levels.specs.Closed.{flipped}
-use Rattle.play_entries.specs.Entries.{Spot, spot, entryOf, toneAt, cyclesOf, isSingle, startLevel, cycleLevel, bitLevel, edged, secondOf, cycleOf, rowOf, bitsAt, bitOf, halfOf, bitEntries, byteAt, byteEntries, edgeTime, edgeOf, pauseOf, pauseLevel, pauseEntry, entriesOf}
+use Rattle.play_entries.specs.Entries.{Label, labelAt, entryOf, toneAt, cyclesOf, isSingle, startLevel, cycleLevel, bitLevel, edged, secondOf, cycleOf, rowEntries, bitsAt, bitOf, halfOf, bitEntries, byteAt, byteEntries, edgeTime, edgeOf, pauseOf, pauseLevel, pauseEntry, entriesOf}
 
 -- a mounted tape: its bytes, its tone table, its block table and how many blocks it counts
 pub record Tape : Type 0 where
@@ -34,14 +34,14 @@ abbrev pub byteIn : Tape → ℕ → ℕ → ℕ
 byteIn w b pos = byteAt (w .bytes) (blockIn w b) pos
 
 -- THE TAPE'S LIST from block b on
-unfoldable pub listFrom : Tape → ℕ → List (Entry Spot)
+unfoldable pub listFrom : Tape → ℕ → List (Entry Label)
 listFrom w b = run (λ i. entriesOf (w .bytes) (w .tones) i (blockIn w i)) b (w .count - b)
 
 -- from block b's pause on; from its edge; from its data byte at pos; from bit k of that byte; from its tone row i; from repetition p of that row
-unfoldable pub fromPause : Tape → ℕ → List (Entry Spot)
+unfoldable pub fromPause : Tape → ℕ → List (Entry Label)
 fromPause w b = pauseEntry (w .tones) b (blockIn w b) ∷ listFrom w (b + 1)
 
-unfoldable pub fromEdge : Tape → ℕ → List (Entry Spot)
+unfoldable pub fromEdge : Tape → ℕ → List (Entry Label)
 fromEdge w b = edgeOf (w .tones) b (blockIn w b) ++ fromPause w b
 
 -- the levels of block b's bits, and of its tone row i
@@ -51,27 +51,27 @@ bitIn w b = bitLevel (w .tones) (blockIn w b)
 abbrev pub cycleIn : Tape → ℕ → ℕ → ℕ → Level
 cycleIn w b i = cycleLevel (w .tones) (blockIn w b) i
 
-unfoldable pub fromByte : Tape → ℕ → ℕ → List (Entry Spot)
+unfoldable pub fromByte : Tape → ℕ → ℕ → List (Entry Label)
 fromByte w b pos = run (byteEntries (w .bytes) b (blockIn w b) (bitIn w b)) pos (blockIn w b .size - pos) ++ fromEdge w b
 
-unfoldable pub fromBit : Tape → ℕ → ℕ → ℕ → List (Entry Spot)
+unfoldable pub fromBit : Tape → ℕ → ℕ → ℕ → List (Entry Label)
 fromBit w b pos k = run (bitEntries b (blockIn w b) (bitIn w b) pos (byteIn w b pos)) k (bitsAt (blockIn w b) pos - k) ++ fromByte w b (pos + 1)
 
-unfoldable pub fromTone : Tape → ℕ → ℕ → List (Entry Spot)
-fromTone w b i = run (rowOf (w .tones) b (blockIn w b)) i (blockIn w b .tones - i) ++ fromByte w b 0
+unfoldable pub fromTone : Tape → ℕ → ℕ → List (Entry Label)
+fromTone w b i = run (rowEntries (w .tones) b (blockIn w b)) i (blockIn w b .tones - i) ++ fromByte w b 0
 
 -- repetitions of its tone row i, and the one at p
 abbrev pub cyclesIn : Tape → ℕ → ℕ → ℕ
 cyclesIn w b i = cyclesOf (blockIn w b) (toneIn w b i)
 
-abbrev pub cycleItem : Tape → ℕ → ℕ → ℕ → List (Entry Spot)
+abbrev pub cycleItem : Tape → ℕ → ℕ → ℕ → List (Entry Label)
 cycleItem w b i = cycleOf b i (blockIn w b) (toneIn w b i) (cycleIn w b i)
 
-unfoldable pub fromCycle : Tape → ℕ → ℕ → ℕ → List (Entry Spot)
+unfoldable pub fromCycle : Tape → ℕ → ℕ → ℕ → List (Entry Label)
 fromCycle w b i p = run (cycleItem w b i) p (cyclesIn w b i - p) ++ fromTone w b (i + 1)
 
 -- from behind the first pulse of repetition p
-unfoldable pub fromSecond : Tape → ℕ → ℕ → ℕ → List (Entry Spot)
+unfoldable pub fromSecond : Tape → ℕ → ℕ → ℕ → List (Entry Label)
 fromSecond w b i p = secondOf b i (blockIn w b) (toneIn w b i) (cycleIn w b i p) p ++ fromCycle w b i (p + 1)
 
 -- THE LEVEL of a block's entry of this phase
@@ -86,17 +86,17 @@ abbrev pub levelIn : Tape → ℕ → Phase → Level
 levelIn w b f = levelAt (w .tones) (blockIn w b) f
 
 -- WHAT IS LEFT TO PLAY from a position: its own entry with what is left of it, then those behind
-unfoldable pub leftAt : Tape → ℕ → Phase → Duration → List (Entry Spot)
+unfoldable pub leftAt : Tape → ℕ → Phase → Duration → List (Entry Label)
 leftAt w b Start left = listFrom w b
-leftAt w b (Tones i p false) left = entryOf (spot b (Tones i p false)) (cycleIn w b i p) left ∷ fromSecond w b i p
-leftAt w b (Tones i p true) left = entryOf (spot b (Tones i p true)) (not (cycleIn w b i p)) left ∷ fromCycle w b i (p + 1)
+leftAt w b (Tones i p false) left = entryOf (labelAt b (Tones i p false)) (cycleIn w b i p) left ∷ fromSecond w b i p
+leftAt w b (Tones i p true) left = entryOf (labelAt b (Tones i p true)) (not (cycleIn w b i p)) left ∷ fromCycle w b i (p + 1)
 leftAt w b (Data pos k false) left =
-    entryOf (spot b (Data pos k false)) (bitIn w b) left
-    ∷ pulse (spot b (Data pos k true)) (not (bitIn w b)) (halfOf (blockIn w b) (bitOf (byteIn w b pos) k))
+    entryOf (labelAt b (Data pos k false)) (bitIn w b) left
+    ∷ pulse (labelAt b (Data pos k true)) (not (bitIn w b)) (halfOf (blockIn w b) (bitOf (byteIn w b pos) k))
     ∷ fromBit w b pos (k + 1)
-leftAt w b (Data pos k true) left = entryOf (spot b (Data pos k true)) (not (bitIn w b)) left ∷ fromBit w b pos (k + 1)
-leftAt w b Edge left = entryOf (spot b Edge) (bitIn w b) left ∷ fromPause w b
-leftAt w b Pause left = entryOf (spot b Pause) (levelIn w b Pause) left ∷ listFrom w (b + 1)
+leftAt w b (Data pos k true) left = entryOf (labelAt b (Data pos k true)) (not (bitIn w b)) left ∷ fromBit w b pos (k + 1)
+leftAt w b Edge left = entryOf (labelAt b Edge) (bitIn w b) left ∷ fromPause w b
+leftAt w b Pause left = entryOf (labelAt b Pause) (levelIn w b Pause) left ∷ listFrom w (b + 1)
 
 -- whether a block has an entry of this phase
 unfoldable pub hasEntry : List ℕ → Block → Phase → Bool
@@ -148,12 +148,12 @@ unfoldable pub valid : Tape → ℕ → Phase → Duration → Bool
 valid w b f left = (isStart f && isNone left) || (ltb b (w .count) && (hasIn w b f && remains left (lengthIn w b f)))
 
 -- the position at the head of what is left to play; the count's start where nothing is left
-unfoldable pub headOf : Tape → List (Entry Spot) → Spot
-headOf w [] = spot (w .count) Start
+unfoldable pub headOf : Tape → List (Entry Label) → Label
+headOf w [] = labelAt (w .count) Start
 headOf w (pulse a v t ∷ es) = a
 headOf w (endless a v ∷ es) = a
 
-unfoldable pub leftOf : List (Entry Spot) → Duration
+unfoldable pub leftOf : List (Entry Label) → Duration
 leftOf [] = T 0
 leftOf (pulse a v t ∷ es) = T t
 leftOf (endless a v ∷ es) = Endless

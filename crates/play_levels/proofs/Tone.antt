@@ -13,9 +13,9 @@ use Rattle.law_pulses.specs.Play.{Level, low, high, Entry, pulse}
 use Rattle.law_pulses.specs.Runs.{run}
 use Rattle.rows.specs.declared.Tone.{Tone}
 use Rattle.play_levels.specs.declared.Line.{Line}
-use Rattle.play_levels.specs.Voiced.{Sound, tick, behind, voice, sounded, lineBy, voiced, lineOf, each, bare}
-use Rattle.play_levels.specs.Closed.{beginOf, pulsesOf, isOne, timesOf, second, waveOf, toneSounds, turned, firstLevel, lastLevel, lineBefore, lineAfter}
-use Rattle.play_levels.proofs.Voices.{Voices, voices-none, voices-by, voices-run}
+use Rattle.play_levels.specs.Voiced.{Signal, tick, behind, voice, sounded, lineBy, voiced, linePast, lots, bare, Voices}
+use Rattle.play_levels.specs.Closed.{beginOf, pulsesOf, isOne, timesOf, secondSignal, waveSignals, toneSignals, turned, firstLevel, lastLevel, lineBefore, lineAfter, waveEntries, waveItem}
+use Rattle.play_levels.proofs.Voices.{voices-none, voices-by, voices-run}
 
 pub turned-none : (v : Level) → turned 0 v ≡ v
 unfolding turned
@@ -73,43 +73,35 @@ module _ (t : Tone) (l : Line) where
       rw (← add-one q)
       (ap (voice (beginOf t)) (before-next q) ∙ first-next (eqb (beginOf t) 0) (eqb (beginOf t) 1) (eqb (beginOf t) 2) (isOne t) l q)
 
--- a repetition's entries, of any labels a for the first pulse and c for the second, where the first is at level v
-abbrev pub waveEntries : {A : Type 0} → Tone → A → A → Level → List (Entry A)
-waveEntries t a c v = pulse a v (t .len1) ∷ (isOne t ⇒ [] ∣ pulse c (not v) (t .len2) ∷ [])
-
 wave-by : {A : Type 0} (o : Bool) (begin m n : ℕ) (a c : A) (l : Line)
     → Voices l (tick begin m ∷ (o ⇒ [] ∣ tick 0 n ∷ [])) (behind (o ⇒ voice begin l ∣ not (voice begin l))) (pulse a (voice begin l) m ∷ (o ⇒ [] ∣ pulse c (not (voice begin l)) n ∷ []))
-unfolding voiced lineOf sounded lineBy bare
+unfolding voiced linePast sounded lineBy bare
 wave-by true begin m n a c l = record { heard = refl; line = refl }
 wave-by false begin m n a c l = record { heard = refl; line = refl }
 
--- lots without a sound
-nothing : (p m : ℕ) → each (λ q. []) p m ≡ []
-unfolding each
+-- lots without a signal
+nothing : (p m : ℕ) → lots (λ q. []) p m ≡ []
+unfolding lots
 nothing p zero = refl
 nothing p (suc m) = nothing (p + 1) m
 
 module _ {A : Type 0} (t : Tone) (l : Line) (a c : ℕ → A) where
-  -- a tone row's entries, whatever their labels
-  abbrev item : ℕ → List (Entry A)
-  item q = waveEntries t (a q) (c q) (firstLevel t l q)
-
-  one-wave : (q : ℕ) → Voices (lineBefore t l q) (tick (beginOf t) (t .len1) ∷ second t) (lineBefore t l (q + 1)) (item q)
+  one-wave : (q : ℕ) → Voices (lineBefore t l q) (tick (beginOf t) (t .len1) ∷ secondSignal t) (lineBefore t l (q + 1)) (waveItem t l a c q)
   one-wave q =
       rw (before-next t l q, ← first-voiced t l q)
       (wave-by (isOne t) (beginOf t) (t .len1) (t .len2) (a q) (c q) (lineBefore t l q))
 
   by-pulses : (n : Bool)
-      → Voices l (each (λ q. n ⇒ [] ∣ tick (beginOf t) (t .len1) ∷ second t) 0 (t .num)) (lineBefore t l (n ⇒ 0 ∣ t .num)) (run item 0 (n ⇒ 0 ∣ t .num))
+      → Voices l (lots (λ q. n ⇒ [] ∣ tick (beginOf t) (t .len1) ∷ secondSignal t) 0 (t .num)) (lineBefore t l (n ⇒ 0 ∣ t .num)) (run (waveItem t l a c) 0 (n ⇒ 0 ∣ t .num))
   unfolding run
   by-pulses true = rw (nothing 0 (t .num), before-none t l) (voices-none l)
   by-pulses false =
       let z : 0 + t .num ≡ t .num = omega arith in
       let e = before-none t l in
-      let v = voices-run (λ q. tick (beginOf t) (t .len1) ∷ second t) item (lineBefore t l) 0 (t .num) (λ q x y. one-wave q) in
-      subst (λ (k : Line). Voices k (each (λ q. tick (beginOf t) (t .len1) ∷ second t) 0 (t .num)) (lineBefore t l (t .num)) (run item 0 (t .num))) e (voices-by (ap (lineBefore t l) z) v)
+      let v = voices-run (λ q. tick (beginOf t) (t .len1) ∷ secondSignal t) (waveItem t l a c) (lineBefore t l) 0 (t .num) (λ q x y. one-wave q) in
+      subst (λ (k : Line). Voices k (lots (λ q. tick (beginOf t) (t .len1) ∷ secondSignal t) 0 (t .num)) (lineBefore t l (t .num)) (run (waveItem t l a c) 0 (t .num))) e (voices-by (ap (lineBefore t l) z) v)
 
-  -- A TONE ROW: its sounds, voiced one by one, are these entries, and leave the line behind the row
-  pub tone-voices : Voices l (toneSounds t) (lineAfter t l) (run item 0 (timesOf t))
-  unfolding toneSounds lineAfter timesOf
+  -- A TONE ROW: its signals, voiced one by one, are these entries, and leave the line behind the row
+  pub tone-voices : Voices l (toneSignals t) (lineAfter t l) (run (waveItem t l a c) 0 (timesOf t))
+  unfolding toneSignals lineAfter timesOf
   tone-voices = by-pulses (eqb (pulsesOf t) 0)

@@ -4,10 +4,10 @@ use mathlib.Core.Bool.{Bool, true, false, not}
 use mathlib.Core.List.{List, [], _∷_}
 use lib.Dec.{eqb}
 use Rattle.law_base.specs.Rules.{_⇒_, _∣_}
-use Rattle.law_pulses.specs.Play.{Level, low, high}
+use Rattle.law_pulses.specs.Play.{Level, low, high, Entry, pulse}
 use Rattle.rows.specs.declared.Tone.{Tone}
 use Rattle.play_levels.specs.declared.Line.{Line}
-use Rattle.play_levels.specs.Voiced.{Sound, tick, behind, each}
+use Rattle.play_levels.specs.Voiced.{Signal, tick, behind, lots}
 
 -- the word `wave` is 3 * begin + pulses
 abbrev pub beginOf : Tone → ℕ
@@ -24,16 +24,16 @@ isOne t = eqb (pulsesOf t) 1
 unfoldable pub timesOf : Tone → ℕ
 timesOf t = eqb (pulsesOf t) 0 ⇒ 0 ∣ t .num
 
--- a repetition's sounds: the first of the tone's begin, the second at the level that is then current
-abbrev pub second : Tone → List Sound
-second t = isOne t ⇒ [] ∣ tick 0 (t .len2) ∷ []
+-- a repetition's signals: the first of the tone's begin, the second at the level that is then current
+abbrev pub secondSignal : Tone → List Signal
+secondSignal t = isOne t ⇒ [] ∣ tick 0 (t .len2) ∷ []
 
-abbrev pub waveOf : Tone → List Sound
-waveOf t = eqb (pulsesOf t) 0 ⇒ [] ∣ tick (beginOf t) (t .len1) ∷ second t
+abbrev pub waveSignals : Tone → List Signal
+waveSignals t = eqb (pulsesOf t) 0 ⇒ [] ∣ tick (beginOf t) (t .len1) ∷ secondSignal t
 
--- A TONE ROW'S SOUNDS: its wave, so many times
-unfoldable pub toneSounds : Tone → List Sound
-toneSounds t = each (λ q. waveOf t) 0 (t .num)
+-- A TONE ROW'S SIGNALS: its wave, so many times
+unfoldable pub toneSignals : Tone → List Signal
+toneSignals t = lots (λ q. waveSignals t) 0 (t .num)
 
 -- v turned n times
 unfoldable pub turned : ℕ → Level → Level
@@ -62,3 +62,11 @@ lineBefore t l q = eqb q 0 ⇒ l ∣ behind (lastLevel t l (q - 1))
 
 unfoldable pub lineAfter : Tone → Line → Line
 lineAfter t l = lineBefore t l (timesOf t)
+
+-- a repetition's entries, of any labels a for the first pulse and c for the second, where the first is at level v
+abbrev pub waveEntries : {A : Type 0} → Tone → A → A → Level → List (Entry A)
+waveEntries t a c v = pulse a v (t .len1) ∷ (isOne t ⇒ [] ∣ pulse c (not v) (t .len2) ∷ [])
+
+-- repetition q of a tone row, whatever its labels, l being the line before the row
+abbrev pub waveItem : {A : Type 0} → Tone → Line → (ℕ → A) → (ℕ → A) → ℕ → List (Entry A)
+waveItem t l a c q = waveEntries t (a q) (c q) (firstLevel t l q)

@@ -22,10 +22,10 @@ ghost use Rattle.rows.specs.Rows.{tone, block, toneMost};
 ghost use Rattle.rows.specs.Well.{wellTone, wellNumbers, wellBlock};
 ghost use Rattle.play_levels.specs.Closed.{flipped};
 ghost use Rattle.play_entries.specs.Entries.{toneAt, isSource, cyclesOf, isSingle, cyclePulses, cycleTime, lineStart, lineAt, startLevel, cycleLevel, bitLevel, edged, bitsAt, bitOf, halfOf, edgeTime, restOf, wholePause, pauseOf, pauseLevel};
-ghost use Rattle.play_entries.specs.Sounds.{lineData, lineBehind};
+ghost use Rattle.play_entries.specs.Signals.{lineData, lineBehind};
 ghost use Rattle.play_entries.specs.Places.{cycleHalf, hasEntry, lengthAt, levelAt, remains};
 ghost use Rattle.play_entries.specs.Source.{levelOf};
-ghost use Rattle.play_entries.specs.Mounted.{sizeOf};
+ghost use Rattle.play_entries.specs.Mounted.{tapeSize};
 
 // A count of cycles or bits, 0 as one.
 pub fn at_least_one(n: u64) -> u64
@@ -222,7 +222,7 @@ pub fn length_at(tape: &[u8], tones: &[u64], r: Block, f: Phase) -> Duration
 
 // A tape's bytes, at most 1,048,576.
 pub fn size_of(tape: &[u8]) -> u64
-    ensures { λ n. ⌜ n ≡ sizeOf (now (tape .entry)) ⌝ }
+    ensures { λ n. ⌜ n ≡ tapeSize (now (tape .entry)) ⌝ }
 {
     let n = tape.len() as u64;
     if 1048576 <= n { 1048576 } else { n }
@@ -231,7 +231,7 @@ pub fn size_of(tape: &[u8]) -> u64
 // Whether block b's row is well formed; its callers know the row to be lent.
 pub fn row_well(tape: &[u8], tones: &[u64], blocks: &[u64], b: u64) -> bool
     requires { ⌜ b * block .width + block .width ≤ length (now blocks) ⌝ }
-    ensures { λ v. ⌜ v ≡ wellBlock (sizeOf (now (tape .entry))) (now (tones .entry)) (get block (now (blocks .entry)) b) ⌝ }
+    ensures { λ v. ⌜ v ≡ wellBlock (tapeSize (now (tape .entry))) (now (tones .entry)) (get block (now (blocks .entry)) b) ⌝ }
 {
     block_well(size_of(tape), tones, block_at(blocks, b as usize))
 }

@@ -18,7 +18,7 @@ use Rattle.play_entries.specs.declared.Phase.the-variants.{Tones}
 use Rattle.play_entries.specs.Entries.{toneAt, cyclesOf, isSingle, cyclePulses, cycleTime}
 use Rattle.play_entries.specs.Places.{hasEntry}
 use Rattle.play_entries.proofs.Bounds.{cycles-most, cycle-most}
-use Rattle.play_steps.specs.Steps.{stepTo, dataFrom, rowsFrom, toneFrom, cycleFrom, cyclesStep, oneStep, fitting, takeCycles}
+use Rattle.play_steps.specs.Steps.{stepTo, dataFrom, pulseFrom, toneFrom, cycleFrom, cyclesStep, oneStep, fitting, takeCycles}
 
 -- the numbers of a well-formed tone row
 pub record Small (r : Block) (t : Tone) : Type 0 where
@@ -79,13 +79,13 @@ module _ (tones : List ℕ) (r : Block) (i p t d : ℕ) (x : Tone) (n c m k : �
 -- a tone row with a pulse, one without, and none left
 module _ (tones : List ℕ) (r : Block) (i : ℕ) where
   pub tone-here : i < r .tones → 0 < cyclesOf r (toneAt tones r i) → toneFrom tones r i ≡ Tones i 0 false
-  unfolding toneFrom rowsFrom
+  unfolding toneFrom pulseFrom
   tone-here h l = let e : r .tones - i ≡ suc (r .tones - (i + 1)) = omega arith in rw (e, lt-ltb 0 (cyclesOf r (toneAt tones r i)) l)
 
   pub tone-past : i < r .tones → cyclesOf r (toneAt tones r i) ≤ 0 → toneFrom tones r i ≡ toneFrom tones r (i + 1)
-  unfolding toneFrom rowsFrom
+  unfolding toneFrom pulseFrom
   tone-past h l = let e : r .tones - i ≡ suc (r .tones - (i + 1)) = omega arith in rw (e, le-ltb 0 (cyclesOf r (toneAt tones r i)) l)
 
   pub tone-over : r .tones ≤ i → toneFrom tones r i ≡ dataFrom r 0
-  unfolding toneFrom rowsFrom
+  unfolding toneFrom pulseFrom
   tone-over h = let e : r .tones - i ≡ 0 = omega arith in rw e

@@ -7,7 +7,7 @@ use mathlib.Core.Bool.{Bool, true, false, not}
 use mathlib.Core.Logic.{⊎-elim}
 use mathlib.Core.List.{List, _∷_, _++_, append-assoc}
 use lib.ListN.{length}
-use Rattle.law_base.specs.Numbers.{lt-or-ge}
+use Rattle.law_base.proofs.Numbers.{lt-or-ge}
 use Rattle.law_base.specs.Rules.{_⇒_, _∣_}
 use Rattle.law_pulses.specs.Play.{Level, low, Entry, pulse, time, Finite}
 use Rattle.law_pulses.proofs.Joined.{time-append}
@@ -20,31 +20,31 @@ use Rattle.play_entries.specs.declared.Phase.{Phase}
 use Rattle.play_entries.specs.declared.Phase.the-variants.{Start, Tones, Data, Edge, Pause}
 use Rattle.play_entries.specs.declared.Duration.{Duration}
 use Rattle.play_entries.specs.declared.Duration.the-variants.{T}
-use Rattle.play_entries.specs.Entries.{Spot, spot, entryOf, isSingle, edged, startOf, cyclePulses, cycleTime, bitsAt, bitEntries, byteOf, byteEntries}
+use Rattle.play_entries.specs.Entries.{Label, labelAt, entryOf, isSingle, edged, startOf, cyclePulses, cycleTime, bitsAt, bitEntries, byteOf, byteEntries}
 use Rattle.play_entries.specs.Places.{Tape, blockIn, toneIn, byteIn, bitIn, cycleIn, cyclesIn, cycleItem, levelAt, listFrom, fromPause, fromEdge, fromByte, fromBit, fromTone, fromCycle, fromSecond, leftAt, hasEntry, lengthAt, hasIn, lengthIn}
 use Rattle.play_entries.proofs.Runs.{cycle-finite, cycle-time, cycle-length, bit-finite, byte-finite, byte-length, bit-time}
 use Rattle.play_entries.proofs.Bounds.{bits-some}
 use Rattle.play_entries.proofs.Follows.{list-in, tone-in, tone-out, cycle-in, cycle-out, second-in, second-out, byte-in, byte-out, bit-in, bit-out, edge-in, edge-out}
 use Rattle.play_entries.proofs.Valid.{tone-entry, has-tone, has-second, data-entry, has-data}
 use Rattle.play_steps.specs.declared.Step.{Step}
-use Rattle.play_steps.specs.Steps.{endFrom, dataFrom, bitFrom, rowsFrom, toneFrom, cycleFrom, secondFrom, cyclesStep, byteTime, byteStep, oneStep, fitting, takeCycles, takeByte, takeOf}
+use Rattle.play_steps.specs.Steps.{endFrom, dataFrom, bitFrom, pulseFrom, toneFrom, cycleFrom, secondFrom, cyclesStep, byteTime, byteStep, oneStep, fitting, takeCycles, takeByte, takeOf}
 use Rattle.play_steps.proofs.Facts.{fit}
 
 -- what is left from an entry, full
-abbrev pub fullAt : Tape → ℕ → Phase → List (Entry Spot)
+abbrev pub fullAt : Tape → ℕ → Phase → List (Entry Label)
 fullAt w b f = leftAt w b f (lengthIn w b f)
 
 -- what is left behind a step
-abbrev pub behind : Tape → ℕ → Step → List (Entry Spot)
-behind w b s = s .over ⇒ listFrom w (b + 1) ∣ fullAt w b (s .phase)
+abbrev pub leftBehind : Tape → ℕ → Step → List (Entry Label)
+leftBehind w b s = s .over ⇒ listFrom w (b + 1) ∣ fullAt w b (s .phase)
 
 -- es is what is left from the entry of phase f, full, and the block has it
-pub record Lands (w : Tape) (b : ℕ) (f : Phase) (es : List (Entry Spot)) : Type 0 where
+pub record Lands (w : Tape) (b : ℕ) (f : Phase) (es : List (Entry Label)) : Type 0 where
   pub to : es ≡ fullAt w b f
   pub has : hasIn w b f ≡ true
 
 module _ (w : Tape) (b : ℕ) where
-  lands-by : {f : Phase} {es fs : List (Entry Spot)} → es ≡ fs → Lands w b f fs → Lands w b f es
+  lands-by : {f : Phase} {es fs : List (Entry Label)} → es ≡ fs → Lands w b f fs → Lands w b f es
   lands-by e l = record { to = e ∙ l .to; has = l .has }
 
   lands-pause : Lands w b Pause (fromPause w b)
@@ -84,8 +84,8 @@ module _ (w : Tape) (b : ℕ) where
   unfolding leftAt lengthAt entryOf
   lands-cycle-in i p l g = record { to = cycle-in w b i p g; has = has-tone (w .tones) (blockIn w b) i p l g }
 
-  lands-rows : (n i : ℕ) → i + n ≡ blockIn w b .tones → Lands w b (rowsFrom (w .tones) (blockIn w b) i n) (fromTone w b i)
-  unfolding rowsFrom
+  lands-rows : (n i : ℕ) → i + n ≡ blockIn w b .tones → Lands w b (pulseFrom (w .tones) (blockIn w b) i n) (fromTone w b i)
+  unfolding pulseFrom
   lands-rows zero i e = lands-by (tone-out w b i (omega arith)) (lands-byte 0)
   lands-rows (suc n) i e =
       let l : i < blockIn w b .tones = omega arith in
@@ -117,17 +117,17 @@ module _ (w : Tape) (b : ℕ) where
   lands-second i p l g = lands-second-by (isSingle (blockIn w b) (toneIn w b i)) i p l g refl
 
 -- a step over one entry
-pub record One (w : Tape) (b : ℕ) (es : List (Entry Spot)) (s : Step) : Type 0 where
-  pub label : Spot
+pub record One (w : Tape) (b : ℕ) (es : List (Entry Label)) (s : Step) : Type 0 where
+  pub label : Label
   pub level : Level
-  pub split : es ≡ pulse label level (s .time) ∷ behind w b s
+  pub split : es ≡ pulse label level (s .time) ∷ leftBehind w b s
   pub many : s .passed ≡ 1
   pub has : s .over ≡ false → hasIn w b (s .phase) ≡ true
 
 -- a step over a run
-pub record Leap (w : Tape) (b : ℕ) (es : List (Entry Spot)) (s : Step) (gone : List (Entry Spot)) : Type 0 where
+pub record Leap (w : Tape) (b : ℕ) (es : List (Entry Label)) (s : Step) (gone : List (Entry Label)) : Type 0 where
   pub finite : Finite gone
-  pub split : es ≡ gone ++ behind w b s
+  pub split : es ≡ gone ++ leftBehind w b s
   pub lasts : time gone ≡ s .time
   pub many : length gone ≡ s .passed
   pub has : s .over ≡ false → hasIn w b (s .phase) ≡ true
@@ -152,24 +152,24 @@ module _ (w : Tape) (b : ℕ) (below : b < w .count) where
   unfolding oneStep leftAt entryOf lengthAt levelAt
   leap-one Start t h =
       let l = lands-tone w b 0 (omega arith) in
-      record { label = spot b Start; level = _; split = list-in w b below ∙ ap (λ (x : List (Entry Spot)). startOf b (blockIn w b) ∷ x) (l .to); many = refl; has = λ z. l .has }
+      record { label = labelAt b Start; level = _; split = list-in w b below ∙ ap (λ (x : List (Entry Label)). startOf b (blockIn w b) ∷ x) (l .to); many = refl; has = λ z. l .has }
   leap-one (Tones i p false) t h =
       let e = tone-entry (w .tones) (blockIn w b) i p false h in
       let l = lands-second w b i p (e .0) (e .1) in
-      record { label = spot b (Tones i p false); level = cycleIn w b i p; split = ap (λ (x : List (Entry Spot)). pulse (spot b (Tones i p false)) (cycleIn w b i p) t ∷ x) (l .to); many = refl; has = λ z. l .has }
+      record { label = labelAt b (Tones i p false); level = cycleIn w b i p; split = ap (λ (x : List (Entry Label)). pulse (labelAt b (Tones i p false)) (cycleIn w b i p) t ∷ x) (l .to); many = refl; has = λ z. l .has }
   leap-one (Tones i p true) t h =
       let l = lands-cycle w b i (p + 1) (tone-entry (w .tones) (blockIn w b) i p true h .0) in
-      record { label = spot b (Tones i p true); level = not (cycleIn w b i p); split = ap (λ (x : List (Entry Spot)). pulse (spot b (Tones i p true)) (not (cycleIn w b i p)) t ∷ x) (l .to); many = refl; has = λ z. l .has }
+      record { label = labelAt b (Tones i p true); level = not (cycleIn w b i p); split = ap (λ (x : List (Entry Label)). pulse (labelAt b (Tones i p true)) (not (cycleIn w b i p)) t ∷ x) (l .to); many = refl; has = λ z. l .has }
   leap-one (Data pos k false) t h =
       let e = data-entry (w .tones) (blockIn w b) pos k false h in
-      record { label = spot b (Data pos k false); level = bitIn w b; split = refl; many = refl; has = λ z. has-data (w .tones) (blockIn w b) pos k true (e .0) (e .1) }
+      record { label = labelAt b (Data pos k false); level = bitIn w b; split = refl; many = refl; has = λ z. has-data (w .tones) (blockIn w b) pos k true (e .0) (e .1) }
   leap-one (Data pos k true) t h =
       let l = lands-bit w b pos (k + 1) (data-entry (w .tones) (blockIn w b) pos k true h .0) in
-      record { label = spot b (Data pos k true); level = not (bitIn w b); split = ap (λ (x : List (Entry Spot)). pulse (spot b (Data pos k true)) (not (bitIn w b)) t ∷ x) (l .to); many = refl; has = λ z. l .has }
+      record { label = labelAt b (Data pos k true); level = not (bitIn w b); split = ap (λ (x : List (Entry Label)). pulse (labelAt b (Data pos k true)) (not (bitIn w b)) t ∷ x) (l .to); many = refl; has = λ z. l .has }
   leap-one Edge t h =
       let l = lands-pause w b in
-      record { label = spot b Edge; level = bitIn w b; split = ap (λ (x : List (Entry Spot)). pulse (spot b Edge) (bitIn w b) t ∷ x) (l .to); many = refl; has = λ z. l .has }
-  leap-one Pause t h = record { label = spot b Pause; level = _; split = refl; many = refl; has = λ z. absurd (no z) }
+      record { label = labelAt b Edge; level = bitIn w b; split = ap (λ (x : List (Entry Label)). pulse (labelAt b Edge) (bitIn w b) t ∷ x) (l .to); many = refl; has = λ z. l .has }
+  leap-one Pause t h = record { label = labelAt b Pause; level = _; split = refl; many = refl; has = λ z. absurd (no z) }
     where
       no : true ≡ false → ⊥
       no z = let y : _≡_ {A = ℕ} 0 1 = ap (λ (x : Bool). x ⇒ 0 ∣ 1) z in absurd (omega arith)
@@ -191,9 +191,9 @@ module _ (w : Tape) (b : ℕ) (below : b < w .count) where
         split =
             sym (lands-cycle-in w b i p h l .to)
             ∙ ap (λ (m : ℕ). run item p m ++ fromTone w b (i + 1)) e
-            ∙ ap (λ (x : List (Entry Spot)). x ++ fromTone w b (i + 1)) (run-split item p k (n - (p + k)))
+            ∙ ap (λ (x : List (Entry Label)). x ++ fromTone w b (i + 1)) (run-split item p k (n - (p + k)))
             ∙ append-assoc (run item p k) (run item (p + k) (n - (p + k))) (fromTone w b (i + 1))
-            ∙ ap (λ (x : List (Entry Spot)). run item p k ++ x) (to .to);
+            ∙ ap (λ (x : List (Entry Label)). run item p k ++ x) (to .to);
         lasts = run-time item (cycle-finite b i r t v) (cycleTime r t) p k (λ q x y. cycle-time b i r t v q);
         many = run-length item (cyclePulses r t) p k (λ q x y. cycle-length b i r t v q);
         has = λ z. to .has;
@@ -212,9 +212,9 @@ module _ (w : Tape) (b : ℕ) (below : b < w .count) where
         finite = byte-finite b r c pos v;
         split =
             sym (byte-in w b pos h ∙ lands-bit-in w b pos 0 h (bits-some r pos) .to)
-            ∙ ap (λ (x : List (Entry Spot)). x ++ fromEdge w b) (run-next item pos (r .size) h)
+            ∙ ap (λ (x : List (Entry Label)). x ++ fromEdge w b) (run-next item pos (r .size) h)
             ∙ append-assoc (item pos) (run item (pos + 1) (r .size - (pos + 1))) (fromEdge w b)
-            ∙ ap (λ (x : List (Entry Spot)). item pos ++ x) (to .to);
+            ∙ ap (λ (x : List (Entry Label)). item pos ++ x) (to .to);
         lasts = byte-same b r c pos v;
         many = byte-length b r c pos v;
         has = λ z. to .has;
@@ -226,32 +226,32 @@ runs-some true k h = omega arith
 runs-some false k h = omega arith
 
 -- a step that n T-states pay for, from es with j entries counted before
-pub record Took (w : Tape) (b : ℕ) (es : List (Entry Spot)) (d j : ℕ) (s : Step) : Type 0 where
-  pub lead : Leads es d j (behind w b s) (d - s .time) (j + s .passed)
+pub record Took (w : Tape) (b : ℕ) (es : List (Entry Label)) (d j : ℕ) (s : Step) : Type 0 where
+  pub lead : Leads es d j (leftBehind w b s) (d - s .time) (j + s .passed)
   pub most : s .time ≤ d
   pub some : 0 < s .passed
   pub has : s .over ≡ false → hasIn w b (s .phase) ≡ true
 
-one-took : (w : Tape) (b : ℕ) (es : List (Entry Spot)) (s : Step) (d j : ℕ) → One w b es s → 0 < d → s .time ≤ d → Took w b es d j s
+one-took : (w : Tape) (b : ℕ) (es : List (Entry Label)) (s : Step) (d j : ℕ) → One w b es s → 0 < d → s .time ≤ d → Took w b es d j s
 one-took w b es s d j o p h =
     let e : j + 1 ≡ j + s .passed = omega (arith, o .many) in
     record {
       lead =
-          subst (λ (x : List (Entry Spot)). Leads x d j (behind w b s) (d - s .time) (j + s .passed)) (sym (o .split))
-          (lead-as (d - s .time) (j + s .passed) refl e (lead-pulse (o .label) (o .level) (s .time) (behind w b s) d j p h));
+          subst (λ (x : List (Entry Label)). Leads x d j (leftBehind w b s) (d - s .time) (j + s .passed)) (sym (o .split))
+          (lead-as (d - s .time) (j + s .passed) refl e (lead-pulse (o .label) (o .level) (s .time) (leftBehind w b s) d j p h));
       most = h;
       some = omega (arith, o .many);
       has = o .has;
     }
 
-leap-took : (w : Tape) (b : ℕ) (es : List (Entry Spot)) (s : Step) {gone : List (Entry Spot)} (d j : ℕ) → Leap w b es s gone → s .time < d → 0 < s .passed → Took w b es d j s
+leap-took : (w : Tape) (b : ℕ) (es : List (Entry Label)) (s : Step) {gone : List (Entry Label)} (d j : ℕ) → Leap w b es s gone → s .time < d → 0 < s .passed → Took w b es d j s
 leap-took w b es s {gone} d j l h k =
     let x : d - time gone ≡ d - s .time = omega (arith, l .lasts) in
     let y : j + length gone ≡ j + s .passed = omega (arith, l .many) in
     record {
       lead =
-          subst (λ (x : List (Entry Spot)). Leads x d j (behind w b s) (d - s .time) (j + s .passed)) (sym (l .split))
-          (lead-as (d - s .time) (j + s .passed) x y (lead-run gone (behind w b s) d j (l .finite) (omega (arith, l .lasts))));
+          subst (λ (x : List (Entry Label)). Leads x d j (leftBehind w b s) (d - s .time) (j + s .passed)) (sym (l .split))
+          (lead-as (d - s .time) (j + s .passed) x y (lead-run gone (leftBehind w b s) d j (l .finite) (omega (arith, l .lasts))));
       most = omega arith;
       some = k;
       has = l .has;

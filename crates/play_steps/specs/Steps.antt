@@ -24,13 +24,13 @@ unfoldable pub bitFrom : Block → ℕ → ℕ → Phase
 bitFrom r pos k = ltb k (bitsAt r pos) ⇒ Data pos k false ∣ dataFrom r (pos + 1)
 
 -- of n tone rows from row i on, the first that has a pulse; else the data
-unfoldable pub rowsFrom : List ℕ → Block → ℕ → ℕ → Phase
-rowsFrom tones r i zero = dataFrom r 0
-rowsFrom tones r i (suc n) = ltb 0 (cyclesOf r (toneAt tones r i)) ⇒ Tones i 0 false ∣ rowsFrom tones r (i + 1) n
+unfoldable pub pulseFrom : List ℕ → Block → ℕ → ℕ → Phase
+pulseFrom tones r i zero = dataFrom r 0
+pulseFrom tones r i (suc n) = ltb 0 (cyclesOf r (toneAt tones r i)) ⇒ Tones i 0 false ∣ pulseFrom tones r (i + 1) n
 
 -- from tone row i on; from repetition p of it; from behind the first pulse of that
 unfoldable pub toneFrom : List ℕ → Block → ℕ → Phase
-toneFrom tones r i = rowsFrom tones r i (r .tones - i)
+toneFrom tones r i = pulseFrom tones r i (r .tones - i)
 
 -- what a search from tone row i on comes to: the first row that has a pulse, or their number
 pub record Found (tones : List ℕ) (r : Block) (i j : ℕ) : Type 0 where

@@ -21,7 +21,7 @@ ghost use Rattle.rows.specs.Well.{wellTones, wellNumbers, wellBlock};
 ghost use Rattle.play_entries.specs.Entries.{cyclesOf, toneAt, bitsAt};
 ghost use Rattle.play_entries.specs.Places.{hasEntry};
 ghost use Rattle.play_steps.specs.Steps.{endFrom, dataFrom, bitFrom, toneFrom, cycleFrom, secondFrom, Found, stepTo, stepOut, fitting, oneStep, takeCycles, takeByte, takeOf};
-ghost use Rattle.play_entries.specs.Mounted.{sizeOf};
+ghost use Rattle.play_entries.specs.Mounted.{tapeSize};
 ghost use Rattle.play_entries.specs.declared.Phase.the-variants.{Tones, Data};
 
 // How a turn of a walk goes on: to this phase, or over the block; its T-states and entries.
@@ -253,7 +253,7 @@ fn take_byte(tape: &[u8], r: Block, pos: u64, t: u64, d: u64) -> Step
 
 // One turn of the measured walk. Our crates alone call it: from an entry that is there, in a well-formed row.
 pub fn take(tape: &[u8], tones: &[u64], r: Block, f: Phase, full: bool, t: u64, d: u64) -> Step
-    requires { ⌜ wellBlock (sizeOf (now tape)) (now tones) r ≡ true ⌝ }
+    requires { ⌜ wellBlock (tapeSize (now tape)) (now tones) r ≡ true ⌝ }
     requires { ⌜ hasEntry (now tones) r f ≡ true ⌝ }
     requires { ⌜ 0 < d ⌝ }
     ensures { λ s. ⌜ s ≡ takeOf (now (tape .entry)) (now (tones .entry)) r f full t d ⌝ }

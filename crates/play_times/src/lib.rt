@@ -16,7 +16,7 @@ ghost use Rattle.rows.specs.Table.{capacityOf};
 ghost use Rattle.rows.specs.Rows.{tone, toneMost};
 ghost use Rattle.rows.specs.Well.{wellTone, wellTones, wellNumbers, wellBlock};
 ghost use Rattle.play_entries.specs.Entries.{toneOf, tonesOf, bitEntries, byteEntries, dataOf, soundOf, entriesOf, lastsOf};
-ghost use Rattle.play_entries.specs.Mounted.{sizeOf};
+ghost use Rattle.play_entries.specs.Mounted.{tapeSize};
 ghost use Rattle.play_entries.specs.Counted.{onesFrom, bitsTime};
 
 // T-states of a tone row, which its callers know to be well formed.
@@ -100,7 +100,7 @@ pub fn data_time(tape: &[u8], r: Block) -> u64
 
 // T-states of a block without its pause; its callers know the row to be well formed.
 pub fn sound_time(tape: &[u8], tones: &[u64], r: Block) -> u64
-    requires { ⌜ wellBlock (sizeOf (now tape)) (now tones) r ≡ true ⌝ }
+    requires { ⌜ wellBlock (tapeSize (now tape)) (now tones) r ≡ true ⌝ }
     ensures { λ t. ⌜ ((b : ℕ) → t ≡ time (soundOf (now (tape .entry)) (now (tones .entry)) b r)) ⌝ }
 {
     tones_time(tones, r) + data_time(tape, r)
@@ -108,7 +108,7 @@ pub fn sound_time(tape: &[u8], tones: &[u64], r: Block) -> u64
 
 // T-states of a block with its pause, or that it never ends; its callers know the row to be well formed.
 pub fn block_time(tape: &[u8], tones: &[u64], r: Block) -> Duration
-    requires { ⌜ wellBlock (sizeOf (now tape)) (now tones) r ≡ true ⌝ }
+    requires { ⌜ wellBlock (tapeSize (now tape)) (now tones) r ≡ true ⌝ }
     ensures { λ d. ⌜ ((b : ℕ) → d ≡ lastsOf (entriesOf (now (tape .entry)) (now (tones .entry)) b r)) ⌝ }
 {
     if r.endless == 1 {

@@ -7,20 +7,20 @@ use mathlib.Core.Bool.{false}
 use mathlib.Core.Logic.{_⊎_, inl, ⊎-elim}
 use mathlib.Core.List.{List, [], _∷_}
 use lib.ListN.{length}
-use Rattle.law_base.specs.Numbers.{lt-or-ge}
-use Rattle.law_pulses.specs.Play.{Level, Entry, pulse, endless, Status, standing, stopped, made, rest, over, shown, status, answer}
+use Rattle.law_base.proofs.Numbers.{lt-or-ge}
+use Rattle.law_pulses.specs.Play.{Level, Entry, pulse, endless, Status, standing, stopped, made, rest, over, statusHere, status, answer}
 use Rattle.law_pulses.proofs.Steps.{rest-nil, rest-stop, rest-zero, rest-here, over-zero, over-pulse}
 use Rattle.law_pulses.proofs.Demand.{status-left, status-over}
 use Rattle.law_pulses.proofs.Lead.{Leads, lead-by, lead-as}
 use Rattle.play_entries.specs.declared.Phase.{Phase}
 use Rattle.play_entries.specs.declared.Phase.the-variants.{Start}
 use Rattle.play_entries.specs.declared.Duration.the-variants.{T, Endless}
-use Rattle.play_entries.specs.Entries.{Spot, spot, startLevel}
+use Rattle.play_entries.specs.Entries.{Label, labelAt, startLevel}
 use Rattle.play_entries.specs.Places.{Tape, blockIn, listFrom, fromTone, headOf, leftOf}
 use Rattle.play_entries.specs.Mounted.{cutTo}
 use Rattle.play_entries.proofs.Follows.{list-in, list-out}
 use Rattle.play_walk.specs.declared.Reached.the-variants.{At, Stopped, Ended, NotFormed}
-use Rattle.play_walk.specs.Heads.{placed, startAt, stand, levelHere, restLevel, toldAs, told, walked}
+use Rattle.play_walk.specs.Heads.{placed, startAt, stand, levelHere, restLevel, toldAs, toldReached, walked}
 
 over-nil : (A : Type 0) (m : ℕ) → over {A = A} [] m ≡ m
 unfolding over
@@ -38,7 +38,7 @@ module _ {A : Type 0} {es : List (Entry A)} {n : ℕ} where
 
   pub answer-in : (a : A) (v : Level) (t : ℕ) (fs : List (Entry A)) (m i : ℕ) → Leads es n 0 (pulse a v t ∷ fs) m i → (m ≡ 0) ⊎ (m < t)
       → answer es n ≡ made (pulse a v (t - m) ∷ fs) standing i
-  unfolding shown
+  unfolding statusHere
   answer-in a v t fs m i l h =
       answer-by (pulse a v t ∷ fs) (pulse a v (t - m) ∷ fs) m i 0 l
       (⊎-elim
@@ -54,7 +54,7 @@ module _ {A : Type 0} {es : List (Entry A)} {n : ℕ} where
 
   pub answer-stop : (a : A) (v : Level) (fs : List (Entry A)) (m i : ℕ) → Leads es n 0 (endless a v ∷ fs) m i
       → answer es n ≡ made (endless a v ∷ fs) stopped i
-  unfolding shown over
+  unfolding statusHere over
   answer-stop a v fs m i l =
       answer-by (endless a v ∷ fs) (endless a v ∷ fs) m i 0 l (rest-stop a v fs m) refl refl
       ∙ ap (λ (s : Status). made (endless a v ∷ fs) s i) (status-left _ 0 refl)
@@ -62,37 +62,37 @@ module _ {A : Type 0} {es : List (Entry A)} {n : ℕ} where
   pub answer-end : (m i : ℕ) → Leads es n 0 [] m i → answer es n ≡ made [] (status {A = A} [] m) i
   answer-end m i l = answer-by [] [] m i m l (rest-nil m) (over-nil A m) refl
 
-module _ (w v : Tape) {es : List (Entry Spot)} {n : ℕ} where
+module _ (w v : Tape) {es : List (Entry Label)} {n : ℕ} where
   -- standing in an entry
-  pub tells-at : (b : ℕ) (f : Phase) (x : Level) (t : ℕ) (fs : List (Entry Spot)) (m i : ℕ) → Leads es n 0 (pulse (spot b f) x t ∷ fs) m i
+  pub tells-at : (b : ℕ) (f : Phase) (x : Level) (t : ℕ) (fs : List (Entry Label)) (m i : ℕ) → Leads es n 0 (pulse (labelAt b f) x t ∷ fs) m i
       → (m ≡ 0) ⊎ (m < t) → walked w v (answer es n) ≡ At (stand (placed b f (T (t - m))) i x)
-  unfolding walked told toldAs levelHere headOf leftOf
-  tells-at b f x t fs m i l h = rw (answer-in (spot b f) x t fs m i l h)
+  unfolding walked toldReached toldAs levelHere headOf leftOf
+  tells-at b f x t fs m i l h = rw (answer-in (labelAt b f) x t fs m i l h)
 
-  pub tells-stop : (b : ℕ) (f : Phase) (x : Level) (fs : List (Entry Spot)) (m i : ℕ) → Leads es n 0 (endless (spot b f) x ∷ fs) m i
+  pub tells-stop : (b : ℕ) (f : Phase) (x : Level) (fs : List (Entry Label)) (m i : ℕ) → Leads es n 0 (endless (labelAt b f) x ∷ fs) m i
       → walked w v (answer es n) ≡ Stopped (stand (placed b f Endless) i x)
-  unfolding walked told toldAs levelHere headOf leftOf
-  tells-stop b f x fs m i l = rw (answer-stop (spot b f) x fs m i l)
+  unfolding walked toldReached toldAs levelHere headOf leftOf
+  tells-stop b f x fs m i l = rw (answer-stop (labelAt b f) x fs m i l)
 
   -- at the end of v with T-states left: the tape's end, or a row that is not well formed
   pub tells-end : (m i : ℕ) → Leads es n 0 [] m i → 0 < m → w .count ≤ v .count → walked w v (answer es n) ≡ Ended (stand (startAt (v .count)) i false)
-  unfolding walked told toldAs levelHere restLevel headOf leftOf
-  tells-end m i l h e = rw (answer-end m i l, status-over {A = Spot} [] m h, le-ltb (v .count) (w .count) e)
+  unfolding walked toldReached toldAs levelHere restLevel headOf leftOf
+  tells-end m i l h e = rw (answer-end m i l, status-over {A = Label} [] m h, le-ltb (v .count) (w .count) e)
 
   pub tells-bad : (m i : ℕ) → Leads es n 0 [] m i → 0 < m → v .count < w .count → walked w v (answer es n) ≡ NotFormed
   unfolding walked
-  tells-bad m i l h e = rw (answer-end m i l, status-over {A = Spot} [] m h, lt-ltb (v .count) (w .count) e)
+  tells-bad m i l h e = rw (answer-end m i l, status-over {A = Label} [] m h, lt-ltb (v .count) (w .count) e)
 
   pub tells-last : (i : ℕ) → Leads es n 0 [] 0 i → walked w v (answer es n) ≡ At (stand (startAt (v .count)) i (restLevel w (v .count)))
-  unfolding walked told toldAs levelHere headOf leftOf shown
-  tells-last i l = rw (answer-end 0 i l, status-left {A = Spot} [] 0 refl)
+  unfolding walked toldReached toldAs levelHere headOf leftOf statusHere
+  tells-last i l = rw (answer-end 0 i l, status-left {A = Label} [] 0 refl)
 
 -- a row below the count
 rest-start : (w : Tape) (b : ℕ) → b < w .count → startLevel (blockIn w b) ≡ restLevel w b
 unfolding restLevel
 rest-start w b h = rw (lt-ltb b (w .count) h)
 
-module _ (w : Tape) (k : ℕ) (few : k ≤ w .count) {es : List (Entry Spot)} {n : ℕ} where
+module _ (w : Tape) (k : ℕ) (few : k ≤ w .count) {es : List (Entry Label)} {n : ℕ} where
   -- at the start of the block behind b, with nothing left to spend
   pub tells-next : (b m i : ℕ) → Leads es n 0 (listFrom (cutTo w k) (b + 1)) m i → m ≡ 0 → b < k
       → walked w (cutTo w k) (answer es n) ≡ At (stand (startAt (b + 1)) i (restLevel w (b + 1)))

@@ -17,7 +17,7 @@ use Rattle.play_entries.specs.declared.Phase.{Phase}
 use Rattle.play_entries.specs.declared.Phase.the-variants.{Start}
 use Rattle.play_entries.specs.declared.Duration.{Duration}
 use Rattle.play_entries.specs.declared.Duration.the-variants.{T, Endless}
-use Rattle.play_entries.specs.Entries.{Spot, entryOf}
+use Rattle.play_entries.specs.Entries.{Label, entryOf}
 use Rattle.play_entries.specs.Places.{Tape, blockIn, listFrom, leftAt, hasEntry, lengthAt, levelIn, valid, hasIn, lengthIn}
 use Rattle.play_entries.proofs.Valid.{Stands, remains-full, stands-valid, start-valid, below-stands}
 use Rattle.play_entries.proofs.Follows.{list-out}
@@ -28,7 +28,7 @@ use Rattle.play_walk.specs.declared.Reached.the-variants.{At, Stopped, E
 use Rattle.play_walk.specs.declared.Reached.{Reached}
 use Rattle.play_walk.specs.declared.Next.the-variants.{Into, Left}
 use Rattle.play_steps.specs.Steps.{takeOf}
-use Rattle.play_entries.specs.Mounted.{sizeOf, wellRow, firstBad, cutTo}
+use Rattle.play_entries.specs.Mounted.{tapeSize, wellRow, firstBad, cutTo}
 use Rattle.play_walk.specs.Heads.{placed, startAt, stand, walked, nextOf, Walkable}
 use Rattle.play_steps.proofs.Leaps.{Took, took}
 use Rattle.play_walk.proofs.Needed.{Needs, needed, well-before, bad-there, few-entries}
@@ -46,7 +46,7 @@ on-has {w} {k} {b} {f} {left} o = below-stands (cutTo w k) b f left (o .below) (
 
 module _ (w : Tape) (k b : ℕ) (f : Phase) (left : Duration) (full : Bool) (p : ℕ) (o : On w k b f left full p) where
   -- where the walk leaves inside a block
-  module _ {es : List (Entry Spot)} {n d : ℕ} (l : Leads es n 0 (leftAt (cutTo w k) b f left) d p) where
+  module _ {es : List (Entry Label)} {n d : ℕ} (l : Leads es n 0 (leftAt (cutTo w k) b f left) d p) where
     pub leaves-at : (t : ℕ) → left ≡ T t → (d ≡ 0) ⊎ (d < t) → walked w (cutTo w k) (answer es n) ≡ At (stand (placed b f (T (t - d))) p (levelIn w b f))
     unfolding entryOf
     leaves-at t e h =
@@ -114,9 +114,9 @@ stands-cut : (w : Tape) (k b : ℕ) (f : Phase) (left : Duration) → b < k → 
 stands-cut w k b f left h s = record { below = h; entry = s .entry; some = s .some }
 
 -- what a step asks of the row that the code read
-pub asks : {w : Tape} {b₀ k : ℕ} → Needs w b₀ k → (b : ℕ) → b₀ ≤ b → b < k → (r : Block) → r ≡ blockIn w b → wellBlock (sizeOf (w .bytes)) (w .tones) r ≡ true
+pub asks : {w : Tape} {b₀ k : ℕ} → Needs w b₀ k → (b : ℕ) → b₀ ≤ b → b < k → (r : Block) → r ≡ blockIn w b → wellBlock (tapeSize (w .bytes)) (w .tones) r ≡ true
 unfolding wellRow
-asks {w} x b l h r e = ap (wellBlock (sizeOf (w .bytes)) (w .tones)) e ∙ x .well b l h
+asks {w} x b l h r e = ap (wellBlock (tapeSize (w .bytes)) (w .tones)) e ∙ x .well b l h
 
 pub asks-has : (w : Tape) (b : ℕ) (f : Phase) (r : Block) → r ≡ blockIn w b → hasIn w b f ≡ true → hasEntry (w .tones) r f ≡ true
 asks-has w b f r e h = ap (λ (x : Block). hasEntry (w .tones) x f) e ∙ h
@@ -167,7 +167,7 @@ next-into w b d i e =
     let t = into-by (eqb d 0) (eqb b (w .count)) (wellRow w b) _ _ _ e in
     (eqb-false _ _ (t .1 .0), t .1 .1)
 
-pub next-left : {w : Tape} {b₀ k : ℕ} → Needs w b₀ k → {es : List (Entry Spot)} {n : ℕ} (b d i : ℕ) (r : Reached) → nextOf w (b + 1) d i ≡ Left r
+pub next-left : {w : Tape} {b₀ k : ℕ} → Needs w b₀ k → {es : List (Entry Label)} {n : ℕ} (b d i : ℕ) (r : Reached) → nextOf w (b + 1) d i ≡ Left r
     → Leads es n 0 (listFrom (cutTo w k) (b + 1)) d i → b₀ ≤ b → b < k → r ≡ walked w (cutTo w k) (answer es n)
 unfolding nextOf
 next-left {w} {b₀} {k} x {es} {n} b d i r e l h g =

@@ -14,7 +14,7 @@ use Rattle.play_entries.specs.declared.Phase.{Phase}
 use Rattle.play_entries.specs.declared.Phase.the-variants.{Start}
 use Rattle.play_entries.specs.declared.Duration.{Duration}
 use Rattle.play_entries.specs.declared.Duration.the-variants.{T}
-use Rattle.play_entries.specs.Entries.{Spot, startLevel}
+use Rattle.play_entries.specs.Entries.{Label, startLevel}
 use Rattle.play_entries.specs.Places.{Tape, blockIn, leftAt, valid, headOf, leftOf}
 use Rattle.play_entries.specs.Mounted.{wellRow, formed}
 use Rattle.play_walk.specs.declared.Position.{Position}
@@ -25,16 +25,16 @@ use Rattle.play_walk.specs.declared.Next.{Next}
 use Rattle.play_walk.specs.declared.Next.the-variants.{Into, Left}
 
 -- document 01's numbers for no; 0 where the call isn't refused
-unfoldable pub numberOf : Reached → ℕ
-numberOf (At s) = 0
-numberOf (Stopped s) = 0
-numberOf (Ended s) = 0
-numberOf NotValid = noPosition
-numberOf NotFormed = badRow
+unfoldable pub reachedNo : Reached → ℕ
+reachedNo (At s) = 0
+reachedNo (Stopped s) = 0
+reachedNo (Ended s) = 0
+reachedNo NotValid = noPosition
+reachedNo NotFormed = badRow
 
 -- the refusal of this number
-abbrev pub refused : ℕ → Reached
-refused n = eqb n noPosition ⇒ NotValid ∣ NotFormed
+abbrev pub notReached : ℕ → Reached
+notReached n = eqb n noPosition ⇒ NotValid ∣ NotFormed
 
 abbrev pub placed : ℕ → Phase → Duration → Position
 placed b f left = record { block = b; phase = f; left = left }
@@ -47,15 +47,15 @@ abbrev pub stand : Position → ℕ → Level → Stand
 stand q k v = record { position = q; passed = k; level = v }
 
 -- what is left to play from a position
-abbrev pub ahead : Tape → Position → List (Entry Spot)
+abbrev pub ahead : Tape → Position → List (Entry Label)
 ahead w q = leftAt w (q .block) (q .phase) (q .left)
 
 -- the position at the head of what is left to play, and the level there
-abbrev pub placeOf : Tape → List (Entry Spot) → Position
-placeOf w es = placed (headOf w es .block) (headOf w es .phase) (leftOf es)
+abbrev pub positionOf : Tape → List (Entry Label) → Position
+positionOf w es = placed (headOf w es .block) (headOf w es .phase) (leftOf es)
 
 -- where nothing is left of a list, c
-unfoldable pub levelHere : Level → List (Entry Spot) → Level
+unfoldable pub levelHere : Level → List (Entry Label) → Level
 levelHere c [] = c
 levelHere c (pulse a v t ∷ es) = v
 levelHere c (endless a v ∷ es) = v
@@ -70,12 +70,12 @@ toldAs stopped s = Stopped s
 toldAs ended s = Ended s
 
 -- a list's answer, as a player gives it: v is the tape w, or it cut
-unfoldable pub told : Tape → Tape → Answer Spot → Reached
-told w v a = toldAs (a .tells) (stand (placeOf v (a .place)) (a .passed) (levelHere (restLevel w (v .count)) (a .place)))
+unfoldable pub toldReached : Tape → Tape → Answer Label → Reached
+toldReached w v a = toldAs (a .tells) (stand (positionOf v (a .place)) (a .passed) (levelHere (restLevel w (v .count)) (a .place)))
 
 -- a walk that reaches a bad row answers 11: it came to the end of v, which is cut there, with T-states left
-unfoldable pub walked : Tape → Tape → Answer Spot → Reached
-walked w v a = (isEnded (a .tells) && ltb (v .count) (w .count)) ⇒ refused badRow ∣ told w v a
+unfoldable pub walked : Tape → Tape → Answer Label → Reached
+walked w v a = (isEnded (a .tells) && ltb (v .count) (w .count)) ⇒ notReached badRow ∣ toldReached w v a
 
 -- at the start of block b, behind the one before, with d T-states left and i entries passed: into it, or where the walk has left
 unfoldable pub nextOf : Tape → ℕ → ℕ → ℕ → Next
@@ -83,7 +83,7 @@ nextOf w b d i =
     eqb d 0 ⇒ Left (At (stand (startAt b) i (restLevel w b)))
     ∣ eqb b (w .count) ⇒ Left (Ended (stand (startAt (w .count)) i low))
     ∣ wellRow w b ⇒ Into
-    ∣ Left (refused badRow)
+    ∣ Left (notReached badRow)
 
 -- THE MEASURED WALK of n T-states from a position
 unfoldable pub walkFrom : Tape → Position → ℕ → Reached

@@ -9,7 +9,7 @@ use Rattle.rows.specs.Rows.{tone}
 use Rattle.rows.specs.Well.{wellBlock}
 use Rattle.rows.specs.declared.Block.{Block}
 use Rattle.rows.proofs.WellLaws.{block-clauses, ranges-inside, tones-lent}
-use Rattle.play_entries.specs.Mounted.{sizeOf}
+use Rattle.play_entries.specs.Mounted.{tapeSize}
 use Rattle.play_entries.specs.declared.Duration.{Duration}
 use Rattle.text_out.specs.Out.{Wrote, decimal}
 use Rattle.text_out.proofs.Writing.{same-len, each-length, decimal-length}
@@ -42,8 +42,8 @@ pub record Inside (tape : List ℕ) (tones : List ℕ) (r : Block) : Type 0 wher
   pub name : r .text + r .chars ≤ length tape
   pub rows : (r .tone + r .tones) * tone .width ≤ length tones
 
-pub row-inside : (tape tones : List ℕ) (r : Block) → wellBlock (sizeOf tape) tones r ≡ true → Inside tape tones r
+pub row-inside : (tape tones : List ℕ) (r : Block) → wellBlock (tapeSize tape) tones r ≡ true → Inside tape tones r
 row-inside tape tones r e =
-    let h = block-clauses (sizeOf tape) tones r e .ranges in
-    let i = ranges-inside (sizeOf tape) tones r h in
-    record { bytes = omega (arith, i .bytes); name = omega (arith, i .name); rows = tones-lent (sizeOf tape) tones r h }
+    let h = block-clauses (tapeSize tape) tones r e .ranges in
+    let i = ranges-inside (tapeSize tape) tones r h in
+    record { bytes = omega (arith, i .bytes); name = omega (arith, i .name); rows = tones-lent (tapeSize tape) tones r h }

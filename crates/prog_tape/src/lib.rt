@@ -14,7 +14,7 @@ ghost use Prim.Native.Nat.{_+_, _*_, _≤_, min};
 ghost use lib.ListN.{length};
 ghost use Rattle.rows.specs.Rows.{block, tone};
 ghost use Rattle.rows.specs.Well.{wellBlock};
-ghost use Rattle.play_entries.specs.Mounted.{sizeOf};
+ghost use Rattle.play_entries.specs.Mounted.{tapeSize};
 
 // The smaller of two numbers.
 fn least(a: usize, b: usize) -> usize
@@ -78,7 +78,7 @@ fn print_name(tape: &[u8], r: Block)
 
 // A block's line.
 fn print_block(tape: &[u8], tones: &[u64], i: u64, r: Block)
-    requires { ⌜ wellBlock (sizeOf (now tape)) (now tones) r ≡ true ⌝ }
+    requires { ⌜ wellBlock (tapeSize (now tape)) (now tones) r ≡ true ⌝ }
     requires { ⌜ length (now tape) ≤ 1048576 ⌝ }
 {
     let mut out = io::buffer();

@@ -3,7 +3,7 @@ use Prim.Native.Nat.{ℕ, _+_}
 use Prim.Native.String.{String}
 use mathlib.Core.List.{List, [], _∷_, _++_, map}
 use lib.ListN.{getD, length}
-use Rattle.text_out.specs.Out.{utf8, each}
+use Rattle.text_out.specs.Out.{utf8, eachByte}
 
 -- the texts of the codes 00 to FF, eight a line
 abbrev pub texts : List String
@@ -49,12 +49,12 @@ encoded code = getD table code []
 
 -- codes one after the other
 abbrev pub spelled : List ℕ → List ℕ
-spelled codes = each encoded codes
+spelled codes = eachByte encoded codes
 
 -- texts one after the other, and where each of them begins and the last one ends, counted from a
-unfoldable pub flat : List (List ℕ) → List ℕ
-flat [] = []
-flat (t ∷ ts) = t ++ flat ts
+unfoldable pub flatTexts : List (List ℕ) → List ℕ
+flatTexts [] = []
+flatTexts (t ∷ ts) = t ++ flatTexts ts
 
 unfoldable pub offsets : ℕ → List (List ℕ) → List ℕ
 offsets a [] = a ∷ []

@@ -3,7 +3,7 @@ ghost use mathlib.Core.Path.{_≡_};
 ghost use Prim.Native.Nat.{_+_, _-_, _*_, _^_, _≤_, _<_};
 ghost use lib.ListN.{length, take, drop, getD};
 ghost use Rattle.text_out.specs.Out.{Wrote};
-ghost use Rattle.text_codes.specs.Encoding.{table, encoded, spelled, flat, offsets};
+ghost use Rattle.text_codes.specs.Encoding.{table, encoded, spelled, flatTexts, offsets};
 
 // The texts of all codes, one after the other.
 const FLAT: [u8; 534] =
@@ -291,8 +291,8 @@ fn start_of(k: usize) -> usize
 
 // The texts' bytes from a up to e.
 fn put_part(out: &mut [u8], at: usize, a: usize, e: usize) -> usize
-    requires { ⌜ (a ≤ e) × (e ≤ length (flat table)) × (at + (e - a) < 2 ^ 63) ⌝ }
-    ensures { λ r. ⌜ Wrote (now (out .entry)) at (take (e - a) (drop a (flat table))) (now (out .exit)) r ⌝ }
+    requires { ⌜ (a ≤ e) × (e ≤ length (flatTexts table)) × (at + (e - a) < 2 ^ 63) ⌝ }
+    ensures { λ r. ⌜ Wrote (now (out .entry)) at (take (e - a) (drop a (flatTexts table))) (now (out .exit)) r ⌝ }
 {
     text_out::put_all(out, at, &FLAT[a..e])
 }

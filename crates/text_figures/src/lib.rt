@@ -11,7 +11,7 @@ ghost use lib.ListN.{length};
 ghost use lib.Dec.{eqb};
 ghost use Rattle.text_out.specs.Out.{Wrote};
 ghost use Rattle.play_entries.specs.Entries.{wholePause};
-ghost use Rattle.text_view.specs.Dump.{field, markText, bitsText, endText, headText};
+ghost use Rattle.text_view.specs.Dump.{field, selText, bitsText, endText, headText};
 
 // A word and a number.
 fn put_field(out: &mut [u8], at: usize, word: &[u8], n: u64) -> usize
@@ -25,7 +25,7 @@ fn put_field(out: &mut [u8], at: usize, word: &[u8], n: u64) -> usize
 // A block's number and mark.
 fn put_mark(out: &mut [u8], at: usize, i: u64, selectable: bool) -> usize
     requires { ⌜ at + 26 < 2 ^ 63 ⌝ }
-    ensures { λ n. ⌜ Wrote (now (out .entry)) at (markText i selectable) (now (out .exit)) n ⌝ }
+    ensures { λ n. ⌜ Wrote (now (out .entry)) at (selText i selectable) (now (out .exit)) n ⌝ }
 {
     let a = put_decimal(out, at, i);
     let b = put_all(out, a, b" sel=");

@@ -17,7 +17,7 @@ use Rattle.text_name.specs.Names.{nameOf}
 use Rattle.text_name.proofs.Naming.{inside-tape}
 use Rattle.play_entries.specs.declared.Duration.{Duration}
 use Rattle.play_entries.specs.Entries.{soundOf, entriesOf, lastsOf}
-use Rattle.play_entries.specs.Mounted.{sizeOf}
+use Rattle.play_entries.specs.Mounted.{tapeSize}
 use Rattle.play_entries.proofs.Bounds.{sound-most}
 use Rattle.play_entries.proofs.Runs.{lasts-stop, lasts-pause}
 use Rattle.text_lines.specs.declared.Told.{Told}
@@ -25,18 +25,18 @@ use Rattle.text_lines.specs.Inner.{lastsBy, toldBy, ReadyRow}
 
 module _ {bytes tones blocks : List ℕ} {i : ℕ} (ready : ReadyRow bytes tones blocks i) where
   pub sound-few : time (soundOf bytes tones i (get block blocks i)) ≤ 564032268533760
-  sound-few = sound-most (sizeOf bytes) bytes tones i (get block blocks i) (ready .well) (omega arith)
+  sound-few = sound-most (tapeSize bytes) bytes tones i (get block blocks i) (ready .well) (omega arith)
 
   numbers : wellNumbers (get block blocks i) ≡ true
-  numbers = block-clauses (sizeOf bytes) tones (get block blocks i) (ready .well) .numbers
+  numbers = block-clauses (tapeSize bytes) tones (get block blocks i) (ready .well) .numbers
 
   pub pause-few : (get block blocks i .endless ≡ 1 → ⊥) → get block blocks i .pause ≤ 229372500
   pause-few z = numbers-most (get block blocks i) numbers .pause z
 
   -- the row as it was read
   module _ {r : Block} (e : r ≡ get block blocks i) where
-    pub row-well : wellBlock (sizeOf bytes) tones r ≡ true
-    row-well = subst (λ (x : Block). wellBlock (sizeOf bytes) tones x ≡ true) (sym e) (ready .well)
+    pub row-well : wellBlock (tapeSize bytes) tones r ≡ true
+    row-well = subst (λ (x : Block). wellBlock (tapeSize bytes) tones x ≡ true) (sym e) (ready .well)
 
     pub row-numbers : wellNumbers r ≡ true
     row-numbers = subst (λ (x : Block). wellNumbers x ≡ true) (sym e) numbers
@@ -45,10 +45,10 @@ module _ {bytes tones blocks : List ℕ} {i : ℕ} (ready : ReadyRow bytes tones
     row-sound q = omega (arith, q, ap (λ (x : Block). time (soundOf bytes tones i x)) e, sound-few)
 
     pub row-places : (r .start + r .size ≤ length bytes) × (r .text + r .chars ≤ length bytes)
-    row-places = let h = inside-tape (sizeOf bytes) tones r row-well in (omega (arith, h .0), omega (arith, h .1))
+    row-places = let h = inside-tape (tapeSize bytes) tones r row-well in (omega (arith, h .0), omega (arith, h .1))
 
     pub row-chars : r .chars ≤ 1048576
-    row-chars = let h = inside-tape (sizeOf bytes) tones r row-well in omega (arith, h .1)
+    row-chars = let h = inside-tape (tapeSize bytes) tones r row-well in omega (arith, h .1)
 
     pub row-short : length (nameOf bytes r) ≤ 510
     row-short = subst (λ (x : Block). length (nameOf bytes x) ≤ 510) (sym e) (ready .short)

@@ -19,7 +19,7 @@ use Rattle.play_entries.specs.declared.Duration.the-variants.{T, Endless}
 use Rattle.play_entries.specs.Entries.{entriesOf, lastsOf}
 use Rattle.play_entries.specs.Places.{Tape, blockIn}
 use Rattle.play_entries.specs.Mounted.{tapeOf}
-use Rattle.text_lines.specs.Inner.{headText, tailText, Ready}
+use Rattle.text_lines.specs.Inner.{rowHeadText, rowTailText, Ready}
 use Rattle.text_shown.specs.Shown.{shown}
 use Rattle.text_lines.specs.Lines.{timeText, markText, rowText, rowsText}
 use Rattle.text_shown.proofs.Shown.{shown-length}
@@ -51,14 +51,14 @@ pub mark-long : (t : Bool) → Long 1 1 (markText t)
 unfolding markText
 mark-long t = either t (record { low = omega arith; high = omega arith }) (record { low = omega arith; high = omega arith })
 
-pub head-most : (i : ℕ) (r : Block) → length (headText i r) ≤ 44
+pub head-most : (i : ℕ) (r : Block) → length (rowHeadText i r) ≤ 44
 head-most i r =
     let a = decimal-long i in
     let b = mark-long (eqb (r .selectable) 1) in
     let c = decimal-long (r .size) in
     simp length-append (omega arith)
 
-pub tail-most : (d : Duration) (name : List ℕ) → length name ≤ 510 → length (tailText d name) ≤ 532
+pub tail-most : (d : Duration) (name : List ℕ) → length name ≤ 510 → length (rowTailText d name) ≤ 532
 tail-most d name h =
     let a = time-long d in
     let e = shown-length name in
@@ -68,12 +68,12 @@ tail-most d name h =
 joined : (h t a n b : List ℕ) → h ++ (t ++ a ++ n ++ b) ≡ h ++ t ++ a ++ n ++ b
 joined h t a n b = simp append-assoc refl
 
-pub row-joins : (s tones blocks : List ℕ) (n i : ℕ) (r : Block) → r ≡ get block blocks i → headText i r ++ tailText (lastsOf (entriesOf s tones i r)) (nameOf s r) ≡ rowText (tapeOf s tones blocks n) i
+pub row-joins : (s tones blocks : List ℕ) (n i : ℕ) (r : Block) → r ≡ get block blocks i → rowHeadText i r ++ rowTailText (lastsOf (entriesOf s tones i r)) (nameOf s r) ≡ rowText (tapeOf s tones blocks n) i
 unfolding rowText
 row-joins s tones blocks n i r e =
     let q = get block blocks i in
-    ap (λ (y : Block). headText i y ++ tailText (lastsOf (entriesOf s tones i y)) (nameOf s y)) e
-    ∙ joined (headText i q) (timeText (lastsOf (entriesOf s tones i q))) (0x20 ∷ []) (shown (nameOf s q)) (0x0A ∷ [])
+    ap (λ (y : Block). rowHeadText i y ++ rowTailText (lastsOf (entriesOf s tones i y)) (nameOf s y)) e
+    ∙ joined (rowHeadText i q) (timeText (lastsOf (entriesOf s tones i q))) (0x20 ∷ []) (shown (nameOf s q)) (0x0A ∷ [])
 
 pub row-most : (w : Tape) (i : ℕ) → length (nameOf (w .bytes) (blockIn w i)) ≤ 510 → length (rowText w i) ≤ 576
 row-most w i h =
@@ -82,7 +82,7 @@ row-most w i h =
     let e = row-joins (w .bytes) (w .tones) (w .blocks) (w .count) i r refl in
     let a = head-most i r in
     let b = tail-most d (nameOf (w .bytes) r) h in
-    let l = length-append (headText i r) (tailText d (nameOf (w .bytes) r)) in
+    let l = length-append (rowHeadText i r) (rowTailText d (nameOf (w .bytes) r)) in
     omega (arith, ap length e)
 
 -- the first i rows of a tape whose rows are ready
@@ -101,7 +101,7 @@ rows-next w i p q = rw add-one (then p q)
 
 -- what was written of a row's two parts, up to q
 pub row-written : {out d1 d2 : List ℕ} {at o1 o2 q : ℕ} (s tones blocks : List ℕ) (n i : ℕ) (r : Block) (d : Duration) → r ≡ get block blocks i → d ≡ lastsOf (entriesOf s tones i r) → q ≡ o2
-    → Wrote out at (headText i r) d1 o1 → Wrote d1 o1 (tailText d (nameOf s r)) d2 o2 → Wrote out at (rowText (tapeOf s tones blocks n) i) d2 q
+    → Wrote out at (rowHeadText i r) d1 o1 → Wrote d1 o1 (rowTailText d (nameOf s r)) d2 o2 → Wrote out at (rowText (tapeOf s tones blocks n) i) d2 q
 row-written {out} {d2 = d2} {at} {q = q} s tones blocks n i r d e f g u v =
-    subst (λ (t : List ℕ). Wrote out at t d2 q) (ap (λ (x : Duration). headText i r ++ tailText x (nameOf s r)) f ∙ row-joins s tones blocks n i r e)
-    (subst (λ (o : ℕ). Wrote out at (headText i r ++ tailText d (nameOf s r)) d2 o) (sym g) (then u v))
+    subst (λ (t : List ℕ). Wrote out at t d2 q) (ap (λ (x : Duration). rowHeadText i r ++ rowTailText x (nameOf s r)) f ∙ row-joins s tones blocks n i r e)
+    (subst (λ (o : ℕ). Wrote out at (rowHeadText i r ++ rowTailText d (nameOf s r)) d2 o) (sym g) (then u v))

@@ -14,17 +14,17 @@ use Rattle.rows.specs.Well.{wellBlock}
 use Rattle.text_name.specs.Names.{nameOf}
 use Rattle.play_entries.specs.declared.Duration.{Duration}
 use Rattle.play_entries.specs.declared.Duration.the-variants.{T, Endless}
-use Rattle.play_entries.specs.Mounted.{sizeOf}
+use Rattle.play_entries.specs.Mounted.{tapeSize}
 use Rattle.text_lines.specs.declared.Told.{Told}
 use Rattle.text_shown.specs.Shown.{shown}
 use Rattle.text_lines.specs.Lines.{timeText, markText}
 
 -- a row's line in two parts: number, mark and size; T-states and name
-abbrev pub headText : ℕ → Block → List ℕ
-headText i r = decimal i ++ ascii " " ++ markText (eqb (r .selectable) 1) ++ ascii " " ++ decimal (r .size) ++ ascii " "
+abbrev pub rowHeadText : ℕ → Block → List ℕ
+rowHeadText i r = decimal i ++ ascii " " ++ markText (eqb (r .selectable) 1) ++ ascii " " ++ decimal (r .size) ++ ascii " "
 
-abbrev pub tailText : Duration → List ℕ → List ℕ
-tailText d name = timeText d ++ ascii " " ++ shown name ++ ascii "\n"
+abbrev pub rowTailText : Duration → List ℕ → List ℕ
+rowTailText d name = timeText d ++ ascii " " ++ shown name ++ ascii "\n"
 
 -- what a row lasts by its sound's T-states
 abbrev pub lastsBy : ℕ → Block → Duration
@@ -41,7 +41,7 @@ toldBy s at sound r = record {
 -- row i is lent and well formed, and its name is at most 510 bytes long
 pub record ReadyRow (bytes tones blocks : List ℕ) (i : ℕ) : Type 0 where
   pub lent : i * block .width + block .width ≤ length blocks
-  pub well : wellBlock (sizeOf bytes) tones (get block blocks i) ≡ true
+  pub well : wellBlock (tapeSize bytes) tones (get block blocks i) ≡ true
   pub short : length (nameOf bytes (get block blocks i)) ≤ 510
 
 -- so is each of the first n, which are at most 512

@@ -22,7 +22,7 @@ ghost use Rattle.play_entries.specs.Mounted.{tapeOf};
 ghost use Rattle.play_entries.specs.Entries.{soundOf};
 ghost use Rattle.text_name.specs.Names.{nameOf};
 ghost use Rattle.text_shown.specs.Shown.{shown};
-ghost use Rattle.text_lines.specs.Inner.{headText, tailText, lastsBy, toldBy, ReadyRow, Ready};
+ghost use Rattle.text_lines.specs.Inner.{rowHeadText, rowTailText, lastsBy, toldBy, ReadyRow, Ready};
 ghost use Rattle.text_lines.specs.Lines.{timeText, markText, rowText, rowsText};
 
 // How far the rows are told: where their text ends, the T-states up to the first stop, and whether it was met.
@@ -71,7 +71,7 @@ fn put_mark(out: &mut [u8], at: usize, selectable: u64) -> usize
 // A row's number, mark and data size.
 fn put_head(out: &mut [u8], at: usize, i: u64, r: Block) -> usize
     requires { ⌜ at + 64 < 2 ^ 63 ⌝ }
-    ensures { λ n. ⌜ Wrote (now (out .entry)) at (headText i r) (now (out .exit)) n ⌝ }
+    ensures { λ n. ⌜ Wrote (now (out .entry)) at (rowHeadText i r) (now (out .exit)) n ⌝ }
 {
     let a = put_decimal(out, at, i);
     let b = put(out, a, b' ');
@@ -87,7 +87,7 @@ fn put_tail(out: &mut [u8], at: usize, tape: &[u8], r: Block, d: Duration) -> us
     requires { ⌜ r .chars ≤ 1048576 ⌝ }
     requires { ⌜ length (nameOf (now tape) r) ≤ 510 ⌝ }
     requires { ⌜ at + 600 < 2 ^ 63 ⌝ }
-    ensures { λ n. ⌜ Wrote (now (out .entry)) at (tailText d (nameOf (now (tape .entry)) r)) (now (out .exit)) n ⌝ }
+    ensures { λ n. ⌜ Wrote (now (out .entry)) at (rowTailText d (nameOf (now (tape .entry)) r)) (now (out .exit)) n ⌝ }
 {
     let a = put_time(out, at, d);
     let b = put(out, a, b' ');

@@ -6,10 +6,10 @@ use mathlib.Core.List.{List, [], _∷_, _++_, map}
 use lib.ListN.{set}
 use Rattle.rows.specs.declared.Block.{Block}
 use Rattle.rows.specs.Rows.{decodeBlock}
-use Rattle.text_out.specs.Out.{decimal, digits, latin1, each}
+use Rattle.text_out.specs.Out.{decimal, digits, latin1, eachByte}
 use Rattle.text_codes.specs.Encoding.{table, encoded}
 use Rattle.text_header.specs.Headers.{typeName, headerName}
-use Rattle.text_name.specs.Names.{isHeader, sizeShown, sizeName, guessed, nameOf, unselected, passed, nameAll}
+use Rattle.text_name.specs.Names.{isHeader, sizeShown, sizeName, guessed, nameOf, unselected, nameOne, nameAll}
 
 -- a selectable row of `tones` tone rows, with its data's and its given name's places
 abbrev row : ℕ → ℕ → ℕ → ℕ → ℕ → ℕ → Block
@@ -59,7 +59,7 @@ names =
     []
 
 named : map (λ e. nameOf (e .0) (e .1)) names ≡ map (λ e. e .2) names
-unfolding nameOf guessed isHeader headerName typeName sizeName sizeShown decimal digits latin1 each encoded table
+unfolding nameOf guessed isHeader headerName typeName sizeName sizeShown decimal digits latin1 eachByte encoded table
 named = refl
 
 -- rows over one tape: a header, a named header, a block, a named block and a stop
@@ -94,5 +94,5 @@ passes =
     []
 
 selected : map (λ e. map (λ r. r .selectable) (nameAll tape false (e .0))) passes ≡ map (λ e. e .1) passes
-unfolding nameAll passed isHeader unselected
+unfolding nameAll nameOne isHeader unselected
 selected = refl

@@ -1,12 +1,13 @@
 -- What a well-formed row gives the writers of names, and how long a name is. Assumes nothing.
-use mathlib.Core.Path.{_≡_, refl}
-use mathlib.Core.Bool.{Bool, true, false, _&&_, false≢true}
+use mathlib.Core.Path.{_≡_}
+use mathlib.Core.Bool.{true, _&&_}
 use mathlib.Core.List.{List}
 use Prim.Native.Nat.{ℕ, _+_, _*_, _^_, _<_, _≤_}
 use native.Mathlib.Omega.{arith}
 use lib.ListN.{length, length-append, length-take, length-drop, getD, take, drop}
 use lib.Dec.{eqb}
 use borrow.Author.Tests.{eqb-true, leb-true}
+use Rattle.law_base.proofs.Tests.{first, second}
 use Rattle.text_out.specs.Out.{latin1}
 use Rattle.text_out.proofs.Writing.{decimal-length, latin1-length, each-length}
 use Rattle.rows.specs.declared.Block.{Block}
@@ -15,14 +16,6 @@ use Rattle.rows.specs.Rows.{tone, toneMost}
 use Rattle.rows.specs.Well.{inside, wellRanges, wellNumbers, wellCases, wellTones, wellBlock}
 use Rattle.text_header.proofs.Headers.{either, header-length}
 use Rattle.text_name.specs.Names.{isHeader, sizeShown, sizeName, guessed, nameOf}
-
-first : (a b : Bool) → (a && b) ≡ true → a ≡ true
-first true b e = refl
-first false b e = e
-
-second : (a b : Bool) → (a && b) ≡ true → b ≡ true
-second true b e = e
-second false b e = absurd (false≢true e)
 
 -- a header has 19 bytes
 pub header-size : (s : List ℕ) (r : Block) → isHeader s r ≡ true → r .size ≡ 19

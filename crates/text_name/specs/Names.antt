@@ -1,5 +1,5 @@
 -- Document 01, 'Names and the model': a block's name as UTF-8 text, and the naming pass. Assumes nothing.
-use Prim.Native.Nat.{ℕ, _/_}
+use Prim.Native.Nat.{ℕ, _/_, zero, suc}
 use mathlib.Core.Bool.{Bool, _&&_}
 use mathlib.Core.List.{List, [], _∷_, _++_}
 use lib.ListN.{getD, take, drop}
@@ -36,9 +36,14 @@ nameOf s r =
 unfoldable pub unselected : Block → Block
 unselected r = withMark 0 r
 
-unfoldable pub passed : List ℕ → Bool → Block → Block
-passed s prefixed r = isHeader s r ⇒ r ∣ prefixed ⇒ unselected r ∣ r
+unfoldable pub nameOne : List ℕ → Bool → Block → Block
+nameOne s prefixed r = isHeader s r ⇒ r ∣ prefixed ⇒ unselected r ∣ r
 
 unfoldable pub nameAll : List ℕ → Bool → List Block → List Block
 nameAll s prefixed [] = []
-nameAll s prefixed (r ∷ rs) = passed s prefixed r ∷ nameAll s (isHeader s r) rs
+nameAll s prefixed (r ∷ rs) = nameOne s prefixed r ∷ nameAll s (isHeader s r) rs
+
+-- row i of the pass: what is carried to it is whether row i - 1 is a header
+abbrev pub headerBefore : List ℕ → Bool → List Block → ℕ → Block → Bool
+headerBefore s p rs zero d = p
+headerBefore s p rs (suc i) d = isHeader s (getD rs i d)

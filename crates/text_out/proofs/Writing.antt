@@ -11,14 +11,14 @@ use lib.Seq.{sets, length-sets, sets-eq, take-suc}
 use lib.Dec.{ltb}
 use borrow.Author.Tests.{lt-ltb, le-ltb, le-leb, lt-leb}
 use Rattle.law_base.specs.Rules.{_⇒_, _∣_}
-use Rattle.text_out.specs.Out.{Wrote, digits, decimal, latin1, each, fits, told}
+use Rattle.text_out.specs.Out.{Wrote, digits, decimal, latin1, eachByte, fits, told, Fitted}
 
 sets-append : (d s t : List ℕ) (at : ℕ) → sets (sets d at s) (at + length s) t ≡ sets d at (s ++ t)
 sets-append d [] t at = rw add-zero
 sets-append d (a ∷ s) t at = rw (add-suc, ← suc-add at (length s)) (sets-append (set d at a) s t (suc at))
 
-pub nothing : (d : List ℕ) (at : ℕ) → Wrote d at [] d at
-nothing d at = record { count = sym (add-zero at); bytes = refl }
+pub wrote-nothing : (d : List ℕ) (at : ℕ) → Wrote d at [] d at
+wrote-nothing d at = record { count = sym (add-zero at); bytes = refl }
 
 pub then : {d d1 d2 s t : List ℕ} {at r1 r2 : ℕ} → Wrote d at s d1 r1 → Wrote d1 r1 t d2 r2 → Wrote d at (s ++ t) d2 r2
 then {d} {d1} {d2} {s} {t} {at} {r1} {r2} p q = record {
@@ -30,31 +30,26 @@ pub same-len : {d d1 s : List ℕ} {at r : ℕ} → Wrote d at s d1 r → length
 same-len {d} {d1} {s} {at} p = ap length (p .bytes) ∙ length-sets d at s
 
 -- a write from 0 on that has room leaves the text, and the bytes after it as they were
-pub whole : {d d1 t : List ℕ} {r : ℕ} → Wrote d 0 t d1 r → length t ≤ length d → d1 ≡ t ++ drop (length t) d
-whole {d} {d1} {t} p h =
+pub wrote-whole : {d d1 t : List ℕ} {r : ℕ} → Wrote d 0 t d1 r → length t ≤ length d → d1 ≡ t ++ drop (length t) d
+wrote-whole {d} {d1} {t} p h =
     let z : 0 + length t ≡ length t = omega arith in
     let h2 : 0 + length t ≤ length d = omega arith in
     p .bytes ∙ sets-eq t d 0 h2 ∙ ap (λ (n : ℕ). t ++ drop n d) z
 
 -- A DRY RUN AND THE RUN: a dry run counts the text; lent bytes that it says suffice then have the text told, and others are too short for it
-pub counted : {d d1 t : List ℕ} {n : ℕ} → Wrote d 0 t d1 n → n ≡ length t
-counted {d} {d1} {t} p = omega (arith, p .count)
-
-pub record Fitted (t out out′ : List ℕ) (n : ℕ) : Type 0 where
-  pub count : n ≡ length t
-  pub room : fits t out ≡ true
-  pub bytes : out′ ≡ told t out
+pub wrote-counted : {d d1 t : List ℕ} {n : ℕ} → Wrote d 0 t d1 n → n ≡ length t
+wrote-counted {d} {d1} {t} p = omega (arith, p .count)
 
 pub dry-told : {dry dry′ out out′ t : List ℕ} {n n′ : ℕ} → Wrote dry 0 t dry′ n → Wrote out 0 t out′ n′ → n ≤ length out → Fitted t out out′ n
 unfolding told
 dry-told {out = out} {t = t} p q h =
-    let r : fits t out ≡ true = le-leb (length t) (length out) (omega (arith, counted p)) in
-    record { count = counted p; room = r; bytes = whole q (omega (arith, counted p)) ∙ rw r }
+    let r : fits t out ≡ true = le-leb (length t) (length out) (omega (arith, wrote-counted p)) in
+    record { count = wrote-counted p; room = r; bytes = wrote-whole q (omega (arith, wrote-counted p)) ∙ rw r }
 
 pub dry-short : {dry dry′ t : List ℕ} {n : ℕ} (out : List ℕ) → Wrote dry 0 t dry′ n → length out < n → (fits t out ≡ false) × (told t out ≡ out)
 unfolding told
 dry-short {t = t} out p h =
-    let r : fits t out ≡ false = lt-leb (length t) (length out) (omega (arith, counted p)) in
+    let r : fits t out ≡ false = lt-leb (length t) (length out) (omega (arith, wrote-counted p)) in
     (r, rw r)
 
 -- one more digit is at most one more byte
@@ -99,17 +94,17 @@ take-one-more s i h = rw (add-one, take-suc s i 0 h)
 
 -- a text for each byte: one turn, and the length where no byte's text is longer than k
 module _ (f : ℕ → List ℕ) where
-  each-append : (s t : List ℕ) → each f (s ++ t) ≡ each f s ++ each f t
-  unfolding each
+  each-append : (s t : List ℕ) → eachByte f (s ++ t) ≡ eachByte f s ++ eachByte f t
+  unfolding eachByte
   each-append [] t = refl
   each-append (b ∷ s) t = rw (each-append s t, append-assoc)
 
-  pub each-one-more : (s : List ℕ) (i : ℕ) → i < length s → each f (take (i + 1) s) ≡ each f (take i s) ++ f (getD s i 0)
-  unfolding each
+  pub each-one-more : (s : List ℕ) (i : ℕ) → i < length s → eachByte f (take (i + 1) s) ≡ eachByte f (take i s) ++ f (getD s i 0)
+  unfolding eachByte
   each-one-more s i h = rw (take-one-more s i h, each-append, append-nil)
 
-  pub each-length : (k : ℕ) → ((b : ℕ) → length (f b) ≤ k) → (s : List ℕ) → length (each f s) ≤ k * length s
-  unfolding each
+  pub each-length : (k : ℕ) → ((b : ℕ) → length (f b) ≤ k) → (s : List ℕ) → length (eachByte f s) ≤ k * length s
+  unfolding eachByte
   each-length k h [] = omega arith
   each-length k h (b ∷ s) = simp (length-append, mul-suc) (omega (arith, h b, each-length k h s))
 

@@ -3,7 +3,7 @@ use Prim.Native.Nat.{ℕ, zero, suc, _+_, _/_, _%_}
 use Prim.Native.Char.{code}
 use Prim.Native.String.{String, [] as []ᵗ, _∷_ as _∷ᵗ_}
 use mathlib.Core.Path.{_≡_}
-use mathlib.Core.Bool.{Bool}
+use mathlib.Core.Bool.{Bool, true}
 use mathlib.Core.List.{List, [], _∷_, _++_}
 use lib.ListN.{length, drop}
 use lib.Seq.{sets}
@@ -44,12 +44,12 @@ unfoldable pub latin1 : ℕ → List ℕ
 latin1 b = ltb b 128 ⇒ (b ∷ []) ∣ ((192 + b / 64) ∷ (128 + b % 64) ∷ [])
 
 -- the texts of bytes, one after the other
-unfoldable pub each : (ℕ → List ℕ) → List ℕ → List ℕ
-each f [] = []
-each f (b ∷ bs) = f b ++ each f bs
+unfoldable pub eachByte : (ℕ → List ℕ) → List ℕ → List ℕ
+eachByte f [] = []
+eachByte f (b ∷ bs) = f b ++ eachByte f bs
 
 abbrev pub latin : List ℕ → List ℕ
-latin bs = each latin1 bs
+latin bs = eachByte latin1 bs
 
 -- lent bytes that are not shorter than a text
 abbrev pub fits : List ℕ → List ℕ → Bool
@@ -58,3 +58,9 @@ fits text out = leb (length text) (length out)
 -- a text told into lent bytes: nothing is written where they are shorter, and bytes past the text stay
 unfoldable pub told : List ℕ → List ℕ → List ℕ
 told text out = fits text out ⇒ text ++ drop (length text) out ∣ out
+
+-- a text that fits, told after a dry run that counted n bytes
+pub record Fitted (t out out′ : List ℕ) (n : ℕ) : Type 0 where
+  pub count : n ≡ length t
+  pub room : fits t out ≡ true
+  pub bytes : out′ ≡ told t out

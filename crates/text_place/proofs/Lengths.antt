@@ -9,7 +9,7 @@ use Rattle.play_entries.specs.declared.Phase.the-variants.{Start, Tones, Data, 
 use Rattle.play_entries.specs.declared.Duration.{Duration}
 use Rattle.text_value.proofs.Lengths.{flag-length, duration-length}
 use Rattle.play_walk.specs.declared.Stand.{Stand}
-use Rattle.text_place.specs.Places.{spaced, numbers, phaseText, restText, placeText}
+use Rattle.text_place.specs.Places.{spaced, numbers, phaseText, leftText, placeText}
 
 pub spaced-length : (n : ℕ) → length (spaced n) ≤ 21
 unfolding spaced
@@ -28,8 +28,8 @@ phase-length (Data pos k v) = omega (arith, numbers-length pos k v)
 phase-length Edge = omega arith
 phase-length Pause = omega arith
 
-pub rest-length : (d : Duration) (v : Bool) → length (restText d v) ≤ 34
-unfolding restText
+pub rest-length : (d : Duration) (v : Bool) → length (leftText d v) ≤ 34
+unfolding leftText
 rest-length d v = simp length-append (omega (arith, duration-length d, flag-length v))
 
 pub place-length : (s : Stand) → length (placeText s) ≤ 103

@@ -26,9 +26,9 @@ phaseText Edge = ascii "edge"
 phaseText Pause = ascii "pause"
 
 -- ` left LEFT level LEVEL`
-unfoldable pub restText : Duration → Bool → List ℕ
-restText left level = ascii " left " ++ durationText left ++ ascii " level " ++ flag level
+unfoldable pub leftText : Duration → Bool → List ℕ
+leftText left level = ascii " left " ++ durationText left ++ ascii " level " ++ flag level
 
 -- `BLOCK PHASE left LEFT level LEVEL`
 unfoldable pub placeText : Stand → List ℕ
-placeText s = decimal (s .position .block) ++ ascii " " ++ phaseText (s .position .phase) ++ restText (s .position .left) (s .level)
+placeText s = decimal (s .position .block) ++ ascii " " ++ phaseText (s .position .phase) ++ leftText (s .position .left) (s .level)

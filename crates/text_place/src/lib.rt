@@ -9,7 +9,7 @@ use text_value::put_duration;
 use text_value::put_flag;
 ghost use Prim.Native.Nat.{_+_, _^_, _<_};
 ghost use Rattle.text_out.specs.Out.{Wrote};
-ghost use Rattle.text_place.specs.Places.{spaced, numbers, phaseText, restText, placeText};
+ghost use Rattle.text_place.specs.Places.{spaced, numbers, phaseText, leftText, placeText};
 
 // A space and a number.
 fn put_spaced(out: &mut [u8], at: usize, n: u64) -> usize
@@ -62,7 +62,7 @@ fn put_phase(out: &mut [u8], at: usize, f: Phase) -> usize
 // What is left, and the level.
 fn put_rest(out: &mut [u8], at: usize, left: Duration, level: bool) -> usize
     requires { ⌜ at + 40 < 2 ^ 63 ⌝ }
-    ensures { λ r. ⌜ Wrote (now (out .entry)) at (restText left level) (now (out .exit)) r ⌝ }
+    ensures { λ r. ⌜ Wrote (now (out .entry)) at (leftText left level) (now (out .exit)) r ⌝ }
 {
     let a = put_all(out, at, b" left ");
     let b = put_duration(out, a, left);

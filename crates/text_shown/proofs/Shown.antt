@@ -11,9 +11,9 @@ use lib.Seq.{drop-cons, drop-drop, take-length, take-append-le}
 use lib.Dec.{ltb, eqb}
 use borrow.Author.Tests.{lt-ltb, le-ltb}
 use Rattle.law_base.specs.Rules.{_⇒_, _∣_}
-use Rattle.law_base.specs.Numbers.{lt-or-ge}
+use Rattle.law_base.proofs.Numbers.{lt-or-ge}
 use Rattle.text_out.specs.Out.{Wrote}
-use Rattle.text_out.proofs.Writing.{nothing, then, counted, whole}
+use Rattle.text_out.proofs.Writing.{wrote-nothing, then, wrote-counted, wrote-whole}
 use Rattle.text_shown.specs.Shown.{shown, isC1, printed, width}
 
 -- the last byte, a code point of two bytes, and a byte that another follows
@@ -111,12 +111,12 @@ goes-on {s = s} {i = i} {b = b} {k} {c1} g h e p q w =
 
 pub goes-over : {d₀ d s : List ℕ} {at i o : ℕ} → Goes d₀ at s i d o → length s ≤ i → Wrote d₀ at (shown s) d o
 unfolding shown
-goes-over {d = d} {s} {i = i} {o} g h = g .rest d o (rw (drop-of-length-le s h) (nothing d o))
+goes-over {d = d} {s} {i = i} {o} g h = g .rest d o (rw (drop-of-length-le s h) (wrote-nothing d o))
 
 -- a text that was written into lent bytes, read back from them
 pub name-part : {d d1 t : List ℕ} {n : ℕ} → Wrote d 0 t d1 n → length t ≤ length d → take n d1 ≡ t
 name-part {d} {d1} {t} {n} p h =
-    ap (λ (x : ℕ). take x d1) (counted p) ∙ ap (take (length t)) (whole p h) ∙ take-append-le (length t) t (drop (length t) d) (omega arith) ∙ take-length t
+    ap (λ (x : ℕ). take x d1) (wrote-counted p) ∙ ap (take (length t)) (wrote-whole p h) ∙ take-append-le (length t) t (drop (length t) d) (omega arith) ∙ take-length t
 
 pub part-length : {d d1 t : List ℕ} {n : ℕ} → Wrote d 0 t d1 n → length t ≤ length d → n ≡ length (take n d1)
-part-length p h = counted p ∙ sym (ap length (name-part p h))
+part-length p h = wrote-counted p ∙ sym (ap length (name-part p h))

@@ -3,7 +3,7 @@ use Prim.Native.Nat.{ℕ}
 use mathlib.Core.Path.{_≡_, refl}
 use mathlib.Core.Bool.{true, false}
 use mathlib.Core.List.{List, [], _∷_, _++_}
-use Rattle.law_pulses.specs.Play.{answer, rest, over, shown, status}
+use Rattle.law_pulses.specs.Play.{answer, rest, over, statusHere, status}
 use Rattle.law_pulses.specs.Runs.{run}
 use Rattle.law_pulses.specs.Source.{after, turn, turns, sourced, reached}
 use Rattle.rows.specs.Well.{wellRanges, wellTone, wellNumbers, wellCases, wellTones, wellBlock}
@@ -13,13 +13,13 @@ use Rattle.play_entries.specs.Entries.{entryOf, cyclesOf, isSingle, startLevel,
 use Rattle.play_entries.specs.Places.{Tape, listFrom, levelAt, fromPause, fromEdge, fromSecond, fromByte, fromBit, fromTone, fromCycle, leftAt, hasEntry, lengthAt, remains, valid, headOf, leftOf}
 use Rattle.play_entries.specs.Mounted.{wellRow, firstBad, formed, tapeOf}
 use Rattle.play_walk.specs.declared.Position.{Position}
-use Rattle.play_walk.specs.Heads.{startAt, levelHere, restLevel, toldAs, told, walked, walkFrom}
+use Rattle.play_walk.specs.Heads.{startAt, levelHere, restLevel, toldAs, toldReached, walked, walkFrom}
 use Rattle.play_deck.specs.Deck.{ruledOut, illFormed, judged, unless, playMeasured, sourceAnswer, sourceFrom, playSource, backTo, blockOf, blockAt}
-use Rattle.play_deck.proofs.Answers.{positionIn}
+use Rattle.play_deck.specs.Calls.{positionIn}
 use Rattle.text_trace.specs.Lines as lines
 use Rattle.text_trace.specs.Lines.{selectedText, sourceLine, measuredLine, lineOf}
 use Rattle.text_value.specs.Values.{flag, durationText}
-use Rattle.text_place.specs.Places.{spaced, numbers, phaseText, restText, placeText}
+use Rattle.text_place.specs.Places.{spaced, numbers, phaseText, leftText, placeText}
 
 -- the lines of calls, each from where the head then stands: of the source's play, of the measured player
 unfoldable sources : Tape → Position → List ℕ → List ℕ
@@ -59,7 +59,7 @@ data-said : sources stopping (startAt 1) (5 ∷ 11 ∷ 9 ∷ 7 ∷ 12 ∷ 3 ∷ 
     ++ ascii "1 data 0 1 0 left 6 level 0 selected 1\n"
     ++ ascii "1 data 0 1 0 left 3 level 0 selected 1\n"
     ++ ascii "2 pause left endless level 0 selected 2\n"
-unfolding sources playSource unless judged ruledOut illFormed wellRow wellBlock wellRanges wellNumbers wellCases wellTones wellTone valid hasEntry remains lengthAt sourceFrom sourceAnswer sourced turns turn after reached walked formed firstBad told toldAs levelHere restLevel headOf leftOf shown leftAt listFrom levelAt fromPause fromEdge fromSecond fromByte fromBit fromTone fromCycle entriesOf soundOf tonesOf toneOf cyclesOf isSingle startLevel cycleLevel bitLevel edged pauseLevel dataOf byteOf bitsAt halfOf pauseOf entryOf run positionIn blockOf backTo lineOf sourceLine lines.shown placeText restText durationText phaseText numbers spaced flag selectedText decimal digits
+unfolding sources playSource unless judged ruledOut illFormed wellRow wellBlock wellRanges wellNumbers wellCases wellTones wellTone valid hasEntry remains lengthAt sourceFrom sourceAnswer sourced turns turn after reached walked formed firstBad toldReached toldAs levelHere restLevel headOf leftOf statusHere leftAt listFrom levelAt fromPause fromEdge fromSecond fromByte fromBit fromTone fromCycle entriesOf soundOf tonesOf toneOf cyclesOf isSingle startLevel cycleLevel bitLevel edged pauseLevel dataOf byteOf bitsAt halfOf pauseOf entryOf run positionIn blockOf backTo lineOf sourceLine lines.standLine placeText leftText durationText phaseText numbers spaced flag selectedText decimal digits
 data-said = refl
 
 -- oracle play 4 FILE 0 50 100 130 1000 5000: entries dropped, and the endless pause
@@ -69,7 +69,7 @@ stop-said : sources stopping (startAt 0) (50 ∷ 100 ∷ 130 ∷ 1000 ∷ 5000 �
     ++ ascii "0 tone 0 1 0 left 20 level 0 selected 0\n"
     ++ ascii "1 pause left 2520 level 0 selected 1\n"
     ++ ascii "2 pause left endless level 0 selected 2\n"
-unfolding sources playSource unless judged ruledOut illFormed wellRow wellBlock wellRanges wellNumbers wellCases wellTones wellTone valid hasEntry remains lengthAt sourceFrom sourceAnswer sourced turns turn after reached walked formed firstBad told toldAs levelHere restLevel headOf leftOf shown leftAt listFrom levelAt fromPause fromEdge fromSecond fromByte fromBit fromTone fromCycle entriesOf soundOf tonesOf toneOf cyclesOf isSingle startLevel cycleLevel bitLevel edged pauseLevel dataOf byteOf bitsAt halfOf pauseOf entryOf run positionIn blockOf backTo lineOf sourceLine lines.shown placeText restText durationText phaseText numbers spaced flag selectedText decimal digits
+unfolding sources playSource unless judged ruledOut illFormed wellRow wellBlock wellRanges wellNumbers wellCases wellTones wellTone valid hasEntry remains lengthAt sourceFrom sourceAnswer sourced turns turn after reached walked formed firstBad toldReached toldAs levelHere restLevel headOf leftOf statusHere leftAt listFrom levelAt fromPause fromEdge fromSecond fromByte fromBit fromTone fromCycle entriesOf soundOf tonesOf toneOf cyclesOf isSingle startLevel cycleLevel bitLevel edged pauseLevel dataOf byteOf bitsAt halfOf pauseOf entryOf run positionIn blockOf backTo lineOf sourceLine lines.standLine placeText leftText durationText phaseText numbers spaced flag selectedText decimal digits
 stop-said = refl
 
 -- oracle play 4 FILE 0 1 99 500 3000 600: to the end
@@ -79,7 +79,7 @@ end-said : sources ending (startAt 0) (1 ∷ 99 ∷ 500 ∷ 3000 ∷ 600 ∷ [])
     ++ ascii "1 pause left 3100 level 0 selected 0\n"
     ++ ascii "1 pause left 100 level 0 selected 0\n"
     ++ ascii "ended\n"
-unfolding sources playSource unless judged ruledOut illFormed wellRow wellBlock wellRanges wellNumbers wellCases wellTones wellTone valid hasEntry remains lengthAt sourceFrom sourceAnswer sourced turns turn after reached walked formed firstBad told toldAs levelHere restLevel headOf leftOf shown leftAt listFrom levelAt fromPause fromEdge fromSecond fromByte fromBit fromTone fromCycle entriesOf soundOf tonesOf toneOf cyclesOf isSingle startLevel cycleLevel bitLevel edged pauseLevel dataOf byteOf bitsAt halfOf pauseOf entryOf run positionIn blockOf backTo lineOf sourceLine lines.shown placeText restText durationText phaseText numbers spaced flag selectedText decimal digits
+unfolding sources playSource unless judged ruledOut illFormed wellRow wellBlock wellRanges wellNumbers wellCases wellTones wellTone valid hasEntry remains lengthAt sourceFrom sourceAnswer sourced turns turn after reached walked formed firstBad toldReached toldAs levelHere restLevel headOf leftOf statusHere leftAt listFrom levelAt fromPause fromEdge fromSecond fromByte fromBit fromTone fromCycle entriesOf soundOf tonesOf toneOf cyclesOf isSingle startLevel cycleLevel bitLevel edged pauseLevel dataOf byteOf bitsAt halfOf pauseOf entryOf run positionIn blockOf backTo lineOf sourceLine lines.standLine placeText leftText durationText phaseText numbers spaced flag selectedText decimal digits
 end-said = refl
 
 -- the measured player, the same tape: no entry is dropped, and it goes on after the end
@@ -89,5 +89,5 @@ measured-said : measures ending (startAt 0) (1 ∷ 99 ∷ 500 ∷ 3401 ∷ 1 ∷
     ++ ascii "stands passed 6 at 1 pause left 3400 level 0 selected 0\n"
     ++ ascii "ended passed 1 at 2 start left 0 level 0 selected 4294967295\n"
     ++ ascii "ended passed 0 at 2 start left 0 level 0 selected 4294967295\n"
-unfolding measures playMeasured unless judged ruledOut illFormed wellRow wellBlock wellRanges wellNumbers wellCases wellTones wellTone valid hasEntry remains lengthAt walkFrom walked formed firstBad told toldAs levelHere restLevel headOf leftOf answer rest over shown status leftAt listFrom levelAt fromPause fromEdge fromSecond fromByte fromBit fromTone fromCycle entriesOf soundOf tonesOf toneOf cyclesOf isSingle startLevel cycleLevel bitLevel edged pauseLevel dataOf byteOf bitsAt halfOf pauseOf entryOf run positionIn blockOf backTo lineOf measuredLine lines.told lines.shown placeText restText durationText phaseText numbers spaced flag selectedText decimal digits
+unfolding measures playMeasured unless judged ruledOut illFormed wellRow wellBlock wellRanges wellNumbers wellCases wellTones wellTone valid hasEntry remains lengthAt walkFrom walked formed firstBad toldReached toldAs levelHere restLevel headOf leftOf answer rest over statusHere status leftAt listFrom levelAt fromPause fromEdge fromSecond fromByte fromBit fromTone fromCycle entriesOf soundOf tonesOf toneOf cyclesOf isSingle startLevel cycleLevel bitLevel edged pauseLevel dataOf byteOf bitsAt halfOf pauseOf entryOf run positionIn blockOf backTo lineOf measuredLine lines.passedLine lines.standLine placeText leftText durationText phaseText numbers spaced flag selectedText decimal digits
 measured-said = refl

@@ -11,7 +11,7 @@ use Rattle.play_walk.specs.declared.Reached.the-variants.{At, Stopped, Ended, N
 use Rattle.play_deck.specs.declared.Selected.{Selected}
 use Rattle.play_deck.specs.declared.Selected.the-variants.{Block, BadPosition, BadRow}
 use Rattle.text_place.proofs.Lengths.{place-length}
-use Rattle.text_trace.specs.Lines.{refusedText, refusedLine, selectedText, shown, told, sourceLine, measuredLine, lineOf}
+use Rattle.text_trace.specs.Lines.{refusedText, refusedLine, selectedText, standLine, passedLine, sourceLine, measuredLine, lineOf}
 
 pub refused-length : (k : ℕ) → length (refusedText k) ≤ 28
 unfolding refusedText
@@ -23,12 +23,12 @@ selected-length (Block n) = decimal-length n
 selected-length BadPosition = omega arith
 selected-length BadRow = omega arith
 
-pub shown-length : (s : Stand) (b : Selected) → length (shown s b) ≤ 134
-unfolding shown
+pub shown-length : (s : Stand) (b : Selected) → length (standLine s b) ≤ 134
+unfolding standLine
 shown-length s b = simp length-append (omega (arith, place-length s, selected-length b))
 
-told-length : (s : Stand) (b : Selected) → length (told s b) ≤ 166
-unfolding told
+told-length : (s : Stand) (b : Selected) → length (passedLine s b) ≤ 166
+unfolding passedLine
 told-length s b = simp length-append (omega (arith, decimal-length (s .passed), shown-length s b))
 
 source-length : (r : Reached) (b : Selected) → length (sourceLine r b) ≤ 256

@@ -25,26 +25,26 @@ selectedText BadPosition = refusedText noPosition
 selectedText BadRow = refusedText badRow
 
 -- `PLACE selected BLOCK`, and the line's end
-unfoldable pub shown : Stand → Selected → List ℕ
-shown s b = placeText s ++ ascii " selected " ++ selectedText b ++ ascii "\n"
+unfoldable pub standLine : Stand → Selected → List ℕ
+standLine s b = placeText s ++ ascii " selected " ++ selectedText b ++ ascii "\n"
 
 -- A LINE OF THE SOURCE'S PLAY: the place, or `ended`; `refused n` where the call is refused
 unfoldable pub sourceLine : Reached → Selected → List ℕ
-sourceLine (At s) b = shown s b
-sourceLine (Stopped s) b = shown s b
+sourceLine (At s) b = standLine s b
+sourceLine (Stopped s) b = standLine s b
 sourceLine (Ended s) b = ascii "ended\n"
 sourceLine NotValid b = refusedLine noPosition
 sourceLine NotFormed b = refusedLine badRow
 
 -- ` passed N at PLACE selected BLOCK`
-unfoldable pub told : Stand → Selected → List ℕ
-told s b = ascii " passed " ++ decimal (s .passed) ++ ascii " at " ++ shown s b
+unfoldable pub passedLine : Stand → Selected → List ℕ
+passedLine s b = ascii " passed " ++ decimal (s .passed) ++ ascii " at " ++ standLine s b
 
 -- A LINE OF THE MEASURED PLAYER: `stands`, `stopped` or `ended`, the entries passed and the place
 unfoldable pub measuredLine : Reached → Selected → List ℕ
-measuredLine (At s) b = ascii "stands" ++ told s b
-measuredLine (Stopped s) b = ascii "stopped" ++ told s b
-measuredLine (Ended s) b = ascii "ended" ++ told s b
+measuredLine (At s) b = ascii "stands" ++ passedLine s b
+measuredLine (Stopped s) b = ascii "stopped" ++ passedLine s b
+measuredLine (Ended s) b = ascii "ended" ++ passedLine s b
 measuredLine NotValid b = refusedLine noPosition
 measuredLine NotFormed b = refusedLine badRow
 

@@ -10,7 +10,7 @@ use text_out::put_decimal;
 use text_place::put_place;
 ghost use Prim.Native.Nat.{_+_, _^_, _<_};
 ghost use Rattle.text_out.specs.Out.{Wrote};
-ghost use Rattle.text_trace.specs.Lines.{refusedText, refusedLine, selectedText, shown, told, sourceLine, measuredLine, lineOf};
+ghost use Rattle.text_trace.specs.Lines.{refusedText, refusedLine, selectedText, standLine, passedLine, sourceLine, measuredLine, lineOf};
 
 // `refused n`
 fn put_refused(out: &mut [u8], at: usize, k: u32) -> usize
@@ -45,7 +45,7 @@ fn put_selected(out: &mut [u8], at: usize, b: Selected) -> usize
 // Both, to the end of the line.
 fn put_shown(out: &mut [u8], at: usize, s: Stand, b: Selected) -> usize
     requires { ⌜ at + 160 < 2 ^ 63 ⌝ }
-    ensures { λ r. ⌜ Wrote (now (out .entry)) at (shown s b) (now (out .exit)) r ⌝ }
+    ensures { λ r. ⌜ Wrote (now (out .entry)) at (standLine s b) (now (out .exit)) r ⌝ }
 {
     let x = put_place(out, at, s);
     let y = put_all(out, x, b" selected ");
@@ -70,7 +70,7 @@ fn put_source(out: &mut [u8], at: usize, answer: Reached, b: Selected) -> usize
 // The entries passed, then where the head is.
 fn put_told(out: &mut [u8], at: usize, s: Stand, b: Selected) -> usize
     requires { ⌜ at + 200 < 2 ^ 63 ⌝ }
-    ensures { λ r. ⌜ Wrote (now (out .entry)) at (told s b) (now (out .exit)) r ⌝ }
+    ensures { λ r. ⌜ Wrote (now (out .entry)) at (passedLine s b) (now (out .exit)) r ⌝ }
 {
     let x = put_all(out, at, b" passed ");
     let y = put_decimal(out, x, s.passed);

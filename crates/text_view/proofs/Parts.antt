@@ -16,7 +16,7 @@ use Rattle.play_entries.specs.declared.Duration.{Duration}
 use Rattle.text_value.specs.Values.{flag, durationText}
 use Rattle.text_value.proofs.Lengths.{duration-length}
 use Rattle.text_view.specs.View.{tonesFrom}
-use Rattle.text_view.specs.Dump.{hex, toneText, tonesText, field, markText, bitsText, endText, headText}
+use Rattle.text_view.specs.Dump.{hex, toneText, tonesText, field, selText, bitsText, endText, headText}
 
 pub hex-length : (b : ℕ) → length (hex b) ≤ 2
 unfolding hex
@@ -39,8 +39,8 @@ module _ {d d1 : List ℕ} {at r : ℕ} where
   pub pause-next : (p : Duration) → Wrote d at (durationText p) d1 r → r ≤ at + 20
   pause-next p w = omega (arith, w .count, duration-length p)
 
-mark-length : (i : ℕ) (b : Bool) → length (markText i b) ≤ 26
-unfolding markText flag
+mark-length : (i : ℕ) (b : Bool) → length (selText i b) ≤ 26
+unfolding selText flag
 mark-length i true = simp length-append (omega (arith, decimal-length i))
 mark-length i false = simp length-append (omega (arith, decimal-length i))
 
@@ -58,7 +58,7 @@ head-length i b nil one last p =
     simp length-append (omega (arith, mark-length i b, bits-length nil one last, end-length p))
 
 module _ {d d1 : List ℕ} {at r : ℕ} where
-  pub mark-next : (i : ℕ) (b : Bool) → Wrote d at (markText i b) d1 r → r ≤ at + 26
+  pub mark-next : (i : ℕ) (b : Bool) → Wrote d at (selText i b) d1 r → r ≤ at + 26
   mark-next i b w = omega (arith, w .count, mark-length i b)
 
   pub bits-next : (nil one last : ℕ) → Wrote d at (bitsText nil one last) d1 r → r ≤ at + 77

@@ -4,7 +4,7 @@ use mathlib.Core.Bool.{Bool}
 use mathlib.Core.List.{List, [], _∷_, _++_}
 use lib.Dec.{ltb}
 use Rattle.law_base.specs.Rules.{_⇒_, _∣_}
-use Rattle.text_out.specs.Out.{ascii, decimal, each}
+use Rattle.text_out.specs.Out.{ascii, decimal, eachByte}
 use Rattle.rows.specs.declared.Tone.{Tone}
 use Rattle.play_entries.specs.declared.Duration.{Duration}
 use Rattle.text_value.specs.Values.{flag, durationText}
@@ -18,7 +18,7 @@ unfoldable pub hex : ℕ → List ℕ
 hex b = digit (b / 16) ∷ digit (b % 16) ∷ []
 
 abbrev pub hexAll : List ℕ → List ℕ
-hexAll bs = each hex bs
+hexAll bs = eachByte hex bs
 
 -- cycles `x` first half `/` second half `,`
 unfoldable pub toneText : Tone → List ℕ
@@ -33,8 +33,8 @@ unfoldable pub field : List ℕ → ℕ → List ℕ
 field word n = word ++ decimal n
 
 -- `i sel=s`
-unfoldable pub markText : ℕ → Bool → List ℕ
-markText i selectable = decimal i ++ ascii " sel=" ++ flag selectable
+unfoldable pub selText : ℕ → Bool → List ℕ
+selText i selectable = decimal i ++ ascii " sel=" ++ flag selectable
 
 -- ` zero=z one=o last=l`
 unfoldable pub bitsText : ℕ → ℕ → ℕ → List ℕ
@@ -50,11 +50,11 @@ endText pause =
     ++ ascii " name="
 
 unfoldable pub headText : ℕ → Bool → ℕ → ℕ → ℕ → Duration → List ℕ
-headText i selectable nil one last pause = markText i selectable ++ bitsText nil one last ++ endText pause
+headText i selectable nil one last pause = selText i selectable ++ bitsText nil one last ++ endText pause
 
 -- THE LINE of view i: the numbers, the name's bytes, ` data=`, the data's, ` tones=`, the tones
-unfoldable pub lineOf : ℕ → View → List ℕ
-lineOf i v =
+unfoldable pub viewLine : ℕ → View → List ℕ
+viewLine i v =
     headText i (v .selectable) (v .zero) (v .one) (v .last) (v .pause)
     ++ hexAll (v .name)
     ++ ascii " data=" ++ hexAll (v .bytes)

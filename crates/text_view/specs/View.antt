@@ -37,16 +37,16 @@ viewOf tape ts r =
     record { name = nameOf tape r; selectable = eqb (r .selectable) 1; tones = ts; zero = r .zero; one = r .one; last = r .last; pause = wholePause r; bytes = take (r .size) (drop (r .start) tape) }
 
 -- A ROW'S BLOCK, over a tape's bytes and a tone table
-abbrev pub blockOf : List ℕ → List ℕ → Block → View
-blockOf tape tones r = viewOf tape (tonesFrom tones (r .tone) (r .tones)) r
+abbrev pub rowView : List ℕ → List ℕ → Block → View
+rowView tape tones r = viewOf tape (tonesFrom tones (r .tone) (r .tones)) r
 
 -- the blocks of rows, and of a mounted tape
-unfoldable pub blocksOf : List ℕ → List ℕ → List Block → List View
-blocksOf tape tones [] = []
-blocksOf tape tones (r ∷ rs) = blockOf tape tones r ∷ blocksOf tape tones rs
+unfoldable pub rowViews : List ℕ → List ℕ → List Block → List View
+rowViews tape tones [] = []
+rowViews tape tones (r ∷ rs) = rowView tape tones r ∷ rowViews tape tones rs
 
 abbrev pub viewsIn : Tape → List View
-viewsIn w = blocksOf (w .bytes) (w .tones) (rowsOf block (w .blocks) (w .count))
+viewsIn w = rowViews (w .bytes) (w .tones) (rowsOf block (w .blocks) (w .count))
 
 -- the block list of what was read from a tape: its rows, and its tones
 unfoldable pub blockList : List ℕ → List Tone → List Block → List View

@@ -6,7 +6,7 @@ use borrow.Author.Needs.{needs}
 use Rattle.rows.specs.declared.Block.{Block}
 use Rattle.rows.specs.Well.{wellBlock}
 use Rattle.play_entries.specs.Entries.{entriesOf, lastsOf}
-use Rattle.play_entries.specs.Mounted.{tapeOf, sizeOf, wellRow}
+use Rattle.play_entries.specs.Mounted.{tapeOf, tapeSize, wellRow}
 use Rattle.ask_block.specs.declared.Time.the-variants.{Lasts}
 use Rattle.ask_block.specs.Queries.{refusalOf, timeOf}
 use Rattle.ask_block.proofs.Refusals.{asked, time-refused, time-given}
@@ -32,7 +32,7 @@ unfolding wellRow
 block-time-requires c κs =
     let a = c .before .before .before .before .before .before .args in
     let q = asked (tapeOf (a .tape .now) (a .tones .now) (a .blocks .now) (a .count)) (a .i) _ (c .before .before .refusal .ensures) (c .before .if1 .left) in
-    subst (λ (r : Block). wellBlock (sizeOf (a .tape .now)) (a .tones .now) r ≡ true) (sym (c .block-at .ensures)) (q .well)
+    subst (λ (r : Block). wellBlock (tapeSize (a .tape .now)) (a .tones .now) r ≡ true) (sym (c .block-at .ensures)) (q .well)
 
 returns-2 : tie.Need-returns-2
 unfolding timeOf

@@ -10,7 +10,7 @@ use Rattle.rows.specs.Table.{capacityOf}
 use Rattle.rows.specs.Rows.{block, blockMost}
 use Rattle.rows.specs.Well.{wellBlock}
 use Rattle.rows.proofs.Clauses.{failed, passed}
-use Rattle.play_entries.specs.Mounted.{tapeOf, sizeOf, wellRow}
+use Rattle.play_entries.specs.Mounted.{tapeOf, tapeSize, wellRow}
 use Rattle.ask_block.specs.Queries.{loadingOf}
 use Rattle.ask_time.proofs.Loads.{Loads, loads-none, loads-over, loads-bad, loads-stop, loads-on, sound-few, pause-few}
 use Rattle.ask_time.proofs.loading_time.Statement.{statement}
@@ -51,7 +51,7 @@ unfolding wellRow
 sound-time-requires c κs =
     let a = c .before .before .before .before .before .before .before .before .before .before .args in
     let w = tapeOf (a .tape .now) (a .tones .now) (a .blocks .now) (a .count) in
-    subst (λ (r : Block). wellBlock (sizeOf (a .tape .now)) (a .tones .now) r ≡ true) (sym (c .block-at .ensures)) (passed {a = wellRow w (c .before .before .before .before .loop .b)} (c .before .before .row-well .ensures) (c .before .if2 .left))
+    subst (λ (r : Block). wellBlock (tapeSize (a .tape .now)) (a .tones .now) r ≡ true) (sym (c .block-at .ensures)) (passed {a = wellRow w (c .before .before .before .before .loop .b)} (c .before .before .row-well .ensures) (c .before .if2 .left))
 
 add-sum : tie.Need-add-sum Inv-loop μ-loop
 unfolding wellRow

@@ -1,6 +1,6 @@
--- `digits` meets its contract. Assumes nothing.
+-- `binaryDigits` meets its contract. Assumes nothing.
 use Rattle.cut_grammar.proofs.Turns.{digits-zero, digits-more}
-use Rattle.cut_grammar.specs.Grammar.{digits}
+use Rattle.cut_grammar.specs.Grammar.{binaryDigits}
 use borrow.Author.Needs.{needs}
 use native.Mathlib.Omega.{arith}
 use mathlib.Core.Path.{_≡_, sym, _∙_}
@@ -9,7 +9,7 @@ use Rattle.cut_body19.proofs.digits.Statement.{statement}
 use Rattle.cut_body19.proofs.digits.Tie as tie
 
 abbrev Inv-loop : tie.InvT-loop
-Inv-loop n left₀ k₀ left k = (k ≤ 32) × (k + digits (32 - k) left ≡ digits 32 n)
+Inv-loop n left₀ k₀ left k = (k ≤ 32) × (k + binaryDigits (32 - k) left ≡ binaryDigits 32 n)
 
 abbrev μ-loop : tie.MeasureT-loop
 μ-loop n left₀ k₀ left k = 32 - k
@@ -33,7 +33,7 @@ loop-again c =
     (omega arith, sym (digits-more (c .before .before .loop .k) (c .before .before .loop .left) (c .before .loop-test .taken) (c .if1 .left)) ∙ c .before .before .loop .inv .1)
 
 returns-2 : tie.Need-returns-2 Inv-loop μ-loop
-unfolding digits
+unfolding binaryDigits
 returns-2 c =
     let z : 32 - c .before .loop .k ≡ 0 = omega arith in omega (arith, rw z at (c .before .loop .inv .1))
 

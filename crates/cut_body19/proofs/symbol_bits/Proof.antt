@@ -1,5 +1,5 @@
 -- `symbol_bits` meets its contract. Assumes nothing.
-use Rattle.cut_grammar.specs.Grammar.{digits}
+use Rattle.cut_grammar.specs.Grammar.{binaryDigits}
 use borrow.Author.Needs.{needs}
 use Rattle.cut_body19.proofs.symbol_bits.Statement.{statement}
 use Rattle.cut_body19.proofs.symbol_bits.Tie as tie
@@ -11,7 +11,7 @@ digits-requires : tie.Need-digits-requires
 digits-requires c κs = search needs
 
 returns : tie.Need-returns
-unfolding digits
+unfolding binaryDigits
 returns c =
     rw (c .if1 .taken)
 

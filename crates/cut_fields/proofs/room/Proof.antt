@@ -1,5 +1,5 @@
 -- `room` meets its contract. Assumes nothing.
-use Rattle.law_base.specs.Numbers.{leb-sub}
+use Rattle.law_base.proofs.Numbers.{leb-sub}
 use native.Mathlib.Omega.{arith}
 use borrow.Author.Tests.{lt-leb}
 use lib.ListN.{length}

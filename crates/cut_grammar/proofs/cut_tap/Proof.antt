@@ -1,12 +1,12 @@
 -- `cut_tap` meets its contract. Assumes nothing.
-use Rattle.cut_grammar.specs.Cut.{tapAt, blockOf}
+use Rattle.cut_grammar.specs.Cut.{tapAt, tapBlock}
 use borrow.Author.Tests.{le-leb, lt-leb, eq-eqb, ne-eqb}
 use borrow.Author.Needs.{needs}
 use Rattle.cut_grammar.proofs.cut_tap.Statement.{statement}
 use Rattle.cut_grammar.proofs.cut_tap.Tie as tie
 
 returns : tie.Need-returns
-unfolding tapAt blockOf
+unfolding tapAt tapBlock
 returns c =
     rw (le-leb _ _ (c .if1 .taken))
 
@@ -14,7 +14,7 @@ add-if2 : tie.Need-add-if2
 add-if2 c = search needs
 
 returns-2 : tie.Need-returns-2
-unfolding tapAt blockOf
+unfolding tapAt tapBlock
 returns-2 c =
     rw (lt-leb _ _ (c .before .if1 .left), eq-eqb _ _ (c .if2 .taken))
 
@@ -28,12 +28,12 @@ enum-known-c-2 : tie.Need-enum-known-c-2
 enum-known-c-2 c = search needs
 
 returns-3 : tie.Need-returns-3
-unfolding tapAt blockOf
+unfolding tapAt tapBlock
 returns-3 c =
     rw (lt-leb _ _ (c .before .before .before .before .before .if1 .left), ne-eqb _ _ (c .before .before .before .before .if2 .left), ← c .before .before .before .counted .ensures, c .before .c .given .1)
 
 returns-4 : tie.Need-returns-4
-unfolding tapAt blockOf
+unfolding tapAt tapBlock
 returns-4 c =
     rw (lt-leb _ _ (c .before .before .before .before .before .if1 .left), ne-eqb _ _ (c .before .before .before .before .if2 .left), ← c .before .before .before .counted .ensures, c .before .c2 .given .1)
 

@@ -3,7 +3,8 @@ use Prim.Native.Nat.{ℕ, _≤_}
 use mathlib.Core.Path.{_≡_}
 use mathlib.Core.Bool.{_||_}
 use native.Mathlib.Omega.{arith}
-use Rattle.law_base.specs.Arms.{lookup-none, between, between-in, between-below, between-above}
+use Rattle.law_base.specs.Arms.{between}
+use Rattle.law_base.proofs.Arms.{lookup-none, between-in, between-below, between-above}
 use Rattle.cut_grammar.specs.Grammar.{Layout, readAt, passAt, unknown}
 use Rattle.cut_grammar.specs.Kinds.{kind22, kind25, kind5A, kinds, kindOf}
 use borrow.Author.Needs.{needs}

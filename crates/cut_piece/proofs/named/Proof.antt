@@ -1,5 +1,5 @@
--- `named` meets its contract. Assumes nothing.
-use Rattle.cut_grammar.specs.Cut.{named}
+-- `takenAs` meets its contract. Assumes nothing.
+use Rattle.cut_grammar.specs.Cut.{takenAs}
 use borrow.Author.Needs.{needs}
 use Rattle.cut_piece.proofs.named.Statement.{statement}
 use Rattle.cut_piece.proofs.named.Tie as tie
@@ -17,22 +17,22 @@ enum-known-body-4 : tie.Need-enum-known-body-4
 enum-known-body-4 c = search needs
 
 returns : tie.Need-returns
-unfolding named
+unfolding takenAs
 returns c =
     rw (c .before .body .given .1)
 
 returns-2 : tie.Need-returns-2
-unfolding named
+unfolding takenAs
 returns-2 c =
     rw (c .before .body2 .given .1)
 
 returns-3 : tie.Need-returns-3
-unfolding named
+unfolding takenAs
 returns-3 c =
     rw (c .before .body3 .given .1)
 
 returns-4 : tie.Need-returns-4
-unfolding named
+unfolding takenAs
 returns-4 c =
     rw (c .before .body4 .given .1)
 

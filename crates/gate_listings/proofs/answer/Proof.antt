@@ -1,6 +1,6 @@
 -- `listings::answer` meets its contract: what is said is the front of the bytes lent. Assumes nothing.
 use borrow.Author.Needs.{needs}
-use Rattle.law_base.specs.Parts.{counted}
+use Rattle.law_base.proofs.Parts.{take-counted}
 use Rattle.gate_listings.proofs.answer.Statement.{statement}
 use Rattle.gate_listings.proofs.answer.Tie as tie
 
@@ -15,7 +15,7 @@ slice-reshare-prefix-write-all c = search needs
 
 slice-aggregate-write-all : tie.Need-slice-aggregate-write-all
 slice-aggregate-write-all c =
-    counted _ _ (c .before .before .before .say .ensures .count)
+    take-counted _ _ (c .before .before .before .say .ensures .count)
 
 write-all-requires : tie.Need-write-all-requires
 write-all-requires c κs = search needs

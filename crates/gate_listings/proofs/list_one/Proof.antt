@@ -1,7 +1,7 @@
 -- `listings::list_one` meets its contract: the part of the bytes that the tape takes is as long as it says. Assumes nothing.
 use borrow.Author.Needs.{needs}
 use native.Mathlib.Omega.{arith}
-use Rattle.law_base.specs.Parts.{counted}
+use Rattle.law_base.proofs.Parts.{take-counted}
 use Rattle.gate_listings.proofs.list_one.Statement.{statement}
 use Rattle.gate_listings.proofs.list_one.Tie as tie
 
@@ -31,7 +31,7 @@ slice-relend-prefix-answer c = search needs
 
 slice-aggregate-answer : tie.Need-slice-aggregate-answer
 slice-aggregate-answer c =
-    counted _ _ (omega (arith, c .before .number-up-to2 .ensures))
+    take-counted _ _ (omega (arith, c .before .number-up-to2 .ensures))
 
 answer-requires : tie.Need-answer-requires
 answer-requires c κs = search needs

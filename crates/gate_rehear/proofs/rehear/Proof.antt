@@ -1,5 +1,5 @@
 -- `rehear` meets its contract: the rows that the tables have fit them. Assumes nothing.
-use Rattle.law_base.specs.Parts.{counted}
+use Rattle.law_base.proofs.Parts.{take-counted}
 use borrow.Author.Needs.{needs}
 use native.Mathlib.Omega.{arith}
 use Rattle.gate_rehear.proofs.rehear.Statement.{statement}
@@ -52,14 +52,14 @@ array-borrow-prefix-counts c = search needs
 
 slice-aggregate-run : tie.Need-slice-aggregate-run
 slice-aggregate-run c =
-    counted _ _ (omega (arith, c .before .before .before .number-up-to4 .ensures, c .before .before .before .before .before .before .before .before .before .before .before .before .before .before .buffer .ensures))
+    take-counted _ _ (omega (arith, c .before .before .before .number-up-to4 .ensures, c .before .before .before .before .before .before .before .before .before .before .before .before .before .before .buffer .ensures))
 
 slice-relend-prefix-run : tie.Need-slice-relend-prefix-run
 slice-relend-prefix-run c = search needs
 
 slice-aggregate-run-2 : tie.Need-slice-aggregate-run-2
 slice-aggregate-run-2 c =
-    counted _ _ (omega (arith, c .before .before .number-up-to5 .ensures))
+    take-counted _ _ (omega (arith, c .before .before .number-up-to5 .ensures))
 
 mul-run : tie.Need-mul-run
 mul-run c = search needs
@@ -69,7 +69,7 @@ slice-relend-prefix-run-2 c = search needs
 
 slice-aggregate-run-3 : tie.Need-slice-aggregate-run-3
 slice-aggregate-run-3 c =
-    counted _ _ (omega (arith, c .before .before .before .before .before .before .before .before .before .before .before .number-up-to .ensures))
+    take-counted _ _ (omega (arith, c .before .before .before .before .before .before .before .before .before .before .before .number-up-to .ensures))
 
 mul-run-2 : tie.Need-mul-run-2
 mul-run-2 c = search needs
@@ -79,7 +79,7 @@ slice-relend-prefix-run-3 c = search needs
 
 slice-aggregate-run-4 : tie.Need-slice-aggregate-run-4
 slice-aggregate-run-4 c =
-    counted _ _ (omega (arith, c .before .before .before .before .before .before .before .before .before .before .number-up-to2 .ensures))
+    take-counted _ _ (omega (arith, c .before .before .before .before .before .before .before .before .before .before .number-up-to2 .ensures))
 
 array-read-run : tie.Need-array-read-run
 array-read-run c = search needs

@@ -1,5 +1,5 @@
 -- `replay` meets its contract. Assumes nothing.
-use Rattle.law_base.specs.Parts.{counted}
+use Rattle.law_base.proofs.Parts.{take-counted}
 use native.Mathlib.Omega.{arith}
 use borrow.Author.Needs.{needs}
 use Rattle.gate_replay.proofs.replay.Statement.{statement}
@@ -43,25 +43,25 @@ slice-relend-prefix-answer c = search needs
 
 slice-aggregate-answer : tie.Need-slice-aggregate-answer
 slice-aggregate-answer c =
-    counted _ _ (omega (arith, c .before .number-up-to2 .ensures))
+    take-counted _ _ (omega (arith, c .before .number-up-to2 .ensures))
 
 slice-relend-prefix-answer-2 : tie.Need-slice-relend-prefix-answer-2
 slice-relend-prefix-answer-2 c = search needs
 
 slice-aggregate-answer-2 : tie.Need-slice-aggregate-answer-2
 slice-aggregate-answer-2 c =
-    counted _ _ (omega (arith, c .before .before .before .before .before .before .lent .ensures))
+    take-counted _ _ (omega (arith, c .before .before .before .before .before .before .lent .ensures))
 
 slice-relend-prefix-answer-3 : tie.Need-slice-relend-prefix-answer-3
 slice-relend-prefix-answer-3 c = search needs
 
 slice-aggregate-answer-3 : tie.Need-slice-aggregate-answer-3
 slice-aggregate-answer-3 c =
-    counted _ _ (omega (arith, c .before .before .before .before .before .lent2 .ensures))
+    take-counted _ _ (omega (arith, c .before .before .before .before .before .lent2 .ensures))
 
 answer-requires : tie.Need-answer-requires
 answer-requires c κs =
-    omega (arith, c .before .before .before .before .before .before .before .before .before .before .before .before .before .before .before .before .before .pre, c .before .before .before .number-up-to2 .ensures, counted (c .before .before .before .before .before .before .before .before .before .before .before .before .before .before .before .before .before .args .bytes .now) (c .before .before .before .number-up-to2 .result) (omega (arith, c .before .before .before .number-up-to2 .ensures)))
+    omega (arith, c .before .before .before .before .before .before .before .before .before .before .before .before .before .before .before .before .before .pre, c .before .before .before .number-up-to2 .ensures, take-counted (c .before .before .before .before .before .before .before .before .before .before .before .before .before .before .before .before .before .args .bytes .now) (c .before .before .before .number-up-to2 .result) (omega (arith, c .before .before .before .number-up-to2 .ensures)))
 
 same-length : tie.Need-same-length
 same-length c = search needs

@@ -1,5 +1,5 @@
 -- `retrace` meets its contract. Assumes nothing.
-use Rattle.law_base.specs.Parts.{counted}
+use Rattle.law_base.proofs.Parts.{take-counted}
 use borrow.Author.Needs.{needs}
 use native.Mathlib.Omega.{arith}
 use Rattle.gate_retrace.proofs.retrace.Statement.{statement}
@@ -22,7 +22,7 @@ slice-relend-prefix-run c = search needs
 
 slice-aggregate-run : tie.Need-slice-aggregate-run
 slice-aggregate-run c =
-    counted _ _ (omega (arith, c .before .number-up-to .ensures))
+    take-counted _ _ (omega (arith, c .before .number-up-to .ensures))
 
 run-requires : tie.Need-run-requires
 run-requires c κs = search needs

@@ -1,5 +1,5 @@
 -- `answers::format_number` meets its contract: each format has its number. Assumes nothing.
-use Rattle.host_answers.specs.Answers.{formatOf}
+use Rattle.host_answers.specs.Answers.{formatNumber}
 use borrow.Author.Needs.{needs}
 use Rattle.host_answers.proofs.format_number.Statement.{statement}
 use Rattle.host_answers.proofs.format_number.Tie as tie
@@ -11,12 +11,12 @@ enum-told-2 : tie.Need-enum-told-2
 enum-told-2 c = search needs
 
 returns : tie.Need-returns
-unfolding formatOf
+unfolding formatNumber
 returns c =
     rw (c .enum-told .given .1)
 
 returns-2 : tie.Need-returns-2
-unfolding formatOf
+unfolding formatNumber
 returns-2 c =
     rw (c .enum-told2 .given .1)
 

@@ -2,7 +2,7 @@
 use native.Mathlib.Omega.{arith}
 use mathlib.Core.Path.{refl}
 use borrow.Author.Needs.{needs}
-use Rattle.listing.proofs.Mounting.{told, lent-words, load-ready, no-model, too-long, load-refused, load-told}
+use Rattle.listing.proofs.Mounting.{leaves-told, lent-words, load-ready, no-model, too-long, load-refused, load-told}
 use Rattle.listing.proofs.glyvrask_listing.Statement.{statement}
 use Rattle.listing.proofs.glyvrask_listing.Tie as tie
 
@@ -41,7 +41,7 @@ slice-aggregate-tell-2 c =
 tell-requires : tie.Need-tell-requires
 tell-requires c κs =
     let a = c .before .before .before .before .before .before .before .before .before .before .before .before .before .before .before .args in
-    load-ready (a .tape .now) (a .model) (λ i. c .before .before .before .before .before .before .before .before .before .before .before .before .before .before .shared-slice-known .given i .fits) (told (lent-words (a .tape .now) (a .model) (c .before .before .before .before .before .before .before .before .load .ensures)) (c .before .before .before .before .format .given .1))
+    load-ready (a .tape .now) (a .model) (λ i. c .before .before .before .before .before .before .before .before .before .before .before .before .before .before .shared-slice-known .given i .fits) (leaves-told (lent-words (a .tape .now) (a .model) (c .before .before .before .before .before .before .before .before .load .ensures)) (c .before .before .before .before .format .given .1))
 
 enum-known-k : tie.Need-enum-known-k
 enum-known-k c =
@@ -54,12 +54,12 @@ same-length c =
 returns-3 : tie.Need-returns-3
 returns-3 c =
     let a = c .before .before .before .before .before .before .before .before .before .before .before .before .before .before .before .before .before .before .args in
-    load-told (a .tape .now) (a .model) (omega arith) (omega arith) (a .out .now) (told (lent-words (a .tape .now) (a .model) (c .before .before .before .before .before .before .before .before .before .before .before .load .ensures)) (c .before .before .before .before .before .before .before .format .given .1)) (c .before .before .tell .ensures)
+    load-told (a .tape .now) (a .model) (omega arith) (omega arith) (a .out .now) (leaves-told (lent-words (a .tape .now) (a .model) (c .before .before .before .before .before .before .before .before .before .before .before .load .ensures)) (c .before .before .before .before .before .before .before .format .given .1)) (c .before .before .tell .ensures)
 
 returns-4 : tie.Need-returns-4
 returns-4 c =
     let a = c .before .before .before .before .before .before .before .before .before .before .before .before .args in
-    load-refused (a .tape .now) (a .model) (omega arith) (omega arith) (a .out .now) (told (lent-words (a .tape .now) (a .model) (c .before .before .before .before .before .load .ensures)) (c .before .k .given .1))
+    load-refused (a .tape .now) (a .model) (omega arith) (omega arith) (a .out .now) (leaves-told (lent-words (a .tape .now) (a .model) (c .before .before .before .before .before .load .ensures)) (c .before .k .given .1))
 
 pub glyvrask-listing-spec : {M : Type 1} → statement M
 glyvrask-listing-spec =

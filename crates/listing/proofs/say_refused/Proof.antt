@@ -4,7 +4,7 @@ use borrow.Author.Needs.{needs}
 use Rattle.text_out.proofs.Writing.{then}
 use Rattle.listing.proofs.Saying.{refused-most, says-written}
 use Rattle.text_lines.proofs.Texts.{decimal-long}
-use Rattle.listing.specs.Printed.{refusedText}
+use Rattle.listing.specs.Printed.{printedNo}
 use Rattle.listing.proofs.say_refused.Statement.{statement}
 use Rattle.listing.proofs.say_refused.Tie as tie
 
@@ -25,7 +25,7 @@ same-length : tie.Need-same-length
 same-length c = search needs
 
 returns : tie.Need-returns
-unfolding refusedText
+unfolding printedNo
 returns c =
     says-written (then (then (c .before .before .before .before .before .before .before .before .before .before .put-all .ensures) (c .before .before .before .before .before .before .put-decimal .ensures)) (c .before .before .put .ensures)) (omega (arith, c .before .before .before .before .before .before .before .before .before .before .before .before .before .before .pre, refused-most (c .before .before .before .before .before .before .before .before .before .before .before .before .before .before .args .k)))
 

@@ -2,7 +2,7 @@
 use native.Mathlib.Omega.{arith}
 use borrow.Author.Needs.{needs}
 use Rattle.play_entries.specs.Mounted.{tapeOf}
-use Rattle.text_out.proofs.Writing.{counted}
+use Rattle.text_out.proofs.Writing.{wrote-counted}
 use Rattle.text_page.specs.Page.{listingText}
 use Rattle.text_page.proofs.Texts.{text-most}
 use Rattle.listing.proofs.Texts.{tells-short, tells}
@@ -24,7 +24,7 @@ put-listing-requires c κs = search needs
 cast-result : tie.Need-cast-result
 cast-result c =
     let s = c .before .before .before .before .before .before .before .before .before .before in
-    omega (arith, counted (c .before .before .put-listing .ensures), text-most (s .args .model) (s .args .format) (s .pre))
+    omega (arith, wrote-counted (c .before .before .put-listing .ensures), text-most (s .args .model) (s .args .format) (s .pre))
 
 same-length : tie.Need-same-length
 same-length c = search needs

@@ -2,7 +2,7 @@
 use lib.Bits.{and-mask}
 use native.Mathlib.Omega.{arith}
 use native.Mathlib.Nat.{one-le-pow}
-use Rattle.load_general.specs.General.{numberAt}
+use Rattle.load_general.specs.General.{symbolNumber}
 use borrow.Author.Needs.{needs}
 use Rattle.load_general.proofs.number_at.Statement.{statement}
 use Rattle.load_general.proofs.number_at.Tie as tie
@@ -27,7 +27,7 @@ sub-result c =
     omega (arith, c .power .ensures, one-le-pow (c .before .before .before .before .before .args .g .nb) 2 (omega arith))
 
 returns : tie.Need-returns
-unfolding numberAt
+unfolding symbolNumber
 returns c =
     rw (c .power .ensures, and-mask, c .before .shift .ensures, c .before .before .byte-at .ensures)
 

@@ -1,5 +1,5 @@
 -- `symbol` meets its contract. Assumes nothing.
-use Rattle.load_general.specs.Held.{pulsesOf}
+use Rattle.load_general.specs.Held.{symbolWords}
 use Rattle.load_general.specs.General.{symbolAt}
 use borrow.Author.Tests.{lt-ltb, le-ltb}
 use borrow.Author.Needs.{needs}
@@ -31,12 +31,12 @@ pulse-requires-2 : tie.Need-pulse-requires-2
 pulse-requires-2 c κs = search needs
 
 returns : tie.Need-returns
-unfolding pulsesOf symbolAt
+unfolding symbolWords symbolAt
 returns c =
     rw (c .before .before .pulse .ensures, c .pulse2 .ensures, lt-ltb _ _ (c .before .if1 .taken))
 
 returns-2 : tie.Need-returns-2
-unfolding pulsesOf symbolAt
+unfolding symbolWords symbolAt
 returns-2 c =
     rw (c .before .pulse .ensures, le-ltb _ _ (c .if1 .left))
 

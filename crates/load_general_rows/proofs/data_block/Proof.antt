@@ -5,9 +5,9 @@ use Prim.Native.Nat.{_-_, _≤_}
 use Rattle.load_general_rows.proofs.Answers.{pilot-plain, plain-fits, plain-full, plain-two}
 use Rattle.load_general.proofs.Parts.{told-rows, told-tones}
 use Rattle.load_general.proofs.Symbols.{two-inside}
-use Rattle.load_general.specs.Held.{pulsesOf}
-use Rattle.load_general.specs.Made.{tonesOf}
-use Rattle.load_general.specs.General.{pilotOf, symbolAt, lastBits}
+use Rattle.load_general.specs.Held.{symbolWords}
+use Rattle.load_general.specs.Made.{partTones}
+use Rattle.load_general.specs.General.{pilotOf, symbolAt, usedBits}
 use borrow.Author.Tests.{leb-true}
 use native.Mathlib.Omega.{arith}
 use mathlib.Core.Path.{sym, _∙_}
@@ -46,16 +46,16 @@ same-length : tie.Need-same-length
 same-length c = search needs
 
 returns : tie.Need-returns
-unfolding pulsesOf
+unfolding symbolWords
 returns c =
-    let a = c .before .before .before .before .before .before .before .before .before .before .before .before .before .args in let s = a .tape .now in let g = a .g in let p = c .before .before .before .before .before .before .before .before .before .before .before .before .before .pre in let q = pilotOf s g in let o = told-rows q (p .1) in rw (c .data-made .ensures, c .before .before .before .symbol .ensures, c .before .before .symbol2 .ensures, c .before .last-bits .ensures, c .before .before .before .before .before .before .put-pilot .ensures, pilot-plain s g (tonesOf q) (o .0) (p .2)) (plain-fits (a .used) (a .tones .now) (tonesOf q) (symbolAt s (g .symbols) 2 0 .first) (symbolAt s (g .symbols) 2 1 .first) (lastBits (g .totd)) (a .n) (o .1) (sym (c .before .before .before .before .before .before .before .before .before .room-for .ensures) ∙ c .before .before .before .before .before .before .before .before .if1 .taken))
+    let a = c .before .before .before .before .before .before .before .before .before .before .before .before .before .args in let s = a .tape .now in let g = a .g in let p = c .before .before .before .before .before .before .before .before .before .before .before .before .before .pre in let q = pilotOf s g in let o = told-rows q (p .1) in rw (c .data-made .ensures, c .before .before .before .symbol .ensures, c .before .before .symbol2 .ensures, c .before .last-bits .ensures, c .before .before .before .before .before .before .put-pilot .ensures, pilot-plain s g (partTones q) (o .0) (p .2)) (plain-fits (a .used) (a .tones .now) (partTones q) (symbolAt s (g .symbols) 2 0 .first) (symbolAt s (g .symbols) 2 1 .first) (usedBits (g .totd)) (a .n) (o .1) (sym (c .before .before .before .before .before .before .before .before .before .room-for .ensures) ∙ c .before .before .before .before .before .before .before .before .if1 .taken))
 
 same-length-2 : tie.Need-same-length-2
 same-length-2 c = search needs
 
 returns-2 : tie.Need-returns-2
 returns-2 c =
-    let a = c .before .before .before .before .before .args in let s = a .tape .now in let g = a .g in let p = c .before .before .before .before .before .pre in let q = pilotOf s g in let o = told-rows q (p .1) in rw (pilot-plain s g (tonesOf q) (o .0) (p .2)) (plain-full (a .used) (a .tones .now) (tonesOf q) (symbolAt s (g .symbols) 2 0 .first) (symbolAt s (g .symbols) 2 1 .first) (lastBits (g .totd)) (a .n) (o .1) (sym (c .before .room-for .ensures) ∙ c .if1 .left))
+    let a = c .before .before .before .before .before .args in let s = a .tape .now in let g = a .g in let p = c .before .before .before .before .before .pre in let q = pilotOf s g in let o = told-rows q (p .1) in rw (pilot-plain s g (partTones q) (o .0) (p .2)) (plain-full (a .used) (a .tones .now) (partTones q) (symbolAt s (g .symbols) 2 0 .first) (symbolAt s (g .symbols) 2 1 .first) (usedBits (g .totd)) (a .n) (o .1) (sym (c .before .room-for .ensures) ∙ c .if1 .left))
 
 pub data-block-spec : {M : Type 1} → statement M
 data-block-spec =

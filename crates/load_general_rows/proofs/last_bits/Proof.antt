@@ -1,16 +1,16 @@
 -- `last_bits` meets its contract. Assumes nothing.
-use Rattle.load_general.specs.General.{lastBits}
+use Rattle.load_general.specs.General.{usedBits}
 use borrow.Author.Tests.{eq-eqb, ne-eqb}
 use Rattle.load_general_rows.proofs.last_bits.Statement.{statement}
 use Rattle.load_general_rows.proofs.last_bits.Tie as tie
 
 returns : tie.Need-returns
-unfolding lastBits
+unfolding usedBits
 returns c =
     rw (eq-eqb _ _ (c .if1 .taken))
 
 returns-2 : tie.Need-returns-2
-unfolding lastBits
+unfolding usedBits
 returns-2 c =
     rw (ne-eqb _ _ (c .if1 .left))
 

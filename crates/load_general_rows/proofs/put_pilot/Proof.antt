@@ -1,6 +1,6 @@
 -- `put_pilot` meets its contract. Assumes nothing.
 use Rattle.load_general.proofs.Parts.{pilot-sorted, sorted-tones, sorted-count}
-use Rattle.load_general.specs.Made.{tonesOf}
+use Rattle.load_general.specs.Made.{partTones}
 use Rattle.load_general.specs.General.{pilotOf}
 use Rattle.rows.specs.Table.{putAll}
 use borrow.Author.Tests.{eq-eqb}
@@ -21,7 +21,7 @@ returns c =
     let a = c .before .before .before .before .before .before .before .before .args in let o = pilot-sorted (a .tape .now) (a .g) (c .before .before .before .before .if1 .taken) (c .before .before .before .before .before .before .before .before .pre .1) in rw (o .rows) (c .before .before .put-entries .ensures)
 
 returns-2 : tie.Need-returns-2
-unfolding pilotOf tonesOf putAll
+unfolding pilotOf partTones putAll
 returns-2 c =
     rw (eq-eqb (c .before .before .before .before .args .g .totp) 0 (omega arith))
 

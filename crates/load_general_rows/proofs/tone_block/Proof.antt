@@ -4,8 +4,8 @@ use Rattle.rows.specs.Table.{capacityOf}
 use Prim.Native.Nat.{_-_, _≤_}
 use Rattle.load_general_rows.proofs.Answers.{data-tones, toned-fits, toned-full}
 use Rattle.load_general.proofs.Parts.{told-rows, told-tones}
-use Rattle.load_general.specs.Made.{tonesOf}
-use Rattle.load_general.specs.General.{pilotOf, dataOf}
+use Rattle.load_general.specs.Made.{partTones}
+use Rattle.load_general.specs.General.{pilotOf, dataPart}
 use borrow.Author.Tests.{leb-true}
 use native.Mathlib.Omega.{arith}
 use mathlib.Core.Path.{sym, _∙_}
@@ -30,21 +30,21 @@ add-put-data c =
 
 put-data-requires : tie.Need-put-data-requires
 put-data-requires c κs =
-    let a = c .before .before .before .before .before .before .before .before .before .before .args in let p = c .before .before .before .before .before .before .before .before .before .before .pre in let q = dataOf (a .tape .now) (a .g) in let f : a .n + a .m ≤ capacityOf tone toneMost (a .tones .now) - a .used = leb-true _ _ (sym (c .before .before .before .before .before .before .room-for .ensures) ∙ c .before .before .before .before .before .if1 .taken) in (p .0, told-tones q (p .2), omega (arith, told-rows q (p .2) .1))
+    let a = c .before .before .before .before .before .before .before .before .before .before .args in let p = c .before .before .before .before .before .before .before .before .before .before .pre in let q = dataPart (a .tape .now) (a .g) in let f : a .n + a .m ≤ capacityOf tone toneMost (a .tones .now) - a .used = leb-true _ _ (sym (c .before .before .before .before .before .before .room-for .ensures) ∙ c .before .before .before .before .before .if1 .taken) in (p .0, told-tones q (p .2), omega (arith, told-rows q (p .2) .1))
 
 same-length : tie.Need-same-length
 same-length c = search needs
 
 returns : tie.Need-returns
 returns c =
-    let a = c .before .before .before .before .before .before .before .before .before .before .before .before .before .args in let s = a .tape .now in let g = a .g in let p = c .before .before .before .before .before .before .before .before .before .before .before .before .before .pre in let q = told-rows (pilotOf s g) (p .1) in let d = told-rows (dataOf s g) (p .2) in rw (c .before .before .put-data .ensures, c .before .before .before .before .before .before .put-pilot .ensures, data-tones (tonesOf (pilotOf s g)) (tonesOf (dataOf s g)) (d .0)) (toned-fits (a .used) (a .tones .now) (tonesOf (pilotOf s g)) (tonesOf (dataOf s g)) (a .n) (a .m) (q .1) (d .1) (sym (c .before .before .before .before .before .before .before .before .before .room-for .ensures) ∙ c .before .before .before .before .before .before .before .before .if1 .taken))
+    let a = c .before .before .before .before .before .before .before .before .before .before .before .before .before .args in let s = a .tape .now in let g = a .g in let p = c .before .before .before .before .before .before .before .before .before .before .before .before .before .pre in let q = told-rows (pilotOf s g) (p .1) in let d = told-rows (dataPart s g) (p .2) in rw (c .before .before .put-data .ensures, c .before .before .before .before .before .before .put-pilot .ensures, data-tones (partTones (pilotOf s g)) (partTones (dataPart s g)) (d .0)) (toned-fits (a .used) (a .tones .now) (partTones (pilotOf s g)) (partTones (dataPart s g)) (a .n) (a .m) (q .1) (d .1) (sym (c .before .before .before .before .before .before .before .before .before .room-for .ensures) ∙ c .before .before .before .before .before .before .before .before .if1 .taken))
 
 same-length-2 : tie.Need-same-length-2
 same-length-2 c = search needs
 
 returns-2 : tie.Need-returns-2
 returns-2 c =
-    let a = c .before .before .before .before .before .args in let s = a .tape .now in let g = a .g in let p = c .before .before .before .before .before .pre in let q = told-rows (pilotOf s g) (p .1) in let d = told-rows (dataOf s g) (p .2) in rw (data-tones (tonesOf (pilotOf s g)) (tonesOf (dataOf s g)) (d .0)) (toned-full (a .used) (a .tones .now) (tonesOf (pilotOf s g)) (tonesOf (dataOf s g)) (a .n) (a .m) (q .1) (d .1) (sym (c .before .room-for .ensures) ∙ c .if1 .left))
+    let a = c .before .before .before .before .before .args in let s = a .tape .now in let g = a .g in let p = c .before .before .before .before .before .pre in let q = told-rows (pilotOf s g) (p .1) in let d = told-rows (dataPart s g) (p .2) in rw (data-tones (partTones (pilotOf s g)) (partTones (dataPart s g)) (d .0)) (toned-full (a .used) (a .tones .now) (partTones (pilotOf s g)) (partTones (dataPart s g)) (a .n) (a .m) (q .1) (d .1) (sym (c .before .room-for .ensures) ∙ c .if1 .left))
 
 pub tone-block-spec : {M : Type 1} → statement M
 tone-block-spec =

@@ -1,8 +1,8 @@
 -- `with_pilot` meets its contract. Assumes nothing.
 use Rattle.load_general_rows.proofs.Answers.{pilot-data, data-refused, data-stop, done-refused, done-stop}
 use Rattle.load_general.proofs.Parts.{told-rows, told-refused, told-stop}
-use Rattle.load_general.specs.Made.{tonesOf}
-use Rattle.load_general.specs.General.{pilotOf, dataOf}
+use Rattle.load_general.specs.Made.{partTones}
+use Rattle.load_general.specs.General.{pilotOf, dataPart}
 use mathlib.Core.Path.{sym, _∙_}
 use borrow.Author.Needs.{needs}
 use Rattle.load_general_rows.proofs.with_pilot.Statement.{statement}
@@ -39,18 +39,18 @@ tone-block-requires c κs =
 
 returns-2 : tie.Need-returns-2
 returns-2 c =
-    let a = c .before .before .before .before .before .before .before .args in let s = a .tape .now in let g = a .g in let o = told-rows (pilotOf s g) (c .before .before .before .before .before .before .before .pre .1) in rw (pilot-data s g (tonesOf (pilotOf s g)) (o .0) (sym (c .before .before .before .before .ordinary .ensures) ∙ c .before .before .before .if1 .left), data-refused (tonesOf (pilotOf s g)) (told-refused (dataOf s g) (sym (c .before .before .data-part .ensures) ∙ c .enum-told .given .1))) (done-refused (a .used) (a .tones .now))
+    let a = c .before .before .before .before .before .before .before .args in let s = a .tape .now in let g = a .g in let o = told-rows (pilotOf s g) (c .before .before .before .before .before .before .before .pre .1) in rw (pilot-data s g (partTones (pilotOf s g)) (o .0) (sym (c .before .before .before .before .ordinary .ensures) ∙ c .before .before .before .if1 .left), data-refused (partTones (pilotOf s g)) (told-refused (dataPart s g) (sym (c .before .before .data-part .ensures) ∙ c .enum-told .given .1))) (done-refused (a .used) (a .tones .now))
 
 returns-3 : tie.Need-returns-3
 returns-3 c =
-    let a = c .before .before .before .before .before .before .before .args in let s = a .tape .now in let g = a .g in let o = told-rows (pilotOf s g) (c .before .before .before .before .before .before .before .pre .1) in rw (pilot-data s g (tonesOf (pilotOf s g)) (o .0) (sym (c .before .before .before .before .ordinary .ensures) ∙ c .before .before .before .if1 .left), data-stop (tonesOf (pilotOf s g)) (told-stop (dataOf s g) (sym (c .before .before .data-part .ensures) ∙ c .enum-told2 .given .1))) (done-stop (a .used) (a .tones .now))
+    let a = c .before .before .before .before .before .before .before .args in let s = a .tape .now in let g = a .g in let o = told-rows (pilotOf s g) (c .before .before .before .before .before .before .before .pre .1) in rw (pilot-data s g (partTones (pilotOf s g)) (o .0) (sym (c .before .before .before .before .ordinary .ensures) ∙ c .before .before .before .if1 .left), data-stop (partTones (pilotOf s g)) (told-stop (dataPart s g) (sym (c .before .before .data-part .ensures) ∙ c .enum-told2 .given .1))) (done-stop (a .used) (a .tones .now))
 
 same-length-2 : tie.Need-same-length-2
 same-length-2 c = search needs
 
 returns-4 : tie.Need-returns-4
 returns-4 c =
-    let a = c .before .before .before .before .before .before .before .before .before .before .before .before .args in let s = a .tape .now in let g = a .g in let o = told-rows (pilotOf s g) (c .before .before .before .before .before .before .before .before .before .before .before .before .pre .1) in rw (pilot-data s g (tonesOf (pilotOf s g)) (o .0) (sym (c .before .before .before .before .before .before .before .before .before .ordinary .ensures) ∙ c .before .before .before .before .before .before .before .before .if1 .left)) (c .before .before .tone-block .ensures)
+    let a = c .before .before .before .before .before .before .before .before .before .before .before .before .args in let s = a .tape .now in let g = a .g in let o = told-rows (pilotOf s g) (c .before .before .before .before .before .before .before .before .before .before .before .before .pre .1) in rw (pilot-data s g (partTones (pilotOf s g)) (o .0) (sym (c .before .before .before .before .before .before .before .before .before .ordinary .ensures) ∙ c .before .before .before .before .before .before .before .before .if1 .left)) (c .before .before .tone-block .ensures)
 
 pub with-pilot-spec : {M : Type 1} → statement M
 with-pilot-spec =

@@ -2,7 +2,7 @@
 use Rattle.load_state.proofs.Copies.{Begins, begins, begins-rows, begins-length, body-turn, bodies-end}
 use Rattle.load_state.proofs.Laws.{Going, going-starts, going-on, going-no, going-ends}
 use Rattle.load_state.specs.Holds.{Holds, blockRoom}
-use Rattle.load_state.specs.Parser.{Tape, copyRows, copies}
+use Rattle.load_state.specs.Parser.{Parsed, copyRows, copies}
 use lib.Seq.{slice}
 use lib.ListN.{length}
 use mathlib.Core.List.{List}
@@ -16,7 +16,7 @@ use Rattle.load_loops.proofs.copy_bodies.Tie as tie
 abbrev Inv-loop : tie.InvT-loop
 Inv-loop blocks₀ start end times s₀ left₀ blocks s left =
     (length blocks ≡ length blocks₀)
-    × ((B N : ℕ) (tt : List ℕ) (t : Tape) → Holds B N s₀ blocks₀ tt t → end ≤ length (t .blocks) → Going (Begins (t .blocks)) B N s blocks tt (copies (blockRoom B) left (slice start end (t .blocks))) (copies (blockRoom B) times (slice start end (t .blocks)) t))
+    × ((B N : ℕ) (tt : List ℕ) (t : Parsed) → Holds B N s₀ blocks₀ tt t → end ≤ length (t .blocks) → Going (Begins (t .blocks)) B N s blocks tt (copies (blockRoom B) left (slice start end (t .blocks))) (copies (blockRoom B) times (slice start end (t .blocks)) t))
 
 abbrev μ-loop : tie.MeasureT-loop
 μ-loop blocks₀ start end times s₀ left₀ blocks s left = left

@@ -2,7 +2,7 @@
 use Rattle.load_state.proofs.Copies.{Begins, begins, begins-block, row-turn, rows-end}
 use Rattle.load_state.proofs.Laws.{Going, going-starts, going-on, going-no, going-ends}
 use Rattle.load_state.specs.Holds.{Holds, blockRoom}
-use Rattle.load_state.specs.Parser.{Tape, nameless, addBlock, copyRows}
+use Rattle.load_state.specs.Parser.{Parsed, nameless, addBlock, copyRows}
 use Rattle.rows.specs.Rows.{block}
 use Rattle.rows.specs.Table.{get}
 use lib.Seq.{slice}
@@ -18,7 +18,7 @@ use Rattle.load_loops.proofs.copy_body.Tie as tie
 abbrev Inv-loop : tie.InvT-loop
 Inv-loop blocks₀ start end s₀ i₀ blocks s i =
     (length blocks ≡ length blocks₀)
-    × ((B N : ℕ) (tt : List ℕ) (t : Tape) → Holds B N s₀ blocks₀ tt t → end ≤ length (t .blocks) → Going (Begins (t .blocks)) B N s blocks tt (copyRows (blockRoom B) (slice i end (t .blocks))) (copyRows (blockRoom B) (slice start end (t .blocks)) t))
+    × ((B N : ℕ) (tt : List ℕ) (t : Parsed) → Holds B N s₀ blocks₀ tt t → end ≤ length (t .blocks) → Going (Begins (t .blocks)) B N s blocks tt (copyRows (blockRoom B) (slice i end (t .blocks))) (copyRows (blockRoom B) (slice start end (t .blocks)) t))
 
 abbrev μ-loop : tie.MeasureT-loop
 μ-loop blocks₀ start end s₀ i₀ blocks s i = end - i

@@ -4,7 +4,7 @@ use mathlib.Core.Path.{_≡_, refl}
 use native.Mathlib.Omega.{arith}
 use lib.ListN.{length}
 use borrow.Author.Needs.{needs}
-use Rattle.load_state.specs.Parser.{Tape}
+use Rattle.load_state.specs.Parser.{Parsed}
 use Rattle.load_state.specs.Holds.{Holds}
 use Rattle.load_state.proofs.Laws.{Going, going-starts, going-on, going-no, going-ends}
 use Rattle.load_blocks.specs.Sounds.{rowOf, addSound, addSounds}
@@ -17,7 +17,7 @@ use Rattle.load_pulsed.proofs.pulse_blocks.Tie as tie
 abbrev Inv-loop : tie.InvT-loop
 Inv-loop tape blocks₀ tones₀ origin from n s₀ i₀ left₀ blocks tones s i left =
     (length blocks ≡ length blocks₀) × (length tones ≡ length tones₀) × (i + left * 2 ≡ n * 2)
-    × ((B N : ℕ) (t : Tape) → Holds B N s₀ blocks₀ tones₀ t → Going Any B N s blocks tones (addSounds (lentOf B N) origin (pairSounds tape from i left)) (addSounds (lentOf B N) origin (pairSounds tape from 0 n) t))
+    × ((B N : ℕ) (t : Parsed) → Holds B N s₀ blocks₀ tones₀ t → Going Any B N s blocks tones (addSounds (lentOf B N) origin (pairSounds tape from i left)) (addSounds (lentOf B N) origin (pairSounds tape from 0 n) t))
 
 abbrev μ-loop : tie.MeasureT-loop
 μ-loop tape blocks₀ tones₀ origin from n s₀ i₀ left₀ blocks tones s i left = left

@@ -1,10 +1,10 @@
 -- `selecting::name_blocks` meets its contract: each turn is one step of the pass. Assumes nothing.
 use Rattle.text_name.proofs.Selecting.{next, name-turn, name-all-pass}
-use Rattle.text_name.specs.Names.{passed}
-use Rattle.rows.proofs.Passes.{turned, carried, turned-all}
+use Rattle.text_name.specs.Names.{nameOne}
+use Rattle.rows.proofs.Passes.{turnedRows, carried, turned-all}
 use Rattle.rows.proofs.Whole.{block-whole}
 use Rattle.rows.proofs.Tables.{rows-length, over-rows}
-use Rattle.rows.specs.Table.{over, rowsOf}
+use Rattle.rows.specs.Table.{tableOver, rowsOf}
 use Rattle.rows.specs.Rows.{block}
 use lib.ListN.{length}
 use mathlib.Core.Bool.{false}
@@ -18,8 +18,8 @@ use Rattle.load_select.proofs.name_blocks.Tie as tie
 abbrev Inv-loop : tie.InvT-loop
 Inv-loop tape blocks₀ n prefixed₀ i₀ blocks prefixed i =
     (i ≤ n) × (length blocks ≡ length blocks₀)
-    × (prefixed ≡ carried (passed tape) (next tape) i false (rowsOf block blocks₀ n))
-    × (blocks ≡ over block (turned (passed tape) (next tape) i false (rowsOf block blocks₀ n)) blocks₀)
+    × (prefixed ≡ carried (nameOne tape) (next tape) i false (rowsOf block blocks₀ n))
+    × (blocks ≡ tableOver block (turnedRows (nameOne tape) (next tape) i false (rowsOf block blocks₀ n)) blocks₀)
 
 abbrev μ-loop : tie.MeasureT-loop
 μ-loop tape blocks₀ n prefixed₀ i₀ blocks prefixed i = n - i
@@ -65,7 +65,7 @@ returns c =
     let l = c .before .loop in
     let e : l .i ≡ a .n = omega arith in
     let rs = rowsOf block (a .blocks .now) (a .n) in
-    l .inv .3 ∙ rw (e, turned-all (passed (a .tape .now)) (next (a .tape .now)) false rs (a .n) (rows-length block (a .n) (a .blocks .now)), name-all-pass (a .tape .now) false rs)
+    l .inv .3 ∙ rw (e, turned-all (nameOne (a .tape .now)) (next (a .tape .now)) false rs (a .n) (rows-length block (a .n) (a .blocks .now)), name-all-pass (a .tape .now) false rs)
 
 pub name-blocks-spec : {M : Type 1} → statement M
 name-blocks-spec =

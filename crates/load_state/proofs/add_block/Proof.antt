@@ -1,5 +1,5 @@
 -- `add_block` meets its contract. Assumes nothing.
-use Rattle.load_state.proofs.Adds.{full, fits, adds, holds-block}
+use Rattle.load_state.proofs.Adds.{row-full, row-fits, row-adds, holds-block}
 use Rattle.load_state.specs.Holds.{goes, refuses}
 use Rattle.load_state.specs.Parser.{named, addBlock}
 use Rattle.rows.specs.Table.{capacityOf}
@@ -39,11 +39,11 @@ returns c =
     let a = c .before .before .before .before in
     let p = a .before .before .before .before .args in
     let e = c .before .if1 .taken in
-    let k = fits block blockMost (p .blocks .now) (t .blocks) B (p .s .blocks) (h .lenB) (h .nb) (a .append-block .ensures .0) e in
+    let k = row-fits block blockMost (p .blocks .now) (t .blocks) B (p .s .blocks) (h .lenB) (h .nb) (a .append-block .ensures .0) e in
     let q = rw (a .before .take-name .ensures, h .pends) at (a .append-block .ensures .1) in
     let r = named (t .pending) (p .r) in
     rw (lt-ltb _ _ k)
-    (goes (holds-block h r k (omega arith) (adds block blockMost (p .blocks .now) (t .blocks) B (p .s .blocks) (h .lenB) (h .nb) (a .append-block .ensures .0) r (h .isB) q e) (rw (h .pends) at (c .after-use .ensures))))
+    (goes (holds-block h r k (omega arith) (row-adds block blockMost (p .blocks .now) (t .blocks) B (p .s .blocks) (h .lenB) (h .nb) (a .append-block .ensures .0) r (h .isB) q e) (rw (h .pends) at (c .after-use .ensures))))
 
 same-length-2 : tie.Need-same-length-2
 same-length-2 c = search needs
@@ -54,7 +54,7 @@ returns-2 c =
     λ B N tt t h.
     let a = c .before .before .before in
     let p = a .before .before .before .before .args in
-    let k = full block blockMost (p .blocks .now) (t .blocks) B (p .s .blocks) (h .lenB) (h .nb) (a .append-block .ensures .0) (c .if1 .left) in
+    let k = row-full block blockMost (p .blocks .now) (t .blocks) B (p .s .blocks) (h .lenB) (h .nb) (a .append-block .ensures .0) (c .if1 .left) in
     rw (le-ltb _ _ k) refuses
 
 pub add-block-spec : {M : Type 1} → statement M

@@ -1,6 +1,6 @@
 -- `ends_inside` meets its contract. Assumes nothing.
 use borrow.Author.Needs.{needs}
-use Rattle.play_deck.specs.Inside.{inside}
+use Rattle.play_deck.specs.Inside.{endsInside}
 use Rattle.play_deck.proofs.ends_inside.Statement.{statement}
 use Rattle.play_deck.proofs.ends_inside.Tie as tie
 
@@ -11,11 +11,11 @@ enum-told : tie.Need-enum-told
 enum-told c = search needs
 
 returns : tie.Need-returns
-unfolding inside
+unfolding endsInside
 returns c = rw (c .before .left .given .1)
 
 returns-2 : tie.Need-returns-2
-unfolding inside
+unfolding endsInside
 returns-2 c = rw (c .enum-told .given .1)
 
 pub ends-inside-spec : {M : Type 1} → statement M

@@ -1,6 +1,6 @@
 -- `line_behind` meets its contract. Assumes nothing.
 use borrow.Author.Tests.{eq-eqb, ne-eqb}
-use Rattle.play_entries.specs.Sounds.{lineBehind}
+use Rattle.play_entries.specs.Signals.{lineBehind}
 use borrow.Author.Needs.{needs}
 use Rattle.play_phases.proofs.line_behind.Statement.{statement}
 use Rattle.play_phases.proofs.line_behind.Tie as tie

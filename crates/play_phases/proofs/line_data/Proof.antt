@@ -1,6 +1,6 @@
 -- `line_data` meets its contract. Assumes nothing.
 use borrow.Author.Tests.{eq-eqb, ne-eqb}
-use Rattle.play_entries.specs.Sounds.{lineData}
+use Rattle.play_entries.specs.Signals.{lineData}
 use borrow.Author.Needs.{needs}
 use Rattle.play_phases.proofs.line_data.Statement.{statement}
 use Rattle.play_phases.proofs.line_data.Tie as tie

@@ -5,7 +5,7 @@ use mathlib.Core.Path.{sym, ap, _∙_}
 use borrow.Author.Needs.{needs}
 use Rattle.rows.proofs.WellLaws.{block-clauses, numbers-most}
 use Rattle.play_entries.specs.declared.Duration.the-variants.{T}
-use Rattle.play_entries.specs.Mounted.{sizeOf}
+use Rattle.play_entries.specs.Mounted.{tapeSize}
 use Rattle.play_entries.proofs.Bounds.{sound-below}
 use Rattle.play_entries.proofs.Runs.{lasts-stop, lasts-pause}
 use Rattle.play_times.proofs.block_time.Statement.{statement}
@@ -20,8 +20,8 @@ add-t7 c =
     let t = s .args .tape .now in
     let n = s .args .tones .now in
     let r = s .args .r in
-    let w = numbers-most r (block-clauses (sizeOf t) n r (s .pre) .numbers) in
-    omega (arith, w .pause (c .before .before .if1 .left), c .before .sound-time .ensures 0, sound-below (sizeOf t) t n 0 r (s .pre) (omega arith))
+    let w = numbers-most r (block-clauses (tapeSize t) n r (s .pre) .numbers) in
+    omega (arith, w .pause (c .before .before .if1 .left), c .before .sound-time .ensures 0, sound-below (tapeSize t) t n 0 r (s .pre) (omega arith))
 
 returns : tie.Need-returns
 returns c =

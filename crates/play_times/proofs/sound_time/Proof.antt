@@ -4,7 +4,7 @@ use native.Mathlib.Omega.{arith}
 use mathlib.Core.Path.{sym, ap₂, _∙_}
 use Rattle.rows.proofs.WellLaws.{block-clauses, ranges-inside}
 use Rattle.play_entries.specs.Entries.{bitLevel}
-use Rattle.play_entries.specs.Mounted.{sizeOf}
+use Rattle.play_entries.specs.Mounted.{tapeSize}
 use Rattle.play_entries.proofs.Bounds.{sound-below}
 use Rattle.play_entries.proofs.Runs.{sound-time}
 use Rattle.play_times.proofs.sound_time.Statement.{statement}
@@ -13,14 +13,14 @@ use Rattle.play_times.proofs.sound_time.Tie as tie
 tones-time-requires : tie.Need-tones-time-requires
 tones-time-requires c κs =
     let s = c .before .before in
-    let n = sizeOf (s .args .tape .now) in
+    let n = tapeSize (s .args .tape .now) in
     let w = block-clauses n (s .args .tones .now) (s .args .r) (s .pre) in
     (ranges-inside n (s .args .tones .now) (s .args .r) (w .ranges) .rows, w .rows)
 
 data-time-requires : tie.Need-data-time-requires
 data-time-requires c κs =
     let s = c .before .before .before in
-    let n = sizeOf (s .args .tape .now) in
+    let n = tapeSize (s .args .tape .now) in
     let w = block-clauses n (s .args .tones .now) (s .args .r) (s .pre) in
     let i = ranges-inside n (s .args .tones .now) (s .args .r) (w .ranges) in
     ((omega arith, omega arith), w .numbers)
@@ -31,7 +31,7 @@ add-result c =
     let t = s .args .tape .now in
     let n = s .args .tones .now in
     let r = s .args .r in
-    omega (arith, c .before .tones-time .ensures 0, c .data-time .ensures 0 (bitLevel n r), sound-time t n 0 r, sound-below (sizeOf t) t n 0 r (s .pre) (omega arith))
+    omega (arith, c .before .tones-time .ensures 0, c .data-time .ensures 0 (bitLevel n r), sound-time t n 0 r, sound-below (tapeSize t) t n 0 r (s .pre) (omega arith))
 
 returns : tie.Need-returns
 returns c =

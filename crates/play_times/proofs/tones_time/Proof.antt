@@ -8,7 +8,7 @@ use Rattle.law_pulses.specs.Runs.{run}
 use Rattle.law_pulses.proofs.Runs.{run-time-next}
 use Rattle.rows.proofs.WellLaws.{tones-each}
 use Rattle.rows.specs.Well.{wellTone}
-use Rattle.play_entries.specs.Entries.{cycleLevel, toneOf, rowOf, tonesOf}
+use Rattle.play_entries.specs.Entries.{cycleLevel, toneOf, rowEntries, tonesOf}
 use Rattle.play_entries.proofs.Bounds.{tone-most-time, rows-most-time}
 use Rattle.play_entries.proofs.Runs.{row-finite}
 use Rattle.play_times.proofs.tones_time.Statement.{statement}
@@ -16,7 +16,7 @@ use Rattle.play_times.proofs.tones_time.Tie as tie
 
 abbrev Inv-loop : tie.InvT-loop
 Inv-loop tones r sum₀ i₀ sum i =
-    (i ≤ r .tones) × ((b : ℕ) → sum ≡ time (run (rowOf tones b r) 0 i))
+    (i ≤ r .tones) × ((b : ℕ) → sum ≡ time (run (rowEntries tones b r) 0 i))
 
 abbrev μ-loop : tie.MeasureT-loop
 μ-loop tones r sum₀ i₀ sum i = r .tones - i
@@ -61,7 +61,7 @@ loop-again c =
     let r = a .args .r in
     let i = l .loop .i in (
       omega arith,
-      λ b. omega (arith, l .loop .inv .1 b, c .tone-time .ensures b i (cycleLevel t r i), ap (λ x. time (toneOf b i r x (cycleLevel t r i))) (c .before .row-tone .ensures), run-time-next (rowOf t b r) (row-finite t b r) i),
+      λ b. omega (arith, l .loop .inv .1 b, c .tone-time .ensures b i (cycleLevel t r i), ap (λ x. time (toneOf b i r x (cycleLevel t r i))) (c .before .row-tone .ensures), run-time-next (rowEntries t b r) (row-finite t b r) i),
     )
 
 returns : tie.Need-returns Inv-loop μ-loop

@@ -1,6 +1,6 @@
 -- `print_line` meets its contract. Assumes nothing.
 use Rattle.prog_calls.proofs.Room.{line-room}
-use Rattle.law_base.specs.Parts.{counted}
+use Rattle.law_base.proofs.Parts.{take-counted}
 use borrow.Author.Needs.{needs}
 use Rattle.prog_calls.proofs.print_line.Statement.{statement}
 use Rattle.prog_calls.proofs.print_line.Tie as tie
@@ -20,7 +20,7 @@ array-share-prefix-out c =
 
 slice-aggregate-write-all : tie.Need-slice-aggregate-write-all
 slice-aggregate-write-all c =
-    counted _ _ (line-room _ _ _ (c .before .before .put-line .ensures) (c .before .before .before .before .buffer .ensures))
+    take-counted _ _ (line-room _ _ _ (c .before .before .put-line .ensures) (c .before .before .before .before .buffer .ensures))
 
 write-all-requires : tie.Need-write-all-requires
 write-all-requires c κs = search needs

@@ -1,5 +1,5 @@
 -- `print_block` meets its contract. Assumes nothing.
-use Rattle.law_base.specs.Parts.{counted}
+use Rattle.law_base.proofs.Parts.{take-counted}
 use Rattle.prog_tape.proofs.Room.{head-room, row-inside}
 use native.Mathlib.Omega.{arith}
 use borrow.Author.Needs.{needs}
@@ -21,7 +21,7 @@ array-share-prefix-out c =
 
 slice-aggregate-write-all : tie.Need-slice-aggregate-write-all
 slice-aggregate-write-all c =
-    counted _ _ (head-room _ _ _ _ _ _ (c .before .before .put-head .ensures) (c .before .before .before .before .buffer .ensures))
+    take-counted _ _ (head-room _ _ _ _ _ _ (c .before .before .put-head .ensures) (c .before .before .before .before .buffer .ensures))
 
 write-all-requires : tie.Need-write-all-requires
 write-all-requires c κs = search needs

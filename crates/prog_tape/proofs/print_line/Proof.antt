@@ -1,5 +1,5 @@
 -- `print_line` meets its contract. Assumes nothing.
-use Rattle.law_base.specs.Parts.{counted}
+use Rattle.law_base.proofs.Parts.{take-counted}
 use Rattle.prog_tape.proofs.Room.{line-room}
 use Rattle.text_out.proofs.Writing.{then, decimal-length}
 use native.Mathlib.Omega.{arith}
@@ -35,7 +35,7 @@ array-share-prefix-out c =
 
 slice-aggregate-write-all : tie.Need-slice-aggregate-write-all
 slice-aggregate-write-all c =
-    counted _ _ (line-room (c .before .before .before .before .before .before .before .before .before .before .before .before .args .word .now) (c .before .before .before .before .before .before .before .before .before .before .before .before .args .n) (then (then (c .before .before .before .before .before .before .before .before .put-all .ensures) (c .before .before .before .before .before .put-decimal .ensures)) (c .before .before .put .ensures)) (c .before .before .before .before .before .before .before .before .before .before .before .before .pre) (c .before .before .before .before .before .before .before .before .before .before .buffer .ensures))
+    take-counted _ _ (line-room (c .before .before .before .before .before .before .before .before .before .before .before .before .args .word .now) (c .before .before .before .before .before .before .before .before .before .before .before .before .args .n) (then (then (c .before .before .before .before .before .before .before .before .put-all .ensures) (c .before .before .before .before .before .put-decimal .ensures)) (c .before .before .put .ensures)) (c .before .before .before .before .before .before .before .before .before .before .before .before .pre) (c .before .before .before .before .before .before .before .before .before .before .buffer .ensures))
 
 write-all-requires : tie.Need-write-all-requires
 write-all-requires c κs = search needs

@@ -1,5 +1,5 @@
 -- `print_name` meets its contract. Assumes nothing.
-use Rattle.law_base.specs.Parts.{counted}
+use Rattle.law_base.proofs.Parts.{take-counted}
 use Rattle.text_out.proofs.Writing.{same-len}
 use native.Mathlib.Omega.{arith}
 use borrow.Author.Needs.{needs}
@@ -17,7 +17,7 @@ array-share-prefix-name c = search needs
 
 slice-aggregate-print-hex : tie.Need-slice-aggregate-print-hex
 slice-aggregate-print-hex c =
-    counted _ _ (omega (arith, c .before .if1 .taken, same-len (c .before .before .before .put-name .ensures)))
+    take-counted _ _ (omega (arith, c .before .if1 .taken, same-len (c .before .before .before .put-name .ensures)))
 
 print-hex-requires : tie.Need-print-hex-requires
 print-hex-requires c κs = search needs

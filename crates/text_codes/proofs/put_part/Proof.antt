@@ -1,5 +1,5 @@
 -- `encoding::put_part` meets its contract: the flat table is the 256 texts one after the other, by one computation. Assumes nothing.
-use Rattle.text_codes.specs.Encoding.{table, flat}
+use Rattle.text_codes.specs.Encoding.{table, flatTexts}
 use borrow.Author.Needs.{needs}
 use Rattle.text_codes.proofs.put_part.Statement.{statement}
 use Rattle.text_codes.proofs.put_part.Tie as tie
@@ -11,7 +11,7 @@ part-put-all-start : tie.Need-part-put-all-start
 part-put-all-start c = search needs
 
 part-put-all-end : tie.Need-part-put-all-end
-unfolding table flat
+unfolding table flatTexts
 part-put-all-end c =
     c .before .before .before .pre .1
 
@@ -22,7 +22,7 @@ same-length : tie.Need-same-length
 same-length c = search needs
 
 returns : tie.Need-returns
-unfolding table flat
+unfolding table flatTexts
 returns c =
     c .before .before .put-all .ensures
 

@@ -4,10 +4,10 @@ use Prim.Native.Nat.{_-_, _≤_}
 use native.Mathlib.Omega.{arith}
 use lib.ListN.{length, take}
 use lib.Seq.{take-length, length-take-le}
-use Rattle.text_out.specs.Out.{Wrote, each}
+use Rattle.text_out.specs.Out.{Wrote, eachByte}
 use Rattle.text_codes.specs.Encoding.{encoded, spelled}
 use Rattle.text_codes.proofs.Codes.{code-length}
-use Rattle.text_out.proofs.Writing.{nothing, then, same-len, each-one-more, each-length}
+use Rattle.text_out.proofs.Writing.{wrote-nothing, then, same-len, each-one-more, each-length}
 use Rattle.text_codes.proofs.put_spelled.Statement.{statement}
 use Rattle.text_codes.proofs.put_spelled.Tie as tie
 
@@ -18,8 +18,8 @@ abbrev μ-loop : tie.MeasureT-loop
 μ-loop out₀ at s o₀ i₀ out o i = length s - i
 
 loop-holds : tie.Need-loop-holds Inv-loop μ-loop
-unfolding each
-loop-holds c = (omega arith, nothing _ _)
+unfolding eachByte
+loop-holds c = (omega arith, wrote-nothing _ _)
 
 shared-slice-read-put-code : tie.Need-shared-slice-read-put-code Inv-loop μ-loop
 shared-slice-read-put-code c = omega arith

@@ -1,6 +1,6 @@
 -- `put_mark` meets its contract. Assumes nothing.
 use Rattle.text_view.proofs.Parts.{decimal-next}
-use Rattle.text_view.specs.Dump.{markText}
+use Rattle.text_view.specs.Dump.{selText}
 use Rattle.text_out.proofs.Writing.{then}
 use native.Mathlib.Omega.{arith}
 use borrow.Author.Needs.{needs}
@@ -25,7 +25,7 @@ same-length : tie.Need-same-length
 same-length c = search needs
 
 returns : tie.Need-returns
-unfolding markText
+unfolding selText
 returns c =
     then (then (c .before .before .before .before .before .before .before .before .before .before .before .put-decimal .ensures) (c .before .before .before .before .before .before .put-all .ensures)) (c .before .before .put-flag .ensures)
 

@@ -2,7 +2,7 @@
 use Prim.Native.Nat.{_-_, _≤_}
 use native.Mathlib.Omega.{arith}
 use mathlib.Core.Path.{_≡_}
-use Rattle.text_out.proofs.Writing.{nothing, same-len}
+use Rattle.text_out.proofs.Writing.{wrote-nothing, same-len}
 use Rattle.text_out.specs.Out.{Wrote}
 use Rattle.play_entries.specs.Mounted.{tapeOf}
 use Rattle.text_lines.proofs.Texts.{rows-most, rows-next}
@@ -21,7 +21,7 @@ abbrev μ-loop : tie.MeasureT-loop
 loop-holds : tie.Need-loop-holds Inv-loop μ-loop
 unfolding rowsText
 loop-holds c =
-    (omega arith, (nothing _ _, sums-none _ _))
+    (omega arith, (wrote-nothing _ _, sums-none _ _))
 
 put-row-requires : tie.Need-put-row-requires Inv-loop μ-loop
 put-row-requires c κs =

@@ -5,7 +5,7 @@ use native.Mathlib.Omega.{arith}
 use lib.ListN.{length, take}
 use lib.Seq.{take-length, length-take-le}
 use Rattle.text_out.specs.Out.{Wrote}
-use Rattle.text_out.proofs.Writing.{nothing, then, same-len, take-one-more}
+use Rattle.text_out.proofs.Writing.{wrote-nothing, then, same-len, take-one-more}
 use Rattle.text_out.proofs.put_all.Statement.{statement}
 use Rattle.text_out.proofs.put_all.Tie as tie
 
@@ -16,7 +16,7 @@ abbrev μ-loop : tie.MeasureT-loop
 μ-loop out₀ at s o₀ i₀ out o i = length s - i
 
 loop-holds : tie.Need-loop-holds Inv-loop μ-loop
-loop-holds c = (omega arith, nothing _ _)
+loop-holds c = (omega arith, wrote-nothing _ _)
 
 shared-slice-read-put : tie.Need-shared-slice-read-put Inv-loop μ-loop
 shared-slice-read-put c = omega arith

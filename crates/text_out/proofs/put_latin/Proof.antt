@@ -4,8 +4,8 @@ use Prim.Native.Nat.{_-_, _≤_}
 use native.Mathlib.Omega.{arith}
 use lib.ListN.{length, take}
 use lib.Seq.{take-length, length-take-le}
-use Rattle.text_out.specs.Out.{Wrote, latin1, latin, each}
-use Rattle.text_out.proofs.Writing.{nothing, then, same-len, each-one-more, each-length, latin1-length}
+use Rattle.text_out.specs.Out.{Wrote, latin1, latin, eachByte}
+use Rattle.text_out.proofs.Writing.{wrote-nothing, then, same-len, each-one-more, each-length, latin1-length}
 use Rattle.text_out.proofs.put_latin.Statement.{statement}
 use Rattle.text_out.proofs.put_latin.Tie as tie
 
@@ -16,8 +16,8 @@ abbrev μ-loop : tie.MeasureT-loop
 μ-loop out₀ at s o₀ i₀ out o i = length s - i
 
 loop-holds : tie.Need-loop-holds Inv-loop μ-loop
-unfolding each
-loop-holds c = (omega arith, nothing _ _)
+unfolding eachByte
+loop-holds c = (omega arith, wrote-nothing _ _)
 
 shared-slice-read-put-latin1 : tie.Need-shared-slice-read-put-latin1 Inv-loop μ-loop
 shared-slice-read-put-latin1 c = omega arith

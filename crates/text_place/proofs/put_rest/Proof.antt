@@ -1,5 +1,5 @@
 -- `put_rest` meets its contract. Assumes nothing.
-use Rattle.text_place.specs.Places.{restText}
+use Rattle.text_place.specs.Places.{leftText}
 use Rattle.text_value.proofs.Lengths.{duration-length}
 use native.Mathlib.Omega.{arith}
 use Rattle.text_out.proofs.Writing.{then}
@@ -31,7 +31,7 @@ same-length : tie.Need-same-length
 same-length c = search needs
 
 returns : tie.Need-returns
-unfolding restText
+unfolding leftText
 returns c =
     then (then (then (c .before .before .before .before .before .before .before .before .before .before .before .before .before .before .before .put-all .ensures) (c .before .before .before .before .before .before .before .before .before .before .before .put-duration .ensures)) (c .before .before .before .before .before .before .put-all2 .ensures)) (c .before .before .put-flag .ensures)
 

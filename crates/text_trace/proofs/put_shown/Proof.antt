@@ -1,5 +1,5 @@
 -- `put_shown` meets its contract. Assumes nothing.
-use Rattle.text_trace.specs.Lines.{shown}
+use Rattle.text_trace.specs.Lines.{standLine}
 use Rattle.text_place.proofs.Lengths.{place-length}
 use Rattle.text_trace.proofs.Lengths.{selected-length}
 use native.Mathlib.Omega.{arith}
@@ -31,7 +31,7 @@ same-length : tie.Need-same-length
 same-length c = search needs
 
 returns : tie.Need-returns
-unfolding shown
+unfolding standLine
 returns c =
     then (then (then (c .before .before .before .before .before .before .before .before .before .before .before .before .before .before .before .put-place .ensures) (c .before .before .before .before .before .before .before .before .before .before .put-all .ensures)) (c .before .before .before .before .before .before .put-selected .ensures)) (c .before .before .put .ensures)
 

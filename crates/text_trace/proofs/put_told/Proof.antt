@@ -1,5 +1,5 @@
 -- `put_told` meets its contract. Assumes nothing.
-use Rattle.text_trace.specs.Lines.{told}
+use Rattle.text_trace.specs.Lines.{passedLine}
 use Rattle.text_out.proofs.Writing.{decimal-length}
 use native.Mathlib.Omega.{arith}
 use Rattle.text_out.proofs.Writing.{then}
@@ -31,7 +31,7 @@ same-length : tie.Need-same-length
 same-length c = search needs
 
 returns : tie.Need-returns
-unfolding told
+unfolding passedLine
 returns c =
     then (then (then (c .before .before .before .before .before .before .before .before .before .before .before .before .before .before .before .put-all .ensures) (c .before .before .before .before .before .before .before .before .before .before .before .put-decimal .ensures)) (c .before .before .before .before .before .before .put-all2 .ensures)) (c .before .before .put-shown .ensures)
 

@@ -2,7 +2,7 @@
 use Rattle.text_view.proofs.Parts.{tones-next, tones-length}
 use Rattle.text_view.specs.Dump.{tonesText}
 use Rattle.text_view.specs.View.{tonesFrom}
-use Rattle.text_out.proofs.Writing.{nothing, then, same-len}
+use Rattle.text_out.proofs.Writing.{wrote-nothing, then, same-len}
 use Rattle.text_out.specs.Out.{Wrote}
 use Prim.Native.Nat.{_-_, _≤_}
 use native.Mathlib.Omega.{arith}
@@ -19,7 +19,7 @@ abbrev μ-loop : tie.MeasureT-loop
 loop-holds : tie.Need-loop-holds Inv-loop μ-loop
 unfolding tonesText tonesFrom
 loop-holds c =
-    (omega arith, nothing _ _)
+    (omega arith, wrote-nothing _ _)
 
 add-tone-at : tie.Need-add-tone-at Inv-loop μ-loop
 add-tone-at c =

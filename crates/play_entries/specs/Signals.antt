@@ -1,4 +1,4 @@
--- A DOCUMENT ROW'S SOUNDS in order, as the format says them, and the line behind the row by arithmetic. Definitions alone; assumes nothing.
+-- A DOCUMENT ROW'S SIGNALS in order, as the format says them, and the line behind the row by arithmetic. Definitions alone; assumes nothing.
 use Prim.Native.Nat.{ℕ}
 use mathlib.Core.Bool.{not}
 use mathlib.Core.List.{List, [], _∷_, _++_}
@@ -6,23 +6,23 @@ use lib.Dec.{eqb}
 use Rattle.law_base.specs.Rules.{_⇒_, _∣_}
 use Rattle.rows.specs.declared.Block.{Block}
 use Rattle.play_levels.specs.declared.Line.{Line}
-use Rattle.play_levels.specs.Voiced.{Sound, tick, silence, halt, lined, quiet, each}
-use Rattle.play_levels.specs.Closed.{toneSounds}
+use Rattle.play_levels.specs.Voiced.{Signal, tick, silence, halt, lined, quiet, lots}
+use Rattle.play_levels.specs.Closed.{toneSignals}
 use Rattle.play_entries.specs.Entries.{toneAt, bitsAt, bitOf, halfOf, byteAt, lineAt}
 
 -- a bit: two pulses of begin 0
-abbrev pub bitSounds : Block → ℕ → ℕ → List Sound
-bitSounds r v k = tick 0 (halfOf r (bitOf v k)) ∷ tick 0 (halfOf r (bitOf v k)) ∷ []
+abbrev pub bitSignals : Block → ℕ → ℕ → List Signal
+bitSignals r v k = tick 0 (halfOf r (bitOf v k)) ∷ tick 0 (halfOf r (bitOf v k)) ∷ []
 
-unfoldable pub byteSounds : List ℕ → Block → ℕ → List Sound
-byteSounds tape r pos = each (bitSounds r (byteAt tape r pos)) 0 (bitsAt r pos)
+unfoldable pub byteSignals : List ℕ → Block → ℕ → List Signal
+byteSignals tape r pos = lots (bitSignals r (byteAt tape r pos)) 0 (bitsAt r pos)
 
-abbrev pub endSound : Block → Sound
-endSound r = eqb (r .endless) 1 ⇒ halt ∣ silence (r .pause)
+abbrev pub endSignal : Block → Signal
+endSignal r = eqb (r .endless) 1 ⇒ halt ∣ silence (r .pause)
 
-unfoldable pub soundsOf : List ℕ → List ℕ → Block → List Sound
-soundsOf tape tones r =
-    each (λ i. toneSounds (toneAt tones r i)) 0 (r .tones) ++ (each (byteSounds tape r) 0 (r .size) ++ endSound r ∷ [])
+unfoldable pub signalsOf : List ℕ → List ℕ → Block → List Signal
+signalsOf tape tones r =
+    lots (λ i. toneSignals (toneAt tones r i)) 0 (r .tones) ++ (lots (byteSignals tape r) 0 (r .size) ++ endSignal r ∷ [])
 
 -- behind bits: the level before them is current again, and the other one was played last
 abbrev pub steady : Line → Line

@@ -5,5 +5,5 @@ use mathlib.Core.List.{List}
 use lib.ListN.{length, take}
 use lib.Seq.{length-take-le}
 
-pub counted : (d : List ℕ) (r : ℕ) → r ≤ length d → r ≡ length (take r d)
-counted d r h = sym (length-take-le r d h)
+pub take-counted : (d : List ℕ) (r : ℕ) → r ≤ length d → r ≡ length (take r d)
+take-counted d r h = sym (length-take-le r d h)

@@ -1,0 +1,4 @@
+pub mod Arms
+pub mod Numbers
+pub mod Tests
+pub mod Parts

@@ -1,0 +1,9 @@
+-- What a load answers: a tape, or a refusal by a number from 1 to 7. Definitions alone; assumes nothing.
+use Prim.Native.Nat.{ℕ, _≤_}
+use Rattle.load_state.specs.Parser.{Parsed}
+use Rattle.load_source.specs.Source.{Load, tzx, tapped, no}
+
+pub data Numbered : Load → Type 0 where
+  as-tzx : {t : Parsed} → Numbered (tzx t)
+  as-tap : {t : Parsed} → Numbered (tapped t)
+  by : {k : ℕ} → 1 ≤ k → k ≤ 7 → Numbered (no k)

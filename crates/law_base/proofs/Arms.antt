@@ -6,7 +6,15 @@ use Prim.Native.Nat.{ℕ, suc, _≤_, _<_}
 use native.Mathlib.Omega.{arith}
 use lib.Dec.{leb}
 use borrow.Author.Tests.{ne-eqb, le-leb, lt-leb}
-use Rattle.law_base.specs.Arms.{Arm, lookup, NoneAfter, None, between}
+use Rattle.law_base.specs.Arms.{Arm, lookup, between}
+
+-- no arm has x, as a match says it: one fact after the other, the last one outermost
+abbrev pub NoneAfter : {A : Type 0} → Type 0 → List (Arm A) → ℕ → Type 0
+NoneAfter P [] x = P
+NoneAfter P (a ∷ more) x = NoneAfter (P × (x ≡ a .key → ⊥)) more x
+
+abbrev pub None : {A : Type 0} → List (Arm A) → ℕ → Type 0
+None arms x = NoneAfter (Unit {0}) arms x
 
 first-fact : {A : Type 0} (P : Type 0) (arms : List (Arm A)) (x : ℕ) → NoneAfter P arms x → P
 first-fact P [] x h = h

@@ -1,5 +1,4 @@
 -- A `match` on a number: keys and values as a table in the source's order, and ranges. Definitions alone; assumes nothing.
-use mathlib.Core.Path.{_≡_}
 use mathlib.Core.Bool.{Bool, cond, _&&_}
 use mathlib.Core.List.{List, [], _∷_}
 use Prim.Native.Nat.{ℕ}
@@ -17,14 +16,6 @@ _▸_ k v = record { key = k; val = v }
 abbrev pub lookup : {A : Type 0} → List (Arm A) → ℕ → A → A
 lookup [] x d = d
 lookup (a ∷ more) x d = cond (eqb x (a .key)) (a .val) (lookup more x d)
-
--- no arm has x, as a match says it: one fact after the other, the last one outermost
-abbrev pub NoneAfter : {A : Type 0} → Type 0 → List (Arm A) → ℕ → Type 0
-NoneAfter P [] x = P
-NoneAfter P (a ∷ more) x = NoneAfter (P × (x ≡ a .key → ⊥)) more x
-
-abbrev pub None : {A : Type 0} → List (Arm A) → ℕ → Type 0
-None arms x = NoneAfter (Unit {0}) arms x
 
 -- a range arm, `a..=b`
 abbrev pub between : ℕ → ℕ → ℕ → Bool

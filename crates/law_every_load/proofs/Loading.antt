@@ -41,7 +41,7 @@ originIn (taken.Overflow kind p) = originAt 0 0
 
 -- what stands at a place keeps K
 data Safe (K : Parsed → Type 0) : See → Type 0 where
-  over : Safe K source.over
+  over : Safe K source.theEnd
   bad : {f : Failure} → Safe K (source.bad f)
   refuses : {j : ℕ} → Safe K (source.refuses j)
   does : {next : ℕ} {f : Parsed → Out} → ((t : Parsed) → K t → Sure K (f t)) → Safe K (thing next f)

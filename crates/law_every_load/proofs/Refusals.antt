@@ -27,7 +27,7 @@ use Rattle.load_blocks.specs.Sounds.{Sound, originAt, addSound, addSounds}
 use Rattle.load_blocks.specs.Deeds.{Deed, adding, groups, texts, groupEnds, opens, closes, panics, errs, does as enact}
 use Rattle.load_source.specs.declared.Failure.{Failure}
 use Rattle.load_source.specs.Meaning.{deedOf}
-use Rattle.load_source.specs.Source.{See, over, bad, refuses, thing, Verdict, done, failed, refused, act, halted, readOn, seeing, foldFrom, tooManyBits, bitsJudged, tzxOf, tzxSee, headed, readTzx, tapOf, tapSee, readTap, full, Load, no, orTap, orElse, loadOf}
+use Rattle.load_source.specs.Source.{See, theEnd, bad, refuses, thing, Verdict, done, failed, refused, act, halted, readOn, seeing, foldFrom, tooManyBits, bitsJudged, tzxOf, tzxSee, headed, readTzx, tapOf, tapSee, readTap, full, Load, no, orTap, orElse, loadOf}
 use Rattle.load_tape.specs.Load.{namedLoad}
 use Rattle.law_every_load.specs.Numbered.{Numbered, as-tzx, as-tap, by}
 
@@ -43,7 +43,7 @@ pub data HaltsBy (lo hi : ℕ) : Out → Type 0 where
   fails : {n : ℕ} → HaltsBy lo hi (halt (Length n))
 
 pub data Sees (lo hi : ℕ) : See → Type 0 where
-  ends : Sees lo hi over
+  ends : Sees lo hi theEnd
   bad-seen : {f : Failure} → Sees lo hi (bad f)
   sees : {k : ℕ} → Between lo hi k → Sees lo hi (refuses k)
   does : {next : ℕ} {f : Parsed → Out} → ((t : Parsed) → HaltsBy lo hi (f t)) → Sees lo hi (thing next f)

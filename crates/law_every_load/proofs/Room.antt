@@ -25,7 +25,7 @@ use Rattle.load_source.specs.Source as source
 use Rattle.load_source.specs.Source.{tooManyBits, Load, readTzx, readTap, orElse, loadOf}
 use Rattle.text_name.specs.Names.{unselected, nameAll}
 use Rattle.law_every_load.specs.Sizes.{Bytes}
-use Rattle.law_every_load.specs.Made.{Pends, OfPiece, of, RowOver, Births, Lasts}
+use Rattle.law_every_load.specs.Made.{Pends, OfPiece, of, RowOver, Births, LastsThrough}
 use Rattle.law_every_load.specs.OfSource.{sourceTable, tapTable, Reads, as-tzx, as-tap}
 use Rattle.law_every_load.specs.Keeps.{Invariant}
 use Rattle.law_every_load.proofs.Loading.{load-keeps}
@@ -79,7 +79,7 @@ bits-all (r ∷ rs) e = let p = bits-one r (tooManyBits rs) e in cons (p .0) (bi
 abbrev Eight : List Tone → Block → Type 0
 Eight ts r = r .last ≡ 8
 
-eight-lasts : (s : List ℕ) → Lasts (sourceTable s) Eight
+eight-lasts : (s : List ℕ) → LastsThrough (sourceTable s) Eight
 unfolding unselected
 eight-lasts s =
     record { naming = λ mark case text chars ts r g h. h; pausing = λ ts r h. rw (paused-same (λ q. q .last) r refl) h; passing = λ ts r h. h }

@@ -22,7 +22,7 @@ use Rattle.load_blocks.specs.declared.Origin.{Origin}
 use Rattle.load_blocks.specs.Sounds.{Sound, rowOf}
 use Rattle.load_blocks.specs.Adds.{Lent}
 use Rattle.text_name.specs.Names.{isHeader, unselected, nameOne, nameAll}
-use Rattle.law_every_load.specs.Made.{Table, Pends, GivenName, tonesIn, RowOver, Lasts}
+use Rattle.law_every_load.specs.Made.{Table, Pends, GivenName, tonesIn, RowOver, LastsThrough}
 use Rattle.law_every_load.specs.Keeps.{Invariant}
 
 -- what does not look at a row's pause is the same with 22's
@@ -67,7 +67,7 @@ module _ {P : List Tone → Block → Type 0} where
       let q : tonesIn (all ++ ts) r ≡ ts = ap (take (r .tones)) (drop-at all ts (r .tone) (sym e)) ∙ take-all (r .tones) ts (omega arith) in
       record { inside = rw length-append (omega arith); has = rw q h }
 
-  module _ {T : Table} (k : Lasts T P) where
+  module _ {T : Table} (k : LastsThrough T P) where
     row-named : (all : List Tone) (p : Pending) (r : Block) → Pends T p → RowOver P all r → RowOver P all (named p r)
     row-named all Nothing r q h = h
     row-named all (First from size) r q h = record { inside = h .inside; has = k .naming 1 3 from size (tonesIn all r) r (GivenName.first q) (h .has) }

@@ -59,7 +59,7 @@ pub record RowOver (P : List Tone → Block → Type 0) (all : List Tone) (r : B
 abbrev pub Births : Table → (List Tone → Block → Type 0) → Type 0
 Births T P = (origin : Origin) (d : Sound) (tone : ℕ) → OfPiece T d origin → P (d .tones) (rowOf origin d tone)
 
-pub record Lasts (T : Table) (P : List Tone → Block → Type 0) : Type 0 where
+pub record LastsThrough (T : Table) (P : List Tone → Block → Type 0) : Type 0 where
   pub naming : (mark case text chars : ℕ) (ts : List Tone) (r : Block) → GivenName T mark case text chars → P ts r → P ts (renamed mark case text chars r)
   pub pausing : (ts : List Tone) (r : Block) → P ts r → P ts (paused r)
   pub passing : (ts : List Tone) (r : Block) → P ts r → P ts (unselected r)

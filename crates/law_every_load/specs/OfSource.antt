@@ -16,7 +16,7 @@ use Rattle.load_blocks.specs.Deeds.{soundsOf, brings}
 use Rattle.load_source.specs.Meaning.{deedOf}
 use Rattle.load_source.specs.Source.{full, tapKind, Load, tzx, tapped}
 use Rattle.law_every_load.specs.Sizes.{Range, Sized}
-use Rattle.law_every_load.specs.Made.{Table, Births, Lasts}
+use Rattle.law_every_load.specs.Made.{Table, Births, LastsThrough}
 
 -- a piece of the tape, cut at a place, and how large it is
 pub record From (s : List ℕ) (at : ℕ) (piece : Piece) : Type 0 where
@@ -56,7 +56,7 @@ tapTable s = record {
 pub record Everywhere (s : List ℕ) (P : List Tone → Block → Type 0) : Type 0 where
   pub pieces : Births (sourceTable s) P
   pub taps : Births (tapTable s) P
-  pub lasts : Lasts (sourceTable s) P
+  pub lasts : LastsThrough (sourceTable s) P
 
 -- a load that was not refused, and the tape that it read
 pub data Reads : Load → Parsed → Type 0 where

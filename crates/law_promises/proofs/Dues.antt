@@ -36,7 +36,7 @@ use Rattle.load_source.specs.Meaning.{deedOf}
 use Rattle.load_source.specs.Source.{See, refuses, thing, Verdict, done, refused, act, halted, tooManyBits, tapKind, full, tzxOf, tzxSee, tapOf, tapSee}
 use Rattle.load_source.proofs.Rest.{tzx-stops, tzx-sees, sees-piece, tap-stops}
 use Rattle.law_every_load.proofs.Refusals.{HaltsBy, goes, says, fails, either, sounds-say, closed-says}
-use Rattle.law_promises.specs.Numbers.{Comes, here, past, Due, ends, errs, stands, answers, Panics, before, within, Lacks, Needs, needs, Overlong, this, later, OverlongAt, Bounded}
+use Rattle.law_promises.specs.Numbers.{Comes, here, past, Due, ends, errs, stands, answers, Panics, overflows, within, Lacks, Needs, needs, Overlong, this, later, OverlongAt, Bounded}
 use Rattle.law_promises.proofs.Lacking.{lacks-no, sound-lacks, act-lacks}
 use Rattle.law_promises.proofs.Runs.{comes-map}
 
@@ -158,7 +158,7 @@ module _ (lent : Lent) (s : List ℕ) (model : ℕ) where
       of (taken.Whole kind from m piece) q f = let z : _≡_ {A = ℕ} 0 1 = cc in absurd (omega arith)
       of (taken.Unknown kind described) q f = let z : _≡_ {A = ℕ} 0 1 = cc in absurd (omega arith)
       of (taken.Short kind p w) q f = let z : _≡_ {A = ℕ} 0 1 = cc in absurd (omega arith)
-      of (taken.Overflow kind p) q f = let z : generalised ≡ k = cc in (sym z, before q)
+      of (taken.Overflow kind p) q f = let z : generalised ≡ k = cc in (sym z, overflows q)
 
   pub tzx-bounded : Bounded (length s) (tzxSee lent s model)
   tzx-bounded = record { stops = tzx-stops lent s model; moves = λ at next does e. of at next does (tzx-thing at next does e) }
@@ -183,7 +183,7 @@ module _ (lent : Lent) (s : List ℕ) (model : ℕ) where
 
   four-due : {at : ℕ} {t : Parsed} → Panics s at t → Due (tzxSee lent s model) (refused generalised) at t
   unfolding tzxOf act deedOf generalDeed enact halted
-  four-due {at} (before q) = stands (tzx-sees lent s model at (sym q))
+  four-due {at} (overflows q) = stands (tzx-sees lent s model at (sym q))
   four-due {at} {t} (within {kind = kind} {from = from} {g = g} q e) = answers {k = Refusal generalised} (sees-piece lent s model at (sym q)) (ap (λ (x : general.Given). enact lent model (originAt kind from) (generalDeed g x) t) e)
 
   -- 5 and 6

@@ -4,7 +4,7 @@ use native.Mathlib.Omega.{arith}
 use mathlib.Core.Path.{_≡_, refl, subst, _∙_}
 use mathlib.Core.Logic.{_↔_}
 use Rattle.load_state.specs.Parser.{Parsed, Out, on, no}
-use Rattle.load_source.specs.Source.{See, over, bad, refuses, thing, Verdict, readOn, seeing, foldFrom}
+use Rattle.load_source.specs.Source.{See, theEnd, bad, refuses, thing, Verdict, readOn, seeing, foldFrom}
 use Rattle.law_promises.specs.Numbers.{Comes, here, past, Due, ends, errs, stands, answers, Bounded}
 
 pub comes-map : {see : ℕ → See} {P Q : ℕ → Parsed → Type 0} → ((at : ℕ) (t : Parsed) → P at t → Q at t) → {at : ℕ} {t : Parsed} → Comes see P at t → Comes see Q at t
@@ -34,7 +34,7 @@ module _ {size : ℕ} {see : ℕ → See} (b : Bounded size see) where
       by-out more next does (no k) e d = here (answers e d)
 
       by-see : More n → (x : See) → see at ≡ x → Comes see (Due see (seeing x t (foldFrom see n))) at t
-      by-see more over e = here (ends e)
+      by-see more theEnd e = here (ends e)
       by-see more (bad f) e = here (errs e)
       by-see more (refuses k) e = here (stands e)
       by-see more (thing next does) e = by-out more next does (does t) e refl

@@ -22,7 +22,7 @@ use Rattle.load_state.specs.declared.Halt.the-variants.{Length}
 use Rattle.load_state.specs.Parser.{Parsed, Out, on, no, empty, _⟫_, withBody, addTones, addBlock, copies, closeLoop}
 use Rattle.load_blocks.specs.Adds.{Lent}
 use Rattle.load_source.specs.declared.Failure.{Failure}
-use Rattle.load_source.specs.Source.{See, over, bad, refuses, thing, Verdict, done, failed, refused, halted, full, tzxSee, readTzx, tapSee}
+use Rattle.load_source.specs.Source.{See, theEnd, bad, refuses, thing, Verdict, done, failed, refused, halted, full, tzxSee, readTzx, tapSee}
 use Rattle.play_entries.specs.Places.{Tape, blockIn}
 use Rattle.play_entries.specs.Mounted.{overfull, wellRow, formed}
 use Rattle.play_walk.specs.declared.Position.{Position}
@@ -48,7 +48,7 @@ pub data Comes (see : ℕ → See) (P : ℕ → Parsed → Type 0) : ℕ → Par
 
 -- a reading's answer is due at a place: the end; an error or a refusal, by what stands there or by what it does
 pub data Due (see : ℕ → See) : Verdict → ℕ → Parsed → Type 0 where
-  ends : {at : ℕ} {t : Parsed} → see at ≡ over → Due see (done t) at t
+  ends : {at : ℕ} {t : Parsed} → see at ≡ theEnd → Due see (done t) at t
   errs : {at : ℕ} {t : Parsed} {f : Failure} → see at ≡ bad f → Due see (failed f) at t
   stands : {at k : ℕ} {t : Parsed} → see at ≡ refuses k → Due see (refused k) at t
   answers : {at next : ℕ} {k : Halt} {does : Parsed → Out} {t : Parsed} → see at ≡ thing next does → does t ≡ no k → Due see (halted k) at t
@@ -93,7 +93,7 @@ pub data Overlong : List Block → Type 0 where
 
 -- .. where TZX was read whole
 pub record OverlongAt (lent : Lent) (s : List ℕ) (model at : ℕ) (t : Parsed) : Type 0 where
-  pub whole : tzxSee lent s model at ≡ over
+  pub whole : tzxSee lent s model at ≡ theEnd
   pub bits : Overlong (t .blocks)
 
 -- from block b back to a selectable block, or 0: a row on the way is not well formed
@@ -128,5 +128,5 @@ pub record Runs (w : Tape) (b : ℕ) (end : Status) : Type 0 where
 
 -- things move forward, and at the size all is over: so as many turns as there are bytes are enough
 pub record Bounded (size : ℕ) (see : ℕ → See) : Type 0 where
-  pub stops : (p : ℕ) → size ≤ p → see p ≡ over
+  pub stops : (p : ℕ) → size ≤ p → see p ≡ theEnd
   pub moves : (at next : ℕ) (does : Parsed → Out) → see at ≡ thing next does → at < next

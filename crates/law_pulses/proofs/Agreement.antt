@@ -10,9 +10,9 @@ use lib.Dec.{ltb}
 use lib.ListN.{length}
 use borrow.Author.Tests.{lt-ltb, le-ltb}
 use Rattle.law_base.proofs.Numbers.{lt-or-ge}
-use Rattle.law_pulses.specs.Play.{Entry, pulse, endless, rest, over, statusHere, status, answer, counted, calls}
+use Rattle.law_pulses.specs.Play.{Entry, pulse, endless, rest, over, statusHere, status, answer, countedOn, calls}
 use Rattle.law_pulses.proofs.Steps.{rest-nil, rest-stop, rest-ways}
-use Rattle.law_pulses.specs.Source.{Outcome, isEnded, sourced, reached, sumDropped, source, dropped, sources, withDropped, heard, lastingEntries, Below, Behind, Short, Agrees}
+use Rattle.law_pulses.specs.Source.{Outcome, isEnded, sourced, reached, sumDropped, source, dropped, sources, withDropped, heard, lastingEntries, Below, Behind, ShortCalls, Agrees}
 use Rattle.law_pulses.proofs.Ahead.{drops, drops-here, drops-past, runsAhead, ahead-here, ahead-past, source-turns}
 
 short-none : {t d : ℕ} → (0 < t → d < t) → t ≤ d → t ≡ 0
@@ -65,7 +65,7 @@ module _ {A : Type 0} where
 
   sources-heard : (es : List (Entry A)) (n : ℕ) (ns : List ℕ)
       → sources es n ns ≡ heard (calls es (n + dropped es n) (withDropped (source es n .place) ns))
-  unfolding sources withDropped calls heard counted
+  unfolding sources withDropped calls heard countedOn
   sources-heard es n [] = source-heard es n
   sources-heard es n (m ∷ ms) =
       let p = source es n .place in
@@ -120,25 +120,25 @@ module _ {A : Type 0} where
   behind-rest (pulse a v t ∷ es) m n s =
       rest-ways (λ r. Behind r n) a v t es m (λ z. s) (λ l. s) (λ p g. behind-rest es (m - t) n (behind-below es n s))
 
-  short-rest : (es : List (Entry A)) (m : ℕ) (ns : List ℕ) → Short es ns → Short (rest es m) ns
-  unfolding Short
+  short-rest : (es : List (Entry A)) (m : ℕ) (ns : List ℕ) → ShortCalls es ns → ShortCalls (rest es m) ns
+  unfolding ShortCalls
   short-rest es m [] s = tt
   short-rest es m (n ∷ ns) s = (behind-rest es m n (s .0), short-rest es m ns (s .1))
 
-  short-source : (es : List (Entry A)) (n : ℕ) (ns : List ℕ) → Short es ns → Short (source es n .place) ns
+  short-source : (es : List (Entry A)) (n : ℕ) (ns : List ℕ) → ShortCalls es ns → ShortCalls (source es n .place) ns
   unfolding answer
-  short-source es n ns s = subst (λ (x : List (Entry A)). Short x ns) (sym (source-place es n)) (short-rest es _ ns s)
+  short-source es n ns s = subst (λ (x : List (Entry A)). ShortCalls x ns) (sym (source-place es n)) (short-rest es _ ns s)
 
-  whole-short : (es : List (Entry A)) (ns : List ℕ) → Short es ns → withDropped es ns ≡ ns
-  unfolding withDropped Short
+  whole-short : (es : List (Entry A)) (ns : List ℕ) → ShortCalls es ns → withDropped es ns ≡ ns
+  unfolding withDropped ShortCalls
   whole-short es [] s = refl
   whole-short es (n ∷ ns) s =
       let z = none-dropped es n (s .0) in
       ap₂ (λ (x : ℕ) (xs : List ℕ). x ∷ xs) (omega arith) (whole-short (source es n .place) ns (short-source es n ns (s .1)))
 
   -- THE CLAUSE: where each count is below every finite duration but 0, the players agree on the same calls
-  pub agrees-short : (es : List (Entry A)) (n : ℕ) (ns : List ℕ) → Short es (n ∷ ns) → Agrees (sources es n ns) (heard (calls es n ns))
-  unfolding Short
+  pub agrees-short : (es : List (Entry A)) (n : ℕ) (ns : List ℕ) → ShortCalls es (n ∷ ns) → Agrees (sources es n ns) (heard (calls es n ns))
+  unfolding ShortCalls
   agrees-short es n ns s =
       let z = none-dropped es n (s .0) in
       let k : n + dropped es n ≡ n = omega arith in

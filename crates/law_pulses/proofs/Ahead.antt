@@ -12,7 +12,7 @@ use Rattle.law_base.proofs.Numbers.{lt-or-ge}
 use Rattle.law_base.specs.Rules.{_⇒_, _∣_}
 use Rattle.law_pulses.specs.Play.{Level, Entry, pulse, endless, rest, over}
 use Rattle.law_pulses.proofs.Steps.{rest-zero, rest-here, rest-past, over-zero, over-pulse}
-use Rattle.law_pulses.specs.Source.{Turned, turned, after, turn, turns, sourced}
+use Rattle.law_pulses.specs.Source.{Turned, turnedTo, after, turn, turns, sourced}
 
 module _ {A : Type 0} where
   -- what is dropped once an entry is finished, with d left
@@ -59,51 +59,51 @@ module _ {A : Type 0} where
 
   -- the measured player's place for m, with s dropped
   abbrev stood : List (Entry A) → ℕ → ℕ → Turned A
-  stood es m s = turned (rest es m) (over es m) s
+  stood es m s = turnedTo (rest es m) (over es m) s
 
   stood-as : (es : List (Entry A)) (m s m′ s′ : ℕ) → m ≡ m′ → s ≡ s′ → stood es m s ≡ stood es m′ s′
   stood-as es m s m′ s′ p q = ap₂ (λ (x y : ℕ). stood es x y) p q
 
-  stood-nil : (m s : ℕ) → stood [] m s ≡ turned [] m s
+  stood-nil : (m s : ℕ) → stood [] m s ≡ turnedTo [] m s
   unfolding rest over
   stood-nil m s = refl
 
-  stood-stop : (a : A) (v : Level) (es : List (Entry A)) (m s : ℕ) → stood (endless a v ∷ es) m s ≡ turned (endless a v ∷ es) 0 s
+  stood-stop : (a : A) (v : Level) (es : List (Entry A)) (m s : ℕ) → stood (endless a v ∷ es) m s ≡ turnedTo (endless a v ∷ es) 0 s
   unfolding rest over
   stood-stop a v es m s = refl
 
-  stood-zero : (es : List (Entry A)) (s : ℕ) → stood es 0 s ≡ turned es 0 s
-  stood-zero es s = ap₂ (λ (x : List (Entry A)) (k : ℕ). turned x k s) (rest-zero es) (over-zero es)
+  stood-zero : (es : List (Entry A)) (s : ℕ) → stood es 0 s ≡ turnedTo es 0 s
+  stood-zero es s = ap₂ (λ (x : List (Entry A)) (k : ℕ). turnedTo x k s) (rest-zero es) (over-zero es)
 
-  stood-here : (a : A) (v : Level) (t : ℕ) (es : List (Entry A)) (m s : ℕ) → m < t → stood (pulse a v t ∷ es) m s ≡ turned (pulse a v (t - m) ∷ es) 0 s
+  stood-here : (a : A) (v : Level) (t : ℕ) (es : List (Entry A)) (m s : ℕ) → m < t → stood (pulse a v t ∷ es) m s ≡ turnedTo (pulse a v (t - m) ∷ es) 0 s
   stood-here a v t es m s l =
       let z : m - t ≡ 0 = omega arith in
-      ap₂ (λ (x : List (Entry A)) (k : ℕ). turned x k s) (rest-here a v t es m l) (over-pulse a v t es m ∙ ap (over es) z ∙ over-zero es)
+      ap₂ (λ (x : List (Entry A)) (k : ℕ). turnedTo x k s) (rest-here a v t es m l) (over-pulse a v t es m ∙ ap (over es) z ∙ over-zero es)
 
   stood-past : (a : A) (v : Level) (t : ℕ) (es : List (Entry A)) (m s : ℕ) → 0 < m → t ≤ m → stood (pulse a v t ∷ es) m s ≡ stood es (m - t) s
-  stood-past a v t es m s p h = ap₂ (λ (x : List (Entry A)) (k : ℕ). turned x k s) (rest-past a v t es m p h) (over-pulse a v t es m)
+  stood-past a v t es m s p h = ap₂ (λ (x : List (Entry A)) (k : ℕ). turnedTo x k s) (rest-past a v t es m p h) (over-pulse a v t es m)
 
-  turns-zero : (f : ℕ) (es : List (Entry A)) (s : ℕ) → turns f (turned es 0 s) ≡ turned es 0 s
+  turns-zero : (f : ℕ) (es : List (Entry A)) (s : ℕ) → turns f (turnedTo es 0 s) ≡ turnedTo es 0 s
   unfolding turns
   turns-zero zero es s = refl
   turns-zero (suc f) es s = refl
 
-  turns-some : (f : ℕ) (es : List (Entry A)) (d s : ℕ) → 0 < d → turns (suc f) (turned es d s) ≡ turns f (turn es d s)
+  turns-some : (f : ℕ) (es : List (Entry A)) (d s : ℕ) → 0 < d → turns (suc f) (turnedTo es d s) ≡ turns f (turn es d s)
   unfolding turns
   turns-some f es d s p = rw (ne-eqb d 0 (omega arith))
 
-  turns-nil : (f d s : ℕ) → turns {A = A} f (turned [] d s) ≡ turned [] d s
+  turns-nil : (f d s : ℕ) → turns {A = A} f (turnedTo [] d s) ≡ turnedTo [] d s
   unfolding turns turn
   turns-nil zero d s = refl
   turns-nil (suc f) d s = ⊎-elim (λ e. rw (eq-eqb d 0 e)) (λ p. rw (ne-eqb d 0 (omega arith)) (turns-nil f d s)) (eq-zero-or-pos d)
 
-  nil-turns : (f d s : ℕ) → turns f (turned [] d s) ≡ stood [] (d + 0) (s + 0)
+  nil-turns : (f d s : ℕ) → turns f (turnedTo [] d s) ≡ stood [] (d + 0) (s + 0)
   nil-turns f d s = turns-nil f d s ∙ sym (stood-nil d s) ∙ stood-as [] d s _ _ (omega arith) (omega arith)
 
-  stop-turns : (a : A) (v : Level) (es : List (Entry A)) (f m s : ℕ) → turns f (turned (endless a v ∷ es) 0 s) ≡ stood (endless a v ∷ es) m (s + 0)
+  stop-turns : (a : A) (v : Level) (es : List (Entry A)) (f m s : ℕ) → turns f (turnedTo (endless a v ∷ es) 0 s) ≡ stood (endless a v ∷ es) m (s + 0)
   stop-turns a v es f m s = turns-zero f _ s ∙ sym (stood-stop a v es m s) ∙ stood-as _ m s _ _ refl (omega arith)
 
-  turn-in : (a : A) (v : Level) (t : ℕ) (es : List (Entry A)) (d s : ℕ) → d < t → turn (pulse a v t ∷ es) d s ≡ turned (pulse a v (t - d) ∷ es) 0 s
+  turn-in : (a : A) (v : Level) (t : ℕ) (es : List (Entry A)) (d s : ℕ) → d < t → turn (pulse a v t ∷ es) d s ≡ turnedTo (pulse a v (t - d) ∷ es) 0 s
   unfolding turn
   turn-in a v t es d s l = rw (lt-ltb d t l)
 
@@ -111,11 +111,11 @@ module _ {A : Type 0} where
   unfolding turn
   turn-out a v t es d s g = rw (le-ltb d t g)
 
-  after-in : (a : A) (v : Level) (u : ℕ) (es : List (Entry A)) (d s : ℕ) → d < u → after (pulse a v u ∷ es) d s ≡ turned (pulse a v (u - d) ∷ es) 0 s
+  after-in : (a : A) (v : Level) (u : ℕ) (es : List (Entry A)) (d s : ℕ) → d < u → after (pulse a v u ∷ es) d s ≡ turnedTo (pulse a v (u - d) ∷ es) 0 s
   unfolding after
   after-in a v u es d s l = rw (lt-ltb d u l)
 
-  after-out : (a : A) (v : Level) (u : ℕ) (es : List (Entry A)) (d s : ℕ) → u ≤ d → after (pulse a v u ∷ es) d s ≡ turned (pulse a v 0 ∷ es) d (s + u)
+  after-out : (a : A) (v : Level) (u : ℕ) (es : List (Entry A)) (d s : ℕ) → u ≤ d → after (pulse a v u ∷ es) d s ≡ turnedTo (pulse a v 0 ∷ es) d (s + u)
   unfolding after
   after-out a v u es d s g = rw (le-ltb d u g)
 
@@ -140,9 +140,9 @@ module _ {A : Type 0} where
       (λ e.
       let y : drops es d ≡ 0 = ap (drops es) e ∙ drops-zero es in
       let w : 0 ≡ u = omega arith in
-      ap (λ (k : ℕ). turns (suc f) (turned (pulse a v 0 ∷ es) k (s + u))) e
+      ap (λ (k : ℕ). turns (suc f) (turnedTo (pulse a v 0 ∷ es) k (s + u))) e
       ∙ turns-zero (suc f) _ _
-      ∙ ap (λ (k : ℕ). turned (pulse a v k ∷ es) 0 (s + u)) w
+      ∙ ap (λ (k : ℕ). turnedTo (pulse a v k ∷ es) 0 (s + u)) w
       ∙ sym (stood-zero (pulse a v u ∷ es) (s + u))
       ∙ stood-as _ 0 (s + u) _ _ (omega arith) (omega arith))
       (λ p.
@@ -176,13 +176,13 @@ module _ {A : Type 0} where
       (lt-or-ge n t)
 
   -- THE LOOP: its turns end, at the measured player's place for the count and the sum dropped
-  pub source-turns : (es : List (Entry A)) (f n s : ℕ) → length es < f → turns f (turned es n s) ≡ stood es (n + runsAhead es n) (s + runsAhead es n)
+  pub source-turns : (es : List (Entry A)) (f n s : ℕ) → length es < f → turns f (turnedTo es n s) ≡ stood es (n + runsAhead es n) (s + runsAhead es n)
   source-turns es zero n s h = absurd (omega arith)
   source-turns es (suc f) n s h =
       ⊎-elim
       (λ e.
       let z : runsAhead es n ≡ 0 = ap (runsAhead es) e ∙ ahead-zero es in
-      ap (λ (k : ℕ). turns (suc f) (turned es k s)) e
+      ap (λ (k : ℕ). turns (suc f) (turnedTo es k s)) e
       ∙ turns-zero (suc f) es s
       ∙ sym (stood-zero es s)
       ∙ stood-as es 0 s _ _ (omega arith) (omega arith))
@@ -190,6 +190,6 @@ module _ {A : Type 0} where
       (eq-zero-or-pos n)
 
   -- no further turn alters what a call comes to
-  pub enough : (es : List (Entry A)) (f n : ℕ) → length es < f → turns f (turned es n 0) ≡ sourced es n
+  pub enough : (es : List (Entry A)) (f n : ℕ) → length es < f → turns f (turnedTo es n 0) ≡ sourced es n
   unfolding sourced
   enough es f n h = source-turns es f n 0 h ∙ sym (source-turns es (suc (length es)) n 0 (omega arith))

@@ -8,7 +8,7 @@ use native.Mathlib.Omega.{arith}
 use lib.ListN.{length}
 use borrow.Author.Tests.{lt-ltb, le-ltb}
 use Rattle.law_base.proofs.Numbers.{lt-or-ge}
-use Rattle.law_pulses.specs.Play.{Entry, pulse, endless, Status, standing, ended, Answer, made, rest, over, statusHere, status, answer, counted, calls, time, final, comesTo, Finite, sum, Positive, Spent, AtSum, Demanded, Meets}
+use Rattle.law_pulses.specs.Play.{Entry, pulse, endless, Status, standing, ended, Answer, made, rest, over, statusHere, status, answer, countedOn, calls, time, final, comesTo, Finite, sum, Positive, Spent, AtSum, Demanded, Meets}
 use Rattle.law_pulses.proofs.Steps.{rest-nil, rest-stop, rest-zero, rest-here, rest-past, rest-ways, over-zero, over-rest, time-pulse, length-rest, rest-cut, over-cut}
 use Rattle.law_pulses.proofs.Joined.{time-append, rest-after}
 
@@ -167,8 +167,8 @@ module _ {A : Type 0} where
       status-over _ _ (omega arith) ∙ sym (status-over _ _ (omega arith)))
       (eq-zero-or-pos (over es m))
 
-  answer-cut : (es : List (Entry A)) (m n : ℕ) → 0 < n → counted (answer es m .passed) (answer (answer es m .place) n) ≡ answer es (m + n)
-  unfolding answer counted
+  answer-cut : (es : List (Entry A)) (m n : ℕ) → 0 < n → countedOn (answer es m .passed) (answer (answer es m .place) n) ≡ answer es (m + n)
+  unfolding answer countedOn
   answer-cut es m n p =
       let e = rest-cut es m n in
       ap₂ (made (rest (rest es m) n)) (status-cut es m n p)
@@ -180,7 +180,7 @@ module _ {A : Type 0} where
   unfolding calls sum Positive
   any-cut es n [] h = ap (answer es) (omega arith)
   any-cut es n (m ∷ ms) h =
-      ap (counted (answer es n .passed)) (any-cut (answer es n .place) m ms (h .1)) ∙ answer-cut es n (m + sum ms) (omega arith)
+      ap (countedOn (answer es n .passed)) (any-cut (answer es n .place) m ms (h .1)) ∙ answer-cut es n (m + sum ms) (omega arith)
 
   -- DEMAND 3
   pub demanded : Meets {A = A} calls

@@ -6,7 +6,7 @@ use mathlib.Core.List.{List, [], _∷_}
 use Prim.Native.Nat.{ℕ, _%_}
 use native.Mathlib.Omega.{arith}
 use lib.Dec.{eqb}
-use Rattle.law_pulses.specs.Play.{Entry, pulse, endless, low, high, standing, stopped, ended, made, rest, over, statusHere, status, answer, counted, calls, time}
+use Rattle.law_pulses.specs.Play.{Entry, pulse, endless, low, high, standing, stopped, ended, made, rest, over, statusHere, status, answer, countedOn, calls, time}
 use Rattle.law_pulses.specs.Runs.{run}
 use Rattle.law_pulses.specs.Source.{after, turn, turns, sourced, reached, sumDropped, source, dropped, sources, withDropped, heard, lastingEntries, Agrees}
 
@@ -62,7 +62,7 @@ above-401 = refl
 
 -- cut into 99, 1 and 301
 cut-401 : calls sole 99 (1 ∷ 301 ∷ []) ≡ made [] ended 6
-unfolding calls counted answer rest over status statusHere
+unfolding calls countedOn answer rest over status statusHere
 cut-401 = refl
 
 -- exactly spent after the tape's last is not yet ended; the next call is, and passes none

@@ -4,7 +4,7 @@ use mathlib.Core.List.{List, [], _∷_}
 use Prim.Native.Nat.{ℕ}
 use native.Mathlib.Omega.{arith}
 use lib.ListN.{length}
-use Rattle.law_pulses.specs.Play.{Entry, pulse, low, Answer, rest, answer, counted, calls, Positive, Meets}
+use Rattle.law_pulses.specs.Play.{Entry, pulse, low, Answer, rest, answer, countedOn, calls, Positive, Meets}
 use Rattle.law_pulses.proofs.Demand.{meets-one}
 
 module _ {A : Type 0} (a : A) (run : List (Entry A) → ℕ → List ℕ → Answer A) (meets : Meets run) where
@@ -18,7 +18,7 @@ module _ {A : Type 0} (a : A) (run : List (Entry A) → ℕ → List ℕ → Ans
 
   -- one that plays only the first call of a cutting
   pub no-first-only : ((es : List (Entry A)) (n : ℕ) (ns : List ℕ) → run es n ns .place ≡ run es n [] .place) → ⊥
-  unfolding calls counted answer rest Positive
+  unfolding calls countedOn answer rest Positive
   no-first-only first =
       let es = pulse a low 2 ∷ [] in
       let one = meets-one run meets es 1 [] (omega arith) tt in

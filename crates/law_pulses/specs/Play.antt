@@ -62,13 +62,13 @@ module _ {A : Type 0} where
   unfoldable pub answer : List (Entry A) → ℕ → Answer A
   answer es n = made (rest es n) (status (rest es n) (over es n)) (length es - length (rest es n))
 
-  unfoldable pub counted : ℕ → Answer A → Answer A
-  counted k r = made (r .place) (r .tells) (k + r .passed)
+  unfoldable pub countedOn : ℕ → Answer A → Answer A
+  countedOn k r = made (r .place) (r .tells) (k + r .passed)
 
   -- a call of n and the calls after it: the last one's place and status, and the entries passed in all
   unfoldable pub calls : List (Entry A) → ℕ → List ℕ → Answer A
   calls es n [] = answer es n
-  calls es n (m ∷ ms) = counted (answer es n .passed) (calls (answer es n .place) m ms)
+  calls es n (m ∷ ms) = countedOn (answer es n .passed) (calls (answer es n .place) m ms)
 
   -- the listed time left: up to the first endless entry, or the end
   unfoldable pub time : List (Entry A) → ℕ

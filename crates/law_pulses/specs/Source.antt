@@ -26,31 +26,31 @@ isEnded ended = true
 module _ {A : Type 0} where
   -- an entry is finished: in the same turn the next one takes the count left, or, if no longer than it, is dropped with nothing charged
   unfoldable pub after : List (Entry A) → ℕ → ℕ → Turned A
-  after [] d s = turned [] d s
-  after (endless a v ∷ es) d s = turned (endless a v ∷ es) 0 s
-  after (pulse a v u ∷ es) d s = ltb d u ⇒ turned (pulse a v (u - d) ∷ es) 0 s ∣ turned (pulse a v 0 ∷ es) d (s + u)
+  after [] d s = turnedTo [] d s
+  after (endless a v ∷ es) d s = turnedTo (endless a v ∷ es) 0 s
+  after (pulse a v u ∷ es) d s = ltb d u ⇒ turnedTo (pulse a v (u - d) ∷ es) 0 s ∣ turnedTo (pulse a v 0 ∷ es) d (s + u)
 
   -- (behind a pause the Rust looks at no entry in that turn; a start has 0 T-states, so the list's turn leaves the same)
   unfoldable pub turn : List (Entry A) → ℕ → ℕ → Turned A
-  turn [] d s = turned [] d s
-  turn (endless a v ∷ es) d s = turned (endless a v ∷ es) 0 s
-  turn (pulse a v t ∷ es) d s = ltb d t ⇒ turned (pulse a v (t - d) ∷ es) 0 s ∣ after es (d - t) s
+  turn [] d s = turnedTo [] d s
+  turn (endless a v ∷ es) d s = turnedTo (endless a v ∷ es) 0 s
+  turn (pulse a v t ∷ es) d s = ltb d t ⇒ turnedTo (pulse a v (t - d) ∷ es) 0 s ∣ after es (d - t) s
 
   -- while the count is not 0, f turns at most
   unfoldable pub turns : ℕ → Turned A → Turned A
   turns zero x = x
-  turns (suc f) (turned es d s) = eqb d 0 ⇒ turned es d s ∣ turns f (turn es d s)
+  turns (suc f) (turnedTo es d s) = eqb d 0 ⇒ turnedTo es d s ∣ turns f (turn es d s)
 
   -- a call of n: a turn for each entry and one more are enough (`enough` in Ahead)
   unfoldable pub sourced : List (Entry A) → ℕ → Turned A
-  sourced es n = turns (suc (length es)) (turned es n 0)
+  sourced es n = turns (suc (length es)) (turnedTo es n 0)
 
   -- past the last entry with T-states left is the end
   unfoldable pub reached : Turned A → Outcome A
-  reached (turned es d s) = record { place = es; done = ltb 0 d }
+  reached (turnedTo es d s) = record { place = es; done = ltb 0 d }
 
   unfoldable pub sumDropped : Turned A → ℕ
-  sumDropped (turned es d s) = s
+  sumDropped (turnedTo es d s) = s
 
   abbrev pub source : List (Entry A) → ℕ → Outcome A
   source es n = reached (sourced es n)
@@ -92,9 +92,9 @@ module _ {A : Type 0} where
   Behind (x ∷ es) n = Below es n
 
   -- and so for each call
-  unfoldable pub Short : List (Entry A) → List ℕ → Type 0
-  Short es [] = Unit
-  Short es (n ∷ ns) = Behind es n × Short es ns
+  unfoldable pub ShortCalls : List (Entry A) → List ℕ → Type 0
+  ShortCalls es [] = Unit
+  ShortCalls es (n ∷ ns) = Behind es n × ShortCalls es ns
 
 -- xs is ys after entries of no length
 pub record After {A : Type 0} (xs ys : List (Entry A)) : Type 0 where

@@ -25,12 +25,12 @@ use Rattle.load_state.specs.Kept.{Sure, sure, none}
 use Rattle.load_blocks.specs.declared.Origin.{Origin}
 use Rattle.load_blocks.specs.Adds.{Lent, addRows}
 use Rattle.load_blocks.specs.Sounds.{Sound, rowOf, addSound}
-use Rattle.law_tzx.specs.Format.{Length, lasting}
+use Rattle.law_tzx.specs.Format.{PulseLength, lasting}
 use Rattle.law_tzx.specs.Kept.{lengthOf, lengths, entriesFrom, Plays}
 use Rattle.law_tzx.proofs.Lengths.{lasting-append, blockLengths, block-lengths}
 
 -- nothing is added
-pub plays-none : {s : List ℕ} {ls : List Length} {t u : Parsed} → u .blocks ≡ t .blocks → u .tones ≡ t .tones → lasting ls ≡ [] → Plays s ls t u
+pub plays-none : {s : List ℕ} {ls : List PulseLength} {t u : Parsed} → u .blocks ≡ t .blocks → u .tones ≡ t .tones → lasting ls ≡ [] → Plays s ls t u
 unfolding entriesFrom lasting
 plays-none {t = t} p q e =
     record { blocks = []; tones = []; added = p ∙ sym (append-nil (t .blocks)); under = q ∙ sym (append-nil (t .tones)); plays = λ more N b. sym e }
@@ -45,7 +45,7 @@ list-append s tt b (x ∷ xs) ys =
     ∙ sym (append-assoc (entriesOf s tt b x) (entriesFrom s tt (b + 1) xs) (entriesFrom s tt (b + length (x ∷ xs)) ys))
 
 -- one step, then another
-pub plays-then : {s : List ℕ} {ls ms : List Length} {t u v : Parsed} → Plays s ls t u → Plays s ms u v → Plays s (ls ++ ms) t v
+pub plays-then : {s : List ℕ} {ls ms : List PulseLength} {t u v : Parsed} → Plays s ls t u → Plays s ms u v → Plays s (ls ++ ms) t v
 plays-then {s} {ls} {ms} {t} {u} {v} p q =
     record {
       blocks = p .blocks ++ q .blocks;
@@ -61,12 +61,12 @@ plays-then {s} {ls} {ms} {t} {u} {v} p q =
           ap (λ l. lasting (lengths l)) (list-append s tt b (p .blocks) (q .blocks))
           ∙ ap lasting (map-append lengthOf (entriesFrom s tt b (p .blocks)) (entriesFrom s tt (b + length (p .blocks)) (q .blocks)))
           ∙ lasting-append (lengths (entriesFrom s tt b (p .blocks))) (lengths (entriesFrom s tt (b + length (p .blocks)) (q .blocks)))
-          ∙ ap₂ (λ (x y : List Length). x ++ y) first second
+          ∙ ap₂ (λ (x y : List PulseLength). x ++ y) first second
           ∙ sym (lasting-append ls ms);
     }
 
 -- lengths that sound the same
-pub plays-as : {s : List ℕ} {ls ms : List Length} {t u : Parsed} → lasting ls ≡ lasting ms → Plays s ls t u → Plays s ms t u
+pub plays-as : {s : List ℕ} {ls ms : List PulseLength} {t u : Parsed} → lasting ls ≡ lasting ms → Plays s ls t u → Plays s ms t u
 plays-as e p = record { blocks = p .blocks; tones = p .tones; added = p .added; under = p .under; plays = λ more N b. p .plays more N b ∙ e }
 
 -- a source row's name is not heard
@@ -89,7 +89,7 @@ named-same s tt b p r e = source-entries tt b (named p r) (sort-named p r e) s �
 abbrev blank : Tone
 blank = decodeTone []
 
-module _ (s : List ℕ) (origin : Origin) (d : Sound) (ls : List Length) (same : (n : ℕ) → blockLengths s (d .tones) (rowOf origin d n) ≡ lasting ls) where
+module _ (s : List ℕ) (origin : Origin) (d : Sound) (ls : List PulseLength) (same : (n : ℕ) → blockLengths s (d .tones) (rowOf origin d n) ≡ lasting ls) where
   own : (t : Parsed) (more : List Tone) (N i : ℕ) → i < length (d .tones) → get tone (tableOf tone ((t .tones ++ (d .tones)) ++ more) N) (rowOf origin d (length (t .tones)) .tone + i) ≡ getD (d .tones) i blank
   unfolding rowOf
   own t more N i k =

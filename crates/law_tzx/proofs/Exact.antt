@@ -30,7 +30,7 @@ use Rattle.load_blocks.specs.Deeds.{does}
 use Rattle.load_blocks.proofs.Laws.{one-sound}
 use Rattle.load_source.specs.Meaning.{deedOf}
 use Rattle.load_source.specs.Source.{act}
-use Rattle.law_tzx.specs.Format.{Length, lasts, PulseTrain, Said, sounds, unsaid, pauseMs, each, again, dataPulses, bitsSaid, pilotCount, format10, format11, format12, format13, format14, format2A, formatOf, lengthsOf, lasting}
+use Rattle.law_tzx.specs.Format.{PulseLength, lasts, PulseTrain, Said, sounds, unsaid, pauseMs, each, again, dataPulses, bitsSaid, pilotCount, format10, format11, format12, format13, format14, format2A, formatOf, lengthsOf, lasting}
 use Rattle.law_tzx.specs.Kept.{evenCount, kept11, kept12, kept13, kept, exactKind, lengths, entriesFrom, Plays, Keeps, as-said}
 use Rattle.law_tzx.proofs.Lengths.{long, long-append, lasting-append, wavesOf, dataIn, pauseIn, blockLengths}
 use Rattle.law_tzx.proofs.Adds.{sound-plays}
@@ -40,7 +40,7 @@ use Rattle.law_tzx.proofs.KeepSounds.{turbo-pause}
 use Rattle.law_tzx.proofs.KeepPulses.{pulseIn, no-pause, pairs-play}
 
 -- blocks that were added play one list of lengths
-plays-once : {s : List ℕ} {ls ms : List Length} {t u : Parsed} → Plays s ls t u → Plays s ms t u → lasting ls ≡ lasting ms
+plays-once : {s : List ℕ} {ls ms : List PulseLength} {t u : Parsed} → Plays s ls t u → Plays s ms t u → lasting ls ≡ lasting ms
 plays-once {s} {ls} {ms} {t} {u} p q =
     let n = length (t .blocks) in
     let a : drop n (u .blocks) ≡ p .blocks = ap (drop n) (p .added) ∙ drop-at (t .blocks) (p .blocks) n refl in
@@ -51,7 +51,7 @@ plays-once {s} {ls} {ms} {t} {u} p q =
 said-of : {x y : PulseTrain} → sounds x ≡ sounds y → x ≡ y
 said-of e = cc
 
-keeps-once : {s : List ℕ} {ls : List Length} {t u : Parsed} {said : Said} (x : PulseTrain) → said ≡ sounds x → Plays s ls t u → Keeps s t u said → lasting ls ≡ lasting (lengthsOf x)
+keeps-once : {s : List ℕ} {ls : List PulseLength} {t u : Parsed} {said : Said} (x : PulseTrain) → said ≡ sounds x → Plays s ls t u → Keeps s t u said → lasting ls ≡ lasting (lengthsOf x)
 keeps-once x e p (as-said {x = y} q) = plays-once p q ∙ ap (λ (z : PulseTrain). lasting (lengthsOf z)) (said-of e)
 
 -- how many are heard
@@ -85,7 +85,7 @@ unsaid-differs : {s : List ℕ} {t : Parsed} {said : Said} → said ≡ unsaid �
 unsaid-differs e o = sure-any (λ u. said-none e) o
 
 -- two lists of lengths before one pause, of different numbers
-counts-apart : (xs ys : List ℕ) (p : Length) → (count xs ≡ count ys → ⊥) → lasting (lengthsOf (record { pulses = xs; pause = p })) ≡ lasting (lengthsOf (record { pulses = ys; pause = p })) → ⊥
+counts-apart : (xs ys : List ℕ) (p : PulseLength) → (count xs ≡ count ys → ⊥) → lasting (lengthsOf (record { pulses = xs; pause = p })) ≡ lasting (lengthsOf (record { pulses = ys; pause = p })) → ⊥
 unfolding lengthsOf
 counts-apart xs ys p h e =
     let a : length (long xs) + length (lasting (p ∷ [])) ≡ length (long ys) + length (lasting (p ∷ [])) =
@@ -95,7 +95,7 @@ counts-apart xs ys p h e =
     h (omega arith)
 
 -- a block that plays another number of lengths
-add-differs : (lent : Lent) (origin : Origin) (s : List ℕ) (t : Parsed) (d : Sound) (bits : List ℕ) (p : Length) (ys : List ℕ) {said : Said} → said ≡ sounds (record { pulses = ys; pause = p })
+add-differs : (lent : Lent) (origin : Origin) (s : List ℕ) (t : Parsed) (d : Sound) (bits : List ℕ) (p : PulseLength) (ys : List ℕ) {said : Said} → said ≡ sounds (record { pulses = ys; pause = p })
     → ((n : ℕ) → dataIn s (rowOf origin d n) ≡ bits) → ((n : ℕ) → pauseIn (rowOf origin d n) ≡ p) → (count (wavesOf (d .tones) ++ bits) ≡ count ys → ⊥) → Sure (λ u. Keeps s t u said → ⊥) (addSounds lent origin (d ∷ []) t)
 unfolding lengthsOf blockLengths
 add-differs lent origin s t d bits p ys said b q h =
@@ -103,7 +103,7 @@ add-differs lent origin s t d bits p ys said b q h =
     rw (one-sound lent origin d t) (sure-also (λ u k m. counts-apart xs ys p h (keeps-once (record { pulses = ys; pause = p }) said k m))
     (sound-plays s origin d (map lasts xs ++ p ∷ [])
     (λ n.
-    ap₂ (λ (a c : List Length). a ++ c) (sym (long-append (wavesOf (d .tones)) (dataIn s (rowOf origin d n))) ∙ ap (λ (l : List ℕ). long (wavesOf (d .tones) ++ l)) (b n)) (ap (λ (l : Length). lasting (l ∷ [])) (q n))
+    ap₂ (λ (a c : List PulseLength). a ++ c) (sym (long-append (wavesOf (d .tones)) (dataIn s (rowOf origin d n))) ∙ ap (λ (l : List ℕ). long (wavesOf (d .tones) ++ l)) (b n)) (ap (λ (l : PulseLength). lasting (l ∷ [])) (q n))
     ∙ sym (lasting-append (map lasts xs) (p ∷ [])))
     lent t))
 

@@ -21,7 +21,7 @@ use Rattle.load_source.specs.Meaning.{deedOf}
 use Rattle.load_source.specs.Source.{act, halted}
 use Rattle.law_tzx.specs.Format.{lasts, forever, each, bitPulses, bitsIn, bytePulses, dataPulses, bitsSaid, format11, format12, format13, format14, waveFrom, symbolPulse, waveOf, pilotSymbol, repetitions, pilotPulses, bitAt, groupAt, dataNumber, symbolPulses, every, symbolsSaid, format19, format20, format2A, formatOf, lengthsOf, lasting}
 use Rattle.law_tzx.specs.Kept.{evenCount, kept11, kept12, kept13, firstPulse, secondPulse, wholeWave, keptTimes, keptEntry, keptPilot, keptSymbol, keptPairs, keptData, kept19, kept, lengthOf, entriesFrom}
-use Rattle.law_tzx.specs.Heard.{Heard, plays, heardIn, playedBy, formatOn, sourceOn, keptOn, formatAt, sourceHeard, keptAt, sameLength, sameLengths, same}
+use Rattle.law_tzx.specs.Heard.{Heard, plays, heardIn, playedBy, formatOn, sourceOn, keptOn, formatAt, sourceHeard, keptAt, sameLength, sameLengths, sameHeard}
 use Rattle.law_tzx.specs.Tapes.{keptThen, keptFrom, saidOf, saidThen, formatFrom}
 
 pub record Example : Type 0 where
@@ -65,15 +65,15 @@ kepts =
     row (0x30 ∷ 0x01 ∷ 0x41 ∷ []) true (plays []) (plays []) ∷ []
 
 pub kepts-said : map (λ e. formatAt (e .tape)) kepts ≡ map (λ e. e .format) kepts
-unfolding leAt numberAt fieldAt placeOf times eachAt groupsAt run tableOver entryOf cyclesOf isSingle startLevel cycleLevel bitLevel edged pauseLevel toneOf tonesOf bitsAt halfOf byteOf dataOf pauseOf soundOf entriesOf countedAt passAt textsAt wholeAt sealed enclosed fittingAt readAt binaryDigits orFull heldIf kind10 kind11 kind12 kind13 kind14 stream19 kind19 kind20 kind21 kind22 kind24 kind25 kind2A kind30 kind31 info32 kind32 kind33 kind35 kind5A kinds kindOf takenAs cutAt symbolAt before rowsFrom cycles entrySymbol entryRepeat entryRow pilotOf equalHalves ordinary usedBits symbolNumber singleRow pairRow singlesOf pairsOf dataPart withPilot withData generalOf empty _⟫_ addTones addBlock pend openLoop turboTones pureTones pureToneTones pulseAt addRows rowOf standardSound turboSound pairSounds pureSound pauseSound addSound addSounds generalDeed stop48Deed does deedOf act halted each bitPulses bitsIn bytePulses dataPulses bitsSaid format11 format12 format13 format14 waveFrom symbolPulse waveOf pilotSymbol repetitions pilotPulses bitAt groupAt dataNumber symbolPulses every symbolsSaid format19 format20 format2A formatOf lengthsOf lasting evenCount kept11 kept12 kept13 firstPulse secondPulse wholeWave keptTimes keptEntry keptPilot keptSymbol keptPairs keptData kept19 kept lengthOf entriesFrom heardIn playedBy formatOn sourceOn keptOn sameLength sameLengths same kepts
+unfolding leAt numberAt fieldAt placeOf times eachAt groupsAt run tableOver entryOf cyclesOf isSingle startLevel cycleLevel bitLevel edged pauseLevel toneOf tonesOf bitsAt halfOf byteOf dataOf pauseOf soundOf entriesOf countedAt passAt textsAt wholeAt sealed enclosed fittingAt readAt binaryDigits orFull heldIf kind10 kind11 kind12 kind13 kind14 stream19 kind19 kind20 kind21 kind22 kind24 kind25 kind2A kind30 kind31 info32 kind32 kind33 kind35 kind5A kinds kindOf takenAs cutAt symbolAt before rowsFrom cycles entrySymbol entryRepeat entryRow pilotOf equalHalves ordinary usedBits symbolNumber singleRow pairRow singlesOf pairsOf dataPart withPilot withData generalOf empty _⟫_ addTones addBlock pend openLoop turboTones pureTones pureToneTones pulseAt addRows rowOf standardSound turboSound pairSounds pureSound pauseSound addSound addSounds generalDeed stop48Deed does deedOf act halted each bitPulses bitsIn bytePulses dataPulses bitsSaid format11 format12 format13 format14 waveFrom symbolPulse waveOf pilotSymbol repetitions pilotPulses bitAt groupAt dataNumber symbolPulses every symbolsSaid format19 format20 format2A formatOf lengthsOf lasting evenCount kept11 kept12 kept13 firstPulse secondPulse wholeWave keptTimes keptEntry keptPilot keptSymbol keptPairs keptData kept19 kept lengthOf entriesFrom heardIn playedBy formatOn sourceOn keptOn sameLength sameLengths sameHeard kepts
 kepts-said = refl
 
 pub kepts-played : map (λ e. sourceHeard (e .tape)) kepts ≡ map (λ e. e .source) kepts
-unfolding leAt numberAt fieldAt placeOf times eachAt groupsAt run tableOver entryOf cyclesOf isSingle startLevel cycleLevel bitLevel edged pauseLevel toneOf tonesOf bitsAt halfOf byteOf dataOf pauseOf soundOf entriesOf countedAt passAt textsAt wholeAt sealed enclosed fittingAt readAt binaryDigits orFull heldIf kind10 kind11 kind12 kind13 kind14 stream19 kind19 kind20 kind21 kind22 kind24 kind25 kind2A kind30 kind31 info32 kind32 kind33 kind35 kind5A kinds kindOf takenAs cutAt symbolAt before rowsFrom cycles entrySymbol entryRepeat entryRow pilotOf equalHalves ordinary usedBits symbolNumber singleRow pairRow singlesOf pairsOf dataPart withPilot withData generalOf empty _⟫_ addTones addBlock pend openLoop turboTones pureTones pureToneTones pulseAt addRows rowOf standardSound turboSound pairSounds pureSound pauseSound addSound addSounds generalDeed stop48Deed does deedOf act halted each bitPulses bitsIn bytePulses dataPulses bitsSaid format11 format12 format13 format14 waveFrom symbolPulse waveOf pilotSymbol repetitions pilotPulses bitAt groupAt dataNumber symbolPulses every symbolsSaid format19 format20 format2A formatOf lengthsOf lasting evenCount kept11 kept12 kept13 firstPulse secondPulse wholeWave keptTimes keptEntry keptPilot keptSymbol keptPairs keptData kept19 kept lengthOf entriesFrom heardIn playedBy formatOn sourceOn keptOn sameLength sameLengths same kepts
+unfolding leAt numberAt fieldAt placeOf times eachAt groupsAt run tableOver entryOf cyclesOf isSingle startLevel cycleLevel bitLevel edged pauseLevel toneOf tonesOf bitsAt halfOf byteOf dataOf pauseOf soundOf entriesOf countedAt passAt textsAt wholeAt sealed enclosed fittingAt readAt binaryDigits orFull heldIf kind10 kind11 kind12 kind13 kind14 stream19 kind19 kind20 kind21 kind22 kind24 kind25 kind2A kind30 kind31 info32 kind32 kind33 kind35 kind5A kinds kindOf takenAs cutAt symbolAt before rowsFrom cycles entrySymbol entryRepeat entryRow pilotOf equalHalves ordinary usedBits symbolNumber singleRow pairRow singlesOf pairsOf dataPart withPilot withData generalOf empty _⟫_ addTones addBlock pend openLoop turboTones pureTones pureToneTones pulseAt addRows rowOf standardSound turboSound pairSounds pureSound pauseSound addSound addSounds generalDeed stop48Deed does deedOf act halted each bitPulses bitsIn bytePulses dataPulses bitsSaid format11 format12 format13 format14 waveFrom symbolPulse waveOf pilotSymbol repetitions pilotPulses bitAt groupAt dataNumber symbolPulses every symbolsSaid format19 format20 format2A formatOf lengthsOf lasting evenCount kept11 kept12 kept13 firstPulse secondPulse wholeWave keptTimes keptEntry keptPilot keptSymbol keptPairs keptData kept19 kept lengthOf entriesFrom heardIn playedBy formatOn sourceOn keptOn sameLength sameLengths sameHeard kepts
 kepts-played = refl
 
 pub kepts-kept : map (λ e. keptAt (e .tape)) kepts ≡ map (λ e. e .kept) kepts
-unfolding leAt numberAt fieldAt placeOf times eachAt groupsAt run tableOver entryOf cyclesOf isSingle startLevel cycleLevel bitLevel edged pauseLevel toneOf tonesOf bitsAt halfOf byteOf dataOf pauseOf soundOf entriesOf countedAt passAt textsAt wholeAt sealed enclosed fittingAt readAt binaryDigits orFull heldIf kind10 kind11 kind12 kind13 kind14 stream19 kind19 kind20 kind21 kind22 kind24 kind25 kind2A kind30 kind31 info32 kind32 kind33 kind35 kind5A kinds kindOf takenAs cutAt symbolAt before rowsFrom cycles entrySymbol entryRepeat entryRow pilotOf equalHalves ordinary usedBits symbolNumber singleRow pairRow singlesOf pairsOf dataPart withPilot withData generalOf empty _⟫_ addTones addBlock pend openLoop turboTones pureTones pureToneTones pulseAt addRows rowOf standardSound turboSound pairSounds pureSound pauseSound addSound addSounds generalDeed stop48Deed does deedOf act halted each bitPulses bitsIn bytePulses dataPulses bitsSaid format11 format12 format13 format14 waveFrom symbolPulse waveOf pilotSymbol repetitions pilotPulses bitAt groupAt dataNumber symbolPulses every symbolsSaid format19 format20 format2A formatOf lengthsOf lasting evenCount kept11 kept12 kept13 firstPulse secondPulse wholeWave keptTimes keptEntry keptPilot keptSymbol keptPairs keptData kept19 kept lengthOf entriesFrom heardIn playedBy formatOn sourceOn keptOn sameLength sameLengths same kepts
+unfolding leAt numberAt fieldAt placeOf times eachAt groupsAt run tableOver entryOf cyclesOf isSingle startLevel cycleLevel bitLevel edged pauseLevel toneOf tonesOf bitsAt halfOf byteOf dataOf pauseOf soundOf entriesOf countedAt passAt textsAt wholeAt sealed enclosed fittingAt readAt binaryDigits orFull heldIf kind10 kind11 kind12 kind13 kind14 stream19 kind19 kind20 kind21 kind22 kind24 kind25 kind2A kind30 kind31 info32 kind32 kind33 kind35 kind5A kinds kindOf takenAs cutAt symbolAt before rowsFrom cycles entrySymbol entryRepeat entryRow pilotOf equalHalves ordinary usedBits symbolNumber singleRow pairRow singlesOf pairsOf dataPart withPilot withData generalOf empty _⟫_ addTones addBlock pend openLoop turboTones pureTones pureToneTones pulseAt addRows rowOf standardSound turboSound pairSounds pureSound pauseSound addSound addSounds generalDeed stop48Deed does deedOf act halted each bitPulses bitsIn bytePulses dataPulses bitsSaid format11 format12 format13 format14 waveFrom symbolPulse waveOf pilotSymbol repetitions pilotPulses bitAt groupAt dataNumber symbolPulses every symbolsSaid format19 format20 format2A formatOf lengthsOf lasting evenCount kept11 kept12 kept13 firstPulse secondPulse wholeWave keptTimes keptEntry keptPilot keptSymbol keptPairs keptData kept19 kept lengthOf entriesFrom heardIn playedBy formatOn sourceOn keptOn sameLength sameLengths sameHeard kepts
 kepts-kept = refl
 
 -- a whole tape: a tone, a pause, a stop on 48K; every piece is kept, and they are played one after the other
@@ -81,9 +81,9 @@ abbrev whole : List ℕ
 whole = signature ++ 0x01 ∷ 0x14 ∷ 0x12 ∷ 0x64 ∷ 0x00 ∷ 0x04 ∷ 0x00 ∷ 0x20 ∷ 0x01 ∷ 0x00 ∷ 0x2A ∷ 0x00 ∷ 0x00 ∷ 0x00 ∷ 0x00 ∷ []
 
 pub whole-kept : keptFrom whole 23 10 ≡ true
-unfolding leAt numberAt fieldAt placeOf times eachAt groupsAt run tableOver entryOf cyclesOf isSingle startLevel cycleLevel bitLevel edged pauseLevel toneOf tonesOf bitsAt halfOf byteOf dataOf pauseOf soundOf entriesOf countedAt passAt textsAt wholeAt sealed enclosed fittingAt readAt binaryDigits orFull heldIf kind10 kind11 kind12 kind13 kind14 stream19 kind19 kind20 kind21 kind22 kind24 kind25 kind2A kind30 kind31 info32 kind32 kind33 kind35 kind5A kinds kindOf takenAs cutAt symbolAt before rowsFrom cycles entrySymbol entryRepeat entryRow pilotOf equalHalves ordinary usedBits symbolNumber singleRow pairRow singlesOf pairsOf dataPart withPilot withData generalOf empty _⟫_ addTones addBlock pend openLoop turboTones pureTones pureToneTones pulseAt addRows rowOf standardSound turboSound pairSounds pureSound pauseSound addSound addSounds generalDeed stop48Deed does deedOf act halted each bitPulses bitsIn bytePulses dataPulses bitsSaid format11 format12 format13 format14 waveFrom symbolPulse waveOf pilotSymbol repetitions pilotPulses bitAt groupAt dataNumber symbolPulses every symbolsSaid format19 format20 format2A formatOf lengthsOf lasting evenCount kept11 kept12 kept13 firstPulse secondPulse wholeWave keptTimes keptEntry keptPilot keptSymbol keptPairs keptData kept19 kept lengthOf entriesFrom heardIn playedBy formatOn sourceOn keptOn sameLength sameLengths same keptThen keptFrom
+unfolding leAt numberAt fieldAt placeOf times eachAt groupsAt run tableOver entryOf cyclesOf isSingle startLevel cycleLevel bitLevel edged pauseLevel toneOf tonesOf bitsAt halfOf byteOf dataOf pauseOf soundOf entriesOf countedAt passAt textsAt wholeAt sealed enclosed fittingAt readAt binaryDigits orFull heldIf kind10 kind11 kind12 kind13 kind14 stream19 kind19 kind20 kind21 kind22 kind24 kind25 kind2A kind30 kind31 info32 kind32 kind33 kind35 kind5A kinds kindOf takenAs cutAt symbolAt before rowsFrom cycles entrySymbol entryRepeat entryRow pilotOf equalHalves ordinary usedBits symbolNumber singleRow pairRow singlesOf pairsOf dataPart withPilot withData generalOf empty _⟫_ addTones addBlock pend openLoop turboTones pureTones pureToneTones pulseAt addRows rowOf standardSound turboSound pairSounds pureSound pauseSound addSound addSounds generalDeed stop48Deed does deedOf act halted each bitPulses bitsIn bytePulses dataPulses bitsSaid format11 format12 format13 format14 waveFrom symbolPulse waveOf pilotSymbol repetitions pilotPulses bitAt groupAt dataNumber symbolPulses every symbolsSaid format19 format20 format2A formatOf lengthsOf lasting evenCount kept11 kept12 kept13 firstPulse secondPulse wholeWave keptTimes keptEntry keptPilot keptSymbol keptPairs keptData kept19 kept lengthOf entriesFrom heardIn playedBy formatOn sourceOn keptOn sameLength sameLengths sameHeard keptThen keptFrom
 whole-kept = refl
 
 pub whole-said : map (λ on48. lasting (formatFrom on48 whole 23 10)) (true ∷ false ∷ []) ≡ (lasts 100 ∷ lasts 100 ∷ lasts 100 ∷ lasts 100 ∷ lasts 3500 ∷ forever ∷ []) ∷ (lasts 100 ∷ lasts 100 ∷ lasts 100 ∷ lasts 100 ∷ lasts 3500 ∷ []) ∷ []
-unfolding leAt numberAt fieldAt placeOf times eachAt groupsAt run tableOver entryOf cyclesOf isSingle startLevel cycleLevel bitLevel edged pauseLevel toneOf tonesOf bitsAt halfOf byteOf dataOf pauseOf soundOf entriesOf countedAt passAt textsAt wholeAt sealed enclosed fittingAt readAt binaryDigits orFull heldIf kind10 kind11 kind12 kind13 kind14 stream19 kind19 kind20 kind21 kind22 kind24 kind25 kind2A kind30 kind31 info32 kind32 kind33 kind35 kind5A kinds kindOf takenAs cutAt symbolAt before rowsFrom cycles entrySymbol entryRepeat entryRow pilotOf equalHalves ordinary usedBits symbolNumber singleRow pairRow singlesOf pairsOf dataPart withPilot withData generalOf empty _⟫_ addTones addBlock pend openLoop turboTones pureTones pureToneTones pulseAt addRows rowOf standardSound turboSound pairSounds pureSound pauseSound addSound addSounds generalDeed stop48Deed does deedOf act halted each bitPulses bitsIn bytePulses dataPulses bitsSaid format11 format12 format13 format14 waveFrom symbolPulse waveOf pilotSymbol repetitions pilotPulses bitAt groupAt dataNumber symbolPulses every symbolsSaid format19 format20 format2A formatOf lengthsOf lasting evenCount kept11 kept12 kept13 firstPulse secondPulse wholeWave keptTimes keptEntry keptPilot keptSymbol keptPairs keptData kept19 kept lengthOf entriesFrom heardIn playedBy formatOn sourceOn keptOn sameLength sameLengths same saidOf saidThen formatFrom
+unfolding leAt numberAt fieldAt placeOf times eachAt groupsAt run tableOver entryOf cyclesOf isSingle startLevel cycleLevel bitLevel edged pauseLevel toneOf tonesOf bitsAt halfOf byteOf dataOf pauseOf soundOf entriesOf countedAt passAt textsAt wholeAt sealed enclosed fittingAt readAt binaryDigits orFull heldIf kind10 kind11 kind12 kind13 kind14 stream19 kind19 kind20 kind21 kind22 kind24 kind25 kind2A kind30 kind31 info32 kind32 kind33 kind35 kind5A kinds kindOf takenAs cutAt symbolAt before rowsFrom cycles entrySymbol entryRepeat entryRow pilotOf equalHalves ordinary usedBits symbolNumber singleRow pairRow singlesOf pairsOf dataPart withPilot withData generalOf empty _⟫_ addTones addBlock pend openLoop turboTones pureTones pureToneTones pulseAt addRows rowOf standardSound turboSound pairSounds pureSound pauseSound addSound addSounds generalDeed stop48Deed does deedOf act halted each bitPulses bitsIn bytePulses dataPulses bitsSaid format11 format12 format13 format14 waveFrom symbolPulse waveOf pilotSymbol repetitions pilotPulses bitAt groupAt dataNumber symbolPulses every symbolsSaid format19 format20 format2A formatOf lengthsOf lasting evenCount kept11 kept12 kept13 firstPulse secondPulse wholeWave keptTimes keptEntry keptPilot keptSymbol keptPairs keptData kept19 kept lengthOf entriesFrom heardIn playedBy formatOn sourceOn keptOn sameLength sameLengths sameHeard saidOf saidThen formatFrom
 whole-said = refl

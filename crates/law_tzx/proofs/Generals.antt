@@ -15,7 +15,7 @@ use Rattle.cut_grammar.specs.Places.{Places}
 use Rattle.load_general.specs.declared.Row.{Row}
 use Rattle.load_general.specs.declared.Row.the-variants.{Refused, Gives}
 use Rattle.load_general.specs.General.{Symbol, symbolAt, plainTone, refused, stops, tones, rowsFrom, cycles, entrySymbol, entryRepeat, entryRow, pilotOf, equalHalves, ordinary, usedBits, symbolNumber, singleRow, pairRow, singlesOf, pairsOf, dataPart}
-use Rattle.law_tzx.specs.Format.{Length, each, again, bitPulses, dataPulses, waveOf, pilotSymbol, repetitions, pilotPulses, bitAt, dataNumber, symbolPulses, every, lasting}
+use Rattle.law_tzx.specs.Format.{PulseLength, each, again, bitPulses, dataPulses, waveOf, pilotSymbol, repetitions, pilotPulses, bitAt, dataNumber, symbolPulses, every, lasting}
 use Rattle.law_tzx.specs.Kept.{firstPulse, secondPulse, wholeWave, keptTimes, keptEntry, keptPilot, keptSymbol, keptPairs, keptData}
 use Rattle.law_tzx.proofs.Lengths.{long, long-append, wavesOf}
 use Rattle.law_tzx.proofs.Waves.{each-split, each-same}
@@ -58,7 +58,7 @@ one-heard s place y = one (firstPulse s place 1 y) ∙ ap long (sym (wave-one s 
 pair-heard : (s : List ℕ) (place y z : ℕ) → long (firstPulse s place 1 y ∷ firstPulse s place 1 z ∷ []) ≡ long (waveOf s place 1 y ++ waveOf s place 1 z)
 pair-heard s place y z =
     long-append (firstPulse s place 1 y ∷ []) (firstPulse s place 1 z ∷ [])
-    ∙ ap₂ (λ (a b : List Length). a ++ b) (one-heard s place y) (one-heard s place z)
+    ∙ ap₂ (λ (a b : List PulseLength). a ++ b) (one-heard s place y) (one-heard s place z)
     ∙ sym (long-append (waveOf s place 1 y) (waveOf s place 1 z))
 
 -- an item of no pulse behind

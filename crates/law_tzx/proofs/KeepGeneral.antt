@@ -21,7 +21,7 @@ use Rattle.load_blocks.specs.Sounds.{ms, Sound, dataBits, noBits, rowOf}
 use Rattle.load_blocks.specs.Blocks.{dataSound}
 use Rattle.load_blocks.specs.Adds.{Lent}
 use Rattle.load_blocks.specs.Deeds.{generalDeed, does}
-use Rattle.law_tzx.specs.Format.{Length, lasts, PulseTrain, sounds, pauseMs, each, dataPulses, pilotPulses, symbolPulses, symbolsSaid, format19}
+use Rattle.law_tzx.specs.Format.{PulseLength, lasts, PulseTrain, sounds, pauseMs, each, dataPulses, pilotPulses, symbolPulses, symbolsSaid, format19}
 use Rattle.law_tzx.specs.Kept.{keptPilot, keptData, kept19, Keeps}
 use Rattle.law_tzx.proofs.Lengths.{long, long-append, waveIn, wavesOf, dataIn, pauseIn}
 use Rattle.law_tzx.proofs.Symbols.{Parts}
@@ -47,7 +47,7 @@ waves-append (p ∷ ps) ts = ap (λ (r : List ℕ). waveIn p ++ r) (waves-append
 
 -- two parts, each heard as it should be
 both : (a b x y : List ℕ) → long a ≡ long x → long b ≡ long y → long (a ++ b) ≡ long (x ++ y)
-both a b x y p q = long-append a b ∙ ap₂ (λ (c d : List Length). c ++ d) p q ∙ sym (long-append x y)
+both a b x y p q = long-append a b ∙ ap₂ (λ (c d : List PulseLength). c ++ d) p q ∙ sym (long-append x y)
 
 toned-same : (origin : Origin) (s : List ℕ) (g : GeneralizedData) (ps ts : List Tone) (x y : List ℕ) (n : ℕ) → long (wavesOf ps) ≡ long x → long (wavesOf ts) ≡ long y
     → long (wavesOf (ps ++ ts) ++ dataIn s (rowOf origin (tonedBirth g (ps ++ ts)) n)) ≡ long (x ++ y)

@@ -21,13 +21,13 @@ use Rattle.load_blocks.specs.Blocks.{turboTones, pureTones, pureToneTones, turb
 use Rattle.load_blocks.specs.Adds.{Lent}
 use Rattle.load_blocks.specs.Deeds.{stop48Deed, does}
 use Rattle.load_blocks.proofs.Laws.{one-sound}
-use Rattle.law_tzx.specs.Format.{Length, lasts, forever, PulseTrain, sounds, pauseMs, each, again, dataPulses, bitsSaid, format11, format12, format14, format20, format2A, lengthsOf, lasting}
+use Rattle.law_tzx.specs.Format.{PulseLength, lasts, forever, PulseTrain, sounds, pauseMs, each, again, dataPulses, bitsSaid, format11, format12, format14, format20, format2A, lengthsOf, lasting}
 use Rattle.law_tzx.specs.Kept.{evenCount, kept11, kept12, Keeps, as-said}
 use Rattle.law_tzx.proofs.Lengths.{long, long-append, lasting-append, wavesOf, dataIn, pauseIn, blockLengths}
 use Rattle.law_tzx.proofs.Adds.{plays-none, sound-plays}
 use Rattle.law_tzx.proofs.Waves.{once, again-more, cycles-pulses, pilot-same, zero-none, zeros-none, data-same}
 
-abbrev pub soundWith : List ℕ → Length → PulseTrain
+abbrev pub soundWith : List ℕ → PulseLength → PulseTrain
 soundWith pulses pause = record { pulses = pulses; pause = pause }
 
 -- a block which sounds as the format says
@@ -39,7 +39,7 @@ keep-one lent origin s t d x p q =
     rw (one-sound lent origin d t) (sure-also (λ u h. as-said h)
     (sound-plays s origin d (lengthsOf x)
     (λ n.
-    ap₂ (λ (a b : List Length). a ++ b) (sym (long-append (wavesOf (d .tones)) (dataIn s (rowOf origin d n))) ∙ p n) (ap (λ (l : Length). lasting (l ∷ [])) (q n))
+    ap₂ (λ (a b : List PulseLength). a ++ b) (sym (long-append (wavesOf (d .tones)) (dataIn s (rowOf origin d n))) ∙ p n) (ap (λ (l : PulseLength). lasting (l ∷ [])) (q n))
     ∙ sym (lasting-append (map lasts (x .pulses)) (x .pause ∷ [])))
     lent t))
 
@@ -54,7 +54,7 @@ turbo-same origin s d n p q =
     ap (λ (l : List ℕ). long ((wave ++ syncs) ++ l)) (data-same s (d .zero) (d .one) (d .last) (d .from) (d .size) q)
     ∙ ap long (append-assoc wave syncs bits)
     ∙ long-append wave (syncs ++ bits)
-    ∙ ap₂ (λ (a b : List Length). a ++ b) (pilot-same (d .pilot) (d .pilots) p) (ap (λ (l : List ℕ). long (l ++ bits)) two)
+    ∙ ap₂ (λ (a b : List PulseLength). a ++ b) (pilot-same (d .pilot) (d .pilots) p) (ap (λ (l : List ℕ). long (l ++ bits)) two)
     ∙ sym (long-append (again (d .pilots) (d .pilot ∷ [])) (d .sync1 ∷ d .sync2 ∷ bits))
   where
     syncs : List ℕ

@@ -18,18 +18,18 @@ use Rattle.play_entries.specs.declared.Phase.the-variants.{Start, Pause}
 use Rattle.play_entries.specs.Entries.{Label, labelAt, entryOf, toneAt, isSource, bitsAt, bitOf, halfOf, byteAt, wholePause, entriesOf}
 use Rattle.play_entries.specs.Source.{sourceCycle, sourceTone, sourceBit, sourceByte, sourceEntries}
 use Rattle.play_entries.proofs.Sourced.{source-entries}
-use Rattle.law_tzx.specs.Format.{Length, lasts, forever, each, again, bitPulses, bitsIn, bytePulses, dataPulses, lasting}
+use Rattle.law_tzx.specs.Format.{PulseLength, lasts, forever, each, again, bitPulses, bitsIn, bytePulses, dataPulses, lasting}
 use Rattle.law_tzx.specs.Kept.{lengthOf, lengths}
 
-pub lasting-append : (ls ms : List Length) → lasting (ls ++ ms) ≡ lasting ls ++ lasting ms
+pub lasting-append : (ls ms : List PulseLength) → lasting (ls ++ ms) ≡ lasting ls ++ lasting ms
 unfolding lasting
 lasting-append [] ms = refl
-lasting-append (forever ∷ ls) ms = ap (λ (x : List Length). forever ∷ x) (lasting-append ls ms)
+lasting-append (forever ∷ ls) ms = ap (λ (x : List PulseLength). forever ∷ x) (lasting-append ls ms)
 lasting-append (lasts zero ∷ ls) ms = lasting-append ls ms
-lasting-append (lasts (suc n) ∷ ls) ms = ap (λ (x : List Length). lasts (suc n) ∷ x) (lasting-append ls ms)
+lasting-append (lasts (suc n) ∷ ls) ms = ap (λ (x : List PulseLength). lasts (suc n) ∷ x) (lasting-append ls ms)
 
 -- numbers as lengths, those above 0
-abbrev pub long : List ℕ → List Length
+abbrev pub long : List ℕ → List PulseLength
 long xs = lasting (map lasts xs)
 
 pub long-append : (xs ys : List ℕ) → long (xs ++ ys) ≡ long xs ++ long ys
@@ -41,7 +41,7 @@ unfolding run each
 run-each item f h p zero = refl
 run-each item f h p (suc n) =
     map-append lengthOf (item p) (run item (p + 1) n)
-    ∙ ap₂ (λ (x y : List Length). x ++ y) (h p) (run-each item f h (p + 1) n)
+    ∙ ap₂ (λ (x y : List PulseLength). x ++ y) (h p) (run-each item f h (p + 1) n)
     ∙ sym (map-append lasts (f p) (each f (p + 1) n))
 
 -- a tone row's wave: a count of 0 is one cycle
@@ -97,11 +97,11 @@ data-lengths s b r =
     run-each (sourceByte s b r) (λ pos. bytePulses (r .zero) (r .one) (byteAt s r pos) (bitsIn (max 1 (r .last)) (r .size) pos)) (byte-lengths s b r) 0 (r .size)
 
 -- its pause
-unfoldable pub pauseIn : Block → Length
+unfoldable pub pauseIn : Block → PulseLength
 pauseIn r = eqb (r .endless) 1 ⇒ forever ∣ lasts (r .pause)
 
 -- WHAT A BLOCK OVER THESE TONE ROWS PLAYS
-unfoldable pub blockLengths : List ℕ → List Tone → Block → List Length
+unfoldable pub blockLengths : List ℕ → List Tone → Block → List PulseLength
 blockLengths s ts r = long (wavesOf ts) ++ long (dataIn s r) ++ lasting (pauseIn r ∷ [])
 
 abbrev pauseEntry : ℕ → Block → Entry Label
@@ -133,7 +133,7 @@ module _ (s tt : List ℕ) (b : ℕ) (r : Block) (source : isSource r ≡ true) 
   sound-lengths : lasting (lengths (startOf b ∷ tonesOf tt b r ++ bytesOf s b r)) ≡ long (wavesOf ts) ++ long (dataIn s r)
   sound-lengths =
       start-none b (tonesOf tt b r ++ bytesOf s b r)
-      ∙ ap lasting (map-append lengthOf (tonesOf tt b r) (bytesOf s b r) ∙ ap₂ (λ (x y : List Length). x ++ y) tones-lengths (data-lengths s b r))
+      ∙ ap lasting (map-append lengthOf (tonesOf tt b r) (bytesOf s b r) ∙ ap₂ (λ (x y : List PulseLength). x ++ y) tones-lengths (data-lengths s b r))
       ∙ lasting-append (map lasts (wavesOf ts)) (map lasts (dataIn s r))
 
   pub block-lengths : lasting (lengths (entriesOf s tt b r)) ≡ blockLengths s ts r
@@ -143,4 +143,4 @@ module _ (s tt : List ℕ) (b : ℕ) (r : Block) (source : isSource r ≡ true) 
       ap (λ (es : List (Entry Label)). lasting (lengths es)) (source-entries tt b r source s)
       ∙ ap lasting (map-append lengthOf sound (pauseEntry b r ∷ []))
       ∙ lasting-append (lengths sound) (lengths (pauseEntry b r ∷ []))
-      ∙ ap₂ (λ (x y : List Length). x ++ y) sound-lengths (ap lasting (pause-lengths b r))
+      ∙ ap₂ (λ (x y : List PulseLength). x ++ y) sound-lengths (ap lasting (pause-lengths b r))

@@ -13,7 +13,7 @@ use Rattle.rows.specs.declared.Tone.{Tone}
 use Rattle.load_general.specs.declared.Row.{Row}
 use Rattle.load_general.specs.declared.Row.the-variants.{Gives}
 use Rattle.load_general.specs.General.{symbolAt, plainTone, Part, tones, before, rowsFrom, cycles}
-use Rattle.law_tzx.specs.Format.{Length, each, again, waveFrom, symbolPulse, waveOf, every, lasting}
+use Rattle.law_tzx.specs.Format.{PulseLength, each, again, waveFrom, symbolPulse, waveOf, every, lasting}
 use Rattle.law_tzx.specs.Kept.{evenCount, firstPulse, secondPulse, wholeWave, keptTimes}
 use Rattle.law_tzx.proofs.Lengths.{long, long-append, waveIn, wavesOf}
 use Rattle.law_tzx.proofs.Waves.{each-none, even-of, pilot-same, zeros-none}
@@ -55,7 +55,7 @@ rows-wave row f p (suc n) h =
     record {
       rows = x .tone ∷ y .rows;
       given = ap₂ before (x .given) (y .given);
-      heard = long-append (waveIn (x .tone)) (wavesOf (y .rows)) ∙ ap₂ (λ (a b : List Length). a ++ b) (x .heard) (y .heard) ∙ sym (long-append (f p) (each f (p + 1) n));
+      heard = long-append (waveIn (x .tone)) (wavesOf (y .rows)) ∙ ap₂ (λ (a b : List PulseLength). a ++ b) (x .heard) (y .heard) ∙ sym (long-append (f p) (each f (p + 1) n));
     }
 
 -- the wave of a symbol of up to two pulses

@@ -8,7 +8,7 @@ use lib.Dec.{ltb, leb, eqb}
 use borrow.Author.Tests.{ltb-true, leb-true, eqb-true, ne-eqb}
 use Rattle.law_base.specs.Arms.{between}
 use Rattle.law_base.proofs.Tests.{first, second, other}
-use Rattle.law_tzx.specs.Format.{Length, each, again, dataPulses, bitsSaid, lasting}
+use Rattle.law_tzx.specs.Format.{PulseLength, each, again, dataPulses, bitsSaid, lasting}
 use Rattle.law_tzx.specs.Kept.{evenCount}
 use Rattle.law_tzx.proofs.Lengths.{long, long-append}
 
@@ -36,7 +36,7 @@ unfolding each
 each-same f g p zero h = refl
 each-same f g p (suc n) h =
     long-append (f p) (each f (p + 1) n)
-    ∙ ap₂ (λ (x y : List Length). x ++ y) (h p (omega arith) (omega arith)) (each-same f g (p + 1) n (λ i k l. h i (omega arith) (omega arith)))
+    ∙ ap₂ (λ (x y : List PulseLength). x ++ y) (h p (omega arith) (omega arith)) (each-same f g (p + 1) n (λ i k l. h i (omega arith) (omega arith)))
     ∙ sym (long-append (g p) (each g (p + 1) n))
 
 -- items that are not heard
@@ -44,7 +44,7 @@ pub each-none : (f : ℕ → List ℕ) (p n : ℕ) → ((i : ℕ) → long (f i)
 unfolding each lasting
 each-none f p zero h = refl
 each-none f p (suc n) h =
-    long-append (f p) (each f (p + 1) n) ∙ ap₂ (λ (x y : List Length). x ++ y) (h p) (each-none f (p + 1) n h)
+    long-append (f p) (each f (p + 1) n) ∙ ap₂ (λ (x y : List PulseLength). x ++ y) (h p) (each-none f (p + 1) n h)
 
 -- the same wave, wherever it is counted from
 again-from : (w : List ℕ) (p q n : ℕ) → each (λ i. w) p n ≡ each (λ i. w) q n

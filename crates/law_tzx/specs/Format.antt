@@ -16,25 +16,25 @@ use Rattle.cut_grammar.specs.declared.Piece.the-variants.{Standard, Turbo, Tone
 use Rattle.play_entries.specs.Entries.{bitOf}
 
 -- T-states, or none that ends it
-pub data Length : Type 0 where
-  lasts : ℕ → Length
-  forever : Length
+pub data PulseLength : Type 0 where
+  lasts : ℕ → PulseLength
+  forever : PulseLength
 
 -- pulses, and the pause behind them: none is one of 0, a stop is one that never ends
 pub record PulseTrain : Type 0 where
   pub pulses : List ℕ
-  pub pause : Length
+  pub pause : PulseLength
 
 -- what the format says of a piece; of some pieces it does not say what is played
 pub data Said : Type 0 where
   sounds : PulseTrain → Said
   unsaid : Said
 
-abbrev pub saidPulses : List ℕ → Length → Said
+abbrev pub saidPulses : List ℕ → PulseLength → Said
 saidPulses pulses pause = sounds (record { pulses = pulses; pause = pause })
 
 -- 1 ms is 3,500
-abbrev pub pauseMs : ℕ → Length
+abbrev pub pauseMs : ℕ → PulseLength
 pauseMs n = lasts (n * 3500)
 
 -- no sound of its own
@@ -181,11 +181,11 @@ abbrev pub formatFull : ℕ
 formatFull = 256
 
 -- the lengths, one after the other
-unfoldable pub lengthsOf : PulseTrain → List Length
+unfoldable pub lengthsOf : PulseTrain → List PulseLength
 lengthsOf x = map lasts (x .pulses) ++ x .pause ∷ []
 
 -- those above 0
-unfoldable pub lasting : List Length → List Length
+unfoldable pub lasting : List PulseLength → List PulseLength
 lasting [] = []
 lasting (forever ∷ ls) = forever ∷ lasting ls
 lasting (lasts zero ∷ ls) = lasting ls

@@ -10,17 +10,17 @@ use Rattle.rows.specs.Rows.{tone}
 use Rattle.cut_grammar.specs.declared.Taken.{Taken}
 use Rattle.cut_grammar.specs.declared.Taken.the-variants as taken
 use Rattle.cut_grammar.specs.Cut.{cutAt}
-use Rattle.load_state.specs.declared.Halt.the-variants.{Refusal, Length as Longer}
+use Rattle.load_state.specs.declared.Halt.the-variants.{Refusal, Length}
 use Rattle.load_state.specs.Parser.{Out, on, no as halt, empty}
 use Rattle.load_blocks.specs.Sounds.{originAt}
 use Rattle.load_blocks.specs.Adds.{Lent}
 use Rattle.load_source.specs.Source as source
-use Rattle.law_tzx.specs.Format.{Length, lasts, forever, Said, sounds, unsaid, formatOf, formatFull, lengthsOf, lasting}
+use Rattle.law_tzx.specs.Format.{PulseLength, lasts, forever, Said, sounds, unsaid, formatOf, formatFull, lengthsOf, lasting}
 use Rattle.law_tzx.specs.Kept.{kept, lengths, entriesFrom}
 
 -- lengths; a refusal; an error; or nothing that is said
 pub data Heard : Type 0 where
-  plays : List Length → Heard
+  plays : List PulseLength → Heard
   refused : ℕ → Heard
   errs : Heard
   nothing : Heard
@@ -32,7 +32,7 @@ heardIn unsaid = nothing
 unfoldable pub playedBy : List ℕ → Out → Heard
 playedBy s (on t) = plays (lasting (lengths (entriesFrom s (tableOf tone (t .tones) 0) 0 (t .blocks))))
 playedBy s (halt (Refusal k)) = refused k
-playedBy s (halt (Longer n)) = errs
+playedBy s (halt (Length n)) = errs
 
 abbrev pub most : Lent
 most = record { blocks = 4096; tones = 65536 }
@@ -69,32 +69,32 @@ abbrev pub keptAt : List ℕ → Bool
 keptAt s = keptOn s (cutAt s 0 source.full)
 
 -- two answers, compared
-unfoldable pub sameLength : Length → Length → Bool
+unfoldable pub sameLength : PulseLength → PulseLength → Bool
 sameLength (lasts m) (lasts n) = eqb m n
 sameLength (lasts m) forever = false
 sameLength forever (lasts n) = false
 sameLength forever forever = true
 
-unfoldable pub sameLengths : List Length → List Length → Bool
+unfoldable pub sameLengths : List PulseLength → List PulseLength → Bool
 sameLengths [] [] = true
 sameLengths [] (m ∷ ms) = false
 sameLengths (l ∷ ls) [] = false
 sameLengths (l ∷ ls) (m ∷ ms) = sameLength l m && sameLengths ls ms
 
-unfoldable pub same : Heard → Heard → Bool
-same (plays ls) (plays ms) = sameLengths ls ms
-same (plays ls) (refused k) = false
-same (plays ls) errs = false
-same (plays ls) nothing = false
-same (refused j) (plays ms) = false
-same (refused j) (refused k) = eqb j k
-same (refused j) errs = false
-same (refused j) nothing = false
-same errs (plays ms) = false
-same errs (refused k) = false
-same errs errs = true
-same errs nothing = false
-same nothing (plays ms) = false
-same nothing (refused k) = false
-same nothing errs = false
-same nothing nothing = true
+unfoldable pub sameHeard : Heard → Heard → Bool
+sameHeard (plays ls) (plays ms) = sameLengths ls ms
+sameHeard (plays ls) (refused k) = false
+sameHeard (plays ls) errs = false
+sameHeard (plays ls) nothing = false
+sameHeard (refused j) (plays ms) = false
+sameHeard (refused j) (refused k) = eqb j k
+sameHeard (refused j) errs = false
+sameHeard (refused j) nothing = false
+sameHeard errs (plays ms) = false
+sameHeard errs (refused k) = false
+sameHeard errs errs = true
+sameHeard errs nothing = false
+sameHeard nothing (plays ms) = false
+sameHeard nothing (refused k) = false
+sameHeard nothing errs = false
+sameHeard nothing nothing = true

@@ -24,7 +24,7 @@ use Rattle.cut_grammar.specs.Cut.{cutAt}
 use Rattle.load_blocks.specs.declared.Origin.{Origin}
 use Rattle.load_blocks.specs.Adds.{Lent}
 use Rattle.load_source.specs.Source.{act}
-use Rattle.law_tzx.specs.Format.{Length, lasts, forever, PulseTrain, Said, sounds, lengthsOf, lasting, bitsSaid, every, symbolPulse, pilotSymbol, repetitions, dataNumber, formatOf, formatFull}
+use Rattle.law_tzx.specs.Format.{PulseLength, lasts, forever, PulseTrain, Said, sounds, lengthsOf, lasting, bitsSaid, every, symbolPulse, pilotSymbol, repetitions, dataNumber, formatOf, formatFull}
 use Rattle.cut_grammar.specs.declared.Taken.the-variants as taken
 
 -- 2, 4, 6 ..
@@ -138,11 +138,11 @@ exactKind (Custom id from size) = true
 exactKind Glue = true
 
 -- an entry's length
-unfoldable pub lengthOf : {A : Type 0} → Entry A → Length
+unfoldable pub lengthOf : {A : Type 0} → Entry A → PulseLength
 lengthOf (pulse a v t) = lasts t
 lengthOf (endless a v) = forever
 
-abbrev pub lengths : {A : Type 0} → List (Entry A) → List Length
+abbrev pub lengths : {A : Type 0} → List (Entry A) → List PulseLength
 lengths es = map lengthOf es
 
 -- the entries of blocks from block b on
@@ -151,7 +151,7 @@ entriesFrom s tones b [] = []
 entriesFrom s tones b (r ∷ rs) = entriesOf s tones b r ++ entriesFrom s tones (b + 1) rs
 
 -- from t to t′ blocks and tone rows were added that play these lengths: in any table that holds them, whatever stands behind
-pub record Plays (s : List ℕ) (ls : List Length) (t t′ : Parsed) : Type 0 where
+pub record Plays (s : List ℕ) (ls : List PulseLength) (t t′ : Parsed) : Type 0 where
   pub blocks : List Block
   pub tones : List ToneRow
   pub added : t′ .blocks ≡ t .blocks ++ blocks

@@ -6,7 +6,7 @@ use Rattle.cut_grammar.specs.declared.Taken.{Taken}
 use Rattle.cut_grammar.specs.declared.Taken.the-variants as taken
 use Rattle.cut_grammar.specs.Cut.{cutAt}
 use Rattle.load_source.specs.Source as source
-use Rattle.law_tzx.specs.Format.{Length, Said, sounds, unsaid, formatOf, formatFull, lengthsOf}
+use Rattle.law_tzx.specs.Format.{PulseLength, Said, sounds, unsaid, formatOf, formatFull, lengthsOf}
 use Rattle.law_tzx.specs.Kept.{kept}
 
 -- a piece that is kept, and what is asked of the place past it
@@ -22,11 +22,11 @@ unfoldable pub keptFrom : List ℕ → ℕ → ℕ → Bool
 keptFrom s zero at = true
 keptFrom s (suc n) at = keptThen s (cutAt s at source.full) (keptFrom s n)
 
-unfoldable pub saidOf : Said → List Length
+unfoldable pub saidOf : Said → List PulseLength
 saidOf (sounds x) = lengthsOf x
 saidOf unsaid = []
 
-unfoldable pub saidThen : Bool → List ℕ → Taken → (ℕ → List Length) → List Length
+unfoldable pub saidThen : Bool → List ℕ → Taken → (ℕ → List PulseLength) → List PulseLength
 saidThen on48 s taken.End k = []
 saidThen on48 s (taken.Whole kind at next piece) k = saidOf (formatOf on48 s piece) ++ k next
 saidThen on48 s (taken.Unknown kind described) k = []
@@ -34,6 +34,6 @@ saidThen on48 s (taken.Short kind p w) k = []
 saidThen on48 s (taken.Overflow kind p) k = []
 
 -- the pieces from a place on, as the format cuts and plays them; none of them is a loop's end
-unfoldable pub formatFrom : Bool → List ℕ → ℕ → ℕ → List Length
+unfoldable pub formatFrom : Bool → List ℕ → ℕ → ℕ → List PulseLength
 formatFrom on48 s zero at = []
 formatFrom on48 s (suc n) at = saidThen on48 s (cutAt s at formatFull) (formatFrom on48 s n)

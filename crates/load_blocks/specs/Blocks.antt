@@ -11,15 +11,15 @@ use Rattle.rows.specs.declared.Tone.{Tone}
 use Rattle.cut_grammar.specs.declared.TurboData.{TurboData}
 use Rattle.load_blocks.specs.declared.Bits.{Bits}
 use Rattle.load_general.specs.General.{plainTone}
-use Rattle.load_blocks.specs.Sounds.{Sound, ms, dataBits, noBits, lasts, stops}
+use Rattle.load_blocks.specs.Sounds.{Sound, ms, dataBits, noBits, endsAfter, endsInStop}
 
 -- selectable at birth: a block with data or of a 19
 abbrev pub dataSound : List Tone → Bits → ℕ → Sound
-dataSound ts bits pause = record { tones = ts; bits = bits; ending = lasts pause; selectable = 1 }
+dataSound ts bits pause = record { tones = ts; bits = bits; ending = endsAfter pause; selectable = 1 }
 
 -- tones alone, without a pause
 abbrev pub toneSound : List Tone → Sound
-toneSound ts = record { tones = ts; bits = noBits; ending = lasts 0; selectable = 0 }
+toneSound ts = record { tones = ts; bits = noBits; ending = endsAfter 0; selectable = 0 }
 
 -- a standard block is a header if the first byte is below 128 or data is empty
 unfoldable pub standardHeader : List ℕ → ℕ → ℕ → Bool
@@ -72,11 +72,11 @@ pureSound bits pause = dataSound pureTones bits pause
 
 -- a stop
 abbrev pub stopSound : Sound
-stopSound = record { tones = []; bits = noBits; ending = stops; selectable = 1 }
+stopSound = record { tones = []; bits = noBits; ending = endsInStop; selectable = 1 }
 
 -- 20: a pause; 0 gives a stop
 abbrev pub silentSound : ℕ → Sound
-silentSound pause = record { tones = []; bits = noBits; ending = lasts pause; selectable = 0 }
+silentSound pause = record { tones = []; bits = noBits; ending = endsAfter pause; selectable = 0 }
 
 unfoldable pub pauseSound : ℕ → Sound
 pauseSound n = eqb n 0 ⇒ stopSound ∣ silentSound (ms n)

@@ -36,8 +36,8 @@ adds ds = adding false ds
 abbrev pub adds48 : List Sound → Deed
 adds48 ds = adding true ds
 
-abbrev pub nothing : Deed
-nothing = adds []
+abbrev pub noDeed : Deed
+noDeed = adds []
 
 -- THE INTERPRETER, for a piece of this origin
 unfoldable pub does : Lent → ℕ → Origin → Deed → Parsed → Out

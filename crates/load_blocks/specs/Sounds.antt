@@ -25,11 +25,11 @@ abbrev pub noBits : Bits
 noBits = dataBits 0 0 0 0 0
 
 -- so many T-states follow; or the tape stops, in a block named `stop`
-abbrev pub lasts : ℕ → Ending
-lasts n = record { pause = n; endless = 0; named = 0 }
+abbrev pub endsAfter : ℕ → Ending
+endsAfter n = record { pause = n; endless = 0; named = 0 }
 
-abbrev pub stops : Ending
-stops = record { pause = 0; endless = 1; named = 1 }
+abbrev pub endsInStop : Ending
+endsInStop = record { pause = 0; endless = 1; named = 1 }
 
 -- its tone rows, its bits of data, what follows them, and whether a menu offers it
 pub record Sound : Type 0 where

@@ -9,7 +9,7 @@ ghost use mathlib.Core.Path.{_≡_};
 ghost use mathlib.Core.List.{List, [], _∷_};
 ghost use Prim.Native.Nat.{ℕ};
 ghost use Rattle.load_blocks.specs.Adds.{addRows};
-ghost use Rattle.load_blocks.specs.Sounds.{noBits, lasts, stops, rowFor, addSound};
+ghost use Rattle.load_blocks.specs.Sounds.{noBits, endsAfter, endsInStop, rowFor, addSound};
 ghost use Rattle.load_blocks.specs.Blocks.{standardHeader, standardCycles, standardPause, standardSound};
 ghost use Rattle.load_blocks.specs.Does.{Does};
 
@@ -74,7 +74,7 @@ pub fn no_bits() -> Bits
 
 // A block with data, or of a 19: selectable.
 pub fn data_row(origin: Origin, tone: u64, tones: u64, bits: Bits, pause: u64) -> Block
-    ensures { λ r. ⌜ r ≡ rowFor origin tone tones bits (lasts pause) 1 ⌝ }
+    ensures { λ r. ⌜ r ≡ rowFor origin tone tones bits (endsAfter pause) 1 ⌝ }
 {
     let ending = Ending {
         pause,
@@ -86,7 +86,7 @@ pub fn data_row(origin: Origin, tone: u64, tones: u64, bits: Bits, pause: u64) -
 
 // A block of tones or of a pause alone: not selectable.
 pub fn bare_row(origin: Origin, tone: u64, tones: u64, pause: u64) -> Block
-    ensures { λ r. ⌜ r ≡ rowFor origin tone tones noBits (lasts pause) 0 ⌝ }
+    ensures { λ r. ⌜ r ≡ rowFor origin tone tones noBits (endsAfter pause) 0 ⌝ }
 {
     let ending = Ending {
         pause,
@@ -98,7 +98,7 @@ pub fn bare_row(origin: Origin, tone: u64, tones: u64, pause: u64) -> Block
 
 // A stop block, named `stop`.
 pub fn stop_row(origin: Origin, tone: u64) -> Block
-    ensures { λ r. ⌜ r ≡ rowFor origin tone 0 noBits stops 1 ⌝ }
+    ensures { λ r. ⌜ r ≡ rowFor origin tone 0 noBits endsInStop 1 ⌝ }
 {
     let ending = Ending {
         pause: 0,

@@ -58,6 +58,6 @@ leaves room t used (plain ts nil one last) = leb (length ts) room ⇒ putAll ton
 leaves room t used (toned ts) = leb (length ts) room ⇒ putAll tone t used ts ∣ t
 
 -- the answer r, and the tone table t that has become t′
-pub record Done (given : Given) (used : ℕ) (t t′ : List ℕ) (r : Made) : Type 0 where
+pub record MadeDone (given : Given) (used : ℕ) (t t′ : List ℕ) (r : Made) : Type 0 where
   pub answer : r ≡ madeOf (capacityOf tone toneMost t - used) given
   pub table : t′ ≡ leaves (capacityOf tone toneMost t - used) t used given

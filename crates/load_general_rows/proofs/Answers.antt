@@ -13,7 +13,7 @@ use Rattle.rows.proofs.Tables.{put-all-append}
 use Rattle.cut_grammar.specs.declared.GeneralizedData.{GeneralizedData}
 use Rattle.load_general.specs.declared.Made.the-variants as made
 use Rattle.load_general.specs.General.{Part, refused, stops, tones, symbolAt, ordinary, usedBits, dataPart, pilotOf, refused4, stop, plain, toned, withData, withPilot, generalOf}
-use Rattle.load_general.specs.Made.{madeOf, leaves, Done}
+use Rattle.load_general.specs.Made.{madeOf, leaves, MadeDone}
 use Rattle.load_general.proofs.Parts.{differ}
 
 -- no rows fit where no room is
@@ -23,21 +23,21 @@ none-fits (suc n) = eqb·suc-zero n ∙ sym (leb·suc-zero n)
 
 -- refused and stopped pieces alter nothing
 module _ (used : ℕ) (t : List ℕ) where
-  pub done-refused : Done refused4 used t t made.Refused
+  pub done-refused : MadeDone refused4 used t t made.Refused
   unfolding madeOf leaves
   done-refused = record { answer = refl; table = refl }
 
-  pub done-stop : Done stop used t t made.Stop
+  pub done-stop : MadeDone stop used t t made.Stop
   unfolding madeOf leaves
   done-stop = record { answer = refl; table = refl }
 
   -- a data block of n pilot rows
   module _ (ps : List Tone) (nil one last n : ℕ) (e : length ps ≡ n) where
-    pub plain-fits : leb n (capacityOf tone toneMost t - used) ≡ true → Done (plain ps nil one last) used t (putAll tone t used ps) (made.Data n nil one last)
+    pub plain-fits : leb n (capacityOf tone toneMost t - used) ≡ true → MadeDone (plain ps nil one last) used t (putAll tone t used ps) (made.Data n nil one last)
     unfolding madeOf leaves
     plain-fits b = record { answer = rw (e, b); table = rw (e, b) }
 
-    pub plain-full : leb n (capacityOf tone toneMost t - used) ≡ false → Done (plain ps nil one last) used t t made.Full
+    pub plain-full : leb n (capacityOf tone toneMost t - used) ≡ false → MadeDone (plain ps nil one last) used t t made.Full
     unfolding madeOf leaves
     plain-full b = record { answer = rw (e, b); table = rw (e, b) }
 
@@ -46,13 +46,13 @@ module _ (used : ℕ) (t : List ℕ) where
     both : length (ps ++ ts) ≡ n + m
     both = rw (length-append, e, f)
 
-    pub toned-fits : leb (n + m) (capacityOf tone toneMost t - used) ≡ true → Done (toned (ps ++ ts)) used t (putAll tone (putAll tone t used ps) (used + n) ts) (made.Tones (n + m))
+    pub toned-fits : leb (n + m) (capacityOf tone toneMost t - used) ≡ true → MadeDone (toned (ps ++ ts)) used t (putAll tone (putAll tone t used ps) (used + n) ts) (made.Tones (n + m))
     unfolding madeOf leaves
     toned-fits b =
         let j : putAll tone t used (ps ++ ts) ≡ putAll tone (putAll tone t used ps) (used + n) ts = rw (put-all-append tone t used ps ts, e) in
         record { answer = rw (both, b); table = rw (both, b) (sym j) }
 
-    pub toned-full : leb (n + m) (capacityOf tone toneMost t - used) ≡ false → Done (toned (ps ++ ts)) used t t made.Full
+    pub toned-full : leb (n + m) (capacityOf tone toneMost t - used) ≡ false → MadeDone (toned (ps ++ ts)) used t t made.Full
     unfolding madeOf leaves
     toned-full b = record { answer = rw (both, b); table = rw (both, b) }
 

@@ -25,7 +25,7 @@ ghost use Rattle.load_general.specs.declared.Row.the-variants.{Gives};
 ghost use Rattle.load_general.specs.declared.Judged.the-variants.{Rows};
 ghost use Rattle.load_general.specs.declared.Made.the-variants.{Data};
 ghost use Rattle.load_general.specs.General.{plainTone, entryRow, singleRow, pairRow, rowsFrom, pilotOf, equalHalves, ordinary, usedBits, dataPart, withData, withPilot, generalOf};
-ghost use Rattle.load_general.specs.Made.{judgedOf, isGiven, putGiven, isTones, partTones, Done};
+ghost use Rattle.load_general.specs.Made.{judgedOf, isGiven, putGiven, isTones, partTones, MadeDone};
 ghost use Rattle.load_general.specs.Held.{Held, Kept, symbolOf};
 
 // Whether both halves of a symbol are equal.
@@ -197,7 +197,7 @@ fn data_made(rows: u32, zero: u16, one: u16, last: u32) -> Made
 // The data block, after a pilot of n rows.
 fn data_block(tape: &[u8], g: GeneralizedData, tones: &mut [u64], used: usize, n: u32) -> Made
     requires { ⌜ Held (now tape) g × (judgedOf (pilotOf (now tape) g) ≡ Rows n) × ((ltb 0 (g .totd) && ordinary (now tape) g) ≡ true) ⌝ }
-    ensures { λ r. ⌜ Done (withPilot (now (tape .entry)) g (pilotOf (now (tape .entry)) g)) used (now (tones .entry)) (now (tones .exit)) r ⌝ }
+    ensures { λ r. ⌜ MadeDone (withPilot (now (tape .entry)) g (pilotOf (now (tape .entry)) g)) used (now (tones .entry)) (now (tones .exit)) r ⌝ }
 {
     if room_for(tones, used, n as u64) {
         put_pilot(tape, g, tones, used);
@@ -219,7 +219,7 @@ fn tone_block(
     m: u32,
 ) -> Made
     requires { ⌜ Held (now tape) g × (judgedOf (pilotOf (now tape) g) ≡ Rows n) × (judgedOf (dataPart (now tape) g) ≡ Rows m) ⌝ }
-    ensures { λ r. ⌜ Done (withData (partTones (pilotOf (now (tape .entry)) g)) (dataPart (now (tape .entry)) g)) used (now (tones .entry)) (now (tones .exit)) r ⌝ }
+    ensures { λ r. ⌜ MadeDone (withData (partTones (pilotOf (now (tape .entry)) g)) (dataPart (now (tape .entry)) g)) used (now (tones .entry)) (now (tones .exit)) r ⌝ }
 {
     let rows = n as u64 + m as u64;
     if room_for(tones, used, rows) {
@@ -234,7 +234,7 @@ fn tone_block(
 // The block, after a pilot of n rows; the data part is judged before a row is written.
 fn with_pilot(tape: &[u8], g: GeneralizedData, tones: &mut [u64], used: usize, n: u32) -> Made
     requires { ⌜ Held (now tape) g × (judgedOf (pilotOf (now tape) g) ≡ Rows n) ⌝ }
-    ensures { λ r. ⌜ Done (withPilot (now (tape .entry)) g (pilotOf (now (tape .entry)) g)) used (now (tones .entry)) (now (tones .exit)) r ⌝ }
+    ensures { λ r. ⌜ MadeDone (withPilot (now (tape .entry)) g (pilotOf (now (tape .entry)) g)) used (now (tones .entry)) (now (tones .exit)) r ⌝ }
 {
     if ordinary(tape, g) {
         return data_block(tape, g, tones, used, n);
@@ -250,7 +250,7 @@ fn with_pilot(tape: &[u8], g: GeneralizedData, tones: &mut [u64], used: usize, n
 // but the rows of `Data` and `Tones`. Our crates call it with what `cut_piece::cut` gave for this tape, where 0 means 255.
 pub fn general(tape: &[u8], g: GeneralizedData, tones: &mut [u64], used: usize) -> Made
     requires { ⌜ Held (now tape) g ⌝ }
-    ensures { λ r. ⌜ Done (generalOf (now (tape .entry)) g) used (now (tones .entry)) (now (tones .exit)) r ⌝ }
+    ensures { λ r. ⌜ MadeDone (generalOf (now (tape .entry)) g) used (now (tones .entry)) (now (tones .exit)) r ⌝ }
 {
     match pilot_part(tape, g) {
         Judged::Refused => Made::Refused,

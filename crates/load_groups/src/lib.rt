@@ -14,7 +14,7 @@ ghost use Rattle.rows.specs.Table.{tableOf};
 ghost use Rattle.rows.specs.Rows.{block};
 ghost use Rattle.load_state.specs.declared.Step.the-variants.{On};
 ghost use Rattle.load_state.specs.Parser.{Parsed, inGroup, paused, lastPaused, pend, endGroup};
-ghost use Rattle.load_state.specs.Holds.{Holds, Gives, blockRoom, nowPending};
+ghost use Rattle.load_state.specs.Holds.{Holds, GivesOut, blockRoom, nowPending};
 
 fn with_pending(s: State, pending: Pending) -> State
     ensures { λ a. ⌜ a ≡ nowPending pending s ⌝ }
@@ -41,7 +41,7 @@ fn in_group(p: Pending) -> bool
 
 // A group's start, or a text: its name is pending, but inside a group.
 pub fn pend(s: State, new: Pending) -> State
-    ensures { λ a. ⌜ ((B N : ℕ) (bt tt : List ℕ) (t : Parsed) → Holds B N s bt tt t → Gives B N (On a) bt tt (pend new t)) ⌝ }
+    ensures { λ a. ⌜ ((B N : ℕ) (bt tt : List ℕ) (t : Parsed) → Holds B N s bt tt t → GivesOut B N (On a) bt tt (pend new t)) ⌝ }
 {
     let p = s.pending;
     if in_group(p) {
@@ -77,7 +77,7 @@ fn pause_last(blocks: &mut [u64], n: u64)
 }
 
 pub fn group_end(s: State, blocks: &mut [u64]) -> State
-    ensures { λ a. ⌜ ((B N : ℕ) (tt : List ℕ) (t : Parsed) → Holds B N s (now (blocks .entry)) tt t → Gives B N (On a) (now (blocks .exit)) tt (endGroup t)) ⌝ }
+    ensures { λ a. ⌜ ((B N : ℕ) (tt : List ℕ) (t : Parsed) → Holds B N s (now (blocks .entry)) tt t → GivesOut B N (On a) (now (blocks .exit)) tt (endGroup t)) ⌝ }
 {
     pause_last(blocks, s.blocks);
     let p = s.pending;

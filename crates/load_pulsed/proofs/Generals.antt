@@ -18,16 +18,16 @@ use Rattle.cut_grammar.specs.declared.GeneralizedData.{GeneralizedData}
 use Rattle.load_general.specs.declared.Made.{Made}
 use Rattle.load_general.specs.declared.Made.the-variants.{Refused, Full, Stop, Data, Tones}
 use Rattle.load_general.specs.General.{Given, refused4, stop, plain, toned}
-use Rattle.load_general.specs.Made.{madeOf, leaves, Done}
+use Rattle.load_general.specs.Made.{madeOf, leaves, MadeDone}
 use Rattle.load_state.specs.declared.State.{State}
 use Rattle.load_state.specs.declared.Halt.the-variants.{Refusal}
 use Rattle.load_state.specs.declared.Step.{Step}
 use Rattle.load_state.specs.declared.Step.the-variants.{No}
 use Rattle.load_state.specs.Parser.{Parsed, no, _⟫_, withTones, addTones, addBlock}
-use Rattle.load_state.specs.Holds.{Holds, Gives, refuses, toneRoom, blockRoom}
+use Rattle.load_state.specs.Holds.{Holds, GivesOut, refuses, toneRoom, blockRoom}
 use Rattle.load_blocks.specs.declared.Origin.{Origin}
 use Rattle.load_blocks.specs.Adds.{Lent, addRows}
-use Rattle.load_blocks.specs.Sounds.{Sound, ms, dataBits, noBits, lasts, rowFor, rowOf, addSound}
+use Rattle.load_blocks.specs.Sounds.{Sound, ms, dataBits, noBits, endsAfter, rowFor, rowOf, addSound}
 use Rattle.load_blocks.specs.Blocks.{dataSound, stopSound}
 use Rattle.load_blocks.specs.Deeds.{generalDeed, does}
 use Rattle.load_blocks.proofs.Laws.{one-sound}
@@ -112,10 +112,10 @@ made-full lent model origin g t (toned ts) e =
     one-sound lent origin _ t ∙ no-room lent origin _ t (omega (arith, leb-false (length ts) (lent .tones - length (t .tones)) b))
 
 -- the rows of an answer fit after those in use
-pub data-fits : {given : Given} {used n nil one last : ℕ} {tt tt′ : List ℕ} {r : Made} → Done given used tt tt′ r → r ≡ Data n nil one last → n ≤ capacityOf tone toneMost tt - used
+pub data-fits : {given : Given} {used n nil one last : ℕ} {tt tt′ : List ℕ} {r : Made} → MadeDone given used tt tt′ r → r ≡ Data n nil one last → n ≤ capacityOf tone toneMost tt - used
 data-fits {given} {used} {tt = tt} d e = let m = made-data (capacityOf tone toneMost tt - used) given (sym e ∙ d .answer) in omega (arith, m .2, leb-true (length (m .0)) (capacityOf tone toneMost tt - used) (m .3))
 
-pub tones-fit : {given : Given} {used n : ℕ} {tt tt′ : List ℕ} {r : Made} → Done given used tt tt′ r → r ≡ Tones n → n ≤ capacityOf tone toneMost tt - used
+pub tones-fit : {given : Given} {used n : ℕ} {tt tt′ : List ℕ} {r : Made} → MadeDone given used tt tt′ r → r ≡ Tones n → n ≤ capacityOf tone toneMost tt - used
 tones-fit {given} {used} {tt = tt} d e = let m = made-tones (capacityOf tone toneMost tt - used) given (sym e ∙ d .answer) in omega (arith, m .2, leb-true (length (m .0)) (capacityOf tone toneMost tt - used) (m .3))
 
 module _ {B N : ℕ} {s : State} {bt tt : List ℕ} {t : Parsed} (h : Holds B N s bt tt t) where
@@ -125,7 +125,7 @@ module _ {B N : ℕ} {s : State} {bt tt : List ℕ} {t : Parsed} (h : Holds B N 
   -- rows put after the tape's own, and the block over them
   rows-then : {x : Step} {bt′ tt′ : List ℕ} {a : State} {b : Block} {n : ℕ} (origin : Origin) (d : Sound) → n ≡ length (d .tones) → length (d .tones) ≤ capacityOf tone toneMost tt - s .tones
       → tt′ ≡ putAll tone tt (s .tones) (d .tones) → length tt′ ≡ length tt → a ≡ withUsed (s .tones + n) s → b ≡ rowOf origin d (s .tones)
-      → ((u : Parsed) → Holds B N a bt tt′ u → Gives B N x bt′ tt′ (addBlock (blockRoom B) b u)) → Gives B N x bt′ tt′ (addSound (lentOf B N) origin d t)
+      → ((u : Parsed) → Holds B N a bt tt′ u → GivesOut B N x bt′ tt′ (addBlock (blockRoom B) b u)) → GivesOut B N x bt′ tt′ (addSound (lentOf B N) origin d t)
   unfolding addSound addRows addTones _⟫_
   rows-then {tt′ = tt′} {n = n} origin d i f p l a b k =
       let ts = d .tones in
@@ -134,15 +134,15 @@ module _ {B N : ℕ} {s : State} {bt tt : List ℕ} {t : Parsed} (h : Holds B N 
       record { nb = h .nb; nt = rw length-append (omega (arith, h .nt, i)); pends = h .pends; loops = h .loops; roomB = h .roomB; roomT = rw length-append m; lenB = h .lenB; lenT = l ∙ h .lenT; isB = h .isB; isT = p ∙ put-all-next tone toneMost (t .tones) ts N (s .tones) (h .isT) (h .nt) f } in
       rw (le-leb (length (t .tones) + length ts) (toneRoom N) m, ← h .nt, ← b) (k (withTones ts t) (subst (λ (z : State). Holds B N z bt tt′ (withTones ts t)) (sym a) now))
 
-  module _ (g : GeneralizedData) (model : ℕ) (origin : Origin) {given : Given} {r : Made} {tt′ : List ℕ} (d : Done given (s .tones) tt tt′ r) where
-    pub general-no4 : {bt′ tt″ : List ℕ} → r ≡ Refused → Gives B N (No (Refusal generalised)) bt′ tt″ (does (lentOf B N) model origin (generalDeed g given) t)
+  module _ (g : GeneralizedData) (model : ℕ) (origin : Origin) {given : Given} {r : Made} {tt′ : List ℕ} (d : MadeDone given (s .tones) tt tt′ r) where
+    pub general-no4 : {bt′ tt″ : List ℕ} → r ≡ Refused → GivesOut B N (No (Refusal generalised)) bt′ tt″ (does (lentOf B N) model origin (generalDeed g given) t)
     unfolding does generalDeed
     general-no4 e = rw (made-refused (capacityOf tone toneMost tt - s .tones) given (sym e ∙ d .answer)) refuses
 
-    pub general-no5 : {bt′ tt″ : List ℕ} → r ≡ Full → Gives B N (No (Refusal tonesFull)) bt′ tt″ (does (lentOf B N) model origin (generalDeed g given) t)
+    pub general-no5 : {bt′ tt″ : List ℕ} → r ≡ Full → GivesOut B N (No (Refusal tonesFull)) bt′ tt″ (does (lentOf B N) model origin (generalDeed g given) t)
     general-no5 e = rw (made-full (lentOf B N) model origin g t given (sym e ∙ d .answer ∙ ap (λ (n : ℕ). madeOf n given) room-left)) refuses
 
-    pub general-stop : {x : Step} {bt′ : List ℕ} → r ≡ Stop → Gives B N x bt′ tt (addSound (lentOf B N) origin stopSound t) → Gives B N x bt′ tt′ (does (lentOf B N) model origin (generalDeed g given) t)
+    pub general-stop : {x : Step} {bt′ : List ℕ} → r ≡ Stop → GivesOut B N x bt′ tt (addSound (lentOf B N) origin stopSound t) → GivesOut B N x bt′ tt′ (does (lentOf B N) model origin (generalDeed g given) t)
     unfolding does generalDeed leaves rowOf
     general-stop e k =
         let q = made-stop (capacityOf tone toneMost tt - s .tones) given (sym e ∙ d .answer) in
@@ -150,23 +150,23 @@ module _ {B N : ℕ} {s : State} {bt tt : List ℕ} {t : Parsed} (h : Holds B N 
         rw (q, w, one-sound (lentOf B N) origin stopSound t) k
 
     pub general-data : {x : Step} {bt′ : List ℕ} {n nil one last : ℕ} {a : State} {b : Block} → r ≡ Data n nil one last → length tt′ ≡ length tt → a ≡ withUsed (s .tones + n) s
-        → b ≡ rowFor origin (s .tones) n (dataBits (g .from) (g .size) nil one last) (lasts (ms (g .pause))) 1
-        → ((u : Parsed) → Holds B N a bt tt′ u → Gives B N x bt′ tt′ (addBlock (blockRoom B) b u)) → Gives B N x bt′ tt′ (does (lentOf B N) model origin (generalDeed g given) t)
+        → b ≡ rowFor origin (s .tones) n (dataBits (g .from) (g .size) nil one last) (endsAfter (ms (g .pause))) 1
+        → ((u : Parsed) → Holds B N a bt tt′ u → GivesOut B N x bt′ tt′ (addBlock (blockRoom B) b u)) → GivesOut B N x bt′ tt′ (does (lentOf B N) model origin (generalDeed g given) t)
     unfolding does generalDeed leaves rowOf
     general-data {nil = nil} {one} {last} e l a b k =
         let m = made-data (capacityOf tone toneMost tt - s .tones) given (sym e ∙ d .answer) in
         let ts = m .0 in
         let w : tt′ ≡ putAll tone tt (s .tones) ts = rw (m .1, m .3) at (d .table) in
         let d = dataSound ts (dataBits (g .from) (g .size) nil one last) (ms (g .pause)) in
-        rw (m .1, one-sound (lentOf B N) origin d t) (rows-then origin d (m .2) (leb-true (length ts) (capacityOf tone toneMost tt - s .tones) (m .3)) w l a (b ∙ ap (λ (i : ℕ). rowFor origin (s .tones) i (dataBits (g .from) (g .size) nil one last) (lasts (ms (g .pause))) 1) (m .2)) k)
+        rw (m .1, one-sound (lentOf B N) origin d t) (rows-then origin d (m .2) (leb-true (length ts) (capacityOf tone toneMost tt - s .tones) (m .3)) w l a (b ∙ ap (λ (i : ℕ). rowFor origin (s .tones) i (dataBits (g .from) (g .size) nil one last) (endsAfter (ms (g .pause))) 1) (m .2)) k)
 
     pub general-tones : {x : Step} {bt′ : List ℕ} {n : ℕ} {a : State} {b : Block} → r ≡ Tones n → length tt′ ≡ length tt → a ≡ withUsed (s .tones + n) s
-        → b ≡ rowFor origin (s .tones) n noBits (lasts (ms (g .pause))) 1
-        → ((u : Parsed) → Holds B N a bt tt′ u → Gives B N x bt′ tt′ (addBlock (blockRoom B) b u)) → Gives B N x bt′ tt′ (does (lentOf B N) model origin (generalDeed g given) t)
+        → b ≡ rowFor origin (s .tones) n noBits (endsAfter (ms (g .pause))) 1
+        → ((u : Parsed) → Holds B N a bt tt′ u → GivesOut B N x bt′ tt′ (addBlock (blockRoom B) b u)) → GivesOut B N x bt′ tt′ (does (lentOf B N) model origin (generalDeed g given) t)
     unfolding does generalDeed leaves rowOf
     general-tones e l a b k =
         let m = made-tones (capacityOf tone toneMost tt - s .tones) given (sym e ∙ d .answer) in
         let ts = m .0 in
         let w : tt′ ≡ putAll tone tt (s .tones) ts = rw (m .1, m .3) at (d .table) in
         let d = dataSound ts noBits (ms (g .pause)) in
-        rw (m .1, one-sound (lentOf B N) origin d t) (rows-then origin d (m .2) (leb-true (length ts) (capacityOf tone toneMost tt - s .tones) (m .3)) w l a (b ∙ ap (λ (i : ℕ). rowFor origin (s .tones) i noBits (lasts (ms (g .pause))) 1) (m .2)) k)
+        rw (m .1, one-sound (lentOf B N) origin d t) (rows-then origin d (m .2) (leb-true (length ts) (capacityOf tone toneMost tt - s .tones) (m .3)) w l a (b ∙ ap (λ (i : ℕ). rowFor origin (s .tones) i noBits (endsAfter (ms (g .pause))) 1) (m .2)) k)

@@ -10,7 +10,7 @@ use Rattle.load_state.specs.declared.Halt.{Halt}
 use Rattle.load_state.specs.declared.Step.{Step}
 use Rattle.load_state.specs.declared.Step.the-variants.{On, No}
 use Rattle.load_state.specs.Parser.{Parsed, Out, empty}
-use Rattle.load_state.specs.Holds.{Holds, Gives}
+use Rattle.load_state.specs.Holds.{Holds, GivesOut}
 use Rattle.load_state.proofs.Laws.{went-on, was-refused}
 use Rattle.rows.specs.Table.{zeros}
 use Rattle.cut_grammar.specs.declared.Piece.{Piece}
@@ -25,7 +25,7 @@ use Rattle.load_source.specs.declared.Reading.{Reading}
 use Rattle.load_source.specs.declared.Reading.the-variants.{Done, Failed, Refused}
 use Rattle.load_blocks.specs.Adds.{Lent}
 use Rattle.load_blocks.specs.Sounds.{originAt}
-use Rattle.load_source.specs.Source.{See, over, bad, refuses as sees4, thing, Verdict, seeing, readOn, foldFrom, halted, full, act, tzxOf, tzxSee, tapOf, tapSee}
+use Rattle.load_source.specs.Source.{See, theEnd, bad, refuses as sees4, thing, Verdict, seeing, readOn, foldFrom, halted, full, act, tzxOf, tzxSee, tapOf, tapSee}
 use Rattle.load_source.specs.Does.{Fit, Blank, Finds, ends, fails, refuses}
 
 -- a tape that the state holds, and fuel enough for the bytes left, with which the rest gives the goal
@@ -34,24 +34,24 @@ pub record Rest (size : ℕ) (see : ℕ → See) (B N at : ℕ) (s : State) (bt 
   pub holds : Holds B N s bt tt here
   pub fuel : ℕ
   pub enough : size ≤ at + fuel
-  pub stops : (p : ℕ) → size ≤ p → see p ≡ over
+  pub stops : (p : ℕ) → size ≤ p → see p ≡ theEnd
   pub same : foldFrom see fuel at here ≡ goal
 
-turn : (n size : ℕ) (see : ℕ → See) (at : ℕ) (t : Parsed) → ((p : ℕ) → size ≤ p → see p ≡ over) → size ≤ at + n → foldFrom see n at t ≡ seeing (see at) t (foldFrom see (n - 1))
+turn : (n size : ℕ) (see : ℕ → See) (at : ℕ) (t : Parsed) → ((p : ℕ) → size ≤ p → see p ≡ theEnd) → size ≤ at + n → foldFrom see n at t ≡ seeing (see at) t (foldFrom see (n - 1))
 unfolding foldFrom seeing
 turn zero size see at t h e = rw (h at (omega arith))
 turn (suc n) size see at t h e = let m : suc n - 1 ≡ n = omega arith in rw m
 
-pub rest-begins : {size : ℕ} {see : ℕ → See} {B N : ℕ} (at : ℕ) {s : State} {bt tt : List ℕ} {t : Parsed} → ((p : ℕ) → size ≤ p → see p ≡ over) → Holds B N s bt tt t → Rest size see B N at s bt tt (foldFrom see size at t)
+pub rest-begins : {size : ℕ} {see : ℕ → See} {B N : ℕ} (at : ℕ) {s : State} {bt tt : List ℕ} {t : Parsed} → ((p : ℕ) → size ≤ p → see p ≡ theEnd) → Holds B N s bt tt t → Rest size see B N at s bt tt (foldFrom see size at t)
 rest-begins {size} at {t = t} stops h = record { here = t; holds = h; fuel = size; enough = omega arith; stops = stops; same = refl }
 
 module _ {size : ℕ} {see : ℕ → See} {B N at : ℕ} {s : State} {bt tt : List ℕ} {goal : Verdict} (rest : Rest size see B N at s bt tt goal) where
   step : (x : See) → see at ≡ x → seeing x (rest .here) (foldFrom see (rest .fuel - 1)) ≡ goal
   step x q = rw q at (sym (turn (rest .fuel) size see at (rest .here) (rest .stops) (rest .enough)) ∙ rest .same)
 
-  pub rest-over : see at ≡ over → Finds B N (Done s) bt tt goal
+  pub rest-over : see at ≡ theEnd → Finds B N (Done s) bt tt goal
   unfolding seeing
-  rest-over q = subst (λ (r : Verdict). Finds B N (Done s) bt tt r) (step over q) (ends (rest .holds))
+  rest-over q = subst (λ (r : Verdict). Finds B N (Done s) bt tt r) (step theEnd q) (ends (rest .holds))
 
   pub rest-bad : {f : Failure} → see at ≡ bad f → Finds B N (Failed f) bt tt goal
   unfolding seeing
@@ -61,7 +61,7 @@ module _ {size : ℕ} {see : ℕ → See} {B N at : ℕ} {s : State} {bt tt : Li
   unfolding seeing
   rest-refuses {k} q = subst (λ (r : Verdict). Finds B N (Refused k) bt tt r) (step (sees4 k) q) refuses
 
-  module _ {next : ℕ} {does : Parsed → Out} (q : see at ≡ thing next does) {x : Step} {bt′ tt′ : List ℕ} (e : Gives B N x bt′ tt′ (does (rest .here))) where
+  module _ {next : ℕ} {does : Parsed → Out} (q : see at ≡ thing next does) {x : Step} {bt′ tt′ : List ℕ} (e : GivesOut B N x bt′ tt′ (does (rest .here))) where
     pub rest-no : {k : Halt} {r : Reading} → x ≡ No k → Finds B N r bt′ tt′ (halted k) → Finds B N r bt′ tt′ goal
     unfolding seeing readOn
     rest-no {k} {r} i f = subst (λ (g : Verdict). Finds B N r bt′ tt′ g) (rw (was-refused e i) at (step (thing next does) q)) f
@@ -73,7 +73,7 @@ module _ {size : ℕ} {see : ℕ → See} {B N at : ℕ} {s : State} {bt tt : Li
         record { here = w .0; holds = w .2; fuel = rest .fuel - 1; enough = omega (arith, rest .enough, f); stops = rest .stops; same = rw (w .1) at (step (thing next does) q) }
 
 module _ (lent : Lent) (s : List ℕ) where
-  pub tzx-stops : (model p : ℕ) → length s ≤ p → tzxSee lent s model p ≡ over
+  pub tzx-stops : (model p : ℕ) → length s ≤ p → tzxSee lent s model p ≡ theEnd
   unfolding tzxSee cutAt tzxOf
   tzx-stops model p h = rw (le-leb (length s) p h)
 
@@ -85,7 +85,7 @@ module _ (lent : Lent) (s : List ℕ) where
   unfolding tzxOf
   sees-piece model at q = tzx-sees model at q
 
-  pub tap-stops : (p : ℕ) → length s ≤ p → tapSee lent s p ≡ over
+  pub tap-stops : (p : ℕ) → length s ≤ p → tapSee lent s p ≡ theEnd
   unfolding tapSee tapAt tapOf
   tap-stops p h = rw (le-leb (length s) p h)
 

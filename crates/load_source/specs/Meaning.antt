@@ -6,7 +6,7 @@ use Rattle.cut_grammar.specs.declared.Piece.the-variants.{Standard, Turbo, Tone
 use Rattle.load_general.specs.General.{generalOf}
 use Rattle.load_blocks.specs.Sounds.{ms, dataBits}
 use Rattle.load_blocks.specs.Blocks.{standardHeader, standardSound, turboSound, pureToneTones, toneSound, pairSounds, pureSound, pauseSound}
-use Rattle.load_blocks.specs.Deeds.{Deed, adds, groups, texts, groupEnds, opens, closes, nothing, generalDeed, stop48Deed}
+use Rattle.load_blocks.specs.Deeds.{Deed, adds, groups, texts, groupEnds, opens, closes, noDeed, generalDeed, stop48Deed}
 
 -- in the tape s
 unfoldable pub deedOf : List ℕ → Piece → Deed
@@ -23,8 +23,8 @@ deedOf s (LoopStart times) = opens times
 deedOf s LoopEnd = closes
 deedOf s (Stop48 length) = stop48Deed length
 deedOf s (Text from size) = texts from size
-deedOf s (Message seconds from size) = nothing
-deedOf s (Archive count from) = nothing
-deedOf s (Hardware count from) = nothing
-deedOf s (Custom id from size) = nothing
-deedOf s Glue = nothing
+deedOf s (Message seconds from size) = noDeed
+deedOf s (Archive count from) = noDeed
+deedOf s (Hardware count from) = noDeed
+deedOf s (Custom id from size) = noDeed
+deedOf s Glue = noDeed

@@ -14,7 +14,7 @@ use Rattle.load_state.specs.Parser.{Parsed, Out, on, no as halt, empty}
 use Rattle.load_blocks.specs.Adds.{Lent}
 use Rattle.load_blocks.specs.Deeds.{asks48}
 use Rattle.load_source.specs.Meaning.{deedOf}
-use Rattle.load_source.specs.Source.{See, over, bad, refuses, thing, full, tzxSee}
+use Rattle.load_source.specs.Source.{See, theEnd, bad, refuses, thing, full, tzxSee}
 
 -- a 2A that is whole, with length 0
 unfoldable pub stopsAt : List ℕ → Taken → Bool
@@ -30,7 +30,7 @@ goingOn (on t) k = k t
 goingOn (halt j) k = false
 
 unfoldable pub passing : See → Parsed → (ℕ → Parsed → Bool) → Bool
-passing over t k = false
+passing theEnd t k = false
 passing (bad f) t k = false
 passing (refuses j) t k = false
 passing (thing next does) t k = goingOn (does t) (k next)

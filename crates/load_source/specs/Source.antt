@@ -56,7 +56,7 @@ readOn (on t) k = k t
 readOn (halt j) k = halted j
 
 unfoldable pub seeing : See → Parsed → (ℕ → Parsed → Verdict) → Verdict
-seeing over t k = done t
+seeing theEnd t k = done t
 seeing (bad f) t k = failed f
 seeing (refuses j) t k = refused j
 seeing (thing next does) t k = readOn (does t) (k next)
@@ -87,7 +87,7 @@ bitsJudged (refused j) = refused j
 module _ (lent : Lent) (s : List ℕ) where
   -- a kind not named is skipped as one byte; the overflow of 19 is a 4
   unfoldable pub tzxOf : ℕ → ℕ → Taken → See
-  tzxOf model at taken.End = over
+  tzxOf model at taken.End = theEnd
   tzxOf model at (taken.Whole kind from next piece) = thing next (act lent s model (originAt kind from) piece)
   tzxOf model at (taken.Unknown kind described) = thing (at + 1) on
   tzxOf model at (taken.Short kind p w) = bad (failure.ShortPiece kind p w)
@@ -107,8 +107,8 @@ module _ (lent : Lent) (s : List ℕ) where
 
   -- TAP: standard blocks; zero or one byte left ends the list; short data errs
   unfoldable pub tapOf : ℕ → TakenTap → See
-  tapOf at tap.End = over
-  tapOf at tap.Lone = over
+  tapOf at tap.End = theEnd
+  tapOf at tap.Lone = theEnd
   tapOf at (tap.Block from size next) =
       let header = standardHeader s from size in
       thing next (addSound lent (originAt tapKind at) (standardSound header from size (standardPause header)))

@@ -23,7 +23,7 @@ use Rattle.load_state.specs.declared.Halt.{Halt}
 use Rattle.load_state.specs.declared.Halt.the-variants.{Refusal}
 use Rattle.load_state.specs.declared.Loop.the-variants.{Closed}
 use Rattle.load_state.specs.Parser.{Parsed, withTones, withPending, withBody, empty, Out, on, no, _⟫_, addTones}
-use Rattle.load_state.specs.Holds.{Holds, nowPending, withLoop, Gives, goes, refuses}
+use Rattle.load_state.specs.Holds.{Holds, nowPending, withLoop, GivesOut, goes, refuses}
 
 pub chain-assoc : (o : Out) (f g : Parsed → Out) → o ⟫ f ⟫ g ≡ o ⟫ (λ t. f t ⟫ g)
 unfolding _⟫_
@@ -55,20 +55,20 @@ module _ {B N : ℕ} {s : State} {bt tt : List ℕ} {t : Parsed} (h : Holds B N 
 
 -- what an answer that went on, or that refused, says of the definition's
 module _ {B N : ℕ} {bt tt : List ℕ} where
-  pub went-on : {x : Step} {s : State} {o : Out} → Gives B N x bt tt o → x ≡ On s → (t : Parsed) × (o ≡ on t) × Holds B N s bt tt t
+  pub went-on : {x : Step} {s : State} {o : Out} → GivesOut B N x bt tt o → x ≡ On s → (t : Parsed) × (o ≡ on t) × Holds B N s bt tt t
   went-on {s = s} (goes {s = s₁} {t = t} h) e = let q : s₁ ≡ s = cc in (t, refl, rw q at h)
   went-on (refuses) e = let z : _≡_ {A = ℕ} 0 1 = cc in absurd (omega arith)
 
-  pub was-refused : {x : Step} {k : Halt} {o : Out} → Gives B N x bt tt o → x ≡ No k → o ≡ no k
+  pub was-refused : {x : Step} {k : Halt} {o : Out} → GivesOut B N x bt tt o → x ≡ No k → o ≡ no k
   was-refused (goes h) e = let z : _≡_ {A = ℕ} 0 1 = cc in absurd (omega arith)
   was-refused (refuses) e = cc
 
   -- two calls in turn: where the first went on, what the second gives from there is what both give; where it refused, so do both
-  pub then-on : {x y : Step} {s : State} {bt′ tt′ : List ℕ} {o : Out} {f : Parsed → Out} → Gives B N x bt tt o → x ≡ On s → ((t : Parsed) → Holds B N s bt tt t → Gives B N y bt′ tt′ (f t)) → Gives B N y bt′ tt′ (o ⟫ f)
+  pub then-on : {x y : Step} {s : State} {bt′ tt′ : List ℕ} {o : Out} {f : Parsed → Out} → GivesOut B N x bt tt o → x ≡ On s → ((t : Parsed) → Holds B N s bt tt t → GivesOut B N y bt′ tt′ (f t)) → GivesOut B N y bt′ tt′ (o ⟫ f)
   unfolding _⟫_
   then-on e q k = let w = went-on e q in rw (w .1) (k (w .0) (w .2))
 
-  pub then-no : {x : Step} {k : Halt} {bt′ tt′ : List ℕ} {o : Out} (f : Parsed → Out) → Gives B N x bt tt o → x ≡ No k → Gives B N (No k) bt′ tt′ (o ⟫ f)
+  pub then-no : {x : Step} {k : Halt} {bt′ tt′ : List ℕ} {o : Out} (f : Parsed → Out) → GivesOut B N x bt tt o → x ≡ No k → GivesOut B N (No k) bt′ tt′ (o ⟫ f)
   unfolding _⟫_
   then-no f e q = rw (was-refused e q) refuses
 
@@ -85,12 +85,12 @@ module _ {P : Parsed → Type 0} {B N : ℕ} {s : State} {bt tt : List ℕ} {res
 
   module _ {whole : Out} (g : Going P B N s bt tt rest whole) where
     -- nothing is left
-    pub going-ends : rest (g .at) ≡ on (g .at) → Gives B N (On s) bt tt whole
+    pub going-ends : rest (g .at) ≡ on (g .at) → GivesOut B N (On s) bt tt whole
     going-ends e = rw (← g .same, e) (goes (g .holds))
 
     -- one turn of the step f
-    module _ {x : Step} {bt′ tt′ : List ℕ} (f next : Parsed → Out) (split : rest (g .at) ≡ f (g .at) ⟫ next) (e : Gives B N x bt′ tt′ (f (g .at))) where
-      pub going-no : {k : Halt} → x ≡ No k → Gives B N (No k) bt′ tt′ whole
+    module _ {x : Step} {bt′ tt′ : List ℕ} (f next : Parsed → Out) (split : rest (g .at) ≡ f (g .at) ⟫ next) (e : GivesOut B N x bt′ tt′ (f (g .at))) where
+      pub going-no : {k : Halt} → x ≡ No k → GivesOut B N (No k) bt′ tt′ whole
       going-no q = rw (← g .same, split) (then-no next e q)
 
       pub going-on : {s′ : State} → x ≡ On s′ → ((t : Parsed) → f (g .at) ≡ on t → P t) → Going P B N s′ bt′ tt′ next whole

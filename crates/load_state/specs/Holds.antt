@@ -42,6 +42,6 @@ pub record Holds (B N : ℕ) (s : State) (bt tt : List ℕ) (t : Parsed) : Type 
   pub isT : tt ≡ tableOf tone (t .tones) N
 
 -- the code's answer is the definition's; a refusal says nothing of the tables, which the load then blanks
-pub data Gives (B N : ℕ) : Step → List ℕ → List ℕ → Out → Type 0 where
-  goes : {s : State} {bt tt : List ℕ} {t : Parsed} → Holds B N s bt tt t → Gives B N (On s) bt tt (on t)
-  refuses : {k : Halt} {bt tt : List ℕ} → Gives B N (No k) bt tt (no k)
+pub data GivesOut (B N : ℕ) : Step → List ℕ → List ℕ → Out → Type 0 where
+  goes : {s : State} {bt tt : List ℕ} {t : Parsed} → Holds B N s bt tt t → GivesOut B N (On s) bt tt (on t)
+  refuses : {k : Halt} {bt tt : List ℕ} → GivesOut B N (No k) bt tt (no k)

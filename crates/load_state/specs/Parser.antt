@@ -82,8 +82,8 @@ abbrev pub pended : Pending → Pending → Pending
 pended new p = inGroup p ⇒ p ∣ new
 
 -- group end: an open group closes, a pending text stays
-abbrev pub ended : Pending → Pending
-ended p = inGroup p ⇒ Nothing ∣ p
+abbrev pub groupEnded : Pending → Pending
+groupEnded p = inGroup p ⇒ Nothing ∣ p
 
 abbrev pub withPending : Pending → Parsed → Parsed
 withPending p t = parsedOf (t .blocks) (t .tones) p (t .body)
@@ -101,7 +101,7 @@ lastPaused (r ∷ []) = paused r ∷ []
 lastPaused (r ∷ q ∷ rs) = r ∷ lastPaused (q ∷ rs)
 
 unfoldable pub endGroup : Parsed → Out
-endGroup t = on (parsedOf (lastPaused (t .blocks)) (t .tones) (ended (t .pending)) (t .body))
+endGroup t = on (parsedOf (lastPaused (t .blocks)) (t .tones) (groupEnded (t .pending)) (t .body))
 
 -- a loop start; a nested start is ignored
 abbrev pub opened : ℕ → ℕ → Loop → Loop

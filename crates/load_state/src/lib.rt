@@ -13,7 +13,7 @@ ghost use mathlib.Core.List.{List, [], _∷_};
 ghost use Prim.Native.Nat.{ℕ};
 ghost use Rattle.rows.specs.Table.{zeros};
 ghost use Rattle.load_state.specs.Parser.{Parsed, empty, renamed, named, used, addTones, addBlock};
-ghost use Rattle.load_state.specs.Holds.{Holds, Gives, blockRoom, toneRoom};
+ghost use Rattle.load_state.specs.Holds.{Holds, GivesOut, blockRoom, toneRoom};
 
 // The name that the next blocks take; a place in the tape and a length. The Rust's `GroupParse`.
 pub enum Pending {
@@ -94,7 +94,7 @@ fn after_use(p: Pending) -> Pending
 
 // One tone row more.
 pub fn add_tone(s: State, tones: &mut [u64], r: Tone) -> Step
-    ensures { λ a. ⌜ ((B N : ℕ) (bt : List ℕ) (t : Parsed) → Holds B N s bt (now (tones .entry)) t → Gives B N a bt (now (tones .exit)) (addTones (toneRoom N) (r ∷ []) t)) ⌝ }
+    ensures { λ a. ⌜ ((B N : ℕ) (bt : List ℕ) (t : Parsed) → Holds B N s bt (now (tones .entry)) t → GivesOut B N a bt (now (tones .exit)) (addTones (toneRoom N) (r ∷ []) t)) ⌝ }
 {
     let n = s.tones;
     if append_tone(tones, n as usize, r) {
@@ -113,7 +113,7 @@ pub fn add_tone(s: State, tones: &mut [u64], r: Tone) -> Step
 
 // One block more, with the pending name.
 pub fn add_block(s: State, blocks: &mut [u64], r: Block) -> Step
-    ensures { λ a. ⌜ ((B N : ℕ) (tt : List ℕ) (t : Parsed) → Holds B N s (now (blocks .entry)) tt t → Gives B N a (now (blocks .exit)) tt (addBlock (blockRoom B) r t)) ⌝ }
+    ensures { λ a. ⌜ ((B N : ℕ) (tt : List ℕ) (t : Parsed) → Holds B N s (now (blocks .entry)) tt t → GivesOut B N a (now (blocks .exit)) tt (addBlock (blockRoom B) r t)) ⌝ }
 {
     let n = s.blocks;
     let p = s.pending;

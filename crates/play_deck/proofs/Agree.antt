@@ -5,7 +5,7 @@ use mathlib.Core.Path.{_≡_, sym, ap, ap₂, _∙_}
 use mathlib.Core.Bool.{Bool, true}
 use mathlib.Core.List.{List, _∷_}
 use Rattle.law_pulses.specs.Play.{Entry, Answer, answer, calls, sum, Positive}
-use Rattle.law_pulses.specs.Source.{Outcome, isEnded, sources, heard, Short, Agrees}
+use Rattle.law_pulses.specs.Source.{Outcome, isEnded, sources, heard, ShortCalls, Agrees}
 use Rattle.law_pulses.proofs.Demand.{any-cut}
 use Rattle.law_pulses.proofs.Agreement.{agrees-short}
 use Rattle.play_entries.specs.Entries.{Label}
@@ -44,5 +44,5 @@ module _ (w : Tape) (whole : WholeTape w) (q : Position) (n : ℕ) (ms : List �
   sources-outcome = ap₂ outcome (sources-place w whole q q n ms v p h) (sources-told w whole q n ms v p h)
 
   -- THE PLAYERS AGREE: calls of 1 or more, each below every finite duration but 0 behind the head, from one position
-  pub players-agree : Short (ahead w q) (n ∷ ms) → Agrees (outcomeIn w q (runSources w q n ms)) (outcomeIn w q (runCalls w q n ms))
+  pub players-agree : ShortCalls (ahead w q) (n ∷ ms) → Agrees (outcomeIn w q (runSources w q n ms)) (outcomeIn w q (runCalls w q n ms))
   players-agree s = rw (sources-outcome, calls-outcome) (agrees-short (ahead w q) n ms s)

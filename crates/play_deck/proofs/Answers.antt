@@ -1,7 +1,7 @@
 -- WHAT AN ANSWER HOLDS: where it leaves the head, the entries it counts, its level, whether it is the end; one answer is permitted. Assumes nothing.
 use Prim.Native.Nat.{ℕ, _-_}
 use mathlib.Core.Path.{_≡_, refl}
-use Rattle.law_pulses.specs.Play.{Status, standing, stopped, ended, Answer, counted}
+use Rattle.law_pulses.specs.Play.{Status, standing, stopped, ended, Answer, countedOn}
 use Rattle.law_pulses.specs.Source.{isEnded}
 use Rattle.play_entries.specs.Entries.{Label}
 use Rattle.play_entries.specs.Places.{Tape}
@@ -32,8 +32,8 @@ pub passed-of : (w v : Tape) (a : Answer Label) → passedIn (toldReached w v a)
 unfolding toldReached
 passed-of w v a = told-passed (a .tells) _
 
-pub counted-told : (w v : Tape) (j : ℕ) (a : Answer Label) → counting j (toldReached w v a) ≡ toldReached w v (counted j a)
-unfolding toldReached counted
+pub counted-told : (w v : Tape) (j : ℕ) (a : Answer Label) → counting j (toldReached w v a) ≡ toldReached w v (countedOn j a)
+unfolding toldReached countedOn
 counted-told w v j a = told-counted j (a .tells) _
 
 pub told-level : (st : Status) (s : Stand) → answerLevel (toldAs st s) ≡ s .level

@@ -6,7 +6,7 @@ use mathlib.Core.Path.{_≡_, refl, sym, ap, ap₂, _∙_}
 use mathlib.Core.Bool.{true}
 use mathlib.Core.Logic.{⊎-elim}
 use mathlib.Core.List.{List, [], _∷_}
-use Rattle.law_pulses.specs.Play.{Level, low, Entry, pulse, endless, Status, rest, over, answer, counted, calls, sum, Positive, time, Demanded}
+use Rattle.law_pulses.specs.Play.{Level, low, Entry, pulse, endless, Status, rest, over, answer, countedOn, calls, sum, Positive, time, Demanded}
 use native.Mathlib.Nat.{eq-zero-or-pos}
 use lib.ListN.{length}
 use Rattle.law_pulses.proofs.Steps.{over-zero, over-rest}
@@ -29,7 +29,7 @@ use Rattle.play_entries.specs.Mounted.{WholeTape}
 use Rattle.play_entries.specs.Tails.{Levels}
 
 place-of : (w : Tape) (es : List (Entry Label)) (n m : ℕ) (ms : List ℕ)
-    → toldReached w w (counted (answer es n .passed) (calls (rest es n) m ms)) ≡ toldReached w w (counted (answer es n .passed) (calls (answer es n .place) m ms))
+    → toldReached w w (countedOn (answer es n .passed) (calls (rest es n) m ms)) ≡ toldReached w w (countedOn (answer es n .passed) (calls (answer es n .place) m ms))
 unfolding answer
 place-of w es n m ms = refl
 
@@ -82,7 +82,7 @@ module _ (w : Tape) (whole : WholeTape w) where
       passed-told q n v p = ap passedIn (play-told q n v p) ∙ passed-of w w (answer (ahead w q) n)
 
       place-told : (q : Position) (n m : ℕ) (ms : List ℕ)
-          → toldReached w w (counted (answer (ahead w q) n .passed) (calls (rest (ahead w q) n) m ms)) ≡ toldReached w w (counted (answer (ahead w q) n .passed) (calls (answer (ahead w q) n .place) m ms))
+          → toldReached w w (countedOn (answer (ahead w q) n .passed) (calls (rest (ahead w q) n) m ms)) ≡ toldReached w w (countedOn (answer (ahead w q) n .passed) (calls (answer (ahead w q) n .place) m ms))
       place-told q n m ms = place-of w (ahead w q) n m ms
 
   -- .. and so as one call of their sum

@@ -6,7 +6,7 @@ use mathlib.Core.Path.{_≡_, sym, ap, _∙_}
 use mathlib.Core.Bool.{true}
 use mathlib.Core.List.{List, [], _∷_}
 use Rattle.law_pulses.specs.Play.{Entry, answer, calls, Positive}
-use Rattle.law_pulses.specs.Source.{Outcome, source, dropped, sources, heard, Short, Agrees}
+use Rattle.law_pulses.specs.Source.{Outcome, source, dropped, sources, heard, ShortCalls, Agrees}
 use Rattle.law_pulses.proofs.Agreement.{source-heard, agrees, agrees-short}
 use Rattle.rows.specs.Rows.{block}
 use Rattle.play_entries.specs.Entries.{Label}
@@ -83,5 +83,5 @@ module _ (w : Tape) (whole : WholeTape w) where
       sources-place (positionIn q (playSource w q n)) o m ms (x .1) (h .0) (h .1) ∙ ap (λ (r : List (Entry Label)). sources r m ms .place) (x .0)
 
   -- DEMAND 3's CLAUSE on the source's play: calls below every finite duration but 0 agree with the measured player's
-  pub short-agrees : (q : Position) (n : ℕ) (ms : List ℕ) → Short (ahead w q) (n ∷ ms) → Agrees (sources (ahead w q) n ms) (heard (calls (ahead w q) n ms))
+  pub short-agrees : (q : Position) (n : ℕ) (ms : List ℕ) → ShortCalls (ahead w q) (n ∷ ms) → Agrees (sources (ahead w q) n ms) (heard (calls (ahead w q) n ms))
   short-agrees q n ms h = agrees-short (ahead w q) n ms h

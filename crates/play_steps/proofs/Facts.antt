@@ -18,7 +18,7 @@ use Rattle.play_entries.specs.declared.Phase.the-variants.{Tones}
 use Rattle.play_entries.specs.Entries.{toneAt, cyclesOf, isSingle, cyclePulses, cycleTime}
 use Rattle.play_entries.specs.Places.{hasEntry}
 use Rattle.play_entries.proofs.Bounds.{cycles-most, cycle-most}
-use Rattle.play_steps.specs.Steps.{stepTo, dataFrom, pulseFrom, toneFrom, cycleFrom, cyclesStep, oneStep, fitting, takeCycles}
+use Rattle.play_steps.specs.Steps.{stepTo, dataFrom, pulseFrom, toneFrom, cycleFrom, cyclesStep, oneStep, cyclesFitting, takeCycles}
 
 -- the numbers of a well-formed tone row
 pub record Small (r : Block) (t : Tone) : Type 0 where
@@ -45,8 +45,8 @@ pub record Fitting (c m d k : ℕ) : Type 0 where
   pub most : k ≤ m
   pub before : k * c < d
 
-pub fit : (c m d : ℕ) → 0 < d → Fitting c m d (fitting c m d)
-unfolding fitting
+pub fit : (c m d : ℕ) → 0 < d → Fitting c m d (cyclesFitting c m d)
+unfolding cyclesFitting
 fit c m d p =
     elim (ℕ-discrete c 0) [
       | yes z ↦ rw (eq-eqb c 0 z) (record { most = omega arith; before = rw z (omega (arith, mul-zero m)) })
@@ -62,9 +62,9 @@ pub has-by : (tones : List ℕ) (r : Block) {f g : Phase} → f ≡ g → hasEnt
 has-by tones r e x = subst (λ (h : Phase). hasEntry tones r h ≡ true) e x
 
 -- what `take_cycles` answers, of the tone it read, its repetitions, what one lasts, its pulses, and how many fit
-module _ (tones : List ℕ) (r : Block) (i p t d : ℕ) (x : Tone) (n c m k : ℕ) (e : x ≡ toneAt tones r i) (u : n ≡ cyclesOf r x) (v : c ≡ cycleTime r x) (g : k ≡ fitting c (n - p) d) where
-  fits-so : k ≡ fitting (cycleTime r (toneAt tones r i)) (cyclesOf r (toneAt tones r i) - p) d
-  fits-so = subst (λ (y : Tone). k ≡ fitting (cycleTime r y) (cyclesOf r y - p) d) e (rw (← u, ← v) g)
+module _ (tones : List ℕ) (r : Block) (i p t d : ℕ) (x : Tone) (n c m k : ℕ) (e : x ≡ toneAt tones r i) (u : n ≡ cyclesOf r x) (v : c ≡ cycleTime r x) (g : k ≡ cyclesFitting c (n - p) d) where
+  fits-so : k ≡ cyclesFitting (cycleTime r (toneAt tones r i)) (cyclesOf r (toneAt tones r i) - p) d
+  fits-so = subst (λ (y : Tone). k ≡ cyclesFitting (cycleTime r y) (cyclesOf r y - p) d) e (rw (← u, ← v) g)
 
   pub takes-run : m ≡ cyclePulses r x → 0 < k → stepTo (cycleFrom tones x r i (p + k)) (k * c) (k * m) ≡ takeCycles tones r i p t d
   unfolding takeCycles cyclesStep

@@ -27,7 +27,7 @@ use Rattle.play_entries.proofs.Bounds.{bits-some}
 use Rattle.play_entries.proofs.Follows.{list-in, tone-in, tone-out, cycle-in, cycle-out, second-in, second-out, byte-in, byte-out, bit-in, bit-out, edge-in, edge-out}
 use Rattle.play_entries.proofs.Valid.{tone-entry, has-tone, has-second, data-entry, has-data}
 use Rattle.play_steps.specs.declared.Step.{Step}
-use Rattle.play_steps.specs.Steps.{endFrom, dataFrom, bitFrom, pulseFrom, toneFrom, cycleFrom, secondFrom, cyclesStep, byteTime, byteStep, oneStep, fitting, takeCycles, takeByte, takeOf}
+use Rattle.play_steps.specs.Steps.{endFrom, dataFrom, bitFrom, pulseFrom, toneFrom, cycleFrom, secondFrom, cyclesStep, byteTime, byteStep, oneStep, cyclesFitting, takeCycles, takeByte, takeOf}
 use Rattle.play_steps.proofs.Facts.{fit}
 
 -- what is left from an entry, full
@@ -279,7 +279,7 @@ module _ (w : Tape) (b : ℕ) (below : b < w .count) (d j : ℕ) (p : 0 < d) whe
       let n = tone-entry (w .tones) (blockIn w b) i q false h in
       let c = cycleTime (blockIn w b) x in
       let m = cyclesIn w b i in
-      let k = fitting c (m - q) d in
+      let k = cyclesFitting c (m - q) d in
       let z = fit c (m - q) d p in
       ⊎-elim
       (λ g.

@@ -73,14 +73,14 @@ oneStep tones r Edge t = stepTo Pause t 1
 oneStep tones r Pause t = stepOut t
 
 -- of m cycles of c T-states each, those that last less than d
-unfoldable pub fitting : ℕ → ℕ → ℕ → ℕ
-fitting c m d = eqb c 0 ⇒ m ∣ min m ((d - 1) / c)
+unfoldable pub cyclesFitting : ℕ → ℕ → ℕ → ℕ
+cyclesFitting c m d = eqb c 0 ⇒ m ∣ min m ((d - 1) / c)
 
 -- from the first half of a cycle, full: the cycles that last less than d; or this half
 unfoldable pub takeCycles : List ℕ → Block → ℕ → ℕ → ℕ → ℕ → Step
 takeCycles tones r i p t d =
     let x = toneAt tones r i in
-    let k = fitting (cycleTime r x) (cyclesOf r x - p) d in
+    let k = cyclesFitting (cycleTime r x) (cyclesOf r x - p) d in
     ltb 0 k ⇒ cyclesStep tones x r i p k ∣ oneStep tones r (Tones i p false) t
 
 -- from the first half of a byte's first bit, full: the byte if it lasts less than d; or this half

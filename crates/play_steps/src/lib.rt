@@ -20,7 +20,7 @@ ghost use Rattle.rows.specs.Rows.{tone, toneMost};
 ghost use Rattle.rows.specs.Well.{wellTones, wellNumbers, wellBlock};
 ghost use Rattle.play_entries.specs.Entries.{cyclesOf, toneAt, bitsAt};
 ghost use Rattle.play_entries.specs.Places.{hasEntry};
-ghost use Rattle.play_steps.specs.Steps.{endFrom, dataFrom, bitFrom, toneFrom, cycleFrom, secondFrom, Found, stepTo, stepOut, fitting, oneStep, takeCycles, takeByte, takeOf};
+ghost use Rattle.play_steps.specs.Steps.{endFrom, dataFrom, bitFrom, toneFrom, cycleFrom, secondFrom, Found, stepTo, stepOut, cyclesFitting, oneStep, takeCycles, takeByte, takeOf};
 ghost use Rattle.play_entries.specs.Mounted.{tapeSize};
 ghost use Rattle.play_entries.specs.declared.Phase.the-variants.{Tones, Data};
 
@@ -212,7 +212,7 @@ pub fn one_step(tones: &[u64], r: Block, f: Phase, t: u64) -> Step
 // Of m cycles of c T-states each, how many last less than d.
 fn fits(c: u64, m: u64, d: u64) -> u64
     requires { ⌜ 0 < d ⌝ }
-    ensures { λ k. ⌜ k ≡ fitting c m d ⌝ }
+    ensures { λ k. ⌜ k ≡ cyclesFitting c m d ⌝ }
 {
     if c == 0 {
         return m;

@@ -6,8 +6,8 @@ use lib.ListN.{getD, length}
 use Rattle.text_out.specs.Out.{utf8, eachByte}
 
 -- the texts of the codes 00 to FF, eight a line
-abbrev pub texts : List String
-texts =
+abbrev pub codeTexts : List String
+codeTexts =
     "" ∷ "" ∷ "" ∷ "" ∷ "" ∷ "" ∷ "" ∷ "" ∷
     "" ∷ "" ∷ "" ∷ "" ∷ "" ∷ "" ∷ "" ∷ "" ∷
     "" ∷ "" ∷ "" ∷ "" ∷ "" ∷ "" ∷ "" ∷ "" ∷
@@ -42,7 +42,7 @@ texts =
     "SAVE" ∷ "RANDOMIZE" ∷ "IF" ∷ "CLS" ∷ "DRAW" ∷ "CLEAR" ∷ "RETURN" ∷ "COPY" ∷ []
 
 unfoldable pub table : List (List ℕ)
-table = map utf8 texts
+table = map utf8 codeTexts
 
 unfoldable pub encoded : ℕ → List ℕ
 encoded code = getD table code []

@@ -1,5 +1,5 @@
 -- `fits` meets its contract. Assumes nothing.
-use Rattle.play_steps.specs.Steps.{fitting}
+use Rattle.play_steps.specs.Steps.{cyclesFitting}
 use native.Mathlib.Omega.{arith}
 use borrow.Author.Tests.{eq-eqb, ne-eqb}
 use borrow.Author.Needs.{needs}
@@ -7,7 +7,7 @@ use Rattle.play_steps.proofs.fits.Statement.{statement}
 use Rattle.play_steps.proofs.fits.Tie as tie
 
 returns : tie.Need-returns
-unfolding fitting
+unfolding cyclesFitting
 returns c =
     rw (eq-eqb _ _ (c .if1 .taken))
 
@@ -18,12 +18,12 @@ div-k : tie.Need-div-k
 div-k c = search needs
 
 returns-2 : tie.Need-returns-2
-unfolding fitting
+unfolding cyclesFitting
 returns-2 c =
     rw (ne-eqb _ _ (c .before .if1 .left)) (omega arith)
 
 returns-3 : tie.Need-returns-3
-unfolding fitting
+unfolding cyclesFitting
 returns-3 c =
     rw (ne-eqb _ _ (c .before .if1 .left)) (omega arith)
 

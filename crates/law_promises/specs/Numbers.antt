@@ -67,7 +67,7 @@ pub data Bad (see : ℕ → See) (at : ℕ) (t : Parsed) : Type 0 where
 
 -- 4: a generalised piece on which the Rust panics: before its data bytes, or by its entries and symbols
 pub data Panics (s : List ℕ) (at : ℕ) (t : Parsed) : Type 0 where
-  before : {kind p : ℕ} → cutAt s at full ≡ taken.Overflow kind p → Panics s at t
+  overflows : {kind p : ℕ} → cutAt s at full ≡ taken.Overflow kind p → Panics s at t
   within : {kind from next : ℕ} {g : GeneralizedData} → cutAt s at full ≡ taken.Whole kind from next (Generalized g) → generalOf s g ≡ refused4 → Panics s at t
 
 -- 5, 6, BLOCK BY BLOCK: of the steps that are done here, one after the other, one needs more tone rows than remain of those lent, or more block rows

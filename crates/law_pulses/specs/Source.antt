@@ -11,7 +11,7 @@ use Rattle.law_pulses.specs.Play.{Entry, pulse, endless, Status, standin
 
 -- where turns have come to: what is left to play, the count left, and the sum of the entries dropped uncharged
 pub data Turned (A : Type 0) : Type 0 where
-  turned : List (Entry A) → ℕ → ℕ → Turned A
+  turnedTo : List (Entry A) → ℕ → ℕ → Turned A
 
 -- a player's outcome: what is left to play, and whether it has ended
 pub record Outcome (A : Type 0) : Type 0 where

@@ -35,7 +35,7 @@ act lent s model origin p t = does lent model origin (deedOf s p) t
 
 -- what stands at a place: the end; a failure; a refusal; or a thing, the place past it and what it does
 pub data See : Type 0 where
-  over : See
+  theEnd : See
   bad : Failure → See
   refuses : ℕ → See
   thing : ℕ → (Parsed → Out) → See

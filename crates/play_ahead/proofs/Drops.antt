@@ -31,7 +31,7 @@ use Rattle.play_walk.specs.declared.Position.{Position}
 use Rattle.play_entries.specs.Mounted.{tapeSize, wellRow, cutTo, formed}
 use Rattle.play_walk.specs.Heads.{droppedFrom, Walkable}
 use Rattle.play_steps.proofs.Leaps.{fullAt, leftBehind, One, leap-one}
-use Rattle.play_walk.proofs.Needed.{Needs}
+use Rattle.play_walk.proofs.Needed.{WellUpTo}
 use Rattle.play_walk.proofs.Turns.{On, on-has, cutOf, rows-of, on-first}
 use Rattle.play_ahead.proofs.Sheds.{Sheds, time-none, full-valid, shed}
 
@@ -55,7 +55,7 @@ run-most item c p zero h = omega (arith, zero-mul c)
 run-most item c p (suc m) h =
     omega (arith, time-most (item p) (run item (p + 1) m), h p (omega arith) (omega arith), run-most item c (p + 1) m (λ i l g. h i (omega arith) (omega arith)), suc-mul m c)
 
-list-most : {w : Tape} {b₀ k : ℕ} → Needs w b₀ k → w .count ≤ 4096 → (b : ℕ) → b₀ ≤ b → time (listFrom (cutTo w k) b) ≤ 4611686018427387904
+list-most : {w : Tape} {b₀ k : ℕ} → WellUpTo w b₀ k → w .count ≤ 4096 → (b : ℕ) → b₀ ≤ b → time (listFrom (cutTo w k) b) ≤ 4611686018427387904
 unfolding wellRow listFrom
 list-most {w} {b₀} {k} x h b l =
     let v = cutTo w k in
@@ -67,7 +67,7 @@ list-most {w} {b₀} {k} x h b l =
 abbrev pub cur : Tape → ℕ → Phase → Bool → List (Entry Label)
 cur v b f over = over ⇒ listFrom v (b + 1) ∣ fullAt v b f
 
-pub cur-most : {w : Tape} {b₀ k : ℕ} → Needs w b₀ k → w .count ≤ 4096 → (b : ℕ) → b₀ ≤ b → b < k → (f : Phase) (over : Bool) → (over ≡ false → hasIn w b f ≡ true)
+pub cur-most : {w : Tape} {b₀ k : ℕ} → WellUpTo w b₀ k → w .count ≤ 4096 → (b : ℕ) → b₀ ≤ b → b < k → (f : Phase) (over : Bool) → (over ≡ false → hasIn w b f ≡ true)
     → (d : ℕ) → drops (cur (cutTo w k) b f over) d ≤ 4611686018427387904
 cur-most {w} {b₀} {k} x h b l g f true s d = omega (arith, drops-most (listFrom (cutTo w k) (b + 1)) d, list-most x h (b + 1) (omega arith))
 cur-most {w} {b₀} {k} x h b l g f false s d =
@@ -156,7 +156,7 @@ module _ (w : Tape) (q : Position) (a : Walkable w q) (n : ℕ) where
   abbrev cut : ℕ
   cut = cutOf w q
 
-  rows : Needs w (q .block) cut
+  rows : WellUpTo w (q .block) cut
   rows = rows-of w q a
 
   first-on : On w cut (q .block) (q .phase) (q .left) false 0
@@ -203,7 +203,7 @@ dropped-most w q n a = by-left (q .left) refl
         (lt-or-ge n t)
 
 -- a block's start
-pub off-start : {w : Tape} {b₀ k : ℕ} → Needs w b₀ k → (b : ℕ) (f : Phase) (over : Bool) (d sum : ℕ) → over ≡ true → Off w k b f over d sum → b + 1 < k
+pub off-start : {w : Tape} {b₀ k : ℕ} → WellUpTo w b₀ k → (b : ℕ) (f : Phase) (over : Bool) (d sum : ℕ) → over ≡ true → Off w k b f over d sum → b + 1 < k
     → Off w k (b + 1) Start false d sum
 unfolding leftAt hasEntry
 off-start {w} {b₀} {k} x b f over d sum z o h =

@@ -31,7 +31,7 @@ use Rattle.play_steps.specs.Steps.{takeOf}
 use Rattle.play_entries.specs.Mounted.{tapeSize, wellRow, firstBad, cutTo}
 use Rattle.play_walk.specs.Heads.{placed, startAt, stand, walked, nextOf, Walkable}
 use Rattle.play_steps.proofs.Leaps.{Took, took}
-use Rattle.play_walk.proofs.Needed.{Needs, needed, well-before, bad-there, few-entries}
+use Rattle.play_walk.proofs.Needed.{WellUpTo, needed, well-before, bad-there, few-entries}
 use Rattle.play_walk.proofs.Leaves.{tells-at, tells-stop, tells-next, tells-end, tells-bad}
 
 -- a turn's state, on the tape cut to k: an entry below the cut, known to be full where it is said, the entries counted and left few
@@ -114,7 +114,7 @@ stands-cut : (w : Tape) (k b : ℕ) (f : Phase) (left : Duration) → b < k → 
 stands-cut w k b f left h s = record { below = h; entry = s .entry; some = s .some }
 
 -- what a step asks of the row that the code read
-pub asks : {w : Tape} {b₀ k : ℕ} → Needs w b₀ k → (b : ℕ) → b₀ ≤ b → b < k → (r : Block) → r ≡ blockIn w b → wellBlock (tapeSize (w .bytes)) (w .tones) r ≡ true
+pub asks : {w : Tape} {b₀ k : ℕ} → WellUpTo w b₀ k → (b : ℕ) → b₀ ≤ b → b < k → (r : Block) → r ≡ blockIn w b → wellBlock (tapeSize (w .bytes)) (w .tones) r ≡ true
 unfolding wellRow
 asks {w} x b l h r e = ap (wellBlock (tapeSize (w .bytes)) (w .tones)) e ∙ x .well b l h
 
@@ -125,11 +125,11 @@ asks-has w b f r e h = ap (λ (x : Block). hasEntry (w .tones) x f) e ∙ h
 abbrev pub cutOf : Tape → Position → ℕ
 cutOf w q = firstBad w (q .block) (w .count - q .block)
 
-pub rows-of : (w : Tape) (q : Position) → Walkable w q → Needs w (q .block) (cutOf w q)
+pub rows-of : (w : Tape) (q : Position) → Walkable w q → WellUpTo w (q .block) (cutOf w q)
 rows-of w q a = needed w (q .block) (omega (arith, a .below))
 
 -- the position where a walk begins
-pub on-first : (w : Tape) (q : Position) (k : ℕ) → Walkable w q → Needs w (q .block) k → On w k (q .block) (q .phase) (q .left) false 0
+pub on-first : (w : Tape) (q : Position) (k : ℕ) → Walkable w q → WellUpTo w (q .block) k → On w k (q .block) (q .phase) (q .left) false 0
 on-first w q k a x =
     let h = well-before x (q .block) (x .from) (a .below) (a .row) in
     let v = stands-valid (cutTo w k) (q .block) (q .phase) (q .left) (stands-cut w k (q .block) (q .phase) (q .left) h (below-stands w (q .block) (q .phase) (q .left) (a .below) (a .stands))) in
@@ -167,7 +167,7 @@ next-into w b d i e =
     let t = into-by (eqb d 0) (eqb b (w .count)) (wellRow w b) _ _ _ e in
     (eqb-false _ _ (t .1 .0), t .1 .1)
 
-pub next-left : {w : Tape} {b₀ k : ℕ} → Needs w b₀ k → {es : List (Entry Label)} {n : ℕ} (b d i : ℕ) (r : Reached) → nextOf w (b + 1) d i ≡ Left r
+pub next-left : {w : Tape} {b₀ k : ℕ} → WellUpTo w b₀ k → {es : List (Entry Label)} {n : ℕ} (b d i : ℕ) (r : Reached) → nextOf w (b + 1) d i ≡ Left r
     → Leads es n 0 (listFrom (cutTo w k) (b + 1)) d i → b₀ ≤ b → b < k → r ≡ walked w (cutTo w k) (answer es n)
 unfolding nextOf
 next-left {w} {b₀} {k} x {es} {n} b d i r e l h g =

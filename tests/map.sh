@@ -48,27 +48,36 @@ wrong() { # GUIDE README CRATES.TXT
 said=$(wrong docs/GUIDE.md README.md crates.txt)
 [ -z "$said" ] || bad "$said"
 
-# the test itself: each of these is found
+# the test itself: each of these is found, of a crate in a room of several and of one more behind the last
 found() { # WHAT GUIDE README CRATES.TXT
     what=$1
     shift
     [ -n "$(wrong "$@")" ] || bad "$what is not found"
 }
-sed 's/^rows_well: .*/& cut_fields/' crates.txt > "$room/crates"
+behind() { # CRATE ROWS: README.md with rows more behind a crate's
+    awk -v row="\`$1\`" -v rows="$2" '{ print } /^\| / && ($2 == row || $2 == "**" row "**") { print rows }' README.md
+}
+mapped README.md crates.txt > "$room/all"
+read -r prefix one << END
+$(awk '$1 != $2' "$room/all" | head -n 1)
+END
+last=$(tail -n 1 "$room/all" | cut -d ' ' -f 2)
+{ cat crates.txt; echo "${one}_more: $one"; } > "$room/crates"
 found 'a picture of other crates' docs/GUIDE.md README.md "$room/crates"
-grep -v '^| `rows_well` |' README.md > "$room/readme"
+grep -v "^| \`$one\` |" README.md > "$room/readme"
 found 'a crate that README.md lacks' docs/GUIDE.md "$room/readme" crates.txt
-awk '{ print } /^\| `rows_well` \|/ { print }' README.md > "$room/readme"
+behind "$one" "$(grep "^| \`$one\` |" README.md)" > "$room/readme"
 found 'a crate that README.md has twice' docs/GUIDE.md "$room/readme" crates.txt
-awk '{ print } /^\| `rows_well` \|/ { print "| `rows_wide` | no such crate |" }' README.md > "$room/readme"
+behind "$one" "| \`${one}_more\` | no such crate |" > "$room/readme"
 found 'a crate that crates.txt lacks' docs/GUIDE.md "$room/readme" crates.txt
-grep -v '^| \*\*`play_`\*\* |' README.md > "$room/readme"
+grep -v "^| \*\*\`$prefix\`\*\* |" README.md > "$room/readme"
 found 'a room that README.md does not explain' docs/GUIDE.md "$room/readme" crates.txt
-sed 's/^\(| \*\*`play_`\*\* |\).*/\1 |/' README.md > "$room/readme"
+sed "s/^\(| \*\*\`$prefix\`\*\* |\).*/\1 |/" README.md > "$room/readme"
 found 'a room without a word on what it is' docs/GUIDE.md "$room/readme" crates.txt
-{ cat crates.txt; echo 'tune_play: play_deck'; } > "$room/crates"
-awk '{ print } /^\| \*\*`trace`\*\* \|/ { print "| `tune_play` | a crate in no room |" }' README.md > "$room/readme"
+{ cat crates.txt; echo "zz_more: $one"; } > "$room/crates"
 { echo '## The layers'; echo '```'; sh docs/map "$room/crates"; echo '```'; } > "$room/guide"
+behind "$last" '| `zz_more` | a crate in no room |' > "$room/readme"
 found 'a prefix that README.md does not explain' "$room/guide" "$room/readme" "$room/crates"
-awk '{ print } /^\| \*\*`trace`\*\* \|/ { print "| **`tune_`** | a room |"; print "| `tune_play` | a crate in it |" }' README.md > "$room/readme"
-[ -z "$(wrong "$room/guide" "$room/readme" "$room/crates")" ] || bad 'a new room that README.md explains is found wrong'
+behind "$last" '| **`zz_`** | a room |\n| `zz_more` | a crate in it |' > "$room/readme"
+said=$(wrong "$room/guide" "$room/readme" "$room/crates")
+[ -z "$said" ] || bad "a new room that README.md explains is found wrong: $said"

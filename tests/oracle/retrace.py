@@ -1,5 +1,5 @@
 #!/usr/bin/env python3
-"""Makes the runs that `retrace` prints in the gate, and their lines: the source's play from the Rust, the measured player's from measured.py.
+"""Makes the runs that `gate_retrace` prints in the gate, and their lines: the source's play from the Rust, the measured player's from measured.py.
 
     tests/oracle/retrace.py ORACLE OUT
 

@@ -52,8 +52,8 @@ sort "$room/rules" > "$room/all"
 rows docs/PROMISES.md > "$room/rows"
 missing=$(comm -23 "$room/all" "$room/rows" | tr '\n' ' ')
 [ -z "$missing" ] || bad "docs/PROMISES.md has no row for rule $missing"
-strange=$({ cat "$room/rows"; keys docs/PROMISES.md; } | sort -u | comm -13 "$room/all" - | tr '\n' ' ')
-[ -z "$strange" ] || bad "docs/PROMISES.md has a row for rule $strange, and docs/RULES.md has none"
+strange=$({ cat "$room/rows"; keys docs/PROMISES.md; rows docs/DIFFERENCES.md; } | sort -u | comm -13 "$room/all" - | tr '\n' ' ')
+[ -z "$strange" ] || bad "docs/PROMISES.md or docs/DIFFERENCES.md has a row for rule $strange, and docs/RULES.md has none"
 
 # ---- their citations
 find crates include host bench docs tests README.md -type f \( -name '*.antt' -o -name '*.rt' -o -name '*.[hc]' -o -name '*.md' -o -name '*.py' -o -name '*.sh' \) ! -name rules.sh > "$room/files"

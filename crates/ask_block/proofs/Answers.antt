@@ -67,7 +67,7 @@ module _ (w : Tape) (whole : Whole w) where
     unfolding nameBytes
     bytes-whole out = rw none
 
--- document 01's number for no is 0 in each answer, but for a name's where the lent bytes are shorter than it: 10
+-- the number for no (rule 20) is 0 in each answer, but for a name's where the lent bytes are shorter than it: 10
 pub record Answered (w : Tape) (i : ℕ) : Type 0 where
   pub len : numberNo (lenOf w) ≡ 0
   pub size : numberNo (sizeOf w i) ≡ 0

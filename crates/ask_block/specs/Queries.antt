@@ -1,4 +1,4 @@
--- The queries of a mounted tape, document 01's 'Numbers for no', 'Names and the model' and 'Listing'. Definitions alone; assumes nothing.
+-- The queries of a mounted tape (rules 28, 30, 31, 36, 112). Definitions alone; assumes nothing.
 use Prim.Native.Nat.{ℕ, zero, suc}
 use mathlib.Core.Bool.{_&&_}
 use mathlib.Core.List.{List}
@@ -20,7 +20,7 @@ use Rattle.ask_block.specs.declared.Mark.the-variants as mark
 use Rattle.ask_block.specs.declared.Time.{Time}
 use Rattle.ask_block.specs.declared.Time.the-variants as lasting
 
--- document 01's number for no; 0 where the query isn't refused
+-- the number for no (rule 20); 0 where the query isn't refused
 unfoldable pub numberNo : Number → ℕ
 numberNo (number.Is n) = 0
 numberNo (number.Refused k) = k

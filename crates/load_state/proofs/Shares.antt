@@ -72,7 +72,7 @@ module _ {A : Type 0} (f : Block → A) (blind : (mark case text chars : ℕ) (r
 abbrev pub toneRows : Block → ℕ × ℕ
 toneRows r = (r .tone, r .tones)
 
--- document 01: a copy shares its original's tone rows
+-- rule 59: a copy shares its original's tone rows
 pub copies-share : (m : ℕ) (t : Tape) {u : Tape} {start times : ℕ} → t .body ≡ Open start times → closeLoop m t ≡ on u
     → (map toneRows (u .blocks) ≡ map toneRows (t .blocks) ++ repeated times (map toneRows (drop start (t .blocks)))) × (u .tones ≡ t .tones)
 copies-share m t e g = close-repeats toneRows (λ mark case text chars r. refl) m t e g

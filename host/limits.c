@@ -1,4 +1,4 @@
-/* A host with tables of its own at document 01's limits: prints one line a check, and ends with 1 at the first that is wrong. */
+/* A host with tables of its own at the limits of rules 16 and 22: prints one line a check, and ends with 1 at the first that is wrong. */
 #include "glyvrask.h"
 
 /* The kit's compiler has no header files. */
@@ -118,7 +118,7 @@ static void generalised(unsigned n) {
     for (unsigned i = 0; i < (n + 7) / 8; i++) put(0x55, 1);
 }
 
-/* document 01's example: two cycles, a pause, a stop on a 48K */
+/* the example of rule 113: two cycles, a pause, a stop on a 48K */
 static void example(void) {
     tzx();
     put(0x12, 1), put(100, 2), put(4, 2), put(0x20, 1), put(1, 2), put(0x2A, 1), put(0, 4);

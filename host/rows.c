@@ -1,4 +1,4 @@
-/* A host that makes its tables itself: plays the runs of a file through both players, and prints the lines that the program `rehear` prints of them.
+/* A host that makes its tables itself: plays the runs of a file through both players, and prints the lines that the program `gate_rehear` prints of them.
  *   rows FILE
  * crates/gate_rehear/src/main.rt says what stands in such a file. */
 #include "glyvrask.h"

@@ -106,8 +106,8 @@ unsigned glyvrask_listing(const unsigned char *tape, glyvrask_size tape_len, uns
                           unsigned char *out, glyvrask_size out_len);
 
 /* Every function below returns 0 or a refusal's number. On 0 its values stand in the first words of `answer`, and words past
- * them stay. Where `answer` is shorter than the values it is 10; that comes last, as document 01 has it of a name, but first in
- * a load. */
+ * them stay. Where `answer` is shorter than the values it is 10; that comes last, as rule 36 (docs/RULES.md) has it of a name,
+ * but first in a load. */
 
 /* A load. answer: 0 format (0 TAP, 1 TZX), 1 blocks, 2 tone rows. Refusals: 10 (`answer` below 3 words: nothing is read, and
  * both tables stay), 1, 2, then as the reading goes 3 to 7. */

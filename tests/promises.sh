@@ -1,8 +1,8 @@
 #!/bin/sh
-# Each name that docs/PROMISES.md gives as `FILE` `NAME` is declared in that file, and each file that it names is there.
+# Each name that docs/PROMISES.md or docs/GUIDE.md gives as `FILE` `NAME` is declared in that file, and each file that they name is there; names may go on in the next line.
 set -eu
 cd "$(dirname "$0")/.."
-bad=$(grep -o '`[^` ]*\.\(antt\|rt\|edit\|sh\|c\)`\( `[^`]*`\)*' docs/PROMISES.md | tr -d '`' | sort -u | while read -r file names; do
+bad=$(cat docs/PROMISES.md docs/GUIDE.md | tr -s ' \n' ' ' | grep -o '`[^` ]*\.\(antt\|rt\|edit\|sh\|c\)`\( `[^`]*`\)*' | tr -d '`' | sort -u | while read -r file names; do
     if [ ! -f "$file" ]; then
         echo "no file $file"
         continue

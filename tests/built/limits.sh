@@ -1,5 +1,5 @@
 #!/bin/sh
-# A C host over tables of its own: document 01's limits, and what each refusal leaves.
+# A C host over tables of its own: the limits of rules 16 and 22, and what each refusal leaves.
 set -eu
 cd "$(dirname "$0")/../.."
 . host/kit.sh

@@ -1,11 +1,11 @@
 #!/usr/bin/env python3
 """Compares our answers with the Rust's on many tapes.
 
-    tests/oracle/compare.py loads ORACLE [N [SEED]]       every block, view by view, over several capacities (program `replay`)
-    tests/oracle/compare.py listings ORACLE [N [SEED]]    listings, byte by byte (program `listings`)
+    tests/oracle/compare.py loads ORACLE [N [SEED]]       every block, view by view, over several capacities (program `gate_replay`)
+    tests/oracle/compare.py listings ORACLE [N [SEED]]    listings, byte by byte (program `gate_listings`)
 
 ORACLE is the folder with the oracle's `build` and `corpus.py`. N tapes (50,000 unless given) are made, a thousand from each seed from SEED on, over the three models;
-`rt check replay listings` builds the programs. Prints what was compared; ends with status 1 at the first difference.
+`rt check gate_replay gate_listings` builds the programs. Prints what was compared; ends with status 1 at the first difference.
 """
 import os
 import struct
@@ -44,7 +44,7 @@ def listings(oracle, tapes):
 def main(what, home, n, seed):
     from listings import Lister
 
-    ask, run = {"loads": (loads, "replay"), "listings": (listings, "listings")}[what]
+    ask, run = {"loads": (loads, "gate_replay"), "listings": (listings, "gate_listings")}[what]
     tally = {}
     with tempfile.TemporaryDirectory() as folder:
         oracle = Lister(home, Path(folder))

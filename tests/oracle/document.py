@@ -1,4 +1,4 @@
-"""Rows in tables, played a second time: written from the format's text and document 01's over an explicit list of entries, for the runs that `rehear` prints in the gate.
+"""Rows in tables, played a second time: from the format's text and rules 94 to 104, over an explicit list of entries, for `gate_rehear`.
 
 A document row's pulses are voiced one by one from two levels that run along: the current one, at which the next pulse is played, and the one last played."""
 

@@ -1,5 +1,5 @@
 #!/usr/bin/env python3
-"""Makes the standard input and output of `dump` and `trace`: document 01's printed example, and its tone of 100 and 4 played to its end.
+"""Makes the standard input and output of `dump` and `trace`: rule 113's example, and rule 118's tone of 100 and 4 played to its end.
 
     tests/oracle/examples.py ORACLE CRATES
 

@@ -1,5 +1,5 @@
 #!/usr/bin/env python3
-"""Makes the tapes that `listings` lists in the gate, and the Rust's listings of them.
+"""Makes the tapes that `gate_listings` lists in the gate, and the Rust's listings of them.
 
     tests/oracle/listings.py ORACLE OUT
 

@@ -1,4 +1,4 @@
-"""The measured player, a second time: written from document 01's text over an explicit list of entries, for the runs that `retrace` prints in the gate."""
+"""The measured player, a second time: written from rules 89 to 101 over an explicit list of entries, for the runs of `gate_retrace` in the gate."""
 
 
 class Block:

@@ -1,5 +1,5 @@
 #!/usr/bin/env python3
-"""Makes the runs over rows in tables that `rehear` prints in the gate, and their lines from document.py.
+"""Makes the runs over rows in tables that `gate_rehear` prints in the gate, and their lines from document.py.
 
     tests/oracle/rehear.py OUT
 

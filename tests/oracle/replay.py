@@ -1,5 +1,5 @@
 #!/usr/bin/env python3
-"""Makes the tapes that `replay` loads in the gate, and the Rust's answers to them.
+"""Makes the tapes that `gate_replay` loads in the gate, and the Rust's answers to them.
 
     tests/oracle/replay.py ORACLE OUT
 

@@ -1,5 +1,5 @@
 #!/usr/bin/env python3
-"""Makes the runs that `retrace` prints in the gate, and their lines: the source's play from the Rust, the measured player's from measured.py.
+"""Makes the runs that `gate_retrace` prints in the gate, and their lines: the source's play from the Rust, the measured player's from measured.py.
 
     tests/oracle/retrace.py ORACLE OUT
 
@@ -39,7 +39,7 @@ def counts_for(r, blocks):
 
 
 def edges():
-    """Tapes of document 01 about players: one tone, pauses one after the other, a stop, entries of no length, nothing at all."""
+    """Tapes about players (rules 93 to 105): one tone, pauses one after the other, a stop, entries of no length, nothing at all."""
     yield SIGNATURE + b"\x12" + u16(100) + u16(4)
     yield SIGNATURE + b"\x20" + u16(1) + b"\x20" + u16(2)
     yield SIGNATURE + b"\x20" + u16(1) + b"\x20\x00\x00\x20" + u16(1)

@@ -1,4 +1,4 @@
--- THE P READINGS of document 01 that are about names and times, its printed listing and the order of refusals: one table, by computation. Assumes nothing.
+-- THE P READINGS (rule 118) about names and times, the printed listing (rule 113), the order of refusals (rule 36). Assumes nothing.
 use Prim.Native.Nat.{ℕ}
 use mathlib.Core.Path.{_≡_, refl}
 use mathlib.Core.Bool.{true, false}

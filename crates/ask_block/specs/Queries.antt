@@ -1,4 +1,4 @@
--- The queries of a mounted tape, document 01's 'Numbers for no', 'Names and the model' and 'Listing'. Definitions alone; assumes nothing.
+-- The queries of a mounted tape (rules 28, 30, 31, 36, 112). Definitions alone; assumes nothing.
 use Prim.Native.Nat.{ℕ, zero, suc}
 use mathlib.Core.Bool.{_&&_}
 use mathlib.Core.List.{List}
@@ -21,7 +21,7 @@ use Rattle.ask_block.specs.declared.Mark.the-variants as mark
 use Rattle.ask_block.specs.declared.Time.{Time}
 use Rattle.ask_block.specs.declared.Time.the-variants as lasting
 
--- document 01's number for no; 0 where the query isn't refused
+-- the number for no (rule 20); 0 where the query isn't refused
 unfoldable pub numberNo : Number → ℕ
 numberNo (number.Is n) = 0
 numberNo (number.Refused k) = k
@@ -92,7 +92,7 @@ loadingIn w v =
 unfoldable pub loadingOf : Tape → Number
 loadingOf w = overfull w ⇒ number.Refused badRow ∣ loadingIn w (formed w 0)
 
--- document 01's number for no is 0 in each answer, but for a name's where the lent bytes are shorter than it: 10
+-- the number for no (rule 20) is 0 in each answer, but for a name's where the lent bytes are shorter than it: 10
 pub record EachAnswered (w : Tape) (i : ℕ) : Type 0 where
   pub len : numberNo (lenOf w) ≡ 0
   pub size : numberNo (sizeOf w i) ≡ 0

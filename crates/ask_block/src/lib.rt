@@ -39,7 +39,7 @@ pub fn overfull(blocks: &[u64], count: u64) -> bool
     (block_capacity(blocks) as u64) < count
 }
 
-// The refusal of a query about block i, in document 01's order; 0 where there is none.
+// The refusal of a query about block i, in the order of rule 36; 0 where there is none.
 pub fn refusal(tape: &[u8], tones: &[u64], blocks: &[u64], count: u64, i: u64) -> u32
     ensures { λ k. ⌜ k ≡ refusalOf (tapeOf (now (tape .entry)) (now (tones .entry)) (now (blocks .entry)) count) i ⌝ }
 {

@@ -106,11 +106,11 @@ kind35 = here λ id. pass (bytes 16) (counted 4 λ from size. whole (Custom id f
 unfoldable pub kind5A : Layout
 kind5A = pass (bytes 9) (whole Glue)
 
--- a kind that the format describes and document 01 does not name
+-- a kind that the format describes and no rule names (rule 47)
 abbrev pub unread : Layout
 unread = unknown true
 
--- the rows that document 01 names, and those of the other kinds that TZX 1.20 or an edition before it describes
+-- the kinds of rules 49 to 63 and 68, and the other kinds that TZX 1.20 or an edition before it describes
 unfoldable pub kinds : ℕ → List (Arm Layout)
 kinds full =
     0x10 ▸ kind10 ∷ 0x11 ▸ kind11 ∷ 0x12 ▸ kind12 ∷ 0x13 ▸ kind13 ∷ 0x14 ▸ kind14 ∷ 0x19 ▸ kind19 full ∷

@@ -1,4 +1,4 @@
--- An answer as a C host gets it: document 01's number and values for each, and what is left of the lent row. Definitions alone; assumes nothing.
+-- An answer as a C host gets it (rules 134, 137): number, values, and what is left of the lent row. Definitions alone; assumes nothing.
 use Prim.Native.Nat.{ℕ}
 use mathlib.Core.List.{List, [], _∷_}
 use Rattle.law_base.specs.Rules.{_⇒_, _∣_}
@@ -22,7 +22,7 @@ use Rattle.load_tape.specs.declared.Loaded.{Loaded}
 use Rattle.load_tape.specs.declared.Loaded.the-variants as loaded
 use Rattle.host_words.specs.Words.{flagOf, spanOf, wordsOf}
 
--- an answer as a host gets it: document 01's number, 0 for none, and its values as words
+-- an answer as a host gets it: the number for no (rule 20), 0 for none, and its values as words
 pub record Reply : Type 0 where
   pub no : ℕ
   pub values : List ℕ

@@ -1,4 +1,4 @@
--- NUMBERS FOR NO, 8, 10 AND 11 OF THE QUERIES: document 01's table, 'given exactly when'. Assumes nothing.
+-- NUMBERS FOR NO, 8, 10 AND 11 OF THE QUERIES: rules 28, 30 and 31, 'given exactly when'. Assumes nothing.
 use Prim.Native.Nat.{ℕ, zero, suc, _≤_, _<_}
 use native.Mathlib.Omega.{arith}
 use borrow.Author.Tests.{le-leb, lt-leb, leb-true, leb-false, lt-ltb, ltb-true, ne-eqb}

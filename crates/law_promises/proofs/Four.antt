@@ -1,4 +1,4 @@
--- REFUSAL 4 EXACTLY: what a cut 19 gives is refusal 4 where, and only where, document 01's clauses say so. Assumes nothing.
+-- REFUSAL 4 EXACTLY: what a cut 19 gives is refusal 4 where, and only where, rules 81 and 82 say so. Assumes nothing.
 use Prim.Native.Nat.{ℕ, zero, suc, _+_, _*_, _-_, _/_, _≤_, _<_}
 use native.Mathlib.Omega.{arith}
 use native.Mathlib.Nat.{eq-zero-or-pos}

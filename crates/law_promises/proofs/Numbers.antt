@@ -1,4 +1,4 @@
--- NUMBERS FOR NO, 1 TO 7: document 01's table, number by number, 'given exactly when'. Assumes nothing.
+-- NUMBERS FOR NO, 1 TO 7: rules 21 to 27, number by number, 'given exactly when'. Assumes nothing.
 use Prim.Native.Nat.{ℕ, _≤_, _<_}
 use native.Mathlib.Omega.{arith}
 use mathlib.Core.Path.{_≡_, refl}

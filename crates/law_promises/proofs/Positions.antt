@@ -1,4 +1,4 @@
--- NUMBERS FOR NO, 9 AND 11 WITH A POSITION: document 01's table, 'given exactly when'. Assumes nothing.
+-- NUMBERS FOR NO, 9 AND 11 WITH A POSITION: rules 29 and 31, 'given exactly when'. Assumes nothing.
 use Prim.Native.Nat.{ℕ, zero, suc, _≤_, _<_}
 use native.Mathlib.Omega.{arith}
 use borrow.Author.Tests.{lt-leb, leb-true, leb-false, lt-ltb, le-ltb, ltb-true, eqb-false, ne-eqb, not-true, not-false}

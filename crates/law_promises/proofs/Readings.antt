@@ -1,4 +1,4 @@
--- THE P READINGS of document 01, all of them, each from a tape's bytes through the definitions that the contracts cite, by computation. Assumes nothing.
+-- THE P READINGS (rule 118), all of them, each from a tape's bytes through what the contracts cite, by computation. Assumes nothing.
 use Prim.Native.Nat.{ℕ, zero, suc, _+_, _*_}
 use mathlib.Core.Path.{_≡_, refl}
 use mathlib.Core.Bool.{true, false}

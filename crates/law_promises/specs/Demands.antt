@@ -4,7 +4,7 @@ use mathlib.Core.List.{List, []}
 use Rattle.load_source.specs.Source.{Load, tzx, tapped, no}
 use Rattle.text_view.specs.View.{View, blockList}
 
--- THE BLOCK LIST that document 01 gives a tape: names, selectability, tones, zero, one, last bits, pause, data; none for a refusal
+-- THE BLOCK LIST that the rules give a tape (rule 6): names, selectability, tones, zero, one, last bits, pause, data; none for a refusal
 unfoldable pub listOf : List ℕ → Load → List View
 listOf s (tzx t) = blockList s (t .tones) (t .blocks)
 listOf s (tapped t) = blockList s (t .tones) (t .blocks)

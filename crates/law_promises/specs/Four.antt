@@ -1,4 +1,4 @@
--- Document 01's 'Refusal 4 exactly', of a piece that was cut whole, clause by clause. Definitions alone; assumes nothing.
+-- Refusal 4 exactly, of a piece that was cut whole: rules 81 and 82, clause by clause. Definitions alone; assumes nothing.
 use Prim.Native.Nat.{ℕ, _*_, _/_, _≤_, _<_}
 use mathlib.Core.Path.{_≡_}
 use mathlib.Core.Bool.{false, _&&_}

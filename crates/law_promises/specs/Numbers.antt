@@ -1,4 +1,4 @@
--- Document 01's 'Numbers for no', its words 'given exactly when' where no definition has them yet. Definitions alone; assumes nothing.
+-- The numbers for no, 'given exactly when' (rules 20 to 31), where no definition has the words yet. Definitions alone; assumes nothing.
 use Prim.Native.Nat.{ℕ, suc, _+_, _≤_, _<_}
 use mathlib.Core.Path.{_≡_}
 use mathlib.Core.Bool.{true, false}

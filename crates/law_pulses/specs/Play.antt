@@ -1,4 +1,4 @@
--- What playing a list of entries means, in document 01's words: the measured player, and demand 3. Definitions alone; assumes nothing.
+-- What playing a list of entries means: the measured player (rules 94 to 101), and demand 3 (rule 7). Definitions alone; assumes nothing.
 use mathlib.Core.Path.{_≡_}
 use mathlib.Core.Bool.{Bool, true, false}
 use mathlib.Core.List.{List, [], _∷_, _++_}

@@ -1,4 +1,4 @@
--- The source's play over a list, turn by turn as the Rust has it, and document 01's agreement. Definitions alone; assumes nothing.
+-- The source's play over a list, turn by turn as the Rust (rules 103, 104), and agreement (rule 105). Definitions alone; assumes nothing.
 use mathlib.Core.Path.{_≡_}
 use mathlib.Core.Bool.{Bool, true, false}
 use mathlib.Core.Logic.{_⊎_}

@@ -1,4 +1,4 @@
--- What the program `list` prints of its input, document 01's 'Listing'. Definitions alone; assumes nothing.
+-- What the program `list` prints of its input (rule 110). Definitions alone; assumes nothing.
 use Prim.Native.Nat.{ℕ}
 use mathlib.Core.Bool.{Bool}
 use mathlib.Core.List.{List, [], _∷_}

@@ -1,4 +1,4 @@
--- THE PRINTED LISTING of document 01, its P readings as listings, and names: one table, by computation. Each text is what the Rust's tape lists. Assumes nothing.
+-- THE PRINTED LISTING (rule 113), the P readings (rule 118) as listings, and names, computed; each text is the Rust's. Assumes nothing.
 use Prim.Native.Nat.{ℕ}
 use mathlib.Core.Path.{_≡_, refl}
 use mathlib.Core.List.{List, [], _∷_, _++_, map}

@@ -1,4 +1,4 @@
--- The listing, document 01's 'Listing': a load's text or refusal, and what the exported function answers. Definitions alone; assumes nothing.
+-- The listing (rules 109, 111): a load's text or refusal, and what the exported function answers. Definitions alone; assumes nothing.
 use Prim.Native.Nat.{ℕ, _*_}
 use mathlib.Core.List.{List}
 use lib.Dec.{ltb, leb}

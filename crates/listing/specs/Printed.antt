@@ -1,4 +1,4 @@
--- What a program prints of a listing: document 01's text, or `refused n` and a line feed. Definitions alone; assumes nothing.
+-- What a program prints of a listing (rule 110): its text, or `refused n` and a line feed. Definitions alone; assumes nothing.
 use Prim.Native.Nat.{ℕ, _≤_}
 use mathlib.Core.Path.{_≡_}
 use mathlib.Core.List.{List, _++_}

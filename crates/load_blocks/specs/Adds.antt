@@ -1,4 +1,4 @@
--- What adding a block does to the tape read so far: its tone rows, then its row; refusals 5 and 6 in document 01's order. Assumes nothing.
+-- What adding a block does to the tape read so far: its tone rows, then its row; refusals 5 and 6 in the order of rule 34. Assumes nothing.
 use Prim.Native.Nat.{ℕ}
 use mathlib.Core.List.{List}
 use Rattle.rows.specs.declared.Block.{Block}

@@ -1,5 +1,4 @@
--- Worked examples of document 01's paragraph by computation: each branch, each clause of refusal 4, and the answers with rooms of 0 to 3 rows.
--- Assumes nothing.
+-- Worked examples of rules 72 to 78, 81 and 82: each branch, each clause, and the answers with rooms of 0 to 3 rows. Assumes nothing.
 use Prim.Native.Nat.{ℕ, _+_, _-_}
 use mathlib.Core.Path.{_≡_, refl}
 use mathlib.Core.List.{List, [], _∷_, _++_, map}

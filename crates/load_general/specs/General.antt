@@ -1,4 +1,4 @@
--- What a generalised piece (19) gives in the source reading: document 01's paragraph, in its order. Assumes nothing.
+-- What a generalised piece (19) gives in the source reading: rules 71 to 78, 81 and 82. Assumes nothing.
 use Prim.Native.Nat.{ℕ, zero, suc, _+_, _*_, _-_, _/_, _%_, _^_}
 use mathlib.Core.Bool.{Bool, _&&_, _||_}
 use mathlib.Core.List.{List, [], _∷_, _++_}

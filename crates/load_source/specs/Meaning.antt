@@ -1,4 +1,4 @@
--- WHAT EACH PIECE MEANS IN THE SOURCE READING: document 01's 'Piece kinds', a kind a line. Assumes nothing.
+-- WHAT EACH PIECE MEANS IN THE SOURCE READING (rules 49 to 63, 68 to 82), a kind a line. Assumes nothing.
 use Prim.Native.Nat.{ℕ, _/_}
 use mathlib.Core.List.{List, [], _∷_}
 use Rattle.cut_grammar.specs.declared.Piece.{Piece}

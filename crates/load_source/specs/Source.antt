@@ -1,6 +1,5 @@
--- The source reading, document 01's 'Reading order and TAP': what each piece does to the tape read so far, the run over a TZX, the run over
--- a TAP. Refusals stand where document 01 puts them: within one piece short bytes, 4, then block by block 5, 6; 7 last.
--- Assumes nothing.
+-- The source reading (rules 41 to 43, 47): what each piece does to the tape read so far, the run over a TZX, the run over a TAP.
+-- Refusals stand where rule 34 puts them: within one piece short bytes, 4, then block by block 5, 6; 7 last. Assumes nothing.
 use Prim.Native.Nat.{ℕ, zero, suc, _+_}
 use mathlib.Core.Bool.{Bool, true, false, _&&_}
 use mathlib.Core.List.{List, [], _∷_}

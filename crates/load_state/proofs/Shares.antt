@@ -64,7 +64,7 @@ module _ {A : Type 0} (f : Block → A) (blind : (mark case text chars : ℕ) (r
   close-repeats m t {start = start} {times = times} e g =
       sure-of (copies-more m times (drop start (t .blocks)) (withBody Closed t)) (sym (ap (λ (l : Loop). closed m l t) e) ∙ g)
 
--- document 01: a copy shares its original's tone rows
+-- rule 59: a copy shares its original's tone rows
 pub copies-share : (m : ℕ) (t : Parsed) {u : Parsed} {start times : ℕ} → t .body ≡ Open start times → closeLoop m t ≡ on u
     → (map toneRows (u .blocks) ≡ map toneRows (t .blocks) ++ repeated times (map toneRows (drop start (t .blocks)))) × (u .tones ≡ t .tones)
 copies-share m t e g = close-repeats toneRows (λ mark case text chars r. refl) m t e g

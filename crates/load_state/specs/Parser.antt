@@ -1,4 +1,4 @@
--- What the parser does with blocks, names and loops: document 01's sentences, over lists of rows. Assumes nothing.
+-- What the parser does with blocks, names and loops (rules 25, 26, 57 to 60, 66, 67), over lists of rows. Assumes nothing.
 use Prim.Native.Nat.{ℕ, zero, suc, _+_}
 use mathlib.Core.Bool.{Bool, true, false, _&&_}
 use mathlib.Core.List.{List, [], _∷_, _++_}

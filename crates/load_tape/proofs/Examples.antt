@@ -1,4 +1,4 @@
--- Worked examples of a load by computation, document 01's readings about loading among them: the answer, every row's words, the blocks' names. Assumes nothing.
+-- Worked examples of a load, the P readings (rule 118) about loading among them: answer, every row's words, names. Assumes nothing.
 use Prim.Native.Nat.{ℕ, _+_, _*_, _<_}
 use borrow.Author.Tests.{lt-leb, lt-ltb}
 use native.Mathlib.Nat.{suc-ne-zero}

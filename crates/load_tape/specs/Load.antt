@@ -24,11 +24,11 @@ namedLoad s (tzx t) = tzx (namedTape s t)
 namedLoad s (tapped t) = tapped (namedTape s t)
 namedLoad s (no k) = no k
 
--- document 01: `new_tap`, `new_tzx`, the naming pass of `Tape::new`
+-- rule 10: `new_tap`, `new_tzx`, the naming pass of `Tape::new`
 unfoldable pub loadNamed : Lent → List ℕ → ℕ → Load
 loadNamed lent s model = namedLoad s (loadOf lent s model)
 
--- document 01's values of a loaded tape, or a refusal's number alone
+-- the values of a loaded tape (rule 134), or a refusal's number alone (rule 33)
 unfoldable pub answerOf : Load → Loaded
 answerOf (tzx t) = Tape Tzx (length (t .blocks)) (length (t .tones))
 answerOf (tapped t) = Tape Tap (length (t .blocks)) (length (t .tones))

@@ -1,4 +1,4 @@
--- What both players answer, in document 01's words. Definitions alone; assumes nothing.
+-- What both players answer (rules 37, 94 to 104, 107, 108). Definitions alone; assumes nothing.
 use Prim.Native.Nat.{ℕ, zero, suc, _-_}
 use mathlib.Core.Bool.{Bool, not, _&&_}
 use mathlib.Core.List.{List}
@@ -79,7 +79,7 @@ unfoldable pub backTo : Tape → ℕ → Selected
 backTo w zero = wellRow w 0 ⇒ Block 0 ∣ BadRow
 backTo w (suc b) = not (wellRow w (suc b)) ⇒ BadRow ∣ eqb (blockIn w (suc b) .selectable) 1 ⇒ Block (suc b) ∣ backTo w b
 
--- document 01's numbers for no; 0 where the query isn't refused
+-- the number for no (rule 20); 0 where the query isn't refused
 unfoldable pub numberFor : Selected → ℕ
 numberFor (Block b) = 0
 numberFor BadPosition = noPosition

@@ -69,7 +69,7 @@ fn has_left(tape: &[u8], tones: &[u64], r: Block, f: Phase, left: Duration) -> b
     may_remain(left, length_at(tape, tones, r, f))
 }
 
-// The checks of a position, in document 01's order.
+// The checks of a position, in the order of rule 37.
 pub fn judge(tape: &[u8], tones: &[u64], blocks: &[u64], count: u64, pos: Position) -> Check
     ensures { λ r. ⌜ r ≡ judged (tapeOf (now (tape .entry)) (now (tones .entry)) (now (blocks .entry)) count) pos ⌝ }
 {

@@ -1,4 +1,4 @@
--- THE P READINGS of document 01 that are about times and about the players' places, one table and one theorem each, by computation. Assumes nothing.
+-- THE P READINGS (rule 118) about times and about the players' places, one table and one theorem each, computed. Assumes nothing.
 use Prim.Native.Nat.{ℕ}
 use mathlib.Core.Path.{_≡_, refl}
 use mathlib.Core.Bool.{true, false}

@@ -59,7 +59,7 @@ module _ (tones : List ℕ) (b : ℕ) (r : Block) (s : isSource r ≡ true) wher
   source-levels Edge = bits-low
   source-levels Pause = pause-low
 
-  -- A SOURCE ROW has document 01's entries
+  -- A SOURCE ROW has the entries of rules 89 to 92
   pub source-entries : (tape : List ℕ) → entriesOf tape tones b r ≡ sourceEntries tape tones b r
   unfolding entriesOf sourceEntries soundOf tonesOf dataOf byteOf sourceByte startLevel
   source-entries tape =

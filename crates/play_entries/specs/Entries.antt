@@ -1,4 +1,4 @@
--- A block's entries, from its row: a source row's as document 01 says, a document row's as the format does. The sorts part in the leaves below alone. Definitions alone; assumes nothing.
+-- A block's entries: a source row's (rules 89 to 92), a document row's (rule 141); leaves part them. Definitions alone; assumes nothing.
 use Prim.Native.Nat.{ℕ, zero, suc, _+_, _-_, _/_, _%_, _^_, max, min}
 use mathlib.Core.Bool.{Bool, true, false, not, _&&_, _||_}
 use mathlib.Core.List.{List, [], _∷_, _++_}

@@ -1,4 +1,4 @@
--- A SOURCE ROW'S ENTRIES in document 01's words, to the letter: halves low then high. proofs/Sourced.antt: they are `entriesOf` of every row of sort 0. Definitions alone; assumes nothing.
+-- A SOURCE ROW'S ENTRIES, to the letter of rules 89 to 92; proofs/Sourced.antt: so `entriesOf` it. Definitions alone; assumes nothing.
 use Prim.Native.Nat.{ℕ, max}
 use mathlib.Core.Bool.{true, false}
 use mathlib.Core.List.{List, [], _∷_, _++_}

@@ -24,7 +24,7 @@ use Rattle.play_walk.specs.declared.Reached.the-variants.{At, Stopped, E
 use Rattle.play_walk.specs.declared.Next.{Next}
 use Rattle.play_walk.specs.declared.Next.the-variants.{Into, Left}
 
--- document 01's numbers for no; 0 where the call isn't refused
+-- the number for no (rule 20); 0 where the call isn't refused
 unfoldable pub reachedNo : Reached → ℕ
 reachedNo (At s) = 0
 reachedNo (Stopped s) = 0

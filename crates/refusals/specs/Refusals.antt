@@ -1,4 +1,4 @@
--- THE NUMBERS FOR NO, document 01's, each under its name: the number that a definition or a law says. Definitions alone; assumes nothing.
+-- THE NUMBERS FOR NO (rules 20 to 31), each under its name: the number that a definition or a law says. Definitions alone; assumes nothing.
 use Prim.Native.Nat.{ℕ}
 
 -- model is not 0 (48K), 1 (128K), 2 (Plus3)

@@ -1,4 +1,4 @@
--- Document 01, 'Names and the model': a header's name as UTF-8 text. Assumes nothing.
+-- A header's name as UTF-8 text (rule 84). Assumes nothing.
 use Prim.Native.Nat.{ℕ, _+_}
 use mathlib.Core.List.{List, _++_}
 use lib.ListN.{getD, take, drop}

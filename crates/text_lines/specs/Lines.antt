@@ -1,4 +1,4 @@
--- A listing's lines, document 01's 'Listing': a block's row as text, and the first n rows. Definitions alone; assumes nothing.
+-- A listing's lines (rules 114, 115): a block's row as text, and the first n rows. Definitions alone; assumes nothing.
 use Prim.Native.Nat.{ℕ, zero, suc}
 use mathlib.Core.Bool.{Bool}
 use mathlib.Core.List.{List, [], _++_}

@@ -1,4 +1,4 @@
--- Document 01, 'Names and the model': a block's name as UTF-8 text, and the naming pass. Assumes nothing.
+-- A block's name as UTF-8 text (rules 83, 86, 87), and the naming pass (rule 85). Assumes nothing.
 use Prim.Native.Nat.{ℕ, _/_, zero, suc}
 use mathlib.Core.Bool.{Bool, _&&_}
 use mathlib.Core.List.{List, [], _∷_, _++_}

@@ -1,4 +1,4 @@
--- A listing's whole text over a mounted tape, document 01's 'Listing'. Definitions alone; assumes nothing.
+-- A listing's whole text over a mounted tape (rules 112 to 115). Definitions alone; assumes nothing.
 use Prim.Native.Nat.{ℕ}
 use mathlib.Core.List.{List, _++_}
 use lib.Dec.{eqb}

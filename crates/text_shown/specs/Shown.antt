@@ -1,4 +1,4 @@
--- A name as it is shown, document 01's 'Listing', and its code points. Definitions alone; assumes nothing.
+-- A name as it is shown (rule 116), and its code points. Definitions alone; assumes nothing.
 use Prim.Native.Nat.{ℕ, _+_}
 use mathlib.Core.Bool.{Bool, false, _&&_, _||_}
 use mathlib.Core.List.{List, [], _∷_}

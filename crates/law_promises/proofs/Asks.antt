@@ -15,14 +15,16 @@ use Rattle.law_pulses.specs.Play.{Status, standing, stopped, ended, time, comes
 use Rattle.law_pulses.specs.Source.{isEnded}
 use Rattle.text_out.specs.Out.{fits, told}
 use Rattle.play_entries.specs.declared.Duration.{Duration}
-use Rattle.play_entries.specs.Places.{Tape, listFrom}
+use Rattle.play_entries.specs.Places.{Tape, listFrom, leftAt}
 use Rattle.play_entries.specs.Mounted.{overfull, wellRow, formed}
 use Rattle.ask_block.specs.declared.Number.{Number}
 use Rattle.ask_block.specs.declared.Number.the-variants as number
 use Rattle.ask_block.specs.declared.Mark.the-variants as mark
 use Rattle.ask_block.specs.declared.Time.the-variants as lasting
 use Rattle.ask_block.specs.Queries.{numberNo, markNo, timeNo, refusalOf, lenOf, numberUnless, markUnless, timeUnless, sizeOf, selectableOf, timeOf, nameIn, lengthOrNoRoom, nameAnswer, nameBytes, loadingIn, loadingOf}
-use Rattle.law_promises.specs.Numbers.{PastCount, Unformed, Asked, Runs}
+use Rattle.play_walk.specs.Heads.{startAt}
+use Rattle.law_promises.specs.Numbers.{PastCount, Unformed, Asked, Reaches, enough}
+use Rattle.law_promises.proofs.Reaching.{Runs, runs-reach, comes-finite, start-cuts}
 
 -- the rules of a query's refusal, tried in order
 data Rules (a b c : Bool) (k : ℕ) : Type 0 where
@@ -188,10 +190,10 @@ ended-is standing e = let z : _≡_ {A = ℕ} 0 1 = cc in absurd (omega arith)
 ended-is stopped e = let z : _≡_ {A = ℕ} 0 1 = cc in absurd (omega arith)
 ended-is ended e = refl
 
--- the loading time: its entries up to the first stop or the end come to a row that is not well formed
-pub given-11-loading : (w : Tape) → (numberNo (loadingOf w) ≡ badRow) ↔ ((overfull w ≡ true) ⊎ Runs w 0 (comesTo (listFrom (formed w 0) 0)))
+-- the loading time, as the definition tests it
+loading-runs : (w : Tape) → (numberNo (loadingOf w) ≡ badRow) ↔ ((overfull w ≡ true) ⊎ Runs w 0 (comesTo (listFrom (formed w 0) 0)))
 unfolding numberNo loadingOf loadingIn
-given-11-loading w = (
+loading-runs w = (
   λ e. of (overfull w) (isEnded end && ltb (formed w 0 .count) (w .count)) refl refl e,
   λ h. ⊎-elim (λ x. rw x) (λ x. back (overfull w) (isEnded end && ltb (formed w 0 .count) (w .count)) (rw (x .over, lt-ltb (formed w 0 .count) (w .count) (x .cut)))) h,
 )
@@ -211,6 +213,16 @@ given-11-loading w = (
     back true b e = refl
     back false true e = refl
     back false false e = cc
+
+-- its entries up to the first stop or the end come to a row that is not well formed
+pub given-11-loading : (w : Tape) → (numberNo (loadingOf w) ≡ badRow) ↔ ((overfull w ≡ true) ⊎ ((k : ℕ) × Reaches w (startAt 0) enough k))
+unfolding leftAt
+given-11-loading w =
+    let es = listFrom (formed w 0) 0 in
+    let x = loading-runs w in
+    let c = comes-finite es in
+    let y = runs-reach w (startAt 0) enough (start-cuts w 0) (comesTo es) (λ e. (c .0 e, omega arith), λ h. c .1 (h .0)) in
+    (λ e. ⊎-elim (λ o. inl o) (λ r. inr (y .0 r)) (x .0 e), λ h. x .1 (⊎-elim (λ o. inl o) (λ r. inr (y .1 r)) h))
 
 -- a refusal writes no output byte
 pub name-stays : (w : Tape) (i : ℕ) (out : List ℕ) → 0 < numberNo (nameAnswer w i out) → nameBytes w i out ≡ out

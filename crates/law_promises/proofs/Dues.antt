@@ -33,12 +33,17 @@ use Rattle.load_blocks.specs.Adds.{Lent}
 use Rattle.load_blocks.specs.Deeds as deed
 use Rattle.load_blocks.specs.Deeds.{Deed, adding, adds48, groups, texts, groupEnds, opens, closes, panics, generalDeed, stop48Deed, does as enact}
 use Rattle.load_source.specs.Meaning.{deedOf}
-use Rattle.load_source.specs.Source.{See, refuses, thing, Verdict, done, refused, act, halted, tooManyBits, tapKind, full, tzxOf, tzxSee, tapOf, tapSee}
+use Rattle.load_source.specs.Source.{refuses, thing, Verdict, done, refused, act, halted, tooManyBits, tapKind, full, tzxOf, tzxSee, tapOf, tapSee}
 use Rattle.load_source.proofs.Rest.{tzx-stops, tzx-sees, sees-piece, tap-stops}
+use Rattle.law_every_load.proofs.Room.{Within}
 use Rattle.law_every_load.proofs.Refusals.{HaltsBy, goes, says, fails, either, sounds-say, closed-says}
-use Rattle.law_promises.specs.Numbers.{Comes, here, past, Due, ends, errs, stands, answers, Panics, overflows, within, Lacks, Needs, needs, Overlong, this, later, OverlongAt, Bounded}
-use Rattle.law_promises.proofs.Lacking.{lacks-no, sound-lacks, act-lacks}
+<<<<<<< N
+use Rattle.law_promises.specs.Numbers.{Comes, here, past, Due, ends, errs, stands, answers, Panics, overflows, within, Needs, needs, Overlong, this, later, OverlongAt, Bounded}
+use Rattle.law_promises.specs.Needs.{Lacks, NeedsPiece, at-piece, NeedsBlock, at-block}
+use Rattle.law_promises.proofs.Lacking.{lacks-no, sound-lacks, act-lacks, Adding, standard-adds, act-adds}
 use Rattle.law_promises.proofs.Runs.{comes-map}
+=======
+>>>>>>> t1
 
 -- a block is not refused by 4
 never-four : {A : Type 0} {o : Out} → HaltsBy tonesFull blocksFull o → o ≡ halt (Refusal generalised) → A
@@ -56,11 +61,6 @@ halted-never : (j : Halt) {u : Parsed} → halted j ≡ done u → ⊥
 unfolding halted
 halted-never (Refusal j) e = let z : _≡_ {A = ℕ} 0 1 = cc in omega arith
 halted-never (Length n) e = let z : _≡_ {A = ℕ} 0 1 = cc in omega arith
-
--- what lacks rows is refused
-needs-due : (lent : Lent) {see : ℕ → See} {k at : ℕ} {t : Parsed} → Needs see lent k at t → Due see (refused k) at t
-unfolding halted
-needs-due lent {k = k} (needs e l) = answers {k = Refusal k} e (lacks-no lent l)
 
 -- the piece is a generalised one, and refused by 4
 unfoldable panicking : Deed → Bool
@@ -187,22 +187,45 @@ module _ (lent : Lent) (s : List ℕ) (model : ℕ) where
   four-due {at} {t} (within {kind = kind} {from = from} {g = g} q e) = answers {k = Refusal generalised} (sees-piece lent s model at (sym q)) (ap (λ (x : general.Given). enact lent model (originAt kind from) (generalDeed g x) t) e)
 
   -- 5 and 6
-  due-needs : (k : ℕ) → tonesFull ≤ k → {r : Verdict} {at : ℕ} {t : Parsed} → Due (tzxSee lent s model) r at t → r ≡ refused k → Needs (tzxSee lent s model) lent k at t
-  due-needs k h (ends e) f = let z : _≡_ {A = ℕ} 0 1 = cc in absurd (omega arith)
-  due-needs k h (errs e) f = let z : _≡_ {A = ℕ} 0 1 = cc in absurd (omega arith)
-  due-needs k h (stands {at = at} {k = j} {t = t} e) f = let z : j ≡ k = cc in absurd (omega (arith, tzx-stands at j t e .0))
-  due-needs k h (answers {at = at} {next = next} {k = j} {does = does} {t = t} e d) f = needs e (of (tzx-thing at next does e) (d ∙ ap halt (halted-by j k f)))
+  due-needs : (k : ℕ) → tonesFull ≤ k → {r : Verdict} {at : ℕ} {t : Parsed} → Within lent t → Due (tzxSee lent s model) r at t → r ≡ refused k
+      → NeedsPiece lent s model k at t
+  due-needs k h w (ends e) f = let z : _≡_ {A = ℕ} 0 1 = cc in absurd (omega arith)
+  due-needs k h w (errs e) f = let z : _≡_ {A = ℕ} 0 1 = cc in absurd (omega arith)
+  due-needs k h w (stands {at = at} {k = j} {t = t} e) f = let z : j ≡ k = cc in absurd (omega (arith, tzx-stands at j t e .0))
+  due-needs k h w (answers {at = at} {next = next} {k = j} {does = does} {t = t} e d) f =
+      of (tzx-thing at next does e) (d ∙ ap halt (halted-by j k f))
     where
-      of : Thing at next does → does t ≡ halt (Refusal k) → Lacks lent k does t
-      of (whole {piece = piece} q x) y =
-          subst (λ (f : Parsed → Out). Lacks lent k f t) (sym x) (act-lacks lent s model k h _ piece t (ap (λ (f : Parsed → Out). f t) (sym x) ∙ y))
-      of (skip q x) y = let u : on t ≡ halt (Refusal k) = ap (λ (f : Parsed → Out). f t) (sym x) ∙ y in let z : _≡_ {A = ℕ} 0 1 = cc in absurd (omega arith)
+      of : Thing at next does → does t ≡ halt (Refusal k) → NeedsPiece lent s model k at t
+      of (whole {piece = p} q x) y = at-piece q (act-adds lent s model _ p t w .lacking k h .0 (ap (λ (f : Parsed → Out). f t) (sym x) ∙ y))
+      of (skip q x) y =
+          let u : on t ≡ halt (Refusal k) = ap (λ (f : Parsed → Out). f t) (sym x) ∙ y in
+          let z : _≡_ {A = ℕ} 0 1 = cc in
+          absurd (omega arith)
+
+  needs-due : (k : ℕ) → tonesFull ≤ k → {at : ℕ} {t : Parsed} → Within lent t → NeedsPiece lent s model k at t
+      → Due (tzxSee lent s model) (refused k) at t
+  unfolding halted
+  needs-due k h {at} {t} w (at-piece {kind = kind} {from = from} {p = p} q l) =
+      answers {k = Refusal k} (sees-piece lent s model at (sym q)) (act-adds lent s model (originAt kind from) p t w .lacking k h .1 l)
+
+  -- a thing of a TZX leaves no more rows in use than are lent
+  pub tzx-within : (at next : ℕ) (does : Parsed → Out) (t u : Parsed) → tzxSee lent s model at ≡ thing next does → does t ≡ on u
+      → Within lent t → Within lent u
+  tzx-within at next does t u e d w = of (tzx-thing at next does e)
+    where
+      of : Thing at next does → Within lent u
+      of (whole {piece = p} q x) = act-adds lent s model _ p t w .keeps u (ap (λ (f : Parsed → Out). f t) (sym x) ∙ d)
+      of (skip q x) =
+          let y : on t ≡ on u = ap (λ (f : Parsed → Out). f t) (sym x) ∙ d in
+          let z : t ≡ u = cc in
+          subst (Within lent) z w
 
   pub panics-due : (at : ℕ) (t : Parsed) → Due (tzxSee lent s model) (refused generalised) at t ↔ Panics s at t
   panics-due at t = (λ d. due-four d refl, λ p. four-due p)
 
-  pub piece-due : (k : ℕ) → tonesFull ≤ k → (at : ℕ) (t : Parsed) → Due (tzxSee lent s model) (refused k) at t ↔ Needs (tzxSee lent s model) lent k at t
-  piece-due k h at t = (λ d. due-needs k h d refl, λ p. needs-due lent p)
+  pub piece-due : (k : ℕ) → tonesFull ≤ k → (at : ℕ) (t : Parsed) → Within lent t
+      → Due (tzxSee lent s model) (refused k) at t ↔ NeedsPiece lent s model k at t
+  piece-due k h at t w = (λ d. due-needs k h w d refl, λ p. needs-due k h w p)
 
 -- a TAP's things are blocks
 module _ (lent : Lent) (s : List ℕ) where
@@ -241,18 +264,36 @@ module _ (lent : Lent) (s : List ℕ) where
       of : (at next : ℕ) (does : Parsed → Out) → TapThing at next does → at < next
       of at next does (is-block q d) = omega (arith, tap-forward s at q .0)
 
-  due-tap : (k : ℕ) {r : Verdict} {at : ℕ} {t : Parsed} → Due (tapSee lent s) r at t → r ≡ refused k → Needs (tapSee lent s) lent k at t
-  due-tap k (ends e) f = let z : _≡_ {A = ℕ} 0 1 = cc in absurd (omega arith)
-  due-tap k (errs e) f = let z : _≡_ {A = ℕ} 0 1 = cc in absurd (omega arith)
-  due-tap k (stands {at = at} {k = j} e) f = absurd (tap-stands at j e)
-  due-tap k (answers {at = at} {next = next} {k = j} {does = does} {t = t} e d) f = needs e (of (tap-thing at next does e) (d ∙ ap halt (halted-by j k f)))
-    where
-      of : TapThing at next does → does t ≡ halt (Refusal k) → Lacks lent k does t
-      of (is-block q x) y =
-          subst (λ (f : Parsed → Out). Lacks lent k f t) (sym x) (sound-lacks lent k _ _ t (ap (λ (f : Parsed → Out). f t) (sym x) ∙ y))
+  block-adds : (at from size : ℕ) (t : Parsed) → Within lent t → Adding lent (2 ∷ []) t (blockDoes at from size t)
+  block-adds at from size t w = standard-adds lent (originAt tapKind at) (standardHeader s from size) from size _ t w
 
-  pub block-due : (k at : ℕ) (t : Parsed) → Due (tapSee lent s) (refused k) at t ↔ Needs (tapSee lent s) lent k at t
-  block-due k at t = (λ d. due-tap k d refl, λ p. needs-due lent p)
+  due-tap : (k : ℕ) → tonesFull ≤ k → {r : Verdict} {at : ℕ} {t : Parsed} → Within lent t → Due (tapSee lent s) r at t → r ≡ refused k
+      → NeedsBlock lent s k at t
+  due-tap k h w (ends e) f = let z : _≡_ {A = ℕ} 0 1 = cc in absurd (omega arith)
+  due-tap k h w (errs e) f = let z : _≡_ {A = ℕ} 0 1 = cc in absurd (omega arith)
+  due-tap k h w (stands {at = at} {k = j} e) f = absurd (tap-stands at j e)
+  due-tap k h w (answers {at = at} {next = next} {k = j} {does = does} {t = t} e d) f =
+      of (tap-thing at next does e) (d ∙ ap halt (halted-by j k f))
+    where
+      of : TapThing at next does → does t ≡ halt (Refusal k) → NeedsBlock lent s k at t
+      of (is-block {from = from} {size = size} q x) y =
+          at-block q (block-adds at from size t w .lacking k h .0 (ap (λ (f : Parsed → Out). f t) (sym x) ∙ y))
+
+  tap-due : (k : ℕ) → tonesFull ≤ k → {at : ℕ} {t : Parsed} → Within lent t → NeedsBlock lent s k at t → Due (tapSee lent s) (refused k) at t
+  unfolding halted tapSee tapOf
+  tap-due k h {at} {t} w (at-block {from = from} {size = size} q l) =
+      answers {k = Refusal k} (ap (tapOf lent s at) q) (block-adds at from size t w .lacking k h .1 l)
+
+  pub tap-within : (at next : ℕ) (does : Parsed → Out) (t u : Parsed) → tapSee lent s at ≡ thing next does → does t ≡ on u
+      → Within lent t → Within lent u
+  tap-within at next does t u e d w = of (tap-thing at next does e)
+    where
+      of : TapThing at next does → Within lent u
+      of (is-block {from = from} {size = size} q x) = block-adds at from size t w .keeps u (ap (λ (f : Parsed → Out). f t) (sym x) ∙ d)
+
+  pub block-due : (k : ℕ) → tonesFull ≤ k → (at : ℕ) (t : Parsed) → Within lent t
+      → Due (tapSee lent s) (refused k) at t ↔ NeedsBlock lent s k at t
+  block-due k h at t w = (λ d. due-tap k h w d refl, λ p. tap-due k h w p)
 
 -- 7: a block with data has last bits above 8
 bits-long : (rs : List Block) → tooManyBits rs ≡ true → Overlong rs

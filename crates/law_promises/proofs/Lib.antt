@@ -8,8 +8,12 @@ pub mod Loads
 pub mod Lacking
 pub mod Dues
 pub mod Numbers
+pub mod Reaching
 pub mod Asks
 pub mod Positions
+pub mod Wholes
+pub mod Playing
+pub mod Played
 pub mod Listings
 pub mod Errors
 pub mod Four

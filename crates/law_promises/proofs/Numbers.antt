@@ -9,13 +9,15 @@ use Rattle.refusals.specs.Refusals.{badModel, tapeLong, tapeBad, generalised, t
 use Rattle.rows.specs.Table.{zeros}
 use Rattle.load_state.specs.Parser.{Parsed, empty}
 use Rattle.load_blocks.specs.Adds.{Lent}
-use Rattle.load_source.specs.Source.{done, refused, readTzx, readTap, foldFrom, tzxSee, tapSee, Load, tzx, tapped, no}
+use Rattle.load_source.specs.Source.{done, refused, readTzx, readTap, foldFrom, tzxSee, Load, tzx, tapped, no}
 use Rattle.load_tape.specs.declared.Loaded.the-variants.{Refused}
 use Rattle.load_tape.specs.Load.{loadNamed, answerOf, blockTable, toneTable, Leaves}
-use Rattle.law_promises.specs.Numbers.{Admitted, Errs, Comes, ByTzx, ByTap, Due, Lacking, Panics, Needs, OverlongAt}
-use Rattle.law_promises.proofs.Runs.{comes-map, run-due}
+use Rattle.law_every_load.proofs.Room.{Within}
+use Rattle.law_promises.specs.Numbers.{Admitted, Errs, Comes, ByTzx, ByTap, Due, Panics, OverlongAt}
+use Rattle.law_promises.specs.Needs.{NeedsPiece, NeedsBlock, Lacking}
+use Rattle.law_promises.proofs.Runs.{comes-under, run-due}
 use Rattle.law_promises.proofs.Loads.{LoadRefused, model-no, size-no, both-no, tzx-no, tap-no, refused-when, tzx-piece, tzx-last}
-use Rattle.law_promises.proofs.Dues.{tzx-bounded, panics-due, piece-due, tap-bounded, block-due, end-due}
+use Rattle.law_promises.proofs.Dues.{tzx-bounded, tzx-within, panics-due, piece-due, tap-bounded, tap-within, block-due, end-due}
 
 module _ (lent : Lent) (s : List ℕ) (model : ℕ) where
   -- 1: model is not 0 (48K), 1 (128K), 2 (Plus3)
@@ -51,12 +53,20 @@ module _ (lent : Lent) (s : List ℕ) (model : ℕ) where
       of (tzx-no a x b) = absurd (omega (arith, b .low))
       of (tap-no a x y b) = absurd (omega (arith, b .low))
 
+  within-empty : Within lent empty
+  unfolding empty
+  within-empty = record { blocks = omega arith; tones = omega arith }
+
   -- a number of the TZX's pieces, of the whole TZX, and of the TAP: where the reading comes to
-  tzx-comes : (k : ℕ) → k ≤ blocksFull → {P : ℕ → Parsed → Type 0} → ((at : ℕ) (t : Parsed) → Due (tzxSee lent s model) (refused k) at t ↔ P at t) → (readTzx lent s model ≡ refused k) ↔ ByTzx lent s model P
+  tzx-comes : (k : ℕ) → k ≤ blocksFull → {P : ℕ → Parsed → Type 0}
+      → ((at : ℕ) (t : Parsed) → Within lent t → Due (tzxSee lent s model) (refused k) at t ↔ P at t)
+      → (readTzx lent s model ≡ refused k) ↔ ByTzx lent s model P
   tzx-comes k l p =
       let x = tzx-piece lent s model k l in
-      let y = run-due (tzx-bounded lent s model) (length s) 10 empty (refused k) (omega arith) in
-      (λ e. let z = x .0 e in (z .0, comes-map (λ at t. p at t .0) (y .0 (z .1))), λ c. x .1 (c .0, y .1 (comes-map (λ at t. p at t .1) (c .1))))
+      let y = run-due (tzx-bounded lent s model) (length s) 10 empty (refused k) (omega arith) in (
+        λ e. let z = x .0 e in (z .0, comes-under (tzx-within lent s model) (λ at t w. p at t w .0) within-empty (y .0 (z .1))),
+        λ c. x .1 (c .0, y .1 (comes-under (tzx-within lent s model) (λ at t w. p at t w .1) within-empty (c .1))),
+      )
 
   tzx-ends : (readTzx lent s model ≡ refused lastBits) ↔ ByTzx lent s model (OverlongAt lent s model)
   tzx-ends =
@@ -67,11 +77,13 @@ module _ (lent : Lent) (s : List ℕ) (model : ℕ) where
       run : (u : Parsed) → (foldFrom (tzxSee lent s model) (length s) 10 empty ≡ done u) ↔ Comes (tzxSee lent s model) (Due (tzxSee lent s model) (done u)) 10 empty
       run u = run-due (tzx-bounded lent s model) (length s) 10 empty (done u) (omega arith)
 
-  tap-comes : (k : ℕ) → (readTap lent s ≡ refused k) ↔ ByTap lent s (Needs (tapSee lent s) lent k)
+  tap-comes : (k : ℕ) → tonesFull ≤ k → (readTap lent s ≡ refused k) ↔ ByTap lent s (NeedsBlock lent s k)
   unfolding readTap
-  tap-comes k =
-      let y = run-due (tap-bounded lent s) (length s) 0 empty (refused k) (omega arith) in
-      (λ e. comes-map (λ at t. block-due lent s k at t .0) (y .0 e), λ c. y .1 (comes-map (λ at t. block-due lent s k at t .1) c))
+  tap-comes k l =
+      let y = run-due (tap-bounded lent s) (length s) 0 empty (refused k) (omega arith) in (
+        λ e. comes-under (tap-within lent s) (λ at t w. block-due lent s k l at t w .0) within-empty (y .0 e),
+        λ c. y .1 (comes-under (tap-within lent s) (λ at t w. block-due lent s k l at t w .1) within-empty c),
+      )
 
   -- 4: a generalised piece on which the Rust panics
   pub given-4 : (answerOf (loadNamed lent s model) ≡ Refused generalised) ↔ (Admitted 1048576 s model × ByTzx lent s model (Panics s))
@@ -81,7 +93,7 @@ module _ (lent : Lent) (s : List ℕ) (model : ℕ) where
   )
     where
       comes : (readTzx lent s model ≡ refused generalised) ↔ ByTzx lent s model (Panics s)
-      comes = tzx-comes generalised (omega arith) (panics-due lent s model)
+      comes = tzx-comes generalised (omega arith) (λ at t w. panics-due lent s model at t)
 
       of : LoadRefused lent s model generalised → Admitted 1048576 s model × ByTzx lent s model (Panics s)
       of (model-no h q) = absurd (omega arith)
@@ -96,11 +108,11 @@ module _ (lent : Lent) (s : List ℕ) (model : ℕ) where
     λ e. of (refused-when lent s model k .0 e),
     λ h. ⊎-elim
         (λ x. refused-when lent s model k .1 (tzx-no (h .0) (comes .1 x) (record { low = omega arith; high = omega arith })))
-        (λ x. refused-when lent s model k .1 (tap-no (h .0) (x .0) (tap-comes k .1 (x .1)) (record { low = l; high = m })))
+        (λ x. refused-when lent s model k .1 (tap-no (h .0) (x .0) (tap-comes k l .1 (x .1)) (record { low = l; high = m })))
         (h .1),
   )
     where
-      comes : (readTzx lent s model ≡ refused k) ↔ ByTzx lent s model (Needs (tzxSee lent s model) lent k)
+      comes : (readTzx lent s model ≡ refused k) ↔ ByTzx lent s model (NeedsPiece lent s model k)
       comes = tzx-comes k m (piece-due lent s model k l)
 
       of : LoadRefused lent s model k → Admitted 1048576 s model × Lacking lent s model k
@@ -108,7 +120,7 @@ module _ (lent : Lent) (s : List ℕ) (model : ℕ) where
       of (size-no h o q) = absurd (omega arith)
       of (both-no a x y q) = absurd (omega arith)
       of (tzx-no a x b) = (a, inl (comes .0 x))
-      of (tap-no a x y b) = (a, inr (x, tap-comes k .0 y))
+      of (tap-no a x y b) = (a, inr (x, tap-comes k l .0 y))
 
   -- 5: a block needs more tone rows than remain
   pub given-5 : (answerOf (loadNamed lent s model) ≡ Refused tonesFull) ↔ (Admitted 1048576 s model × Lacking lent s model tonesFull)

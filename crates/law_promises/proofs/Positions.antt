@@ -1,16 +1,18 @@
 -- NUMBERS FOR NO, 9 AND 11 WITH A POSITION: rules 29 and 31, 'given exactly when'. Assumes nothing.
 use Prim.Native.Nat.{ℕ, zero, suc, _≤_, _<_}
 use native.Mathlib.Omega.{arith}
+use native.Mathlib.Nat.{eq-zero-or-pos}
 use borrow.Author.Tests.{lt-leb, leb-true, leb-false, lt-ltb, le-ltb, ltb-true, eqb-false, ne-eqb, not-true, not-false}
-use mathlib.Core.Path.{_≡_, refl}
+use mathlib.Core.Path.{_≡_, refl, sym, ap, subst}
 use mathlib.Core.Bool.{Bool, true, false, not, _&&_}
 use mathlib.Core.Logic.{_↔_, _⊎_, inl, inr, ⊎-elim, Iff·trans}
+use mathlib.Core.List.{List}
 use lib.Dec.{leb, ltb, eqb}
 use Rattle.law_base.specs.Rules.{_⇒_, _∣_}
 use Rattle.law_base.proofs.Tests.{first, second}
 use Rattle.refusals.specs.Refusals.{noPosition, badRow}
-use Rattle.law_pulses.specs.Play.{Status, standing, stopped, ended, Answer, answer}
-use Rattle.law_pulses.specs.Source.{isEnded}
+use Rattle.law_pulses.specs.Play.{Entry, Status, standing, stopped, ended, Answer, answer, time, Finite}
+use Rattle.law_pulses.specs.Source.{isEnded, turns, sourced, sumDropped, dropped}
 use Rattle.play_entries.specs.Entries.{Label}
 use Rattle.play_entries.specs.Places.{Tape, blockIn, valid}
 use Rattle.play_entries.specs.Mounted.{overfull, wellRow, formed}
@@ -19,14 +21,16 @@ use Rattle.play_walk.specs.declared.Stand.{Stand}
 use Rattle.play_walk.specs.declared.Reached.{Reached}
 use Rattle.play_walk.specs.declared.Reached.the-variants as reached
 use Rattle.play_walk.specs.Heads.{reachedNo, ahead, toldAs, toldReached, walked, walkFrom}
+use Rattle.play_entries.proofs.Formed.{not-both}
+use Rattle.play_deck.proofs.Sourced.{source-answer}
 use Rattle.play_deck.specs.declared.Check.{Check}
 use Rattle.play_deck.specs.declared.Check.the-variants.{Fine, NotValid, NotFormed}
 use Rattle.play_deck.specs.declared.Head.{Head}
 use Rattle.play_deck.specs.declared.Selected.the-variants.{Block, BadRow}
 use Rattle.play_deck.specs.Deck.{atStart, ruledOut, illFormed, validAt, judged, unless, stays, playMeasured, sourceAnswer, sourceFrom, playSource, backTo, numberFor, blockOf, blockAt, headAfter, playMounted}
-use Rattle.law_promises.specs.Numbers.{Unformed, Invalid, Runs, BadBack, this, back}
+use Rattle.law_promises.specs.Numbers.{Unformed, Invalid, Reaches, called, withDropped, Unplayable, BadBack, this, back}
+use Rattle.law_promises.proofs.Reaching.{Runs, runs-reach, ended-spent, row-cuts}
 use Rattle.law_promises.proofs.Asks.{ended-is}
-use Rattle.play_entries.proofs.Formed.{needed}
 
 -- the tests of a position, in order
 data Tests (a b c d : Bool) : Check → Type 0 where
@@ -108,7 +112,7 @@ module _ (w : Tape) (q : Position) where
       back-to false x = rw (lt-leb (w .count) (q .block) (x .0), row-bad .1 x)
 
 -- a player's number: the check's, or that of its walk
-told-none : (st : Status) (s : Stand) → reachedNo (toldAs st s) ≡ 0
+pub told-none : (st : Status) (s : Stand) → reachedNo (toldAs st s) ≡ 0
 unfolding reachedNo toldAs
 told-none standing s = refl
 told-none stopped s = refl
@@ -173,6 +177,11 @@ module _ (w : Tape) (q : Position) (n : ℕ) (a : Answer Label) where
         λ h. x .1 (⊎-elim (λ f. inl (judged-11 w q .1 f)) (λ f. inr (f .0, walk-11 .1 (f .1))) h),
       )
 
+-- a call of 0 drops nothing
+dropped-zero : (es : List (Entry Label)) → dropped es 0 ≡ 0
+unfolding sourced turns sumDropped
+dropped-zero es = refl
+
 module _ (w : Tape) (q : Position) where
   -- 9: position not valid on this tape
   pub given-9-measured : (n : ℕ) → (reachedNo (playMeasured w q n) ≡ noPosition) ↔ Invalid w q
@@ -183,19 +192,64 @@ module _ (w : Tape) (q : Position) where
   unfolding playSource sourceFrom
   given-9-source n = player-9 w q n (sourceAnswer (ahead (formed w (q .block)) q) n)
 
+  -- what the checks say of a position that passes them, and of a valid one
+  fine-valid : judged w q ≡ Fine → (validAt w q ≡ true) × (q .block < w .count → wellRow w (q .block) ≡ true)
+  fine-valid e = of e (of-tests w q)
+    where
+      of : {c : Check} → c ≡ Fine → Tests (overfull w) (ruledOut w q) (illFormed w q) (validAt w q) c
+          → (validAt w q ≡ true) × (q .block < w .count → wellRow w (q .block) ≡ true)
+      of e (full a) = let z : _≡_ {A = ℕ} 0 1 = cc in absurd (omega arith)
+      of e (out a b) = let z : _≡_ {A = ℕ} 0 1 = cc in absurd (omega arith)
+      of e (row a b c) = let z : _≡_ {A = ℕ} 0 1 = cc in absurd (omega arith)
+      of e (wrong a b c d) = let z : _≡_ {A = ℕ} 0 1 = cc in absurd (omega arith)
+      of e (fine a b c d) = (d, row-well w q .0 c)
+
+  valid-fine : validAt w q ≡ true → Unformed w (q .block) ⊎ (judged w q ≡ Fine)
+  valid-fine v = of refl (of-tests w q)
+    where
+      of : {c : Check} → judged w q ≡ c → Tests (overfull w) (ruledOut w q) (illFormed w q) (validAt w q) c
+          → Unformed w (q .block) ⊎ (judged w q ≡ Fine)
+      of e (full a) = inl (inl a)
+      of e (out a b) = absurd (not-both v (past-invalid w q b))
+      of e (row a b c) = inl (inr (row-bad w q .0 c))
+      of e (wrong a b c d) = absurd (not-both v d)
+      of e (fine a b c d) = inr e
+
+  -- 11 by the walk, in document 01's words: of a walk that has ended exactly where what it spends is more than all entries last
+  abbrev formedAhead : List (Entry Label)
+  formedAhead = ahead (formed w (q .block)) q
+
+  player-reaches : (n : ℕ) (a : Answer Label) (spends : List (Entry Label) → ℕ)
+      → (a .tells ≡ ended) ↔ (Finite formedAhead × (time formedAhead < spends formedAhead))
+      → ((es : List (Entry Label)) → time es < spends es → 0 < n)
+      → (reachedNo (unless (judged w q) (walks w q n a)) ≡ badRow) ↔ Unplayable w q spends
+  player-reaches n a spends x some =
+      let y = player-11 w q n a in (
+        λ e. ⊎-elim (λ u. inl u) (λ f. let p = fine-valid (f .0) in inr (p .0, reach (p .1) .0 (f .1 .1))) (y .0 e),
+        λ h. y .1 (⊎-elim (λ u. inl u) (λ f. back-to (f .1) (valid-fine (f .0))) h),
+      )
+    where
+      reach : (q .block < w .count → wellRow w (q .block) ≡ true) → Runs w (q .block) (a .tells) ↔ ((k : ℕ) × Reaches w q spends k)
+      reach well = runs-reach w q spends (row-cuts w q well) (a .tells) x
+
+      back-to : (k : ℕ) × Reaches w q spends k → Unformed w (q .block) ⊎ (judged w q ≡ Fine)
+          → Unformed w (q .block) ⊎ ((judged w q ≡ Fine) × ((0 < n) × Runs w (q .block) (a .tells)))
+      back-to r (inl u) = inl u
+      back-to r (inr e) = inr (e, (some (r .1 .before) (r .1 .left), reach (fine-valid e .1) .1 r))
+
   -- 11: for the count or its row; or a walk that reaches a bad row
-  pub given-11-measured : (n : ℕ) → (reachedNo (playMeasured w q n) ≡ badRow) ↔ (Unformed w (q .block) ⊎ ((judged w q ≡ Fine) × ((0 < n) × Runs w (q .block) (answer (ahead (formed w (q .block)) q) n .tells))))
+  pub given-11-measured : (n : ℕ) → (reachedNo (playMeasured w q n) ≡ badRow) ↔ Unplayable w q (called n)
   unfolding playMeasured walkFrom
-  given-11-measured n = player-11 w q n (answer (ahead (formed w (q .block)) q) n)
+  given-11-measured n = player-reaches n (answer formedAhead n) (called n) (ended-spent formedAhead n) (λ es h. omega arith)
 
-  pub given-11-source : (n : ℕ) → (reachedNo (playSource w q n) ≡ badRow) ↔ (Unformed w (q .block) ⊎ ((judged w q ≡ Fine) × ((0 < n) × Runs w (q .block) (sourceAnswer (ahead (formed w (q .block)) q) n .tells))))
+  pub given-11-source : (n : ℕ) → (reachedNo (playSource w q n) ≡ badRow) ↔ Unplayable w q (withDropped n)
   unfolding playSource sourceFrom
-  given-11-source n = player-11 w q n (sourceAnswer (ahead (formed w (q .block)) q) n)
-
--- the row where what is well formed ends
-pub runs-bad : (w : Tape) (b : ℕ) {end : Status} → b ≤ w .count → Runs w b end → wellRow w (formed w b .count) ≡ false
-unfolding formed
-runs-bad w b h r = needed w b h .bad (r .cut)
+  given-11-source n =
+      let m = withDropped n formedAhead in
+      player-reaches n (sourceAnswer formedAhead n) (withDropped n)
+      (subst (λ (a : Answer Label). (a .tells ≡ ended) ↔ (Finite formedAhead × (time formedAhead < m)))
+      (sym (source-answer formedAhead n)) (ended-spent formedAhead m))
+      (λ es h. ⊎-elim (λ z. absurd (omega (arith, ap (dropped es) z, dropped-zero es))) (λ p. p) (eq-zero-or-pos n))
 
 -- back to a selectable block, or 0: each row on the way is needed
 back-bad : (w : Tape) (b : ℕ) → numberFor (backTo w b) ≡ badRow → BadBack w b
@@ -268,10 +322,14 @@ module _ (w : Tape) (q : Position) where
   pub given-9-block : (numberFor (blockAt w q) ≡ noPosition) ↔ Invalid w q
   given-9-block = Iff·trans (block-9 (judged w q)) (judged-9 w q)
 
-  pub given-11-block : (numberFor (blockAt w q) ≡ badRow) ↔ (Unformed w (q .block) ⊎ ((judged w q ≡ Fine) × ((q .block < w .count) × BadBack w (q .block))))
+  pub given-11-block : (numberFor (blockAt w q) ≡ badRow)
+      ↔ (Unformed w (q .block) ⊎ ((validAt w q ≡ true) × ((q .block < w .count) × BadBack w (q .block))))
   given-11-block =
       let x = block-11 (judged w q) in
-      (λ e. ⊎-elim (λ f. inl (judged-11 w q .0 f)) (λ f. inr f) (x .0 e), λ h. x .1 (⊎-elim (λ f. inl (judged-11 w q .1 f)) (λ f. inr f) h))
+      let formed : Unformed w (q .block) → judged w q ≡ NotFormed = judged-11 w q .1 in (
+        λ e. ⊎-elim (λ f. inl (judged-11 w q .0 f)) (λ f. inr (fine-valid w q (f .0) .0, f .1)) (x .0 e),
+        λ h. x .1 (⊎-elim (λ u. inl (formed u)) (λ f. ⊎-elim (λ u. inl (formed u)) (λ e. inr (e, f .1)) (valid-fine w q (f .0))) h),
+      )
 
 -- on a refusal the mounted head is as it was
 pub head-stays : (w : Tape) (h : Head) (n : ℕ) → 0 < reachedNo (playMounted w h n .answer) → playMounted w h n .head ≡ h

@@ -51,14 +51,14 @@ pub data TapeReading : Type 0 where
   refused : ℕ → TapeReading
 
 -- room for three blocks and four tone rows, in words
-abbrev blockWords : ℕ
+abbrev pub blockWords : ℕ
 blockWords = 3 * row .width
 
-abbrev toneWords : ℕ
+abbrev pub toneWords : ℕ
 toneWords = 4 * tone .width
 
 -- the tables of a load into that room
-abbrev mounted : List ℕ → Load → ℕ → Tape
+abbrev pub mounted : List ℕ → Load → ℕ → Tape
 mounted s l n = tapeOf s (toneTable toneWords l) (blockTable blockWords l) n
 
 abbrev said : Tape → ℕ → SaidOfBlock
@@ -75,7 +75,7 @@ reads s (tapped t) = is Tap (from (mounted s (tapped t) (length (t .blocks))) 0 
 reads s (no k) = refused k
 
 -- a TZX of these pieces
-abbrev pieces : List ℕ → List ℕ
+abbrev pub pieces : List ℕ → List ℕ
 pieces s = signature ++ 1 ∷ 20 ∷ s
 
 -- `d bytes`
@@ -114,10 +114,10 @@ unfolding loadNamed namedLoad namedTape loadOf orElse orTap readTzx readTap head
 readings-read = refl
 
 -- a sole 12 of 100 and 4, loaded
-abbrev soleBytes : List ℕ
+abbrev pub soleBytes : List ℕ
 soleBytes = pieces (0x12 ∷ 100 ∷ 0 ∷ 4 ∷ 0 ∷ [])
 
-abbrev sole : Tape
+abbrev pub sole : Tape
 sole = mounted soleBytes (loadNamed (lentOf blockWords toneWords) soleBytes 0) 1
 
 -- from its start: 99 leaves both players in the first half with 1 left; 100 leaves the measured one at the high half, full, the source's ended

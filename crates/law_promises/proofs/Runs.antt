@@ -11,6 +11,14 @@ pub comes-map : {see : ℕ → See} {P Q : ℕ → Parsed → Type 0} → ((at :
 comes-map f (here {at = at} {t = t} p) = here (f at t p)
 comes-map f (past e d c) = past e d (comes-map f c)
 
+-- under a property of tapes that things keep
+pub comes-under : {see : ℕ → See} {K : Parsed → Type 0} {P Q : ℕ → Parsed → Type 0}
+    → ((at next : ℕ) (does : Parsed → Out) (t u : Parsed) → see at ≡ thing next does → does t ≡ on u → K t → K u)
+    → ((at : ℕ) (t : Parsed) → K t → P at t → Q at t) → {at : ℕ} {t : Parsed} → K t → Comes see P at t → Comes see Q at t
+comes-under k f h (here {at = at} {t = t} p) = here (f at t h p)
+comes-under k f h (past {at = at} {next = next} {does = does} {t = t} {u = u} e d c) =
+    past e d (comes-under k f (k at next does t u e d h) c)
+
 -- what is due at a place is what a turn there answers
 due-seen : {see : ℕ → See} {r : Verdict} {at : ℕ} {t : Parsed} (k : ℕ → Parsed → Verdict) → Due see r at t → seeing (see at) t k ≡ r
 unfolding seeing readOn

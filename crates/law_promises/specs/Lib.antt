@@ -2,3 +2,5 @@ pub mod Demands
 pub mod Determined
 pub mod Numbers
 pub mod Four
+pub mod Needs
+pub mod Playing

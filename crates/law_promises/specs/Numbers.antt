@@ -3,29 +3,29 @@ use Prim.Native.Nat.{ℕ, suc, _+_, _≤_, _<_}
 use mathlib.Core.Path.{_≡_}
 use mathlib.Core.Bool.{true, false}
 use mathlib.Core.Logic.{_⊎_}
-use mathlib.Core.List.{List, _∷_}
-use lib.ListN.{length, drop}
+use mathlib.Core.List.{List, _∷_, _++_}
+use lib.ListN.{length}
 use lib.Dec.{eqb}
-use Rattle.refusals.specs.Refusals.{tonesFull, blocksFull}
-use Rattle.law_pulses.specs.Play.{Status, ended}
+use Rattle.law_pulses.specs.Play.{Entry, time, Finite}
+use Rattle.law_pulses.specs.Source.{dropped}
 use Rattle.rows.specs.declared.Block.{Block}
-use Rattle.rows.specs.declared.Tone.{Tone}
 use Rattle.cut_grammar.specs.declared.Piece.the-variants.{Generalized}
 use Rattle.cut_grammar.specs.declared.GeneralizedData.{GeneralizedData}
 use Rattle.cut_grammar.specs.declared.Taken.the-variants as taken
 use Rattle.cut_grammar.specs.declared.Heading.the-variants.{Version}
 use Rattle.cut_grammar.specs.Cut.{cutAt, headAt}
 use Rattle.load_general.specs.General.{generalOf, refused4}
-use Rattle.load_state.specs.declared.Loop.the-variants.{Closed, Open}
 use Rattle.load_state.specs.declared.Halt.{Halt}
 use Rattle.load_state.specs.declared.Halt.the-variants.{Length}
-use Rattle.load_state.specs.Parser.{Parsed, Out, on, no, empty, _⟫_, withBody, addTones, addBlock, copies, closeLoop}
+use Rattle.load_state.specs.Parser.{Parsed, Out, on, no, empty}
 use Rattle.load_blocks.specs.Adds.{Lent}
 use Rattle.load_source.specs.declared.Failure.{Failure}
-use Rattle.load_source.specs.Source.{See, theEnd, bad, refuses, thing, Verdict, done, failed, refused, halted, full, tzxSee, readTzx, tapSee}
-use Rattle.play_entries.specs.Places.{Tape, blockIn}
-use Rattle.play_entries.specs.Mounted.{overfull, wellRow, formed}
+use Rattle.load_source.specs.Source.{See, theEnd, bad, refuses, thing, Verdict, done, failed, refused, halted, full, tzxSee, tapSee}
+use Rattle.play_entries.specs.Entries.{Label}
+use Rattle.play_entries.specs.Places.{Tape, blockIn, listFrom}
+use Rattle.play_entries.specs.Mounted.{overfull, wellRow}
 use Rattle.play_walk.specs.declared.Position.{Position}
+use Rattle.play_walk.specs.Heads.{ahead}
 use Rattle.play_deck.specs.Deck.{validAt}
 
 -- neither 1 nor 2: the model is 0, 1 or 2, and the tape is not over `most` bytes
@@ -70,22 +70,6 @@ pub data Panics (s : List ℕ) (at : ℕ) (t : Parsed) : Type 0 where
   overflows : {kind p : ℕ} → cutAt s at full ≡ taken.Overflow kind p → Panics s at t
   within : {kind from next : ℕ} {g : GeneralizedData} → cutAt s at full ≡ taken.Whole kind from next (Generalized g) → generalOf s g ≡ refused4 → Panics s at t
 
--- 5, 6, BLOCK BY BLOCK: of the steps that are done here, one after the other, one needs more tone rows than remain of those lent, or more block rows
-pub data Lacks (lent : Lent) : ℕ → (Parsed → Out) → Parsed → Type 0 where
-  tones : (ts : List Tone) {t : Parsed} → lent .tones < length (t .tones) + length ts → Lacks lent tonesFull (addTones (lent .tones) ts) t
-  row : (r : Block) {t : Parsed} → lent .blocks ≤ length (t .blocks) → Lacks lent blocksFull (addBlock (lent .blocks) r) t
-  first : (f : Parsed → Out) (g : Parsed → Parsed → Out) {k : ℕ} {t : Parsed} → Lacks lent k f t → Lacks lent k (λ v. f v ⟫ g v) t
-  next : (f : Parsed → Out) (g : Parsed → Parsed → Out) {k : ℕ} {t u : Parsed} → f t ≡ on u → Lacks lent k (g t) u → Lacks lent k (λ v. f v ⟫ g v) t
-  copy : {k start times : ℕ} {t : Parsed} → t .body ≡ Open start times → Lacks lent k (copies (lent .blocks) times (drop start (t .blocks))) (withBody Closed t) → Lacks lent k (closeLoop (lent .blocks)) t
-
--- .. of what stands at a place
-pub data Needs (see : ℕ → See) (lent : Lent) (k at : ℕ) (t : Parsed) : Type 0 where
-  needs : {next : ℕ} {does : Parsed → Out} → see at ≡ thing next does → Lacks lent k does t → Needs see lent k at t
-
--- .. at a place to which the TZX reading comes or, where it errs, the TAP reading
-abbrev pub Lacking : Lent → List ℕ → ℕ → ℕ → Type 0
-Lacking lent s model k = ByTzx lent s model (Needs (tzxSee lent s model) lent k) ⊎ (Errs (readTzx lent s model) × ByTap lent s (Needs (tapSee lent s) lent k))
-
 -- 7: a block with data has last bits above 8
 pub data Overlong : List Block → Type 0 where
   this : {r : Block} {rs : List Block} → 0 < r .size → 8 < r .last → Overlong (r ∷ rs)
@@ -121,6 +105,7 @@ pub record Invalid (w : Tape) (q : Position) : Type 0 where
   pub well : q .block < w .count → wellRow w (q .block) ≡ true
   pub bad : validAt w q ≡ false
 
+<<<<<<< N
 -- 11: a walk from block b reaches a bad row: it has come to the end of what is well formed from b on, and that is not all
 pub record Runs (w : Tape) (b : ℕ) (end : Status) : Type 0 where
   pub over : end ≡ ended
@@ -130,3 +115,31 @@ pub record Runs (w : Tape) (b : ℕ) (end : Status) : Type 0 where
 pub record Bounded (size : ℕ) (see : ℕ → See) : Type 0 where
   pub stops : (p : ℕ) → size ≤ p → see p ≡ theEnd
   pub moves : (at next : ℕ) (does : Parsed → Out) → see at ≡ thing next does → at < next
+=======
+-- 11 BY A WALK from a position, which reaches row k: a row below the count, at or behind the position's block, that is not well formed,
+-- behind rows that are. What is left to play from the position are the entries `overflows` block k's start, then the tape's list from block k
+-- on. Each of `overflows` ends: no stop stands there. And T-states are left behind them: what the walk spends is more than they last
+pub record Reaches (w : Tape) (q : Position) (spends : List (Entry Label) → ℕ) (k : ℕ) : Type 0 where
+  pub there : (q .block ≤ k) × (k < w .count)
+  pub well : (i : ℕ) → q .block ≤ i → i < k → wellRow w i ≡ true
+  pub bad : wellRow w k ≡ false
+  pub before : List (Entry Label)
+  pub split : ahead w q ≡ overflows ++ listFrom w k
+  pub finite : Finite overflows
+  pub left : time overflows < spends overflows
+
+-- what a walk spends: the call's T-states; in the source's play also those that it drops on the way; in the loading time enough
+abbrev pub called : ℕ → List (Entry Label) → ℕ
+called n es = n
+
+abbrev pub withDropped : ℕ → List (Entry Label) → ℕ
+withDropped n es = n + dropped es n
+
+abbrev pub enough : List (Entry Label) → ℕ
+enough es = time es + 1
+
+-- 11 of a player: the count exceeds capacity; or the position's row is not well formed; or the position is valid, and the walk from it
+-- reaches a bad row
+abbrev pub Unplayable : Tape → Position → (List (Entry Label) → ℕ) → Type 0
+Unplayable w q spends = Unformed w (q .block) ⊎ ((validAt w q ≡ true) × ((k : ℕ) × Reaches w q spends k))
+>>>>>>> t1

@@ -69,6 +69,31 @@ behind : map (λ n. playMeasured (tapeOf [] tones (pulses ++ bad) 2) (startAt 0)
 unfolding playMeasured unless judged ruledOut illFormed wellRow wellBlock wellRanges wellNumbers wellCases wellTones wellTone valid hasEntry remains lengthAt cyclesOf isSingle edged startLevel cycleLevel bitLevel pauseLevel levelAt walkFrom walked formed firstBad toldReached toldAs levelHere restLevel headOf leftOf answer rest over statusHere status leftAt listFrom entriesOf soundOf tonesOf toneOf dataOf pauseOf entryOf run
 behind = refl
 
+-- `20 01 00 20 02 00`, two pauses of 1 ms and 2 ms; the second row with a `sort` that there is not
+abbrev pauses : Tape
+pauses =
+    tapeOf [] []
+    (rowWords (0 ∷ 0 ∷ 0 ∷ 0 ∷ 0 ∷ 0 ∷ 0 ∷ 3500 ∷ []) ++ rowWords (0 ∷ 0 ∷ 0 ∷ 0 ∷ 0 ∷ 0 ∷ 0 ∷ 7000 ∷ 0 ∷ 0 ∷ 0 ∷ 0 ∷ 0 ∷ 2 ∷ []))
+    2
+
+-- a start where the head only comes to rest is not reached: its row is not judged. One T-state more is 11
+pub resting : map (λ n. playMeasured pauses (startAt 0) n) (3500 ∷ 3501 ∷ []) ≡ At (stand (startAt 1) 2 low) ∷ NotFormed ∷ []
+unfolding playMeasured unless judged ruledOut illFormed wellRow wellBlock wellRanges wellNumbers wellCases wellTones valid
+    walkFrom walked formed firstBad toldReached toldAs levelHere restLevel headOf leftOf answer rest over statusHere status leftAt
+    listFrom entriesOf soundOf tonesOf dataOf startLevel bitLevel edged pauseLevel pauseOf entryOf run
+resting = refl
+
+-- so in the source's play from the pause on; from the start it drops the pause, no longer than the count, and reaches the row
+pub resting-source :
+    map (λ n. playSource pauses (placed 0 Pause (T 3500)) n) (3500 ∷ 3501 ∷ [])
+    ++ map (λ n. playSource pauses (startAt 0) n) (3499 ∷ 3500 ∷ [])
+    ≡ At (stand (startAt 1) 1 low) ∷ NotFormed ∷ At (stand (placed 0 Pause (T 1)) 1 low) ∷ NotFormed ∷ []
+unfolding playSource unless judged ruledOut illFormed wellRow wellBlock wellRanges wellNumbers wellCases wellTones valid
+    hasEntry remains lengthAt sourceFrom sourceAnswer sourced turns turn after reached walked formed firstBad
+    toldReached toldAs levelHere restLevel headOf leftOf statusHere leftAt levelAt
+    listFrom entriesOf soundOf tonesOf dataOf startLevel bitLevel edged pauseLevel pauseOf entryOf run
+resting-source = refl
+
 -- the refusals: 11 for the count, 9 by the block number, 11 for the row, 9
 refusals :
     map reachedNo (playMeasured (tapeOf [] tones pulses 2) (startAt 0) 0 ∷ playMeasured sole (placed 1 Pause (T 0)) 0 ∷ playMeasured (tapeOf [] tones bad 1) (placed 0 Pause (T 9)) 0 ∷ playMeasured sole (placed 0 (Tones 0 0 false) (T 0)) 0 ∷ playMeasured sole (placed 0 (Tones 0 2 false) (T 1)) 0 ∷ [])

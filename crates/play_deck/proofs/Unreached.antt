@@ -55,7 +55,7 @@ entriesIn w i = entriesOf (w .bytes) (w .tones) i (blockIn w i)
 
 -- the tape cut to k, and the list from there on
 module _ (w : Tape) (k : ℕ) (most : k ≤ w .count) where
-  list-cut : (b : ℕ) → b ≤ k → listFrom w b ≡ listFrom (cutTo w k) b ++ listFrom w k
+  pub list-cut : (b : ℕ) → b ≤ k → listFrom w b ≡ listFrom (cutTo w k) b ++ listFrom w k
   unfolding listFrom
   list-cut b h =
       let item = entriesIn w in
@@ -104,7 +104,7 @@ module _ (w : Tape) (k : ℕ) (most : k ≤ w .count) where
         let xs = secondOf b i (blockIn w b) (toneIn w b i) (cycleIn w b i p) p in
         ap (λ (r : List (Entry Label)). xs ++ r) (cycle-cut i (p + 1)) ∙ sym (append-assoc xs (fromCycle (cutTo w k) b i (p + 1)) (listFrom w k))
 
-    left-cut : (f : Phase) (left : Duration) → leftAt w b f left ≡ leftAt (cutTo w k) b f left ++ listFrom w k
+    pub left-cut : (f : Phase) (left : Duration) → leftAt w b f left ≡ leftAt (cutTo w k) b f left ++ listFrom w k
     unfolding leftAt
     left-cut Start left = list-cut b (omega arith)
     left-cut (Tones i p false) left = ap (λ (r : List (Entry Label)). entryOf (labelAt b (Tones i p false)) (cycleIn w b i p) left ∷ r) (second-cut i p)

@@ -1,4 +1,4 @@
--- `mounted::play_head` meets its contract: a walk of its MIR, by hand. The borrow is opened, the whole record is copied out, `play_mounted` is called by value on the copy, the whole record of its answer is stored back, and the borrow is closed at it.
+-- `play_head::play_head` meets its contract: a walk of its MIR, by hand. The borrow is opened, the whole record is copied out, `play_mounted` is called by value on the copy, the whole record of its answer is stored back, and the borrow is closed at it.
 -- All that the proof knows of `play_mounted` is that it meets its contract. Of the parameters but the lent record nothing need be had at exit (`stay-dropped`).
 -- Assumes nothing.
 use mathlib.Core.Path.{_≡_, refl, ap}
@@ -179,4 +179,8 @@ play-head-spec 𝓤 H 𝓜 𝓖 𝓡 =
     entered 𝓤 H (tripleOf 𝓤 H (𝓖 .A) f.signature (f.spec 𝓤 H (𝓖 .A) (𝓜 .mem) (𝓡 .run)))
     (tables 𝓤 H 𝓜 𝓡 code.env .C) (tables 𝓤 H 𝓜 𝓡 code.env .Λ) #play-head·play-head code.function (code.unfolded 𝓤 H 𝓜 𝓡)
     (play-head-meets 𝓤 H (𝓖 .A) (givenOf 𝓤 H 𝓜 𝓖) (𝓜 .mem) (𝓡 .run) (tablesOf 𝓤 H 𝓜 (tables 𝓤 H 𝓜 𝓡 code.env))
+<<<<<<< N
     (cited 𝓤 H (Callee 𝓤 H (𝓖 .A) (𝓜 .mem) (𝓡 .run)) 𝓜 𝓡 code.env #play-head·play-mounted callee-def.routine code.calls-play-head·play-mounted (callee-thm.met 𝓤 H 𝓜 𝓖 𝓡)))
+=======
+    (cited 𝓤 H (Callee 𝓤 H (𝓖 .A) (𝓜 .mem) (𝓡 .run)) 𝓜 𝓡 code.env #mounted·play-mounted callee-def.routine code.calls-play-head·play-mounted (callee-thm.met 𝓤 H 𝓜 𝓖 𝓡)))
+>>>>>>> t1

@@ -37,13 +37,10 @@ use Rattle.load_source.specs.Source.{refuses, thing, Verdict, done, refused, ac
 use Rattle.load_source.proofs.Rest.{tzx-stops, tzx-sees, sees-piece, tap-stops}
 use Rattle.law_every_load.proofs.Room.{Within}
 use Rattle.law_every_load.proofs.Refusals.{HaltsBy, goes, says, fails, either, sounds-say, closed-says}
-<<<<<<< N
-use Rattle.law_promises.specs.Numbers.{Comes, here, past, Due, ends, errs, stands, answers, Panics, overflows, within, Needs, needs, Overlong, this, later, OverlongAt, Bounded}
-use Rattle.law_promises.specs.Needs.{Lacks, NeedsPiece, at-piece, NeedsBlock, at-block}
-use Rattle.law_promises.proofs.Lacking.{lacks-no, sound-lacks, act-lacks, Adding, standard-adds, act-adds}
+use Rattle.law_promises.specs.Numbers.{Comes, here, past, Due, ends, errs, stands, answers, Panics, overflows, within, Overlong, this, later, OverlongAt, Bounded}
+use Rattle.law_promises.specs.Needs.{NeedsPiece, at-piece, NeedsBlock, at-block}
+use Rattle.law_promises.proofs.Lacking.{Adding, standard-adds, act-adds}
 use Rattle.law_promises.proofs.Runs.{comes-map}
-=======
->>>>>>> t1
 
 -- a block is not refused by 4
 never-four : {A : Type 0} {o : Out} → HaltsBy tonesFull blocksFull o → o ≡ halt (Refusal generalised) → A

@@ -13,7 +13,7 @@ use Rattle.load_tape.specs.declared.Loaded.the-variants as loaded
 use Rattle.load_tape.specs.Load.{loadNamed, Leaves}
 use Rattle.play_entries.specs.Places.{Tape}
 use Rattle.play_entries.specs.Mounted.{tapeOf}
-use Rattle.play_entries.proofs.Formed.{Whole}
+use Rattle.play_entries.specs.Mounted.{WholeTape}
 use Rattle.play_walk.specs.declared.Position.{Position}
 use Rattle.play_walk.specs.Heads.{reachedNo, ahead, toldReached}
 use Rattle.play_deck.specs.declared.Head.{Head}
@@ -31,7 +31,7 @@ module _ (B N : ℕ) (s : List ℕ) (model : ℕ) {f : Format} {count k : ℕ} {
   abbrev w : Tape
   w = tapeOf s tt bt count
 
-  whole : Whole w
+  whole : WholeTape w
   whole = left-whole B N s model b l
 
   module _ (q : Position) (n : ℕ) (ms : List ℕ) (v : validAt w q ≡ true) where

@@ -28,7 +28,7 @@ use Rattle.play_deck.specs.declared.Check.the-variants.{Fine, NotValid, NotForm
 use Rattle.play_deck.specs.declared.Head.{Head}
 use Rattle.play_deck.specs.declared.Selected.the-variants.{Block, BadRow}
 use Rattle.play_deck.specs.Deck.{atStart, ruledOut, illFormed, validAt, judged, unless, stays, playMeasured, sourceAnswer, sourceFrom, playSource, backTo, numberFor, blockOf, blockAt, headAfter, playMounted}
-use Rattle.law_promises.specs.Numbers.{Unformed, Invalid, Reaches, called, withDropped, Unplayable, BadBack, this, back}
+use Rattle.law_promises.specs.Numbers.{Unformed, Invalid, Reaches, called, andDropped, Unplayable, BadBack, this, back}
 use Rattle.law_promises.proofs.Reaching.{Runs, runs-reach, ended-spent, row-cuts}
 use Rattle.law_promises.proofs.Asks.{ended-is}
 
@@ -242,11 +242,11 @@ module _ (w : Tape) (q : Position) where
   unfolding playMeasured walkFrom
   given-11-measured n = player-reaches n (answer formedAhead n) (called n) (ended-spent formedAhead n) (λ es h. omega arith)
 
-  pub given-11-source : (n : ℕ) → (reachedNo (playSource w q n) ≡ badRow) ↔ Unplayable w q (withDropped n)
+  pub given-11-source : (n : ℕ) → (reachedNo (playSource w q n) ≡ badRow) ↔ Unplayable w q (andDropped n)
   unfolding playSource sourceFrom
   given-11-source n =
-      let m = withDropped n formedAhead in
-      player-reaches n (sourceAnswer formedAhead n) (withDropped n)
+      let m = andDropped n formedAhead in
+      player-reaches n (sourceAnswer formedAhead n) (andDropped n)
       (subst (λ (a : Answer Label). (a .tells ≡ ended) ↔ (Finite formedAhead × (time formedAhead < m)))
       (sym (source-answer formedAhead n)) (ended-spent formedAhead m))
       (λ es h. ⊎-elim (λ z. absurd (omega (arith, ap (dropped es) z, dropped-zero es))) (λ p. p) (eq-zero-or-pos n))

@@ -27,7 +27,7 @@ use Rattle.play_entries.specs.Entries.{Label, entryOf, entriesOf}
 use Rattle.play_entries.specs.Places.{Tape, blockIn, listFrom, leftAt, headOf, leftOf, lengthIn}
 use Rattle.play_entries.specs.Mounted.{overfull}
 use Rattle.play_entries.proofs.Follows.{list-out}
-use Rattle.play_entries.proofs.Formed.{Whole}
+use Rattle.play_entries.specs.Mounted.{WholeTape}
 use Rattle.play_entries.proofs.Parts.{left-part, left-head}
 use Rattle.play_entries.proofs.Tails.{tail-left, tail-rest}
 use Rattle.play_walk.specs.declared.Position.{Position}
@@ -127,7 +127,7 @@ head-told h standing s = refl
 head-told h stopped s = refl
 head-told h ended s = refl
 
-module _ (w : Tape) (whole : Whole w) where
+module _ (w : Tape) (whole : WholeTape w) where
   -- a count below every nonzero finite duration on the tape is below those behind the head's own entry, of which some may be played
   pub under-behind : (q : Position) (n : ℕ) → validAt w q ≡ true → Below (listFrom w 0) n → Behind (ahead w q) n
   unfolding leftAt

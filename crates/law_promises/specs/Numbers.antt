@@ -105,35 +105,24 @@ pub record Invalid (w : Tape) (q : Position) : Type 0 where
   pub well : q .block < w .count → wellRow w (q .block) ≡ true
   pub bad : validAt w q ≡ false
 
-<<<<<<< N
--- 11: a walk from block b reaches a bad row: it has come to the end of what is well formed from b on, and that is not all
-pub record Runs (w : Tape) (b : ℕ) (end : Status) : Type 0 where
-  pub over : end ≡ ended
-  pub cut : formed w b .count < w .count
-
--- things move forward, and at the size all is over: so as many turns as there are bytes are enough
-pub record Bounded (size : ℕ) (see : ℕ → See) : Type 0 where
-  pub stops : (p : ℕ) → size ≤ p → see p ≡ theEnd
-  pub moves : (at next : ℕ) (does : Parsed → Out) → see at ≡ thing next does → at < next
-=======
 -- 11 BY A WALK from a position, which reaches row k: a row below the count, at or behind the position's block, that is not well formed,
--- behind rows that are. What is left to play from the position are the entries `overflows` block k's start, then the tape's list from block k
--- on. Each of `overflows` ends: no stop stands there. And T-states are left behind them: what the walk spends is more than they last
+-- behind rows that are. What is left to play from the position are the entries `before` block k's start, then the tape's list from block k
+-- on. Each of `before` ends: no stop stands there. And T-states are left behind them: what the walk spends is more than they last
 pub record Reaches (w : Tape) (q : Position) (spends : List (Entry Label) → ℕ) (k : ℕ) : Type 0 where
   pub there : (q .block ≤ k) × (k < w .count)
   pub well : (i : ℕ) → q .block ≤ i → i < k → wellRow w i ≡ true
   pub bad : wellRow w k ≡ false
   pub before : List (Entry Label)
-  pub split : ahead w q ≡ overflows ++ listFrom w k
-  pub finite : Finite overflows
-  pub left : time overflows < spends overflows
+  pub split : ahead w q ≡ before ++ listFrom w k
+  pub finite : Finite before
+  pub left : time before < spends before
 
 -- what a walk spends: the call's T-states; in the source's play also those that it drops on the way; in the loading time enough
 abbrev pub called : ℕ → List (Entry Label) → ℕ
 called n es = n
 
-abbrev pub withDropped : ℕ → List (Entry Label) → ℕ
-withDropped n es = n + dropped es n
+abbrev pub andDropped : ℕ → List (Entry Label) → ℕ
+andDropped n es = n + dropped es n
 
 abbrev pub enough : List (Entry Label) → ℕ
 enough es = time es + 1
@@ -142,4 +131,8 @@ enough es = time es + 1
 -- reaches a bad row
 abbrev pub Unplayable : Tape → Position → (List (Entry Label) → ℕ) → Type 0
 Unplayable w q spends = Unformed w (q .block) ⊎ ((validAt w q ≡ true) × ((k : ℕ) × Reaches w q spends k))
->>>>>>> t1
+
+-- things move forward, and at the size all is over: so as many turns as there are bytes are enough
+pub record Bounded (size : ℕ) (see : ℕ → See) : Type 0 where
+  pub stops : (p : ℕ) → size ≤ p → see p ≡ theEnd
+  pub moves : (at next : ℕ) (does : Parsed → Out) → see at ≡ thing next does → at < next

@@ -22,7 +22,7 @@ use Rattle.play_deck.specs.Calls.{positionIn, runCalls, runSources, outcomeIn}
 use Rattle.play_deck.proofs.Plays.{cut-at-will, demand-3, time-kept}
 use Rattle.law_every_load.specs.Sizes.{Bytes}
 use Rattle.law_every_load.proofs.Left.{left-whole}
-use Rattle.law_promises.specs.Playing.{Under, playHeads, toldHeads, Numbered}
+use Rattle.law_promises.specs.Playing.{Under, playHeads, toldHeads, PlayNumbered}
 use Rattle.law_promises.proofs.Wholes as wholes
 
 -- tables of B and N words, the tape s, the model; the load's answer is a tape of `count` blocks, and the tables at exit are bt and tt
@@ -58,10 +58,10 @@ module _ (B N : ℕ) (s : List ℕ) (model : ℕ) {f : Format} {count k : ℕ} {
 
   -- NO PLAYER ANSWERS 11, and 9 only where the position is not valid: the measured one, the source's, a position's block, the mounted head
   pub loaded-no-11 : (q : Position) (n : ℕ)
-      → Numbered w q (reachedNo (playMeasured w q n))
-      × (Numbered w q (reachedNo (playSource w q n))
-      × (Numbered w q (numberFor (blockAt w q))
-      × ((h : Head) → Numbered w (h .position) (reachedNo (playMounted w h n .answer)))))
+      → PlayNumbered w q (reachedNo (playMeasured w q n))
+      × (PlayNumbered w q (reachedNo (playSource w q n))
+      × (PlayNumbered w q (numberFor (blockAt w q))
+      × ((h : Head) → PlayNumbered w (h .position) (reachedNo (playMounted w h n .answer)))))
   loaded-no-11 q n = (
     wholes.measured-numbered w whole q n,
     (wholes.source-numbered w whole q n, (wholes.block-numbered w whole q, λ h. wholes.mounted-numbered w whole h n)),

@@ -46,7 +46,7 @@ use Rattle.play_deck.proofs.Checks.{fine-start, fine-none}
 use Rattle.play_deck.proofs.Whole.{whole-fine}
 use Rattle.play_deck.proofs.Plays.{play-told, play-place}
 use Rattle.play_deck.proofs.Sources.{source-told, source-agrees}
-use Rattle.law_promises.specs.Playing.{Under, playHeads, toldHead, toldHeads, Numbered}
+use Rattle.law_promises.specs.Playing.{Under, playHeads, toldHead, toldHeads, PlayNumbered}
 use Rattle.law_promises.proofs.Positions.{judged-9, told-none}
 
 -- a count below every duration of a list is so of its parts
@@ -299,10 +299,10 @@ module _ (w : Tape) (whole : WholeTape w) where
       (lt-or-ge (q .block) (w .count))
 
   numbered : (q : Position) (number : ℕ) → (validAt w q ≡ true → number ≡ 0) → (validAt w q ≡ false → number ≡ noPosition)
-      → Numbered w q number
+      → PlayNumbered w q number
   numbered q number fine off = of (validAt w q) refl
     where
-      of : (b : Bool) → validAt w q ≡ b → Numbered w q number
+      of : (b : Bool) → validAt w q ≡ b → PlayNumbered w q number
       of true e =
           record {
             never-11 = λ x. absurd (omega (arith, fine e));
@@ -312,18 +312,18 @@ module _ (w : Tape) (whole : WholeTape w) where
       of false e = record { never-11 = λ x. absurd (omega (arith, off e)); only-9 = (λ x. e, off); else-none = fine }
 
   -- NO PLAYER ANSWERS 11, and 9 only where the position is not valid
-  pub measured-numbered : (q : Position) (n : ℕ) → Numbered w q (reachedNo (playMeasured w q n))
+  pub measured-numbered : (q : Position) (n : ℕ) → PlayNumbered w q (reachedNo (playMeasured w q n))
   unfolding playMeasured unless reachedNo
   measured-numbered q n = numbered q _ (valid-measured q n) (λ e. rw (not-fine q e))
 
-  pub source-numbered : (q : Position) (n : ℕ) → Numbered w q (reachedNo (playSource w q n))
+  pub source-numbered : (q : Position) (n : ℕ) → PlayNumbered w q (reachedNo (playSource w q n))
   unfolding playSource unless reachedNo
   source-numbered q n = numbered q _ (valid-source q n) (λ e. rw (not-fine q e))
 
-  pub block-numbered : (q : Position) → Numbered w q (numberFor (blockAt w q))
+  pub block-numbered : (q : Position) → PlayNumbered w q (numberFor (blockAt w q))
   unfolding blockOf numberFor
   block-numbered q = numbered q _ (valid-block q) (λ e. rw (not-fine q e))
 
-  pub mounted-numbered : (h : Head) (n : ℕ) → Numbered w (h .position) (reachedNo (playMounted w h n .answer))
+  pub mounted-numbered : (h : Head) (n : ℕ) → PlayNumbered w (h .position) (reachedNo (playMounted w h n .answer))
   unfolding playMounted
   mounted-numbered h n = measured-numbered (h .position) n

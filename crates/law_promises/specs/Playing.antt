@@ -34,7 +34,7 @@ toldHeads w es [] = []
 toldHeads w es (n ∷ ns) = toldHead w es n ∷ toldHeads w (answer es n .place) ns
 
 -- the number of an answer about a position is never 11; it is 9 exactly where the position is not valid; otherwise nothing is refused
-pub record Numbered (w : Tape) (q : Position) (number : ℕ) : Type 0 where
+pub record PlayNumbered (w : Tape) (q : Position) (number : ℕ) : Type 0 where
   pub never-11 : number ≡ badRow → ⊥
   pub only-9 : (number ≡ noPosition) ↔ (validAt w q ≡ false)
   pub else-none : validAt w q ≡ true → number ≡ 0

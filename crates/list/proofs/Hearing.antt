@@ -2,10 +2,15 @@
 use Prim.Native.Nat.{ℕ, _-_, _≤_, _<_}
 use native.Mathlib.Omega.{arith}
 use mathlib.Core.Path.{_≡_, refl, sym, ap, _∙_}
+use mathlib.Core.Logic.{⊎-elim}
 use mathlib.Core.List.{List, [], _∷_}
+use lib.Dec.{leb}
 use lib.ListN.{length, length-drop, getD, take, drop}
 use lib.Seq.{length-take-le, take-all}
-use Rattle.refusals.specs.Refusals.{badModel}
+use borrow.Author.Tests.{lt-ltb}
+use Rattle.law_base.specs.Rules.{_⇒_, _∣_}
+use Rattle.law_base.proofs.Numbers.{lt-or-ge}
+use Rattle.refusals.specs.Refusals.{badModel, tapeLong}
 use Rattle.io.specs.Counts.{Counts}
 use Rattle.listing.specs.Listing.{refused, listingOf}
 use Rattle.listing.specs.Printed.{printedNo, printedOf, Says}
@@ -45,3 +50,19 @@ says-tape {m = m} input h e s =
     ∙ ap (λ (n : ℕ). printedOf (listingOf (drop 1 input) n)) e
     ∙ sym (ap printedOf (heard-tape input h)))
     s
+
+-- a tape over 65,535 bytes
+long : (tape : List ℕ) (m : ℕ) → 65536 ≤ length tape → listingOf tape m ≡ (leb 3 m ⇒ refused badModel ∣ refused tapeLong)
+unfolding listingOf
+long tape m h = rw (lt-ltb 65535 (length tape) (omega arith))
+
+-- MORE THAN 65,537 BYTES need not be read: what is heard of an input is heard of so many
+pub read-enough : (b : ℕ) (tape : List ℕ) → listingHeard (b ∷ take 65536 tape) ≡ listingHeard (b ∷ tape)
+unfolding listingHeard
+read-enough b tape =
+    ⊎-elim
+    (λ l. ap (λ (t : List ℕ). listingOf t (modelOf b)) (take-all 65536 tape (omega arith)))
+    (λ g.
+    let n : length (take 65536 tape) ≡ 65536 = length-take-le 65536 tape g in
+    long (take 65536 tape) (modelOf b) (omega arith) ∙ sym (long tape (modelOf b) g))
+    (lt-or-ge (length tape) 65536)

@@ -215,7 +215,7 @@ module _ (w : Tape) (q : Position) where
       of e (wrong a b c d) = absurd (not-both v d)
       of e (fine a b c d) = inr e
 
-  -- 11 by the walk, in document 01's words: of a walk that has ended exactly where what it spends is more than all entries last
+  -- 11 by the walk, in rule 38's words: of a walk that has ended exactly where what it spends is more than all entries last
   abbrev formedAhead : List (Entry Label)
   formedAhead = ahead (formed w (q .block)) q
 

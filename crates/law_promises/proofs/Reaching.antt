@@ -1,4 +1,4 @@
--- A WALK THAT REACHES A BAD ROW: document 01's words (`Reaches`) are what the definition tests (`Runs`). Assumes nothing.
+-- A WALK THAT REACHES A BAD ROW: rule 38's words (`Reaches`) are what the definition tests (`Runs`). Assumes nothing.
 use Prim.Native.Nat.{ℕ, _-_, _≤_, _<_}
 use native.Mathlib.Omega.{arith}
 use native.Mathlib.Nat.{eq-zero-or-pos}

@@ -1,4 +1,4 @@
--- 5 AND 6 in document 01's words, block by block: what each block needs that is added, and which lacks rows. Definitions alone; assumes
+-- 5 AND 6 (rules 25, 26), block by block: what each block needs that is added, and which lacks rows. Definitions alone; assumes
 -- nothing.
 use Prim.Native.Nat.{ℕ, _+_, _*_, _≤_, _<_}
 use mathlib.Core.Path.{_≡_}

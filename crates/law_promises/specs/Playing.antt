@@ -1,4 +1,4 @@
--- Document 01's words about playing a whole tape, where no definition has them yet. Definitions alone; assumes nothing.
+-- What rules 7, 8 and 31 say of playing a whole tape, where no definition has it yet. Definitions alone; assumes nothing.
 use Prim.Native.Nat.{ℕ}
 use mathlib.Core.Path.{_≡_}
 use mathlib.Core.Bool.{true, false}

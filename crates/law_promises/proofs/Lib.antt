@@ -13,3 +13,4 @@ pub mod Positions
 pub mod Listings
 pub mod Errors
 pub mod Four
+pub mod Texts

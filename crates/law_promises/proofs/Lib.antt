@@ -17,3 +17,4 @@ pub mod Played
 pub mod Listings
 pub mod Errors
 pub mod Four
+pub mod Texts

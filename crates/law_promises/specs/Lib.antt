@@ -4,3 +4,4 @@ pub mod Numbers
 pub mod Four
 pub mod Needs
 pub mod Playing
+pub mod Texts

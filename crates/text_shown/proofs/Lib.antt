@@ -1,1 +1,3 @@
 pub mod Shown
+pub mod Utf8
+pub mod Points

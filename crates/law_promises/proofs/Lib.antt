@@ -13,3 +13,6 @@ pub mod Positions
 pub mod Listings
 pub mod Errors
 pub mod Four
+pub mod Capacity
+pub mod Larger
+pub mod Overflow

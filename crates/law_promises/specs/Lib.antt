@@ -2,3 +2,4 @@ pub mod Demands
 pub mod Determined
 pub mod Numbers
 pub mod Four
+pub mod Boundless

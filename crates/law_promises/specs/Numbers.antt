@@ -10,19 +10,15 @@ use Rattle.refusals.specs.Refusals.{tonesFull, blocksFull}
 use Rattle.law_pulses.specs.Play.{Status, ended}
 use Rattle.rows.specs.declared.Block.{Block}
 use Rattle.rows.specs.declared.Tone.{Tone}
-use Rattle.cut_grammar.specs.declared.Piece.the-variants.{Generalized}
-use Rattle.cut_grammar.specs.declared.GeneralizedData.{GeneralizedData}
-use Rattle.cut_grammar.specs.declared.Taken.the-variants as taken
 use Rattle.cut_grammar.specs.declared.Heading.the-variants.{Version}
-use Rattle.cut_grammar.specs.Cut.{cutAt, headAt}
-use Rattle.load_general.specs.General.{generalOf, refused4}
+use Rattle.cut_grammar.specs.Cut.{headAt}
 use Rattle.load_state.specs.declared.Loop.the-variants.{Closed, Open}
 use Rattle.load_state.specs.declared.Halt.{Halt}
 use Rattle.load_state.specs.declared.Halt.the-variants.{Length}
 use Rattle.load_state.specs.Parser.{Parsed, Out, on, no, empty, _⟫_, withBody, addTones, addBlock, copies, closeLoop}
 use Rattle.load_blocks.specs.Adds.{Lent}
 use Rattle.load_source.specs.declared.Failure.{Failure}
-use Rattle.load_source.specs.Source.{See, theEnd, bad, refuses, thing, Verdict, done, failed, refused, halted, full, tzxSee, readTzx, tapSee}
+use Rattle.load_source.specs.Source.{See, theEnd, bad, refuses, thing, Verdict, done, failed, refused, halted, tzxSee, readTzx, tapSee}
 use Rattle.play_entries.specs.Places.{Tape, blockIn}
 use Rattle.play_entries.specs.Mounted.{overfull, wellRow, formed}
 use Rattle.play_walk.specs.declared.Position.{Position}
@@ -65,11 +61,14 @@ pub data Bad (see : ℕ → See) (at : ℕ) (t : Parsed) : Type 0 where
   short : {f : Failure} → see at ≡ bad f → Bad see at t
   length48 : {next n : ℕ} {does : Parsed → Out} → see at ≡ thing next does → does t ≡ no (Length n) → Bad see at t
 
+<<<<<<< N
 -- 4: a generalised piece on which the Rust panics: before its data bytes, or by its entries and symbols
 pub data Panics (s : List ℕ) (at : ℕ) (t : Parsed) : Type 0 where
   overflows : {kind p : ℕ} → cutAt s at full ≡ taken.Overflow kind p → Panics s at t
   within : {kind from next : ℕ} {g : GeneralizedData} → cutAt s at full ≡ taken.Whole kind from next (Generalized g) → generalOf s g ≡ refused4 → Panics s at t
 
+=======
+>>>>>>> t2
 -- 5, 6, BLOCK BY BLOCK: of the steps that are done here, one after the other, one needs more tone rows than remain of those lent, or more block rows
 pub data Lacks (lent : Lent) : ℕ → (Parsed → Out) → Parsed → Type 0 where
   tones : (ts : List Tone) {t : Parsed} → lent .tones < length (t .tones) + length ts → Lacks lent tonesFull (addTones (lent .tones) ts) t

@@ -36,12 +36,7 @@ use Rattle.load_source.specs.Meaning.{deedOf}
 use Rattle.load_source.specs.Source.{See, refuses, thing, Verdict, done, refused, act, halted, tooManyBits, tapKind, full, tzxOf, tzxSee, tapOf, tapSee}
 use Rattle.load_source.proofs.Rest.{tzx-stops, tzx-sees, sees-piece, tap-stops}
 use Rattle.law_every_load.proofs.Refusals.{HaltsBy, goes, says, fails, either, sounds-say, closed-says}
-<<<<<<< N
-use Rattle.law_promises.specs.Numbers.{Comes, here, past, Due, ends, errs, stands, answers, Panics, overflows, within, Lacks, Needs, needs, Overlong, this, later, OverlongAt, Bounded}
-=======
-use Rattle.law_promises.specs.Numbers.{Comes, here, past, Due, ends, errs, stands, answers}
-use Rattle.law_promises.specs.Numbers.{Lacks, Needs, needs, Overlong, this, later, OverlongAt}
->>>>>>> t2
+use Rattle.law_promises.specs.Numbers.{Comes, here, past, Due, ends, errs, stands, answers, Lacks, Needs, needs, Overlong, this, later, OverlongAt, Bounded}
 use Rattle.law_promises.proofs.Lacking.{lacks-no, sound-lacks, act-lacks}
 use Rattle.law_promises.proofs.Runs.{comes-map}
 

@@ -24,14 +24,10 @@ use Rattle.law_every_load.specs.OfSource.{Reads, as-tzx, as-tap}
 use Rattle.law_every_load.proofs.Left.{left}
 use Rattle.law_every_load.proofs.Within.{rows-within}
 use Rattle.text_view.specs.View.{View, tonesFrom, viewOf, rowViews, viewsIn, blockList}
-<<<<<<< N
 use Rattle.load_state.specs.Kept.{All, nil, cons}
-use Rattle.law_promises.specs.Demands.{listOf}
-=======
 use Rattle.law_promises.specs.Boundless.{boundlessLoad}
 use Rattle.law_promises.specs.Demands.{listOf, blockListOf}
 use Rattle.law_promises.proofs.Capacity.{named-reads, accepted-load}
->>>>>>> t2
 
 none : Tone
 none = decodeTone []

@@ -61,14 +61,6 @@ pub data Bad (see : ℕ → See) (at : ℕ) (t : Parsed) : Type 0 where
   short : {f : Failure} → see at ≡ bad f → Bad see at t
   length48 : {next n : ℕ} {does : Parsed → Out} → see at ≡ thing next does → does t ≡ no (Length n) → Bad see at t
 
-<<<<<<< N
--- 4: a generalised piece on which the Rust panics: before its data bytes, or by its entries and symbols
-pub data Panics (s : List ℕ) (at : ℕ) (t : Parsed) : Type 0 where
-  overflows : {kind p : ℕ} → cutAt s at full ≡ taken.Overflow kind p → Panics s at t
-  within : {kind from next : ℕ} {g : GeneralizedData} → cutAt s at full ≡ taken.Whole kind from next (Generalized g) → generalOf s g ≡ refused4 → Panics s at t
-
-=======
->>>>>>> t2
 -- 5, 6, BLOCK BY BLOCK: of the steps that are done here, one after the other, one needs more tone rows than remain of those lent, or more block rows
 pub data Lacks (lent : Lent) : ℕ → (Parsed → Out) → Parsed → Type 0 where
   tones : (ts : List Tone) {t : Parsed} → lent .tones < length (t .tones) + length ts → Lacks lent tonesFull (addTones (lent .tones) ts) t

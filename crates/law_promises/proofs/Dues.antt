@@ -37,10 +37,16 @@ use Rattle.load_source.specs.Source.{refuses, thing, Verdict, done, refused, ac
 use Rattle.load_source.proofs.Rest.{tzx-stops, tzx-sees, sees-piece, tap-stops}
 use Rattle.law_every_load.proofs.Room.{Within}
 use Rattle.law_every_load.proofs.Refusals.{HaltsBy, goes, says, fails, either, sounds-say, closed-says}
-use Rattle.law_promises.specs.Numbers.{Comes, here, past, Due, ends, errs, stands, answers, Panics, overflows, within, Overlong, this, later, OverlongAt, Bounded}
+use Rattle.law_promises.specs.Numbers.{Comes, here, past, Due, ends, errs, stands, answers, Overlong, this, later, OverlongAt, Bounded}
 use Rattle.law_promises.specs.Needs.{NeedsPiece, at-piece, NeedsBlock, at-block}
 use Rattle.law_promises.proofs.Lacking.{Adding, standard-adds, act-adds}
 use Rattle.law_promises.proofs.Runs.{comes-map}
+
+-- a generalised piece that the definition refuses by 4: where it is cut, or by what it gives
+pub data Panics (s : List ℕ) (at : ℕ) (t : Parsed) : Type 0 where
+  before : {kind p : ℕ} → cutAt s at full ≡ taken.Overflow kind p → Panics s at t
+  within : {kind from next : ℕ} {g : GeneralizedData} → cutAt s at full ≡ taken.Whole kind from next (Generalized g)
+      → general.generalOf s g ≡ general.refused4 → Panics s at t
 
 -- a block is not refused by 4
 never-four : {A : Type 0} {o : Out} → HaltsBy tonesFull blocksFull o → o ≡ halt (Refusal generalised) → A
@@ -155,7 +161,7 @@ module _ (lent : Lent) (s : List ℕ) (model : ℕ) where
       of (taken.Whole kind from m piece) q f = let z : _≡_ {A = ℕ} 0 1 = cc in absurd (omega arith)
       of (taken.Unknown kind described) q f = let z : _≡_ {A = ℕ} 0 1 = cc in absurd (omega arith)
       of (taken.Short kind p w) q f = let z : _≡_ {A = ℕ} 0 1 = cc in absurd (omega arith)
-      of (taken.Overflow kind p) q f = let z : generalised ≡ k = cc in (sym z, overflows q)
+      of (taken.Overflow kind p) q f = let z : generalised ≡ k = cc in (sym z, before q)
 
   pub tzx-bounded : Bounded (length s) (tzxSee lent s model)
   tzx-bounded = record { stops = tzx-stops lent s model; moves = λ at next does e. of at next does (tzx-thing at next does e) }
@@ -180,7 +186,7 @@ module _ (lent : Lent) (s : List ℕ) (model : ℕ) where
 
   four-due : {at : ℕ} {t : Parsed} → Panics s at t → Due (tzxSee lent s model) (refused generalised) at t
   unfolding tzxOf act deedOf generalDeed enact halted
-  four-due {at} (overflows q) = stands (tzx-sees lent s model at (sym q))
+  four-due {at} (before q) = stands (tzx-sees lent s model at (sym q))
   four-due {at} {t} (within {kind = kind} {from = from} {g = g} q e) = answers {k = Refusal generalised} (sees-piece lent s model at (sym q)) (ap (λ (x : general.Given). enact lent model (originAt kind from) (generalDeed g x) t) e)
 
   -- 5 and 6

@@ -1,20 +1,33 @@
--- REFUSAL 4 EXACTLY: what a cut 19 gives is refusal 4 where, and only where, rules 81 and 82 say so. Assumes nothing.
-use Prim.Native.Nat.{ℕ, zero, suc, _+_, _*_, _-_, _/_, _≤_, _<_}
+-- REFUSAL 4 EXACTLY: it is due at a 19 where, and only where, rules 80 to 82 say so. Assumes nothing.
+use Prim.Native.Nat.{ℕ, zero, suc, _+_, _*_, _-_, _/_, _%_, _^_, _≤_, _<_}
 use native.Mathlib.Omega.{arith}
-use native.Mathlib.Nat.{eq-zero-or-pos}
+use native.Mathlib.Nat.{eq-zero-or-pos, mod-lt, pow-suc}
 use borrow.Author.Tests.{eqb-true, eqb-false, eq-eqb, ne-eqb, leb-true, le-leb, ltb-true, lt-ltb}
 use mathlib.Core.Path.{_≡_, refl, sym, ap, _∙_}
 use mathlib.Core.Bool.{Bool, true, false, _&&_, _||_}
 use mathlib.Core.Logic.{_⊎_, inl, inr, ⊎-elim, _↔_}
 use mathlib.Core.List.{List, []}
+use lib.ListN.{getD}
 use lib.Dec.{leb, ltb, eqb}
 use Rattle.law_base.specs.Rules.{_⇒_, _∣_}
+use Rattle.law_base.proofs.Tests.{first as first-of, second as second-of}
 use Rattle.rows.specs.declared.Tone.{Tone}
 use Rattle.cut_grammar.specs.declared.GeneralizedData.{GeneralizedData}
+use Rattle.cut_grammar.specs.declared.Piece.the-variants.{Generalized}
+use Rattle.cut_grammar.specs.declared.Taken.the-variants as taken
+use Rattle.cut_grammar.specs.Grammar.{binaryDigits, bitsOf}
+use Rattle.cut_grammar.specs.Cut.{cutAt}
+use Rattle.cut_grammar.proofs.Places.{cut-places}
 use Rattle.load_general.specs.declared.Row.{Row}
 use Rattle.load_general.specs.declared.Row.the-variants.{Refused, Gives}
-use Rattle.load_general.specs.General.{Symbol, plainTone, dataSymbol, Part, refused, stops, tones, refused4, plain, before, rowsFrom, cycles, symbolAt, entrySymbol, entryRepeat, entryRow, pilotOf, ordinary, usedBits, symbolNumber, singleRow, pairRow, singlesOf, pairsOf, dataPart, withData, withPilot, generalOf}
-use Rattle.law_promises.specs.Four.{BadEntry, symbol, repeat, BadPilot, entry, first, BadData, none, eight, no-bits, no-bits-paired, single, pair, Four}
+use Rattle.load_state.specs.Parser.{Parsed}
+use Rattle.load_source.specs.Source.{full}
+use Rattle.load_general.specs.General.{Given, Symbol, plainTone, dataSymbol, Part, refused, stops, tones, refused4, plain, before, rowsFrom, cycles, symbolAt, entrySymbol, entryRepeat, entryRow, pilotOf, ordinary, usedBits, symbolNumber, singleRow, pairRow, singlesOf, pairsOf, dataPart, withData, withPilot, generalOf}
+use Rattle.law_promises.specs.Four as four
+use Rattle.law_promises.specs.Four.{BadEntry, symbol, repeat, BadPilot, entry, first, NoStop, no-entry, pulses, BadParts, dataAt, Four, BadData, none, eight, no-bits, no-bits-paired, single, pair}
+use Rattle.law_promises.proofs.Dues as panic
+use Rattle.law_promises.proofs.Dues.{Panics}
+use Rattle.law_promises.proofs.Overflow.{overflow-exactly}
 
 -- a row of a part that is refused
 pub data RowRefused (row : ℕ → Row) (from n : ℕ) : Type 0 where
@@ -57,6 +70,10 @@ bad-rows row i (suc n) j a b r =
   where
     here-or-past : (i j : ℕ) → i ≤ j → (i ≡ j) ⊎ (i < j)
     here-or-past i j a = ⊎-elim (λ (z : j - i ≡ 0). inl (omega (arith, a, z))) (λ (p : 0 < j - i). inr (omega (arith, p))) (eq-zero-or-pos (j - i))
+
+with-refused : (ps : List Tone) {x : Part} → x ≡ refused → withData ps x ≡ refused4
+unfolding withData
+with-refused ps e = rw e
 
 differ : false ≡ true → ⊥
 differ e = let z : _≡_ {A = ℕ} 1 0 = ap (λ (t : Bool). t ⇒ 0 ∣ 1) e in absurd (omega arith)
@@ -244,28 +261,127 @@ module _ (s : List ℕ) (g : GeneralizedData) where
           by-cases true = refl
           by-cases false = e
 
+  -- a part of rows is no stop; the pilot part is none where it has no entry, or npp is 1 or 2
+  rows-go : (row : ℕ → Row) (i n : ℕ) → rowsFrom row i n ≡ stops → ⊥
+  unfolding rowsFrom before
+  rows-go row i zero e = let z : _≡_ {A = ℕ} 0 1 = cc in omega arith
+  rows-go row i (suc n) e = of (row i) (rowsFrom row (i + 1) n) (λ q. rows-go row (i + 1) n q) e
+    where
+      of : (x : Row) (rest : Part) → (rest ≡ stops → ⊥) → before x rest ≡ stops → ⊥
+      of Refused rest h q = let z : _≡_ {A = ℕ} 0 1 = cc in omega arith
+      of (Gives t) refused h q = let z : _≡_ {A = ℕ} 0 1 = cc in omega arith
+      of (Gives t) stops h q = h q
+      of (Gives t) (tones ts) h q = let z : _≡_ {A = ℕ} 0 1 = cc in omega arith
+
+  no-stop : NoStop s g → pilotOf s g ≡ stops → ⊥
+  unfolding pilotOf
+  no-stop (no-entry z) e = let q : tones [] ≡ stops = rw (eq-eqb (g .totp) 0 z) at e in let i : _≡_ {A = ℕ} 0 1 = cc in omega arith
+  no-stop (pulses n) e = by-entries (eqb (g .totp) 0) (rw (is-one-or-two n) at e)
+    where
+      by-entries : (a : Bool) → (a ⇒ tones [] ∣ rowsFrom (entryRow s g) 0 (g .totp)) ≡ stops → ⊥
+      by-entries true q = let i : _≡_ {A = ℕ} 0 1 = cc in omega arith
+      by-entries false q = rows-go (entryRow s g) 0 (g .totp) q
+
+  stopless : {ps : List Tone} → pilotOf s g ≡ tones ps → NoStop s g
+  unfolding pilotOf
+  stopless {ps} e = by-cases (eqb (g .totp) 0) refl (eqb (g .npp) 1 || eqb (g .npp) 2) refl (leb (g .asp) (entrySymbol s g 0)) e
+    where
+      by-cases : (a : Bool) → eqb (g .totp) 0 ≡ a → (b : Bool) → (eqb (g .npp) 1 || eqb (g .npp) 2) ≡ b → (c : Bool)
+          → (a ⇒ tones [] ∣ b ⇒ rowsFrom (entryRow s g) 0 (g .totp) ∣ c ⇒ refused ∣ stops) ≡ tones ps → NoStop s g
+      by-cases true p b q c h = no-entry (eqb-true _ _ p)
+      by-cases false p true q c h = pulses (one-or-two q)
+      by-cases false p false q true h = absurd (let z : _≡_ {A = ℕ} 0 1 = cc in omega arith)
+      by-cases false p false q false h = absurd (let z : _≡_ {A = ℕ} 0 1 = cc in omega arith)
+
   with-bad : (ps : List Tone) (x : Part) → withData ps x ≡ refused4 → x ≡ refused
   unfolding withData
   with-bad ps refused e = refl
   with-bad ps stops e = absurd (let z : _≡_ {A = ℕ} 0 1 = cc in omega arith)
   with-bad ps (tones ts) e = absurd (let z : _≡_ {A = ℕ} 0 1 = cc in omega arith)
 
-  general-bad : (x : Part) → pilotOf s g ≡ x → withPilot s g x ≡ refused4 → Four s g
+  abbrev plainOf : List Tone → Given
+  plainOf ps = plain ps (symbolAt s (g .symbols) 2 0 .first) (symbolAt s (g .symbols) 2 1 .first) (usedBits (g .totd))
+
+  general-bad : (x : Part) → pilotOf s g ≡ x → withPilot s g x ≡ refused4 → BadParts s g
   unfolding withPilot
   general-bad refused p e = inl (pilot-bad p)
   general-bad stops p e = absurd (let z : _≡_ {A = ℕ} 0 1 = cc in omega arith)
-  general-bad (tones ps) p e = by-cases (ltb 0 (g .totd) && ordinary s g) refl e
+  general-bad (tones ps) p e = by-cases (ltb 0 (g .totd) && ordinary s g) e
     where
-      by-cases : (a : Bool) → (ltb 0 (g .totd) && ordinary s g) ≡ a → (a ⇒ plain ps (symbolAt s (g .symbols) 2 0 .first) (symbolAt s (g .symbols) 2 1 .first) (usedBits (g .totd)) ∣ withData ps (dataPart s g)) ≡ refused4 → Four s g
-      by-cases true q h = absurd (let z : _≡_ {A = ℕ} 0 1 = cc in omega arith)
-      by-cases false q h = inr (record { rows = ps; pilot = p; other = q }, data-bad (with-bad ps (dataPart s g) h))
+      by-cases : (a : Bool) → (a ⇒ plainOf ps ∣ withData ps (dataPart s g)) ≡ refused4 → BadParts s g
+      by-cases true h = absurd (let z : _≡_ {A = ℕ} 0 1 = cc in omega arith)
+      by-cases false h = inr (stopless p, data-bad (with-bad ps (dataPart s g) h))
 
-  bad-general : Four s g → generalOf s g ≡ refused4
-  unfolding generalOf withPilot withData
-  bad-general (inl b) = rw (bad-pilot b)
-  bad-general (inr b) = rw (b .0 .pilot, b .0 .other, bad-data (b .1))
+  -- a symbol's number has nb bits
+  number-small : (bit more : ℕ) → symbolNumber s g bit more < 2 ^ g .nb
+  unfolding symbolNumber
+  number-small bit more = mod-lt (getD s (g .from + bit / 8) 0 / 2 ^ (7 - bit % 8 - more)) (two-pow (g .nb))
+    where
+      two-pow : (n : ℕ) → 0 < 2 ^ n
+      two-pow zero = omega arith
+      two-pow (suc n) = omega (arith, two-pow n, pow-suc 2 n)
 
+  module _ (bits : g .nb ≡ bitsOf (g .asd - 1)) where
+    -- an ordinary data block has nothing bad: totd is above 0, nb is 1, npd is 2, and no number of one bit is 2
+    one-bit : g .asd ≡ 2 → g .nb ≡ 1
+    unfolding binaryDigits
+    one-bit e = bits ∙ ap (λ (n : ℕ). bitsOf (n - 1)) e
+
+    plain-fine : (ltb 0 (g .totd) && ordinary s g) ≡ true → BadData s g → ⊥
+    unfolding ordinary
+    plain-fine e b =
+        let x = ltb-true 0 (g .totd) (first-of (ltb 0 (g .totd)) (ordinary s g) e) in
+        let o = second-of (ltb 0 (g .totd)) (ordinary s g) e in
+        let asd = eqb-true (g .asd) 2 (first-of (eqb (g .asd) 2) _ o) in
+        let npd = eqb-true (g .npd) 2 (first-of (eqb (g .npd) 2) _ (second-of (eqb (g .asd) 2) _ o)) in
+        of x asd npd (one-bit asd) b
+      where
+        of : 0 < g .totd → g .asd ≡ 2 → g .npd ≡ 2 → g .nb ≡ 1 → BadData s g → ⊥
+        of x a n o (none z) = omega (arith, x, z)
+        of x a n o (eight h) = omega (arith, o, h)
+        of x a n o (no-bits z q) = omega (arith, o, z)
+        of x a n o (no-bits-paired z q m) = omega (arith, o, z)
+        of x a n o (single {i} q h k) =
+            let y = number-small (i * g .nb) 0 in
+            small (symbolNumber s g (i * g .nb) 0) (ap (λ (m : ℕ). 2 ^ m) o) y k
+          where
+            small : (v : ℕ) → 2 ^ g .nb ≡ 2 ^ 1 → v < 2 ^ g .nb → g .asd ≤ v → ⊥
+            small v w y k = omega (arith, w, y, k, a)
+        of x a n o (pair q h k) = omega (arith, n, q)
+
+    bad-general : BadParts s g → generalOf s g ≡ refused4
+    unfolding generalOf withPilot
+    bad-general (inl b) = rw (bad-pilot b)
+    bad-general (inr b) = by-pilot (pilotOf s g) refl
+      where
+        by-data : (ps : List Tone) (a : Bool) → (ltb 0 (g .totd) && ordinary s g) ≡ a
+            → (a ⇒ plainOf ps ∣ withData ps (dataPart s g)) ≡ refused4
+        by-data ps true q = absurd (plain-fine q (b .1))
+        by-data ps false q = with-refused ps (bad-data (b .1))
+
+        by-pilot : (x : Part) → pilotOf s g ≡ x → withPilot s g x ≡ refused4
+        by-pilot refused p = refl
+        by-pilot stops p = absurd (no-stop (b .0) p)
+        by-pilot (tones ps) p = by-data ps (ltb 0 (g .totd) && ordinary s g) refl
+
+    -- RULES 81 AND 82, EXACTLY, of a 19 that is all there
+    pub parts-exactly : (generalOf s g ≡ refused4) ↔ BadParts s g
+    unfolding generalOf
+    parts-exactly = (general-bad (pilotOf s g) refl, bad-general)
+
+module _ (s : List ℕ) (at : ℕ) (t : Parsed) where
   -- REFUSAL 4, EXACTLY
-  pub four-exactly : (generalOf s g ≡ refused4) ↔ Four s g
-  unfolding generalOf
-  four-exactly = (general-bad (pilotOf s g) refl, bad-general)
+  pub four-exactly : Panics s at t ↔ Four s at
+  four-exactly = (λ p. there p, λ f. back f)
+    where
+      bits : {kind from next : ℕ} {g : GeneralizedData} → cutAt s at full ≡ taken.Whole kind from next (Generalized g)
+          → g .nb ≡ bitsOf (g .asd - 1)
+      bits e = cut-places s at full e .places .bits
+
+      there : Panics s at t → Four s at
+      there (panic.before {kind} {p} e) = four.before (overflow-exactly s at kind p .0 e .0)
+      there (panic.within {g = g} e h) = four.within e (parts-exactly s g (bits e) .0 h)
+
+      back : Four s at → Panics s at t
+      back (four.before o) = panic.before {kind = 0x19} {p = dataAt s at} (overflow-exactly s at 0x19 (dataAt s at) .1 (o, (refl, refl)))
+      back (four.within {g = g} e h) = panic.within e (parts-exactly s g (bits e) .1 h)

@@ -18,3 +18,6 @@ pub mod Listings
 pub mod Errors
 pub mod Four
 pub mod Texts
+pub mod Capacity
+pub mod Larger
+pub mod Overflow

@@ -2,7 +2,7 @@
 use Prim.Native.Nat.{ℕ, _≤_, _<_}
 use native.Mathlib.Omega.{arith}
 use mathlib.Core.Path.{_≡_, refl}
-use mathlib.Core.Logic.{_↔_, inl, inr, ⊎-elim}
+use mathlib.Core.Logic.{_↔_, Iff·trans, inl, inr, ⊎-elim}
 use mathlib.Core.List.{List}
 use lib.ListN.{length}
 use Rattle.refusals.specs.Refusals.{badModel, tapeLong, tapeBad, generalised, tonesFull, blocksFull, lastBits}
@@ -13,11 +13,13 @@ use Rattle.load_source.specs.Source.{done, refused, readTzx, readTap, foldFrom,
 use Rattle.load_tape.specs.declared.Loaded.the-variants.{Refused}
 use Rattle.load_tape.specs.Load.{loadNamed, answerOf, blockTable, toneTable, Leaves}
 use Rattle.law_every_load.proofs.Room.{Within}
-use Rattle.law_promises.specs.Numbers.{Admitted, Errs, Comes, ByTzx, ByTap, Due, Panics, OverlongAt}
+use Rattle.law_promises.specs.Numbers.{Admitted, Errs, Comes, ByTzx, ByTap, Due, OverlongAt}
+use Rattle.law_promises.specs.Four.{Four}
 use Rattle.law_promises.specs.Needs.{NeedsPiece, NeedsBlock, Lacking}
 use Rattle.law_promises.proofs.Runs.{comes-under, run-due}
 use Rattle.law_promises.proofs.Loads.{LoadRefused, model-no, size-no, both-no, tzx-no, tap-no, refused-when, tzx-piece, tzx-last}
 use Rattle.law_promises.proofs.Dues.{tzx-bounded, tzx-within, panics-due, piece-due, tap-bounded, tap-within, block-due, end-due}
+use Rattle.law_promises.proofs.Four.{four-exactly}
 
 module _ (lent : Lent) (s : List ℕ) (model : ℕ) where
   -- 1: model is not 0 (48K), 1 (128K), 2 (Plus3)
@@ -86,16 +88,17 @@ module _ (lent : Lent) (s : List ℕ) (model : ℕ) where
       )
 
   -- 4: a generalised piece on which the Rust panics
-  pub given-4 : (answerOf (loadNamed lent s model) ≡ Refused generalised) ↔ (Admitted 1048576 s model × ByTzx lent s model (Panics s))
+  pub given-4 : (answerOf (loadNamed lent s model) ≡ Refused generalised)
+      ↔ (Admitted 1048576 s model × ByTzx lent s model (λ at t. Four s at))
   given-4 = (
     λ e. of (refused-when lent s model generalised .0 e),
     λ h. refused-when lent s model generalised .1 (tzx-no (h .0) (comes .1 (h .1)) (record { low = omega arith; high = omega arith })),
   )
     where
-      comes : (readTzx lent s model ≡ refused generalised) ↔ ByTzx lent s model (Panics s)
-      comes = tzx-comes generalised (omega arith) (λ at t w. panics-due lent s model at t)
+      comes : (readTzx lent s model ≡ refused generalised) ↔ ByTzx lent s model (λ at t. Four s at)
+      comes = tzx-comes generalised (omega arith) (λ at t w. Iff·trans (panics-due lent s model at t) (four-exactly s at t))
 
-      of : LoadRefused lent s model generalised → Admitted 1048576 s model × ByTzx lent s model (Panics s)
+      of : LoadRefused lent s model generalised → Admitted 1048576 s model × ByTzx lent s model (λ at t. Four s at)
       of (model-no h q) = absurd (omega arith)
       of (size-no h l q) = absurd (omega arith)
       of (both-no a x y q) = absurd (omega arith)

@@ -1,4 +1,4 @@
--- DEMAND 2 ON VIEWS: the blocks in the tables that a load leaves are the block list of the definition. Assumes nothing but that bytes are below 256.
+-- DEMAND 2 ON VIEWS: the blocks in the tables that a load leaves are the tape's block list, whatever was lent. Assumes nothing but that bytes are below 256.
 use Prim.Native.Nat.{ℕ, zero, suc, _+_, _≤_, _<_}
 use native.Mathlib.Numerals.{add-one}
 use native.Mathlib.Omega.{arith}
@@ -15,7 +15,7 @@ use Rattle.load_blocks.specs.Does.{lentOf}
 use Rattle.load_source.specs.Source.{Load}
 use Rattle.load_tape.specs.declared.Format.{Format}
 use Rattle.load_tape.specs.declared.Loaded.the-variants as loaded
-use Rattle.load_tape.specs.Load.{namedTape, namedLoad, loadNamed, Leaves}
+use Rattle.load_tape.specs.Load.{namedTape, namedLoad, loadNamed, answerOf, Leaves}
 use Rattle.text_name.specs.Names.{nameAll}
 use Rattle.text_name.proofs.Selecting.{name-all-length}
 use Rattle.play_entries.specs.Mounted.{tapeOf}
@@ -25,7 +25,9 @@ use Rattle.law_every_load.proofs.Left.{left}
 use Rattle.law_every_load.proofs.Within.{rows-within}
 use Rattle.text_view.specs.View.{View, tonesFrom, viewOf, rowViews, viewsIn, blockList}
 use Rattle.load_state.specs.Kept.{All, nil, cons}
-use Rattle.law_promises.specs.Demands.{listOf}
+use Rattle.law_promises.specs.Boundless.{boundlessLoad}
+use Rattle.law_promises.specs.Demands.{listOf, blockListOf}
+use Rattle.law_promises.proofs.Capacity.{named-reads, accepted-load}
 
 none : Tone
 none = decodeTone []
@@ -63,10 +65,10 @@ list-named s as-tzx = refl
 list-named s as-tap = refl
 
 module _ (B N : ℕ) (s : List ℕ) (model : ℕ) {f : Format} {n k : ℕ} {bt tt : List ℕ} (b : Bytes s) (l : Leaves B N (loadNamed (lentOf B N) s model) (loaded.Tape f n k) bt tt) where
-  -- DEMAND 2
-  pub demand-2 : viewsIn (tapeOf s tt bt n) ≡ listOf s (loadNamed (lentOf B N) s model)
+  -- as the load with these tables has them
+  as-loaded : viewsIn (tapeOf s tt bt n) ≡ listOf s (loadNamed (lentOf B N) s model)
   unfolding loadNamed
-  demand-2 =
+  as-loaded =
       let q = left B N s model b l in
       let t = q .tape in
       let rs = nameAll s false (t .blocks) in
@@ -74,3 +76,16 @@ module _ (B N : ℕ) (s : List ℕ) (model : ℕ) {f : Format} {n k : ℕ} {bt t
       ∙ ap (rowViews s (tableOf tone (t .tones) N)) (rows-over block rs (zeros B) n (name-all-length s false (t .blocks) ∙ sym (q .count)))
       ∙ list-read s (t .tones) N (rows-within (lentOf B N) s model b (q .reads))
       ∙ sym (list-named s (q .reads))
+
+  any-tables : loadNamed (lentOf B N) s model ≡ boundlessLoad s model
+  unfolding loadNamed
+  any-tables = accepted-load s model (lentOf B N) (named-reads s (left B N s model b l .reads))
+
+  -- DEMAND 2
+  pub demand-2 : viewsIn (tapeOf s tt bt n) ≡ blockListOf s model
+  unfolding blockListOf
+  demand-2 = as-loaded ∙ ap (listOf s) any-tables
+
+  -- .. and the answer: the format, how many blocks and tone rows there are
+  pub answer-2 : loaded.Tape f n k ≡ answerOf (boundlessLoad s model)
+  answer-2 = l .answer ∙ ap answerOf any-tables

@@ -5,3 +5,4 @@ pub mod Four
 pub mod Needs
 pub mod Playing
 pub mod Texts
+pub mod Boundless

@@ -9,18 +9,14 @@ use lib.Dec.{eqb}
 use Rattle.law_pulses.specs.Play.{Entry, time, Finite}
 use Rattle.law_pulses.specs.Source.{dropped}
 use Rattle.rows.specs.declared.Block.{Block}
-use Rattle.cut_grammar.specs.declared.Piece.the-variants.{Generalized}
-use Rattle.cut_grammar.specs.declared.GeneralizedData.{GeneralizedData}
-use Rattle.cut_grammar.specs.declared.Taken.the-variants as taken
 use Rattle.cut_grammar.specs.declared.Heading.the-variants.{Version}
-use Rattle.cut_grammar.specs.Cut.{cutAt, headAt}
-use Rattle.load_general.specs.General.{generalOf, refused4}
+use Rattle.cut_grammar.specs.Cut.{headAt}
 use Rattle.load_state.specs.declared.Halt.{Halt}
 use Rattle.load_state.specs.declared.Halt.the-variants.{Length}
 use Rattle.load_state.specs.Parser.{Parsed, Out, on, no, empty}
 use Rattle.load_blocks.specs.Adds.{Lent}
 use Rattle.load_source.specs.declared.Failure.{Failure}
-use Rattle.load_source.specs.Source.{See, theEnd, bad, refuses, thing, Verdict, done, failed, refused, halted, full, tzxSee, tapSee}
+use Rattle.load_source.specs.Source.{See, theEnd, bad, refuses, thing, Verdict, done, failed, refused, halted, tzxSee, tapSee}
 use Rattle.play_entries.specs.Entries.{Label}
 use Rattle.play_entries.specs.Places.{Tape, blockIn, listFrom}
 use Rattle.play_entries.specs.Mounted.{overfull, wellRow}
@@ -64,11 +60,6 @@ ByTap lent s P = Comes (tapSee lent s) P 0 empty
 pub data Bad (see : ℕ → See) (at : ℕ) (t : Parsed) : Type 0 where
   short : {f : Failure} → see at ≡ bad f → Bad see at t
   length48 : {next n : ℕ} {does : Parsed → Out} → see at ≡ thing next does → does t ≡ no (Length n) → Bad see at t
-
--- 4: a generalised piece on which the Rust panics: before its data bytes, or by its entries and symbols
-pub data Panics (s : List ℕ) (at : ℕ) (t : Parsed) : Type 0 where
-  overflows : {kind p : ℕ} → cutAt s at full ≡ taken.Overflow kind p → Panics s at t
-  within : {kind from next : ℕ} {g : GeneralizedData} → cutAt s at full ≡ taken.Whole kind from next (Generalized g) → generalOf s g ≡ refused4 → Panics s at t
 
 -- 7: a block with data has last bits above 8
 pub data Overlong : List Block → Type 0 where

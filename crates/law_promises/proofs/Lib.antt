@@ -13,3 +13,8 @@ pub mod Positions
 pub mod Listings
 pub mod Errors
 pub mod Four
+<<<<<<< N
+=======
+pub mod Texts
+pub mod Words
+>>>>>>> t4

@@ -331,6 +331,18 @@ static void refusals(void) {
     refused(LOADING, count, 0, 1, 11, "a bad row is refused 11");
     at(1, 0, 0, 0, 0, 0, 0);
     for (unsigned c = 0; c < 3; c++) refused(of_place[c], count, 0, values[of_place[c]], 11, "a position in a bad row is refused 11");
+    for (unsigned c = 0; c < 3; c++) {
+        word last = values[of_place[c]];
+        at(1, 5, 0, 0, 0, 0, 0), refused(of_place[c], count, 0, last, 11, "phase 5 in a bad row is refused 11");
+        for (position_len = 6; position_len > 0; position_len--) refused(of_place[c], count, 0, last, 11, "  in fewer words too");
+        refused(of_place[c], count, 0, last, 9, "  and in none 9");
+        refused(of_place[c], 4097, 0, last, 11, "  but for a count of 4,097, which is 11");
+        position_len = 1, position[0] = count;
+        refused(of_place[c], count, 0, last, 9, "the count's number alone is refused 9");
+        position_len = 7;
+        at(count, 5, 0, 0, 0, 0, 0), refused(of_place[c], count, 0, last, 9, "phase 5 at the count is refused 9");
+        at(0, 5, 0, 0, 0, 0, 0), refused(of_place[c], count, 0, last, 9, "and in a row that is well formed");
+    }
     at(0, 0, 0, 0, 0, 0, 0);
     t_states = 401;
     for (unsigned c = 1; c < 3; c++) refused(of_place[c], count, 0, 10, 11, "a walk that reaches a bad row is refused 11");

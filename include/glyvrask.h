@@ -74,7 +74,9 @@ enum {
 };
 
 /* A POSITION is seven words. Words that a phase does not use are 0, and so is `left` where `endless` is 1; other words name no
- * position, as does a row shorter than seven. Words past the seventh are not read. */
+ * position, as does a row shorter than seven. They are refused as a position of block `position[0]` that is not valid: 11 for the
+ * count, 9 where that is not below the count, 11 for its row, 9 (in no words: 11 for the count, 9). Words past the seventh are not
+ * read. */
 enum {
     GLYVRASK_POS_BLOCK = 0,   /* its block number */
     GLYVRASK_POS_PHASE = 1,   /* 0 the block's start, 1 tones, 2 data, 3 pause, 4 a document row's edge: its pause's first millisecond */

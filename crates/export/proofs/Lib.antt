@@ -1,3 +1,4 @@
 pub mod Placing
+pub mod Words
 pub mod Loading
 pub mod Naming

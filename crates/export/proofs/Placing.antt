@@ -1,44 +1,63 @@
--- Words that name no position: 11 for the count, then 9. Assumes nothing.
-use Prim.Native.Nat.{ℕ}
-use mathlib.Core.Path.{_≡_, sym, _∙_}
-use mathlib.Core.List.{List}
+-- Words that name no position, in the order of rule 37. Assumes nothing.
+use Prim.Native.Nat.{ℕ, _<_}
+use native.Mathlib.Omega.{arith}
+use mathlib.Core.Path.{_≡_, refl, ap, _∙_}
+use mathlib.Core.List.{List, [], _∷_}
 use mathlib.Core.Bool.{Bool, true, false}
+use lib.ListN.{length, getD}
+use lib.Dec.{leb}
 use Rattle.law_base.specs.Rules.{_⇒_, _∣_}
-use Rattle.refusals.specs.Refusals.{noPosition, badRow}
+use Rattle.refusals.specs.Refusals.{noBlock, noPosition, badRow}
 use Rattle.play_entries.specs.Places.{Tape}
-use Rattle.play_entries.specs.Mounted.{overfull}
-use Rattle.ask_block.specs.declared.Number.{Number}
-use Rattle.ask_block.specs.declared.Number.the-variants.{Is, Refused}
-use Rattle.ask_block.specs.Queries.{lenOf}
+use Rattle.play_entries.specs.Mounted.{overfull, wellRow}
+use Rattle.ask_block.specs.Queries.{refusalOf}
 use Rattle.play_walk.specs.declared.Position.{Position}
 use Rattle.host_words.specs.declared.Placed.the-variants.{Not}
-use Rattle.host_answers.specs.Answers.{Reply, refusedBy, numberOf, valuesOf}
-use Rattle.export.specs.Export.{withPlace}
+use Rattle.host_answers.specs.Answers.{Reply, numberOf, valuesOf}
+use Rattle.export.specs.Export.{misplacedNo, withPlace}
 use Rattle.host_answers.proofs.Telling.{tell-refused}
 
-by-none : (t : Bool) (n m : ℕ) → Is n ≡ (t ⇒ Refused badRow ∣ Is m) → _≡_ {A = ℕ} noPosition (t ⇒ badRow ∣ noPosition)
-by-none true n m e = cc
-by-none false n m e = cc
+module _ (w : Tape) where
+  -- the count exceeds the capacity
+  pub none-over : (ws : List ℕ) → overfull w ≡ true → badRow ≡ misplacedNo w ws
+  unfolding misplacedNo
+  none-over [] e = rw e
+  none-over (b ∷ ws) e = rw e
 
-by-over : (t : Bool) (k m : ℕ) → Refused k ≡ (t ⇒ Refused badRow ∣ Is m) → k ≡ (t ⇒ badRow ∣ noPosition)
-by-over true k m e = cc
-by-over false k m e = cc
+  -- it doesn't, and there is no word
+  pub none-empty : (ws : List ℕ) → overfull w ≡ false → length ws < 1 → noPosition ≡ misplacedNo w ws
+  unfolding misplacedNo
+  none-empty [] e h = rw e
+  none-empty (b ∷ ws) e h = absurd (omega arith)
 
--- the count is within the capacity
-pub placed-none : (w : Tape) {a : Number} {n : ℕ} → a ≡ lenOf w → a ≡ Is n → _≡_ {A = ℕ} noPosition (overfull w ⇒ badRow ∣ noPosition)
-unfolding lenOf
-placed-none w {a} {n} e q = by-none (overfull w) n (w .count) (sym q ∙ e)
+  -- what a query of the block that the first word numbers is refused: 11, or not
+  by-bad : (o c r : Bool) {k : ℕ} → k ≡ (o ⇒ badRow ∣ c ⇒ noBlock ∣ r ⇒ 0 ∣ badRow) → k ≡ badRow
+      → badRow ≡ (o ⇒ badRow ∣ c ⇒ noPosition ∣ r ⇒ noPosition ∣ badRow)
+  by-bad true c r e f = refl
+  by-bad false true r e f = absurd (omega arith)
+  by-bad false false true e f = absurd (omega arith)
+  by-bad false false false e f = refl
 
--- it exceeds it
-pub placed-over : (w : Tape) {a : Number} {k : ℕ} → a ≡ lenOf w → a ≡ Refused k → k ≡ (overfull w ⇒ badRow ∣ noPosition)
-unfolding lenOf
-placed-over w {a} {k} e q = by-over (overfull w) k (w .count) (sym q ∙ e)
+  by-other : (o c r : Bool) {k : ℕ} → k ≡ (o ⇒ badRow ∣ c ⇒ noBlock ∣ r ⇒ 0 ∣ badRow) → (k ≡ badRow → ⊥)
+      → noPosition ≡ (o ⇒ badRow ∣ c ⇒ noPosition ∣ r ⇒ noPosition ∣ badRow)
+  by-other true c r e f = absurd (f e)
+  by-other false true r e f = refl
+  by-other false false true e f = refl
+  by-other false false false e f = absurd (f e)
 
-by-count : (t : Bool) (k : ℕ) (row : List ℕ) → k ≡ (t ⇒ badRow ∣ noPosition) → (k ≡ numberOf (t ⇒ refusedBy badRow ∣ refusedBy noPosition) row) × (row ≡ valuesOf (t ⇒ refusedBy badRow ∣ refusedBy noPosition) row)
-by-count true k row e = (e ∙ tell-refused badRow row .0, tell-refused badRow row .1)
-by-count false k row e = (e ∙ tell-refused noPosition row .0, tell-refused noPosition row .1)
+  pub none-bad : (ws : List ℕ) {k : ℕ} → 0 < length ws → k ≡ refusalOf w (getD ws 0 0) → k ≡ badRow → badRow ≡ misplacedNo w ws
+  unfolding refusalOf misplacedNo
+  none-bad [] h e f = absurd (omega arith)
+  none-bad (b ∷ ws) h e f = by-bad (overfull w) (leb (w .count) b) (wellRow w b) e f
 
--- so a host is told, whatever is asked of the position
-pub tell-misplaced : (f : Position → Reply) (w : Tape) (k : ℕ) (row : List ℕ) → k ≡ (overfull w ⇒ badRow ∣ noPosition) → (k ≡ numberOf (withPlace f w Not) row) × (row ≡ valuesOf (withPlace f w Not) row)
-unfolding withPlace
-tell-misplaced f w k row e = by-count (overfull w) k row e
+  pub none-other : (ws : List ℕ) {k : ℕ} → 0 < length ws → k ≡ refusalOf w (getD ws 0 0) → (k ≡ badRow → ⊥)
+      → noPosition ≡ misplacedNo w ws
+  unfolding refusalOf misplacedNo
+  none-other [] h e f = absurd (omega arith)
+  none-other (b ∷ ws) h e f = by-other (overfull w) (leb (w .count) b) (wellRow w b) e f
+
+  -- so a host is told, whatever is asked of the position
+  pub tell-misplaced : (f : Position → Reply) (ws : List ℕ) {k : ℕ} (row : List ℕ) → k ≡ misplacedNo w ws
+      → (k ≡ numberOf (withPlace f w ws Not) row) × (row ≡ valuesOf (withPlace f w ws Not) row)
+  unfolding withPlace
+  tell-misplaced f ws row e = (e ∙ tell-refused (misplacedNo w ws) row .0, tell-refused (misplacedNo w ws) row .1)

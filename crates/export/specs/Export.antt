@@ -1,12 +1,12 @@
 -- What a C host gets of a position as words, a load and a name: the answer, and what is left of each lent row. Definitions alone; assumes nothing.
 use Prim.Native.Nat.{ℕ}
-use mathlib.Core.List.{List}
-use lib.Dec.{ltb}
+use mathlib.Core.List.{List, [], _∷_}
+use lib.Dec.{ltb, leb}
 use lib.ListN.{length}
 use Rattle.law_base.specs.Rules.{_⇒_, _∣_}
 use Rattle.refusals.specs.Refusals.{noPosition, noRoom, badRow}
 use Rattle.play_entries.specs.Places.{Tape}
-use Rattle.play_entries.specs.Mounted.{overfull}
+use Rattle.play_entries.specs.Mounted.{overfull, wellRow}
 use Rattle.play_walk.specs.declared.Position.{Position}
 use Rattle.ask_block.specs.Queries.{nameBytes}
 use Rattle.play_deck.specs.Deck.{playMeasured, playSource, blockAt}
@@ -19,20 +19,26 @@ use Rattle.host_words.specs.declared.Placed.the-variants as place
 use Rattle.host_words.specs.Words.{positionFrom}
 use Rattle.host_answers.specs.Answers.{Reply, refusedBy, ofSelected, ofReached, ofLoaded}
 
--- WITH A POSITION as words: 11 for the count, then 9 where they name none; else what f says of it
-unfoldable pub withPlace : (Position → Reply) → Tape → Placed → Reply
-withPlace f w (place.Is q) = f q
-withPlace f w place.Not = overfull w ⇒ refusedBy badRow ∣ refusedBy noPosition
+-- WORDS THAT NAME NO POSITION are refused in rule 37's order, the first of them the block's number: 11 for the count, 9 at or past it,
+-- 11 for its row, 9. With no word there is no row to look at
+unfoldable pub misplacedNo : Tape → List ℕ → ℕ
+misplacedNo w [] = overfull w ⇒ badRow ∣ noPosition
+misplacedNo w (b ∷ ws) = overfull w ⇒ badRow ∣ leb (w .count) b ⇒ noPosition ∣ wellRow w b ⇒ noPosition ∣ badRow
+
+-- WITH A POSITION as words: what f says of it, or that refusal where they name none
+unfoldable pub withPlace : (Position → Reply) → Tape → List ℕ → Placed → Reply
+withPlace f w ws (place.Is q) = f q
+withPlace f w ws place.Not = refusedBy (misplacedNo w ws)
 
 -- a position's block, and both players' answers, from lent words
 abbrev pub selectedAt : Tape → List ℕ → Reply
-selectedAt w ws = withPlace (λ q. ofSelected (blockAt w q)) w (positionFrom ws)
+selectedAt w ws = withPlace (λ q. ofSelected (blockAt w q)) w ws (positionFrom ws)
 
 abbrev pub sourceAt : Tape → List ℕ → ℕ → Reply
-sourceAt w ws n = withPlace (λ q. ofReached (playSource w q n)) w (positionFrom ws)
+sourceAt w ws n = withPlace (λ q. ofReached (playSource w q n)) w ws (positionFrom ws)
 
 abbrev pub measuredAt : Tape → List ℕ → ℕ → Reply
-measuredAt w ws n = withPlace (λ q. ofReached (playMeasured w q n)) w (positionFrom ws)
+measuredAt w ws n = withPlace (λ q. ofReached (playMeasured w q n)) w ws (positionFrom ws)
 
 -- the load of a tape for a model into lent tables
 abbrev pub loadIn : List ℕ → List ℕ → List ℕ → ℕ → Load

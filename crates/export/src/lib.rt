@@ -1,5 +1,6 @@
 // Thin functions that a C host calls over tables of its own: include/glyvrask.h says what each takes and which words it answers.
-use ask_block::Number;
+use ask_block::overfull;
+use ask_block::refusal;
 use host_answers::tell_loaded;
 use host_answers::tell_mark;
 use host_answers::tell_number;
@@ -10,29 +11,34 @@ use host_answers::tell_time;
 use host_words::Placed;
 use host_words::position_from;
 use play_walk::Position;
+use refusals::BAD_ROW;
 use refusals::NO_POSITION;
 use refusals::NO_ROOM;
 ghost use mathlib.Core.Path.{_≡_};
 ghost use mathlib.Core.List.{List};
 ghost use Prim.Native.Nat.{ℕ};
 ghost use lib.ListN.{length};
-ghost use Rattle.law_base.specs.Rules.{_⇒_, _∣_};
-ghost use Rattle.refusals.specs.Refusals.{noPosition, badRow};
-ghost use Rattle.play_entries.specs.Mounted.{overfull, tapeOf};
+ghost use Rattle.play_entries.specs.Mounted.{tapeOf};
 ghost use Rattle.play_walk.specs.Heads.{startAt};
 ghost use Rattle.ask_block.specs.Queries.{lenOf, sizeOf, selectableOf, timeOf, nameAnswer, loadingOf};
 ghost use Rattle.load_tape.specs.Load.{answerOf, blockTable, toneTable};
 ghost use Rattle.host_answers.specs.Answers.{numberOf, valuesOf, ofNumber, ofMark, ofTime, ofPosition, ofLoaded};
-ghost use Rattle.export.specs.Export.{loadIn, selectedAt, sourceAt, measuredAt, loadNumber, loadTable, nameLeft};
+ghost use Rattle.export.specs.Export.{loadIn, misplacedNo, selectedAt, sourceAt, measuredAt, loadNumber, loadTable, nameLeft};
 
-// Words that name no position: 11 for the count, then 9.
-fn misplaced(blocks: &[u64], count: u64) -> u32
-    ensures { λ k. ⌜ ((bytes tones : List ℕ) → k ≡ (overfull (tapeOf bytes tones (now (blocks .entry)) count) ⇒ badRow ∣ noPosition)) ⌝ }
+// Words that name no position, in rule 37's order: 11 for the count, 9 for the block number that stands first, 11 for its row, 9.
+fn misplaced(tape: &[u8], tones: &[u64], blocks: &[u64], count: u64, words: &[u64]) -> u32
+    ensures { λ k. ⌜ k ≡ misplacedNo (tapeOf (now (tape .entry)) (now (tones .entry)) (now (blocks .entry)) count) (now (words .entry)) ⌝ }
 {
-    match ask_block::len(blocks, count) {
-        Number::Is(_) => NO_POSITION,
-        Number::Refused(k) => k,
+    if overfull(blocks, count) {
+        return BAD_ROW;
     }
+    if words.len() < 1 {
+        return NO_POSITION;
+    }
+    if refusal(tape, tones, blocks, count, words[0]) == BAD_ROW {
+        return BAD_ROW;
+    }
+    NO_POSITION
 }
 
 // A load into the host's tables; answers the format, the blocks and the tone rows.
@@ -178,7 +184,7 @@ pub extern "C" fn glyvrask_position_block(
 {
     match position_from(position) {
         Placed::Is(pos) => tell_selected(play_menu::block(tape, tones, blocks, count, pos), answer),
-        Placed::Not => misplaced(blocks, count),
+        Placed::Not => misplaced(tape, tones, blocks, count, position),
     }
 }
 
@@ -201,7 +207,7 @@ pub extern "C" fn glyvrask_play(
             play_deck::play(tape, tones, blocks, count, pos, n),
             answer,
         ),
-        Placed::Not => misplaced(blocks, count),
+        Placed::Not => misplaced(tape, tones, blocks, count, position),
     }
 }
 
@@ -224,6 +230,6 @@ pub extern "C" fn glyvrask_play_measured(
             let r = play_deck::play_measured(tape, tones, blocks, count, pos, n);
             tell_reached(r, answer)
         }
-        Placed::Not => misplaced(blocks, count),
+        Placed::Not => misplaced(tape, tones, blocks, count, position),
     }
 }

@@ -21,3 +21,4 @@ pub mod Texts
 pub mod Capacity
 pub mod Larger
 pub mod Overflow
+pub mod Words

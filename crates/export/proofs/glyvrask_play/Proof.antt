@@ -36,7 +36,8 @@ returns-2 : tie.Need-returns-2
 returns-2 c =
     let a = c .before .before .before .before .before .before .before .before .before .args in
     let w = tapeOf (a .tape .now) (a .tones .now) (a .blocks .now) (a .count) in
-    rw (← c .before .before .before .position-from .ensures, c .before .enum-told .given .1) (tell-misplaced _ w _ _ (c .misplaced .ensures (a .tape .now) (a .tones .now)))
+    rw (← c .before .before .before .position-from .ensures, c .before .enum-told .given .1)
+    (tell-misplaced w _ (a .position .now) _ (c .misplaced .ensures))
 
 pub glyvrask-play-spec : {M : Type 1} → statement M
 glyvrask-play-spec =

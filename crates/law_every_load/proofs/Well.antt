@@ -13,8 +13,13 @@ use Rattle.law_base.proofs.Numbers.{lt-or-ge}
 use Rattle.rows.specs.declared.Block.{Block}
 use Rattle.rows.specs.declared.Tone.{Tone}
 use Rattle.rows.specs.Table.{Codec, get, tableOf, zeros, capacityOf}
+<<<<<<< N
 use Rattle.rows.specs.Rows.{tone, block, toneMost}
 use Rattle.rows.specs.Well.{wellTone, wellTones, wellRanges, wellLast, wellNumbers, wellCases, wellBlock, Halves}
+=======
+use Rattle.rows.specs.Rows.{tone, block, toneMost, tonesIn}
+use Rattle.rows.specs.Well.{wellTone, wellTones, wellRanges, wellLast, wellNumbers, wellCases, wellBlock}
+>>>>>>> oc
 use Rattle.rows.proofs.Tables.{over-length, get-row}
 use Rattle.load_state.specs.Parser.{Parsed}
 use Rattle.load_state.specs.Holds.{toneRoom, blockRoom}
@@ -26,7 +31,7 @@ use Rattle.text_name.specs.Names.{nameAll}
 use Rattle.text_name.proofs.Selecting.{name-all-length}
 use Rattle.play_entries.specs.Mounted.{tapeOf, overfull, tapeSize, wellRow}
 use Rattle.law_every_load.specs.Sizes.{Bytes}
-use Rattle.law_every_load.specs.Made.{tonesIn, RowOver}
+use Rattle.law_every_load.specs.Made.{RowOver}
 use Rattle.law_every_load.specs.OfSource.{Reads}
 use Rattle.law_every_load.specs.Formed.{Formed}
 use Rattle.law_every_load.proofs.Rows.{own-count, own-tone}

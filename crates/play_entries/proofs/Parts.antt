@@ -5,17 +5,22 @@ use mathlib.Core.Path.{_≡_, refl, sym, ap, _∙_}
 use mathlib.Core.Bool.{Bool, true, false}
 use Rattle.law_base.specs.Rules.{_⇒_, _∣_}
 use mathlib.Core.List.{List, [], _∷_, _++_, append-assoc}
+<<<<<<< N
 use Rattle.law_pulses.specs.Play.{Level, Entry, pulse, Finite}
 use Rattle.law_pulses.proofs.Joined.{finite-append}
 use Rattle.law_pulses.specs.Runs.{run}
 use Rattle.law_pulses.proofs.Runs.{run-finite}
+=======
+>>>>>>> oc
 use Rattle.play_entries.specs.declared.Phase.{Phase}
 use Rattle.play_entries.specs.declared.Phase.the-variants.{Start, Tones, Data, Edge, Pause}
 use Rattle.play_entries.specs.declared.Duration.{Duration}
-use Rattle.play_entries.specs.declared.Duration.the-variants.{T, Endless}
 use Rattle.play_entries.specs.Entries.{Label, labelAt, entryOf, startOf, edged, edgeTime, edgeOf, rowEntries, bitsAt, bitEntries, byteEntries}
-use Rattle.play_entries.specs.Places.{Tape, blockIn, toneIn, byteIn, bitIn, cycleIn, cyclesIn, cycleItem, levelAt, levelIn, listFrom, fromPause, fromEdge, fromByte, fromBit, fromTone, fromCycle, leftAt, hasEntry, lengthAt, valid, headOf, leftOf}
+<<<<<<< N
+use Rattle.play_entries.specs.Places.{Tape, blockIn, toneIn, byteIn, bitIn, cycleIn, cyclesIn, cycleItem, levelAt, levelIn, listFrom, fromPause, fromEdge, fromByte, fromBit, fromTone, fromCycle, leftAt, hasEntry, lengthAt, valid, headOf, leftOf, lengthIn}
 use Rattle.play_entries.specs.Tails.{LeadsInto, PartAt}
+=======
+>>>>>>> oc
 use Rattle.play_entries.proofs.Runs.{cycle-finite, bit-finite, row-finite, bytes-finite}
 use Rattle.play_entries.proofs.Follows.{list-in, tone-in, tone-out, tone-reach, cycle-in, second-in, edge-in, cycle-reach, byte-in, byte-out, byte-reach, bit-in, bit-reach}
 use Rattle.play_entries.proofs.Valid.{tone-entry, tone-second, data-entry, Stands, stands-valid, valid-start, below-stands}
@@ -98,12 +103,3 @@ module _ (w : Tape) (b : ℕ) (h : b < w .count) where
   -- THE PART of the list that a valid position leaves
   pub left-part : (f : Phase) (left : Duration) → valid w b f left ≡ true → PartAt w b f left
   left-part f left e = left-of f left (below-stands w b f left h e)
-
-  head-of : (f : Phase) (v : Level) (left : Duration) (es : List (Entry Label)) → (headOf w (entryOf (labelAt b f) v left ∷ es) ≡ labelAt b f) × (leftOf (entryOf (labelAt b f) v left ∷ es) ≡ left)
-  unfolding headOf leftOf entryOf
-  head-of f v (T t) es = (refl, refl)
-  head-of f v Endless es = (refl, refl)
-
-  -- the position at its head is that position
-  pub left-head : (f : Phase) (left : Duration) → valid w b f left ≡ true → (headOf w (leftAt w b f left) ≡ labelAt b f) × (leftOf (leftAt w b f left) ≡ left)
-  left-head f left e = let x = left-part f left e in rw (x .rest) (head-of f (levelIn w b f) left (x .next))

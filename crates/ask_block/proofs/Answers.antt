@@ -12,7 +12,6 @@ use Rattle.law_pulses.specs.Play.{comesTo}
 use Rattle.law_pulses.specs.Source.{isEnded}
 use Rattle.text_out.specs.Out.{fits}
 use Rattle.play_entries.specs.Entries.{entriesOf, lastsOf}
-<<<<<<< N
 use Rattle.play_entries.specs.Places.{Tape, blockIn, listFrom}
 use Rattle.play_entries.specs.Mounted.{overfull, WholeTape}
 use Rattle.play_entries.proofs.Formed.{whole-formed}
@@ -20,15 +19,6 @@ use Rattle.ask_block.specs.declared.Number.the-variants as number
 use Rattle.ask_block.specs.declared.Mark.the-variants as mark
 use Rattle.ask_block.specs.declared.Time.the-variants as lasting
 use Rattle.ask_block.specs.Queries.{numberNo, markNo, timeNo, refusalOf, numberUnless, markUnless, timeUnless, lenOf, sizeOf, selectableOf, timeOf, nameIn, lengthOrNoRoom, nameAnswer, nameBytes, loadingIn, loadingOf, EachAnswered}
-=======
-use Rattle.play_entries.specs.Places.{Tape, blockIn, listFrom, loadingTime}
-use Rattle.play_entries.specs.Mounted.{overfull}
-use Rattle.play_entries.proofs.Formed.{Whole, whole-formed}
-use Rattle.ask_block.specs.declared.Number.the-variants as number
-use Rattle.ask_block.specs.declared.Mark.the-variants as mark
-use Rattle.ask_block.specs.declared.Time.the-variants as lasting
-use Rattle.ask_block.specs.Queries.{numberNo, markNo, timeNo, refusalOf, numberUnless, markUnless, timeUnless, lenOf, sizeOf, selectableOf, timeOf, nameIn, lengthOrNoRoom, nameAnswer, loadingIn, loadingOf}
->>>>>>> oc
 use Rattle.ask_block.proofs.Refusals.{refusal-none}
 
 -- a rule whose second test fails
@@ -73,24 +63,7 @@ module _ (w : Tape) (whole : WholeTape w) where
     unfolding nameAnswer numberUnless
     name-whole out = rw none
 
-<<<<<<< N
-    pub bytes-whole : (out : List ℕ) → nameBytes w i out ≡ told (nameIn w i) out
-    unfolding nameBytes
-    bytes-whole out = rw none
-
 pub whole-answered : (w : Tape) → WholeTape w → (i : ℕ) → i < w .count → EachAnswered w i
-=======
--- the number for no (rule 20) is 0 in each answer, but for a name's where the lent bytes are shorter than it: 10
-pub record EachAnswered (w : Tape) (i : ℕ) : Type 0 where
-  pub len : numberNo (lenOf w) ≡ 0
-  pub size : numberNo (sizeOf w i) ≡ 0
-  pub selectable : markNo (selectableOf w i) ≡ 0
-  pub lasts : timeNo (timeOf w i) ≡ 0
-  pub name : (out : List ℕ) → numberNo (nameAnswer w i out) ≡ (fits (nameIn w i) out ⇒ 0 ∣ noRoom)
-  pub loading : numberNo (loadingOf w) ≡ 0
-
-pub whole-answered : (w : Tape) → Whole w → (i : ℕ) → i < w .count → EachAnswered w i
->>>>>>> oc
 unfolding numberNo markNo timeNo lengthOrNoRoom
 whole-answered w whole i h =
     record {

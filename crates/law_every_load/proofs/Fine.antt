@@ -9,11 +9,8 @@ use lib.ListN.{length}
 use lib.Dec.{eqb}
 use Rattle.law_base.specs.Rules.{_⇒_, _∣_}
 use Rattle.cut_fields.proofs.Le.{le-small}
-<<<<<<< N
 use Rattle.rows.specs.declared.Tone.{Tone}
 use Rattle.rows.specs.Well.{Halves}
-=======
->>>>>>> oc
 use Rattle.cut_grammar.specs.declared.GeneralizedData.{GeneralizedData}
 use Rattle.cut_grammar.specs.declared.Piece.{Piece}
 use Rattle.cut_grammar.specs.declared.Piece.the-variants.{Standard, Turbo, Tone as PureTone, Pulses, Pure, Generalized, Pause, GroupStart, GroupEnd, LoopStart, LoopEnd, Stop48, Text, Message, Archive, Hardware, Custom, Glue}
@@ -22,12 +19,9 @@ use Rattle.load_state.specs.declared.Pending.{Pending}
 use Rattle.load_state.specs.declared.Pending.the-variants as pending
 use Rattle.load_state.specs.Kept.{All, nil, cons}
 use Rattle.load_blocks.specs.declared.Origin.{Origin}
-<<<<<<< N
 use Rattle.load_general.specs.General.{plainTone}
 use Rattle.load_blocks.specs.Sounds.{Sound, ms, toneOf}
 use Rattle.load_blocks.specs.Blocks.{standardHeader, standardCycles, standardTones, standardPause, standardSound, turboTones, turboSound, pureToneTones, pulseAt, pairSound, pairSounds, pureTones, pureSound, stopSound, silentSound, pauseSound}
-=======
->>>>>>> oc
 use Rattle.load_blocks.specs.Deeds.{Deed, adds, adds48, errs, generalDeed, stop48Deed, soundsOf, brings}
 use Rattle.load_source.specs.Meaning.{deedOf}
 use Rattle.law_every_load.specs.Sizes.{Bytes, Range, Sized}

@@ -15,21 +15,15 @@ use Rattle.rows.specs.Rows.{tone, withPause, tonesIn}
 use Rattle.rows.proofs.Tables.{get-row}
 use Rattle.load_state.specs.declared.Pending.{Pending}
 use Rattle.load_state.specs.declared.Pending.the-variants.{Nothing, First, Later, Text}
-<<<<<<< N
 use Rattle.load_state.specs.Parser.{named, used, Parsed, empty, withTones, paused}
 use Rattle.load_state.proofs.Kept.{all-also, kept-empty, with-block, kept-steps}
 use Rattle.load_state.specs.Kept.{All, nil, cons, Lasting, KeptSoFar}
-=======
->>>>>>> oc
 use Rattle.load_blocks.specs.declared.Origin.{Origin}
 use Rattle.load_blocks.specs.Sounds.{Sound, rowOf}
 use Rattle.load_blocks.specs.Adds.{Lent}
 use Rattle.text_name.specs.Names.{isHeader, unselected, nameOne, nameAll}
-<<<<<<< N
 use Rattle.law_every_load.specs.Made.{Table, Pends, GivenName, tonesIn, RowOver, LastsThrough}
 use Rattle.law_every_load.specs.Keeps.{Invariant}
-=======
->>>>>>> oc
 
 -- what does not look at a row's pause is the same with 22's
 pub paused-same : {A : Type 0} (f : Block → A) (r : Block) → f (withPause 3500 r) ≡ f r → f (paused r) ≡ f r

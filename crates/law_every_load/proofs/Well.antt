@@ -13,13 +13,8 @@ use Rattle.law_base.proofs.Numbers.{lt-or-ge}
 use Rattle.rows.specs.declared.Block.{Block}
 use Rattle.rows.specs.declared.Tone.{Tone}
 use Rattle.rows.specs.Table.{Codec, get, tableOf, zeros, capacityOf}
-<<<<<<< N
 use Rattle.rows.specs.Rows.{tone, block, toneMost}
 use Rattle.rows.specs.Well.{wellTone, wellTones, wellRanges, wellLast, wellNumbers, wellCases, wellBlock, Halves}
-=======
-use Rattle.rows.specs.Rows.{tone, block, toneMost, tonesIn}
-use Rattle.rows.specs.Well.{wellTone, wellTones, wellRanges, wellLast, wellNumbers, wellCases, wellBlock}
->>>>>>> oc
 use Rattle.rows.proofs.Tables.{over-length, get-row}
 use Rattle.load_state.specs.Parser.{Parsed}
 use Rattle.load_state.specs.Holds.{toneRoom, blockRoom}

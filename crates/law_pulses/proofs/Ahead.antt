@@ -11,11 +11,8 @@ use borrow.Author.Tests.{lt-ltb, le-ltb, eq-eqb, ne-eqb}
 use Rattle.law_base.proofs.Numbers.{lt-or-ge}
 use Rattle.law_base.specs.Rules.{_⇒_, _∣_}
 use Rattle.law_pulses.specs.Play.{Level, Entry, pulse, endless, rest, over}
-<<<<<<< N
 use Rattle.law_pulses.proofs.Steps.{rest-zero, rest-here, rest-past, over-zero, over-pulse}
 use Rattle.law_pulses.specs.Source.{Turned, turnedTo, after, turn, turns, sourced}
-=======
->>>>>>> oc
 
 module _ {A : Type 0} where
   -- what is dropped once an entry is finished, with d left

@@ -4,10 +4,7 @@ use mathlib.Core.List.{List, [], _∷_, _++_}
 use Prim.Native.Nat.{ℕ, _+_, _-_, _<_}
 use native.Mathlib.Omega.{arith}
 use Rattle.law_pulses.specs.Play.{Entry, pulse, endless, rest, over, time, comesTo, Finite}
-<<<<<<< N
 use Rattle.law_pulses.proofs.Steps.{rest-nil, rest-zero, rest-here, rest-past, rest-ways}
-=======
->>>>>>> oc
 
 module _ {A : Type 0} where
   pub time-append : (xs ys : List (Entry A)) → Finite xs → time (xs ++ ys) ≡ time xs + time ys

@@ -6,11 +6,8 @@ use mathlib.Core.List.{List, [], _∷_, _++_, append-assoc, append-nil}
 use lib.Dec.{ltb}
 use borrow.Author.Tests.{lt-ltb}
 use Rattle.law_base.specs.Rules.{_⇒_, _∣_}
-<<<<<<< N
 use Rattle.law_base.proofs.Tests.{first, second}
 use Rattle.rows.specs.declared.Block.{Block}
-=======
->>>>>>> oc
 use Rattle.rows.specs.declared.Tone.{Tone}
 use Rattle.cut_grammar.specs.declared.GeneralizedData.{GeneralizedData}
 use Rattle.cut_grammar.specs.Places.{Places}

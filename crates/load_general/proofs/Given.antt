@@ -10,11 +10,7 @@ use lib.ListN.{getD}
 use lib.Dec.{leb, ltb}
 use borrow.Author.Tests.{leb-true, ltb-true, lt-ltb, le-ltb, lt-leb, le-leb}
 use Rattle.law_base.specs.Rules.{_⇒_, _∣_}
-<<<<<<< N
 use Rattle.law_base.proofs.Numbers.{lt-or-ge}
-=======
-use Rattle.law_base.proofs.Tests.{first, second}
->>>>>>> oc
 use Rattle.cut_grammar.specs.declared.GeneralizedData.{GeneralizedData}
 use Rattle.load_general.specs.declared.Row.{Row}
 use Rattle.load_general.specs.declared.Row.the-variants.{Refused, Gives}

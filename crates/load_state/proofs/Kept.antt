@@ -16,17 +16,8 @@ use Rattle.load_state.specs.declared.Pending.the-variants.{Nothing}
 use Rattle.load_state.specs.declared.Loop.{Loop}
 use Rattle.load_state.specs.declared.Halt.the-variants.{Refusal}
 use Rattle.load_state.specs.declared.Loop.the-variants.{Closed, Open}
-<<<<<<< N
 use Rattle.load_state.specs.Parser.{Parsed, empty, withTones, withBlock, withPending, withBody, opened, Out, on, no, _⟫_, named, inGroup, lastPaused, nameless, addTones, addBlock, pend, endGroup, openLoop, copyRows, copies, closed, closeLoop}
 use Rattle.load_state.specs.Kept.{Sure, sure, none, All, nil, cons, withBlocks, Steps, Lasting, KeptSoFar}
-=======
-use Rattle.load_state.specs.Parser.{Parsed, parsedOf, empty, withBlock, withPending, withBody, opened, Out, on, no, _⟫_, named, used, inGroup, paused, lastPaused, nameless, addBlock, pend, endGroup, openLoop, copyRows, copies, closed, closeLoop}
-
--- where an answer is a tape, it has the property K
-pub data Sure (K : Parsed → Type 0) : Out → Type 0 where
-  sure : {t : Parsed} → K t → Sure K (on t)
-  none : {k : Halt} → Sure K (no k)
->>>>>>> oc
 
 pub sure-of : {K : Parsed → Type 0} {o : Out} {t : Parsed} → Sure K o → o ≡ on t → K t
 sure-of {t = t} (sure {t = u} k) e = let q : u ≡ t = cc in rw q at k

@@ -15,17 +15,10 @@ use Rattle.play_walk.specs.declared.Position.{Position}
 use Rattle.play_walk.specs.declared.Reached.{Reached}
 use Rattle.play_walk.specs.Heads.{ahead, endedIn, toldReached}
 use Rattle.play_deck.specs.Deck.{validAt}
-<<<<<<< N
 use Rattle.play_deck.specs.Calls.{positionIn, endedIn, runCalls, runSources, outcomeIn}
-use Rattle.play_deck.proofs.Answers.{told-ended, positionIn}
+use Rattle.play_deck.proofs.Answers.{told-ended}
 use Rattle.play_deck.proofs.Plays.{play-place, calls-told, cut-at-will}
 use Rattle.play_deck.proofs.Sources.{sources-told, sources-place}
-=======
-
--- what an answer comes to: what is left to play from where it leaves the head, and whether the tape has ended
-unfoldable pub outcomeIn : Tape → Position → Reached → Outcome Label
-outcomeIn w q r = record { place = ahead w (positionIn q r); done = endedIn r }
->>>>>>> oc
 
 abbrev outcome : List (Entry Label) → Bool → Outcome Label
 outcome es b = record { place = es; done = b }

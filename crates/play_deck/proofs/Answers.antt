@@ -1,51 +1,14 @@
 -- WHAT AN ANSWER HOLDS: where it leaves the head, the entries it counts, its level, whether it is the end; one answer is permitted. Assumes nothing.
-<<<<<<< N
 use Prim.Native.Nat.{ℕ, _-_}
 use mathlib.Core.Path.{_≡_, refl}
 use Rattle.law_pulses.specs.Play.{Status, standing, stopped, ended, Answer, countedOn}
-=======
-use Prim.Native.Nat.{ℕ, _+_}
-use mathlib.Core.Path.{_≡_, refl}
-use Rattle.law_pulses.specs.Play.{Level, low, Status, standing, stopped, ended, Answer, countedOn}
->>>>>>> oc
 use Rattle.law_pulses.specs.Source.{isEnded}
 use Rattle.play_entries.specs.Entries.{Label}
 use Rattle.play_entries.specs.Places.{Tape}
 use Rattle.play_walk.specs.declared.Position.{Position}
 use Rattle.play_walk.specs.declared.Stand.{Stand}
-<<<<<<< N
 use Rattle.play_walk.specs.Heads.{levelHere, restLevel, toldAs, toldReached}
 use Rattle.play_deck.specs.Calls.{positionIn, passedIn, passedMore, counting, answerLevel, endedIn}
-=======
-use Rattle.play_walk.specs.declared.Reached.{Reached}
-use Rattle.play_walk.specs.declared.Reached.the-variants.{At, Stopped, Ended, NotValid, NotFormed}
-use Rattle.play_walk.specs.Heads.{stand, levelHere, restLevel, toldAs, endedIn, toldReached}
-
--- where an answer leaves the head, and the entries it counts; a refusal leaves it where it was and counts none
-unfoldable pub positionIn : Position → Reached → Position
-positionIn q (At s) = s .position
-positionIn q (Stopped s) = s .position
-positionIn q (Ended s) = s .position
-positionIn q NotValid = q
-positionIn q NotFormed = q
-
-unfoldable pub passedIn : Reached → ℕ
-passedIn (At s) = s .passed
-passedIn (Stopped s) = s .passed
-passedIn (Ended s) = s .passed
-passedIn NotValid = 0
-passedIn NotFormed = 0
-
-abbrev pub more : ℕ → Stand → Stand
-more j s = stand (s .position) (j + s .passed) (s .level)
-
-unfoldable pub counting : ℕ → Reached → Reached
-counting j (At s) = At (more j s)
-counting j (Stopped s) = Stopped (more j s)
-counting j (Ended s) = Ended (more j s)
-counting j NotValid = NotValid
-counting j NotFormed = NotFormed
->>>>>>> oc
 
 pub told-position : (q : Position) (st : Status) (s : Stand) → positionIn q (toldAs st s) ≡ s .position
 unfolding toldAs positionIn
@@ -83,10 +46,6 @@ pub level-told : (w v : Tape) (a : Answer Label) → answerLevel (toldReached w 
 unfolding toldReached
 level-told w v a = told-level (a .tells) _
 
-<<<<<<< N
-=======
--- both have ended or neither has
->>>>>>> oc
 pub told-ended : (st : Status) (s : Stand) → endedIn (toldAs st s) ≡ isEnded st
 unfolding toldAs endedIn
 told-ended standing s = refl

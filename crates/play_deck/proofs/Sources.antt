@@ -17,11 +17,7 @@ use Rattle.play_walk.specs.Heads.{ahead, endedIn, toldReached}
 use Rattle.play_deck.specs.Deck.{validAt, unless, playMeasured, sourceAnswer, sourceFrom, playSource}
 use Rattle.play_deck.specs.Calls.{positionIn, endedIn, runSources}
 use Rattle.play_deck.proofs.Sourced.{source-answer}
-<<<<<<< N
 use Rattle.play_deck.proofs.Answers.{told-position, told-ended}
-=======
-use Rattle.play_deck.proofs.Answers.{positionIn, told-position, told-ended}
->>>>>>> oc
 use Rattle.play_deck.proofs.Whole.{all-walked, whole-fine}
 use Rattle.play_entries.proofs.Formed.{whole-formed}
 use Rattle.play_entries.specs.Mounted.{WholeTape}

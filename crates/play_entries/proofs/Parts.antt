@@ -5,22 +5,16 @@ use mathlib.Core.Path.{_≡_, refl, sym, ap, _∙_}
 use mathlib.Core.Bool.{Bool, true, false}
 use Rattle.law_base.specs.Rules.{_⇒_, _∣_}
 use mathlib.Core.List.{List, [], _∷_, _++_, append-assoc}
-<<<<<<< N
 use Rattle.law_pulses.specs.Play.{Level, Entry, pulse, Finite}
 use Rattle.law_pulses.proofs.Joined.{finite-append}
 use Rattle.law_pulses.specs.Runs.{run}
 use Rattle.law_pulses.proofs.Runs.{run-finite}
-=======
->>>>>>> oc
 use Rattle.play_entries.specs.declared.Phase.{Phase}
 use Rattle.play_entries.specs.declared.Phase.the-variants.{Start, Tones, Data, Edge, Pause}
 use Rattle.play_entries.specs.declared.Duration.{Duration}
 use Rattle.play_entries.specs.Entries.{Label, labelAt, entryOf, startOf, edged, edgeTime, edgeOf, rowEntries, bitsAt, bitEntries, byteEntries}
-<<<<<<< N
 use Rattle.play_entries.specs.Places.{Tape, blockIn, toneIn, byteIn, bitIn, cycleIn, cyclesIn, cycleItem, levelAt, levelIn, listFrom, fromPause, fromEdge, fromByte, fromBit, fromTone, fromCycle, leftAt, hasEntry, lengthAt, valid, headOf, leftOf, lengthIn}
 use Rattle.play_entries.specs.Tails.{LeadsInto, PartAt}
-=======
->>>>>>> oc
 use Rattle.play_entries.proofs.Runs.{cycle-finite, bit-finite, row-finite, bytes-finite}
 use Rattle.play_entries.proofs.Follows.{list-in, tone-in, tone-out, tone-reach, cycle-in, second-in, edge-in, cycle-reach, byte-in, byte-out, byte-reach, bit-in, bit-reach}
 use Rattle.play_entries.proofs.Valid.{tone-entry, tone-second, data-entry, Stands, stands-valid, valid-start, below-stands}

@@ -1,10 +1,5 @@
-<<<<<<< N
 -- A DOCUMENT ROW'S ENTRIES ARE ITS SIGNALS VOICED ONE BY ONE, and the line behind it is the stepwise line. Assumes nothing.
 use Prim.Native.Nat.{ℕ, _+_, _-_, _<_, min}
-=======
--- A DOCUMENT ROW'S ENTRIES ARE ITS SOUNDS VOICED ONE BY ONE, and the line behind it is the stepwise line. Assumes nothing.
-use Prim.Native.Nat.{ℕ, _+_, _-_, min}
->>>>>>> oc
 use native.Mathlib.Omega.{arith}
 use native.Mathlib.Numerals.{add-one}
 use borrow.Author.Tests.{ne-eqb, eqb-true}
@@ -17,7 +12,6 @@ use Rattle.law_pulses.specs.Play.{Level, low, Entry, pulse, endless}
 use Rattle.law_pulses.specs.Runs.{run}
 use Rattle.rows.specs.declared.Block.{Block}
 use Rattle.play_levels.specs.declared.Line.{Line}
-<<<<<<< N
 use Rattle.play_levels.specs.Voiced.{Signal, tick, silence, halt, Bare, lined, quiet, sounded, lineBy, voiced, linePast, lots, bareOf, bare, Voices}
 use Rattle.play_levels.specs.Closed.{timesOf, firstLevel, toneSignals, waveEntries}
 use Rattle.play_levels.proofs.Voices.{run-same, voices-as, voices-by, voices-join, voices-run, voices-steady}
@@ -26,8 +20,6 @@ use Rattle.play_entries.specs.declared.Phase.the-variants.{Start, Tones,
 use Rattle.play_entries.specs.declared.Duration.the-variants.{T, Endless}
 use Rattle.play_entries.specs.Entries.{Label, labelAt, entryOf, toneAt, isSource, cyclesOf, isSingle, lineStart, lineAt, startLevel, cycleLevel, bitLevel, edged, cycleOf, toneOf, rowEntries, tonesOf, bitsAt, bitOf, halfOf, bitEntries, byteOf, byteAt, byteEntries, dataOf, edgeOf, pauseOf, pauseLevel, soundOf, entriesOf}
 use Rattle.play_entries.specs.Signals.{bitSignals, byteSignals, endSignal, signalsOf, steady, lineData, lineBehind}
-=======
->>>>>>> oc
 use Rattle.play_entries.proofs.Bounds.{bits-some}
 use Rattle.play_entries.proofs.Ends.{endOf}
 

@@ -6,23 +6,16 @@ use native.Mathlib.Numerals.{add-one}
 use borrow.Author.Tests.{eq-eqb, ne-eqb}
 use mathlib.Core.Path.{_≡_, refl, sym, ap, subst, _∙_}
 use mathlib.Core.Bool.{Bool, true, false, not, Bool·not-not}
-<<<<<<< N
 use mathlib.Core.List.{[], _∷_, _++_}
-=======
-use mathlib.Core.List.{List, [], _∷_}
->>>>>>> oc
 use lib.Dec.{eqb}
 use Rattle.law_base.specs.Rules.{_⇒_, _∣_}
 use Rattle.law_pulses.specs.Play.{Level, low, high, pulse}
 use Rattle.law_pulses.specs.Runs.{run}
 use Rattle.rows.specs.declared.Tone.{Tone}
 use Rattle.play_levels.specs.declared.Line.{Line}
-<<<<<<< N
 use Rattle.play_levels.specs.Voiced.{Signal, tick, behind, voice, sounded, lineBy, voiced, linePast, lots, bare, Voices}
 use Rattle.play_levels.specs.Closed.{beginOf, pulsesOf, isOne, timesOf, secondSignal, waveSignals, toneSignals, turned, firstLevel, lastLevel, lineBefore, lineAfter, waveItem}
 use Rattle.play_levels.proofs.Voices.{voices-none, voices-by, voices-run}
-=======
->>>>>>> oc
 
 pub turned-next : (n : ℕ) (v : Level) → turned (n + 1) v ≡ not (turned n v)
 unfolding turned

@@ -10,14 +10,11 @@ use lib.ListN.{length}
 use Rattle.law_base.proofs.Numbers.{lt-or-ge}
 use Rattle.law_base.specs.Rules.{_⇒_, _∣_}
 use Rattle.law_pulses.specs.Play.{Level, low, Entry, pulse, time, Finite}
-<<<<<<< N
 use Rattle.law_pulses.proofs.Joined.{time-append}
 use Rattle.law_pulses.proofs.Lead.{Leads, lead-pulse, lead-run, lead-as}
 use Rattle.law_pulses.specs.Runs.{run}
 use Rattle.law_pulses.proofs.Runs.{run-split, run-next, run-length, run-finite, run-time}
 use Rattle.rows.specs.declared.Tone.{Tone}
-=======
->>>>>>> oc
 use Rattle.rows.specs.declared.Block.{Block}
 use Rattle.play_entries.specs.declared.Phase.{Phase}
 use Rattle.play_entries.specs.declared.Phase.the-variants.{Start, Tones, Data, Edge, Pause}

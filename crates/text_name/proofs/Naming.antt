@@ -1,17 +1,10 @@
-<<<<<<< N
 -- What a well-formed row gives the writers of names, and how long a name is. Assumes nothing.
 use mathlib.Core.Path.{_≡_}
 use mathlib.Core.Bool.{true, _&&_}
-=======
--- What a well-formed row gives the writers of names. Assumes nothing.
-use mathlib.Core.Path.{_≡_}
-use mathlib.Core.Bool.{true}
->>>>>>> oc
 use mathlib.Core.List.{List}
 use Prim.Native.Nat.{ℕ, _+_, _≤_}
 use lib.ListN.{getD}
 use lib.Dec.{eqb}
-<<<<<<< N
 use borrow.Author.Tests.{eqb-true, leb-true}
 use Rattle.law_base.proofs.Tests.{first, second}
 use Rattle.text_out.specs.Out.{latin1}
@@ -22,10 +15,6 @@ use Rattle.rows.specs.Rows.{tone, toneMost}
 use Rattle.rows.specs.Well.{inside, wellRanges, wellNumbers, wellCases, wellTones, wellBlock}
 use Rattle.text_header.proofs.Headers.{either, header-length}
 use Rattle.text_name.specs.Names.{isHeader, sizeShown, sizeName, guessed, nameOf}
-=======
-use borrow.Author.Tests.{eqb-true}
-use Rattle.rows.proofs.WellLaws.{block-clauses, ranges-inside}
->>>>>>> oc
 
 -- a header has 19 bytes
 pub header-size : (s : List ℕ) (r : Block) → isHeader s r ≡ true → r .size ≡ 19

@@ -8,9 +8,9 @@ use lib.Dec.{eqb}
 use native.Mathlib.Omega.{arith}
 use Rattle.law_base.specs.Rules.{_⇒_, _∣_}
 use Rattle.refusals.specs.Refusals.{noRoom}
-use Rattle.law_pulses.specs.Play.{time, comesTo}
+use Rattle.law_pulses.specs.Play.{comesTo}
 use Rattle.law_pulses.specs.Source.{isEnded}
-use Rattle.text_out.specs.Out.{fits, told}
+use Rattle.text_out.specs.Out.{fits}
 use Rattle.play_entries.specs.Entries.{entriesOf, lastsOf}
 use Rattle.play_entries.specs.Places.{Tape, blockIn, listFrom}
 use Rattle.play_entries.specs.Mounted.{overfull, WholeTape}
@@ -35,11 +35,11 @@ module _ (w : Tape) (whole : WholeTape w) where
   len-whole = rw not-over
 
   -- none of it is cut
-  uncut : loadingIn w w ≡ number.Is (time (listFrom w 0))
+  uncut : loadingIn w w ≡ number.Is (loadingTime w)
   unfolding loadingIn
   uncut = rw (le-ltb (w .count) (w .count) (omega arith)) (never (isEnded (comesTo (listFrom w 0))) _ _)
 
-  pub loading-whole : loadingOf w ≡ number.Is (time (listFrom w 0))
+  pub loading-whole : loadingOf w ≡ number.Is (loadingTime w)
   unfolding loadingOf
   loading-whole = rw not-over (ap (loadingIn w) (whole-formed w whole 0) ∙ uncut)
 
@@ -62,10 +62,6 @@ module _ (w : Tape) (whole : WholeTape w) where
     pub name-whole : (out : List ℕ) → nameAnswer w i out ≡ lengthOrNoRoom (nameIn w i) out
     unfolding nameAnswer numberUnless
     name-whole out = rw none
-
-    pub bytes-whole : (out : List ℕ) → nameBytes w i out ≡ told (nameIn w i) out
-    unfolding nameBytes
-    bytes-whole out = rw none
 
 pub whole-answered : (w : Tape) → WholeTape w → (i : ℕ) → i < w .count → EachAnswered w i
 unfolding numberNo markNo timeNo lengthOrNoRoom

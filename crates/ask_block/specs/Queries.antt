@@ -7,11 +7,11 @@ use lib.Dec.{ltb, leb, eqb}
 use lib.ListN.{length}
 use Rattle.law_base.specs.Rules.{_⇒_, _∣_}
 use Rattle.refusals.specs.Refusals.{noBlock, noRoom, badRow}
-use Rattle.law_pulses.specs.Play.{time, comesTo}
+use Rattle.law_pulses.specs.Play.{comesTo}
 use Rattle.law_pulses.specs.Source.{isEnded}
 use Rattle.text_out.specs.Out.{fits, told}
 use Rattle.play_entries.specs.Entries.{entriesOf, lastsOf}
-use Rattle.play_entries.specs.Places.{Tape, blockIn, listFrom}
+use Rattle.play_entries.specs.Places.{Tape, blockIn, listFrom, loadingTime}
 use Rattle.play_entries.specs.Mounted.{overfull, wellRow, formed}
 use Rattle.text_name.specs.Names.{nameOf}
 use Rattle.ask_block.specs.declared.Number.{Number}
@@ -82,12 +82,12 @@ nameAnswer w i out = numberUnless (refusalOf w i) (lengthOrNoRoom (nameIn w i) o
 unfoldable pub nameBytes : Tape → ℕ → List ℕ → List ℕ
 nameBytes w i out = eqb (refusalOf w i) 0 ⇒ told (nameIn w i) out ∣ out
 
--- LOADING TIME: all entries up to the first stop or the end. Of the rows up to and including the first stop each is needed, and none beyond:
+-- LOADING TIME. Of the rows up to and including the first stop each is needed, and none beyond:
 -- v is the tape up to the first row that is not well formed, and a list that ends where v is cut has come to that row
 unfoldable pub loadingIn : Tape → Tape → Number
 loadingIn w v =
     (isEnded (comesTo (listFrom v 0)) && ltb (v .count) (w .count)) ⇒ number.Refused badRow
-    ∣ number.Is (time (listFrom v 0))
+    ∣ number.Is (loadingTime v)
 
 unfoldable pub loadingOf : Tape → Number
 loadingOf w = overfull w ⇒ number.Refused badRow ∣ loadingIn w (formed w 0)

@@ -1,92 +1,75 @@
 -- THE LOADING TIME, block by block: a turn of its loop, and each way out of it. Assumes nothing.
-use Prim.Native.Nat.{ℕ, _+_, _*_, _^_, _≤_, _<_}
+use Prim.Native.Nat.{ℕ, _+_, _^_, _≤_, _<_}
 use native.Mathlib.Omega.{arith}
 use borrow.Author.Tests.{lt-ltb, le-ltb}
-use mathlib.Core.Path.{_≡_, refl, sym, ap, _∙_}
+use mathlib.Core.Path.{_≡_, sym, ap, subst, _∙_}
 use mathlib.Core.Bool.{true, false}
 use Rattle.refusals.specs.Refusals.{badRow}
-use Rattle.law_pulses.specs.Play.{time, comesTo}
+use Rattle.law_pulses.specs.Play.{time}
 use Rattle.rows.specs.declared.Block.{Block}
-use Rattle.rows.proofs.WellLaws.{block-clauses, numbers-most}
+use Rattle.rows.specs.Well.{wellNumbers, wellBlock}
+use Rattle.rows.proofs.WellLaws.{block-clauses}
 use Rattle.play_entries.specs.Entries.{soundOf}
-use Rattle.play_entries.specs.Places.{Tape, blockIn, listFrom}
+use Rattle.play_entries.specs.Places.{Tape, blockIn}
 use Rattle.play_entries.specs.Mounted.{tapeSize, wellRow, formed}
-use Rattle.play_entries.proofs.Bounds.{sound-most}
 use Rattle.play_entries.proofs.Formed.{WellUpTo, needed, well-before, bad-there}
-use Rattle.play_entries.proofs.Loading.{loading-out, loading-stop, loading-on, comes-out, comes-stop, comes-on}
+use Rattle.play_entries.proofs.Loading.{comes-out}
+use Rattle.play_loading.specs.declared.Loading.{Loading}
+use Rattle.play_loading.specs.Sums.{Sums, Sounds}
+use Rattle.play_loading.proofs.Summing.{sums-whole, sound-few}
 use Rattle.ask_block.specs.declared.Number.the-variants as number
 use Rattle.ask_block.specs.Queries.{loadingIn}
 
--- of the tape up to its first row that is not well formed: no block below b is a stop, and these blocks last `sum`
-pub record Loads (w : Tape) (b sum : ℕ) : Type 0 where
+-- before block b, of the tape up to its first row that is not well formed: no stop was met
+pub record Loads (w : Tape) (b : ℕ) (s : Loading) : Type 0 where
   pub from : b ≤ formed w 0 .count
-  pub lasts : time (listFrom (formed w 0) 0) ≡ sum + time (listFrom (formed w 0) b)
-  pub comes : comesTo (listFrom (formed w 0) 0) ≡ comesTo (listFrom (formed w 0) b)
-  pub few : sum ≤ b * 2 ^ 50
+  pub sums : Sums (formed w 0) b s
+  pub going : s .over ≡ false
 
-pub loads-none : (w : Tape) → Loads w 0 0
-loads-none w = record { from = omega arith; lasts = omega arith; comes = refl; few = omega arith }
+needs : (w : Tape) → WellUpTo w 0 (formed w 0 .count)
+unfolding formed
+needs w = needed w 0 (omega arith)
 
-module _ {w : Tape} {b sum : ℕ} (l : Loads w b sum) where
-  needs : WellUpTo w 0 (formed w 0 .count)
-  unfolding formed
-  needs = needed w 0 (omega arith)
+-- out: at a stop
+pub loads-stop : (w : Tape) {b : ℕ} {s : Loading} → s .over ≡ true → Sums (formed w 0) b s → number.Is (s .sum) ≡ loadingIn w (formed w 0)
+unfolding loadingIn
+loads-stop w o l = rw (l .stops o) (ap number.Is (sym (l .whole o)))
 
+module _ {w : Tape} {b : ℕ} {s : Loading} (l : Loads w b s) where
   -- out: past the last block, or at a row that is not well formed
-  pub loads-over : w .count ≤ b → number.Is sum ≡ loadingIn w (formed w 0)
+  pub loads-over : w .count ≤ b → number.Is (s .sum) ≡ loadingIn w (formed w 0)
   unfolding loadingIn
   loads-over h =
       let v = formed w 0 in
-      let o : v .count ≤ b = omega (arith, needs .most) in
-      rw (l .comes ∙ comes-out v b o, le-ltb (v .count) (w .count) (omega (arith, l .from))) (ap number.Is (omega (arith, l .lasts, loading-out v b o)))
+      let o : v .count ≤ b = omega (arith, needs w .most) in
+      rw (l .sums .comes (l .going) ∙ comes-out v b o, le-ltb (v .count) (w .count) (omega (arith, l .from)))
+      (ap number.Is (sums-whole (l .sums) o))
 
   pub loads-bad : b < w .count → wellRow w b ≡ false → number.Refused badRow ≡ loadingIn w (formed w 0)
   unfolding loadingIn
   loads-bad h e =
       let v = formed w 0 in
-      let z : v .count ≡ b = bad-there needs b (omega arith) (l .from) e in
-      rw (l .comes ∙ comes-out v b (omega arith), lt-ltb (v .count) (w .count) (omega arith))
+      let z : v .count ≡ b = bad-there (needs w) b (omega arith) (l .from) e in
+      rw (l .sums .comes (l .going) ∙ comes-out v b (omega arith), lt-ltb (v .count) (w .count) (omega arith))
 
-  -- a block whose row r is well formed and whose sound lasts s
-  module _ (r : Block) (q : r ≡ blockIn w b) (h : b < w .count) (g : wellRow w b ≡ true) (s : ℕ) (e : s ≡ time (soundOf (w .bytes) (w .tones) b r)) where
+  -- a block whose row r is well formed and whose sound lasts so long
+  module _ {r : Block} (q : r ≡ blockIn w b) (h : b < w .count) (g : wellRow w b ≡ true) where
     below : b < formed w 0 .count
-    below = well-before needs b (l .from) h g
+    below = well-before (needs w) b (l .from) h g
 
-    sounds : s ≡ time (soundOf (w .bytes) (w .tones) b (blockIn w b))
-    sounds = e ∙ ap (λ (y : Block). time (soundOf (w .bytes) (w .tones) b y)) q
-
-    pub sound-few : s ≤ 564032268533760
+    pub row-well : wellBlock (tapeSize (w .bytes)) (w .tones) r ≡ true
     unfolding wellRow
-    sound-few = omega (arith, sounds, sound-most (tapeSize (w .bytes)) (w .bytes) (w .tones) b (blockIn w b) g (omega arith))
+    row-well = subst (λ (y : Block). wellBlock (tapeSize (w .bytes)) (w .tones) y ≡ true) (sym q) g
 
-    -- out: a stop
-    pub loads-stop : r .endless ≡ 1 → number.Is (sum + s) ≡ loadingIn w (formed w 0)
-    unfolding loadingIn formed
-    loads-stop t =
-        let v = formed w 0 in
-        let z : blockIn w b .endless ≡ 1 = sym (ap (λ (y : Block). y .endless) q) ∙ t in
-        rw (l .comes ∙ comes-stop v b below z) (ap number.Is (omega (arith, l .lasts, loading-stop v b below z, sounds)))
+    module _ {t : ℕ} (e : t ≡ time (soundOf (w .bytes) (w .tones) b r)) where
+      pub sounds : Sounds (formed w 0) b r t
+      unfolding formed wellRow
+      sounds = record { row = q; below = below; well = g; lasts = e }
 
-    module _ (t : r .endless ≡ 1 → ⊥) where
-      ends : blockIn w b .endless ≡ 1 → ⊥
-      ends z = t (ap (λ (y : Block). y .endless) q ∙ z)
+      -- what a turn asks, where the table has no more rows than it may
+      pub summable : w .count ≤ 4096 → ((s .sum < 2 ^ 63) × (t < 2 ^ 50)) × (wellNumbers r ≡ true)
+      summable k =
+          ((omega (arith, l .sums .few), omega (arith, sound-few sounds)), block-clauses (tapeSize (w .bytes)) (w .tones) r row-well .numbers)
 
-      pauses : r .pause ≡ blockIn w b .pause
-      pauses = ap (λ (y : Block). y .pause) q
-
-      pub pause-few : r .pause ≤ 229372500
-      unfolding wellRow
-      pause-few =
-          let n = numbers-most (blockIn w b) (block-clauses (tapeSize (w .bytes)) (w .tones) (blockIn w b) g .numbers) in
-          omega (arith, n .pause ends, pauses)
-
-      pub loads-on : Loads w (b + 1) (sum + s + r .pause)
-      unfolding formed
-      loads-on =
-          let v = formed w 0 in
-          record {
-            from = omega (arith, below);
-            lasts = omega (arith, l .lasts, loading-on v b below ends, sounds, pauses);
-            comes = l .comes ∙ comes-on v b below ends;
-            few = omega (arith, l .few, sound-few, pause-few);
-          }
+    pub loads-on : {s′ : Loading} → s′ .over ≡ false → Sums (formed w 0) (b + 1) s′ → Loads w (b + 1) s′
+    loads-on o m = record { from = omega (arith, below); sums = m; going = o }

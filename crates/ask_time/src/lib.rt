@@ -1,7 +1,10 @@
 // The query of the loading time.
 use ask_block::Number;
 use ask_block::overfull;
+use play_loading::none;
+use play_loading::one_more;
 use play_phases::row_well;
+use play_times::sound_time;
 use refusals::BAD_ROW;
 use rows::block_at;
 ghost use mathlib.Core.Path.{_≡_};
@@ -15,19 +18,18 @@ pub fn loading_time(tape: &[u8], tones: &[u64], blocks: &[u64], count: u64) -> N
     if overfull(blocks, count) {
         return Number::Refused(BAD_ROW);
     }
-    let mut sum = 0;
+    let mut s = none();
     let mut b = 0;
     while b < count {
         if !row_well(tape, tones, blocks, b) {
             return Number::Refused(BAD_ROW);
         }
         let r = block_at(blocks, b as usize);
-        sum += play_times::sound_time(tape, tones, r);
-        if r.endless == 1 {
-            return Number::Is(sum);
+        s = one_more(s, sound_time(tape, tones, r), r);
+        if s.over {
+            return Number::Is(s.sum);
         }
-        sum += r.pause;
         b += 1;
     }
-    Number::Is(sum)
+    Number::Is(s.sum)
 }

@@ -1,6 +1,6 @@
 // Little-endian fields of a tape, read with a cursor that keeps the first field that came up short.
 ghost use mathlib.Core.Path.{_≡_};
-ghost use Prim.Native.Nat.{_+_, _≤_, min};
+ghost use Prim.Native.Nat.{_+_, _≤_};
 ghost use lib.ListN.{length};
 ghost use lib.Dec.{leb};
 ghost use Rattle.cut_fields.specs.declared.Cursor.the-variants.{At};
@@ -87,15 +87,6 @@ pub fn field(tape: &[u8], c: Cursor, width: u64) -> Read
             cursor: c,
         },
     }
-}
-
-// The number of the field at a place, at most `most`; 0 where it is not all there.
-pub fn number_up_to(tape: &[u8], at: u64, width: u64, most: usize) -> usize
-    ensures { λ r. ⌜ r ≡ min (fieldAt (now (tape .entry)) (At at) width .value) most ⌝ }
-{
-    let read = field(tape, Cursor::At(at), width);
-    let n = read.value as usize;
-    if n <= most { n } else { most }
 }
 
 // One field whose number nobody asks: a body, a text or data, of its length.

@@ -1,7 +1,7 @@
 -- A whole 13 ends where its pulses do, inside the tape, and no other kind gives one. Assumes nothing.
-use Prim.Native.Nat.{ℕ, _+_, _*_, _-_, _≤_}
+use Prim.Native.Nat.{ℕ, _+_, _*_, _≤_}
 use mathlib.Core.Path.{_≡_, refl, sym, _∙_}
-use mathlib.Core.Bool.{Bool, true, false}
+use mathlib.Core.Bool.{Bool, true}
 use mathlib.Core.List.{List}
 use native.Mathlib.Omega.{arith}
 use lib.ListN.{length, getD}
@@ -16,7 +16,7 @@ use Rattle.cut_grammar.specs.declared.Piece.the-variants as piece
 use Rattle.cut_grammar.specs.declared.Body.{Body}
 use Rattle.cut_grammar.specs.declared.Body.the-variants.{Whole, Short}
 use Rattle.cut_grammar.specs.declared.Taken.the-variants as taken
-use Rattle.cut_grammar.specs.Grammar.{Layout, unknown, passAt, wholeAt, readAt}
+use Rattle.cut_grammar.specs.Grammar.{Layout, passAt, wholeAt, readAt}
 use Rattle.cut_grammar.specs.Kinds.{kind13, stream19, kind19}
 use Rattle.cut_grammar.specs.Cut.{cutAt}
 use Rattle.cut_grammar.proofs.Cutting.{cut-there, cut-inside, cut-forward}

@@ -15,3 +15,8 @@ second false b e = cc
 pub other : (a b : Bool) → (a || b) ≡ true → a ≡ false → b ≡ true
 other true b e f = cc
 other false b e f = e
+
+-- neither holds
+pub neither : (a b : Bool) → (a || b) ≡ false → (a ≡ false) × (b ≡ false)
+neither true b e = (e, cc)
+neither false b e = (refl, e)

@@ -2,6 +2,7 @@
 use Prim.Native.Nat.{ℕ}
 use mathlib.Core.Bool.{false}
 use mathlib.Core.List.{List}
+use Rattle.rows.specs.Rows.{tonesIn}
 use Rattle.rows.specs.declared.Block.{Block}
 use Rattle.rows.specs.declared.Tone.{Tone}
 use Rattle.load_state.specs.Parser.{Parsed}
@@ -10,7 +11,7 @@ use Rattle.load_blocks.specs.Adds.{Lent}
 use Rattle.load_source.specs.Source.{loadOf}
 use Rattle.text_name.specs.Names.{unselected, nameAll}
 use Rattle.law_every_load.specs.Sizes.{Bytes}
-use Rattle.law_every_load.specs.Made.{tonesIn, RowOver}
+use Rattle.law_every_load.specs.Made.{RowOver}
 use Rattle.law_every_load.specs.OfSource.{Everywhere, Reads}
 use Rattle.law_every_load.proofs.Loading.{load-keeps}
 use Rattle.law_every_load.proofs.Rows.{rows-keep, named-all}

@@ -4,28 +4,19 @@ use mathlib.Core.Path.{_≡_, refl}
 use mathlib.Core.Bool.{Bool, true, false}
 use mathlib.Core.List.{List}
 use lib.ListN.{length}
-use lib.Dec.{leb, ltb}
-use borrow.Author.Tests.{leb-true, ltb-true}
-use Rattle.refusals.specs.Refusals.{tonesFull, blocksFull}
+use lib.Dec.{leb}
+use borrow.Author.Tests.{leb-true}
+use Rattle.refusals.specs.Refusals.{tonesFull}
 use Rattle.law_base.specs.Rules.{_⇒_, _∣_}
-use Rattle.rows.specs.declared.Block.{Block}
 use Rattle.load_state.specs.declared.Pending.{Pending}
 use Rattle.load_state.specs.declared.Halt.the-variants.{Refusal}
-use Rattle.load_state.specs.Parser.{Parsed, on, no, _⟫_, withTones, withBlock, addTones, addBlock}
-use Rattle.load_state.proofs.Kept.{sure-then}
-use Rattle.load_state.specs.Kept.{Sure, sure, none, All, nil, cons}
+use Rattle.load_state.specs.Parser.{Parsed, on, no, _⟫_, withTones, withBlock, addTones, addBlock, empty}
+use Rattle.load_state.proofs.Kept.{sure-then, block-sure}
+use Rattle.load_state.specs.Kept.{Sure, sure, none, All, nil, cons, Steps}
 use Rattle.load_blocks.specs.declared.Origin.{Origin}
 use Rattle.load_blocks.specs.Adds.{Lent, addRows}
 use Rattle.load_blocks.specs.Sounds.{Sound, rowOf, addSound, addSounds}
 use Rattle.law_every_load.specs.Keeps.{Invariant}
-
-block-sure : {K : Parsed → Type 0} (m : ℕ) (r : Block) (t : Parsed) → (length (t .blocks) < m → K (withBlock r t)) → Sure K (addBlock m r t)
-unfolding addBlock
-block-sure {K} m r t h = by-cases (ltb (length (t .blocks)) m) refl
-  where
-    by-cases : (b : Bool) → ltb (length (t .blocks)) m ≡ b → Sure K (b ⇒ on (withBlock r t) ∣ no (Refusal blocksFull))
-    by-cases true e = sure (h (ltb-true _ _ e))
-    by-cases false e = none
 
 module _ {lent : Lent} {M : Sound → Origin → Type 0} {Q : Pending → Type 0} {K : Parsed → Type 0} (k : Invariant lent M Q K) where
   pub sound-keeps : (origin : Origin) (d : Sound) (t : Parsed) → M d origin → K t → Sure K (addSound lent origin d t)

@@ -1,17 +1,14 @@
 -- EVERY NAME OF EVERY LOAD IS AT MOST 510 BYTES LONG: a given one has at most 255 characters, and no other has more than 117 bytes.
 -- Assumes nothing but that bytes are below 256.
-use Prim.Native.Nat.{ℕ, _+_, _≤_, _<_}
+use Prim.Native.Nat.{ℕ, _≤_, _<_}
 use native.Mathlib.Omega.{arith}
 use mathlib.Core.Path.{_≡_, refl, sym, subst}
-use mathlib.Core.Bool.{Bool, true, false}
+use mathlib.Core.Bool.{false}
 use mathlib.Core.List.{List}
 use lib.ListN.{length, getD, take, drop, length-append, length-take}
 use lib.Dec.{eqb}
-use Rattle.law_base.specs.Rules.{_⇒_, _∣_}
 use Rattle.text_out.specs.Out.{latin1}
 use Rattle.text_out.proofs.Writing.{decimal-length, latin1-length, each-length}
-use Rattle.text_codes.specs.Encoding.{encoded}
-use Rattle.text_codes.proofs.Codes.{code-length}
 use Rattle.rows.specs.declared.Block.{Block}
 use Rattle.rows.specs.declared.Tone.{Tone}
 use Rattle.rows.specs.Table.{get, tableOf, zeros}
@@ -22,9 +19,8 @@ use Rattle.load_state.proofs.Kept.{all-get}
 use Rattle.load_blocks.specs.Sounds.{rowOf}
 use Rattle.load_blocks.specs.Does.{lentOf}
 use Rattle.load_source.specs.Source.{loadOf}
-use Rattle.text_header.specs.Headers.{headerName}
 use Rattle.text_name.specs.Names.{isHeader, sizeShown, sizeName, guessed, nameOf, unselected, nameAll}
-use Rattle.text_header.proofs.Headers.{type-length}
+use Rattle.text_header.proofs.Headers.{either, header-length}
 use Rattle.text_name.proofs.Selecting.{name-all-length}
 use Rattle.law_every_load.specs.Sizes.{Bytes}
 use Rattle.law_every_load.specs.OfSource.{Everywhere, Reads}
@@ -50,19 +46,11 @@ few s b =
     }
 
 -- how long a name is, of any tape: 510 bytes where a given one has at most 255 characters
-either : (n : ℕ) (t : Bool) (x y : List ℕ) → length x ≤ n → length y ≤ n → length (t ⇒ x ∣ y) ≤ n
-either n true x y h k = h
-either n false x y h k = k
-
 guess-length : (s : List ℕ) (r : Block) → length (guessed s r) ≤ 510
-unfolding guessed headerName sizeName
+unfolding guessed sizeName
 guess-length s r =
-    let t = take 10 (drop (r .start + 2) s) in
-    let ten : length t ≤ 10 = rw length-take (omega arith) in
-    let a = type-length (getD s (r .start + 1) 0) in
-    let b = each-length encoded 9 code-length t in
     let c = decimal-length (sizeShown r) in
-    either 510 (isHeader s r) _ _ (simp length-append (omega arith)) (simp length-append (omega arith))
+    either 510 (isHeader s r) _ _ (omega (arith, header-length s (r .start))) (simp length-append (omega arith))
 
 pub name-most : (s : List ℕ) (r : Block) → r .chars ≤ 255 → length (nameOf s r) ≤ 510
 unfolding nameOf

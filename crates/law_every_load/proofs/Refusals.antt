@@ -1,5 +1,5 @@
 -- A LOAD'S REFUSALS ARE 1 TO 7; those of a TZX's pieces 4 to 6, of a TZX 4 to 7, of a TAP 5 and 6. Assumes nothing.
-use Prim.Native.Nat.{ℕ, zero, suc, _+_, _/_, _≤_}
+use Prim.Native.Nat.{ℕ, zero, suc, _+_, _≤_}
 use native.Mathlib.Omega.{arith}
 use mathlib.Core.Bool.{Bool, true, false, _&&_, not}
 use mathlib.Core.List.{List, [], _∷_}

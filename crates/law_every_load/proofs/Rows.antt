@@ -11,7 +11,7 @@ use Rattle.law_base.specs.Rules.{_⇒_, _∣_}
 use Rattle.rows.specs.declared.Block.{Block}
 use Rattle.rows.specs.declared.Tone.{Tone}
 use Rattle.rows.specs.Table.{get, tableOf, zeros}
-use Rattle.rows.specs.Rows.{tone, withPause}
+use Rattle.rows.specs.Rows.{tone, withPause, tonesIn}
 use Rattle.rows.proofs.Tables.{get-row}
 use Rattle.load_state.specs.declared.Pending.{Pending}
 use Rattle.load_state.specs.declared.Pending.the-variants.{Nothing, First, Later, Text}
@@ -22,7 +22,7 @@ use Rattle.load_blocks.specs.declared.Origin.{Origin}
 use Rattle.load_blocks.specs.Sounds.{Sound, rowOf}
 use Rattle.load_blocks.specs.Adds.{Lent}
 use Rattle.text_name.specs.Names.{isHeader, unselected, nameOne, nameAll}
-use Rattle.law_every_load.specs.Made.{Table, Pends, GivenName, tonesIn, RowOver, LastsThrough}
+use Rattle.law_every_load.specs.Made.{Table, Pends, GivenName, RowOver, LastsThrough}
 use Rattle.law_every_load.specs.Keeps.{Invariant}
 
 -- what does not look at a row's pause is the same with 22's

@@ -19,7 +19,7 @@ use Rattle.load_blocks.specs.Sounds.{Sound, originAt, addSounds}
 use Rattle.load_blocks.specs.Deeds.{Deed, adding, groups, texts, groupEnds, opens, closes, panics, errs, does, soundsOf, brings}
 use Rattle.load_source.specs.Meaning.{deedOf}
 use Rattle.load_source.specs.Source.{act}
-use Rattle.law_every_load.specs.Made.{OfPiece, of, Brought, Pends}
+use Rattle.law_every_load.specs.Made.{OfPiece, of, Pends}
 use Rattle.law_every_load.specs.OfSource.{From, sourceTable}
 use Rattle.law_every_load.specs.Keeps.{Invariant}
 use Rattle.law_every_load.proofs.Keeps.{sounds-keep}

@@ -26,7 +26,7 @@ use Rattle.text_name.specs.Names.{nameAll}
 use Rattle.text_name.proofs.Selecting.{name-all-length}
 use Rattle.play_entries.specs.Mounted.{tapeOf, overfull, tapeSize, wellRow}
 use Rattle.law_every_load.specs.Sizes.{Bytes}
-use Rattle.law_every_load.specs.Made.{tonesIn, RowOver}
+use Rattle.law_every_load.specs.Made.{RowOver}
 use Rattle.law_every_load.specs.OfSource.{Reads}
 use Rattle.law_every_load.specs.Formed.{Formed}
 use Rattle.law_every_load.proofs.Rows.{own-count, own-tone}

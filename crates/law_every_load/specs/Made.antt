@@ -3,7 +3,8 @@
 use Prim.Native.Nat.{ℕ, _+_, _≤_}
 use mathlib.Core.Path.{_≡_}
 use mathlib.Core.List.{List, List·Memᴰ}
-use lib.ListN.{length, take, drop}
+use lib.ListN.{length}
+use Rattle.rows.specs.Rows.{tonesIn}
 use Rattle.rows.specs.declared.Block.{Block}
 use Rattle.rows.specs.declared.Tone.{Tone}
 use Rattle.load_state.specs.declared.Pending.{Pending}
@@ -45,10 +46,6 @@ pub data GivenName (T : Table) : ℕ → ℕ → ℕ → ℕ → Type 0 where
   first : {from size : ℕ} → Brought T (pending.First from size) → GivenName T 1 3 from size
   later : {from size : ℕ} → Brought T (pending.First from size) → GivenName T 0 4 from size
   text : {from size : ℕ} → Brought T (pending.Text from size) → GivenName T 1 2 from size
-
--- a row's own tone rows
-abbrev pub tonesIn : List Tone → Block → List Tone
-tonesIn all r = take (r .tones) (drop (r .tone) all)
 
 -- a row over tone rows of the table, of which P holds
 pub record RowOver (P : List Tone → Block → Type 0) (all : List Tone) (r : Block) : Type 0 where

@@ -1,5 +1,5 @@
 -- WHERE EACH NUMBER OF A READING IS DUE: 4 at a generalised piece on which the Rust panics, 5 and 6 at a piece that lacks rows, 7 at the end. Assumes nothing.
-use Prim.Native.Nat.{ℕ, _+_, _/_, _≤_, _<_}
+use Prim.Native.Nat.{ℕ, _+_, _≤_, _<_}
 use native.Mathlib.Omega.{arith}
 use borrow.Author.Tests.{lt-ltb, ltb-true}
 use mathlib.Core.Path.{_≡_, refl, sym, ap, subst, _∙_}

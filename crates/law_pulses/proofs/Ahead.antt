@@ -1,6 +1,6 @@
 -- How far the source's play runs ahead: its outcome is the measured one for the count and the sum it drops. Assumes nothing.
 use mathlib.Core.Path.{_≡_, refl, sym, ap, ap₂, _∙_}
-use mathlib.Core.Logic.{_⊎_, ⊎-elim}
+use mathlib.Core.Logic.{⊎-elim}
 use mathlib.Core.List.{List, [], _∷_}
 use Prim.Native.Nat.{ℕ, zero, suc, _+_, _-_, _≤_, _<_}
 use native.Mathlib.Nat.{eq-zero-or-pos, zero-add}
@@ -188,8 +188,3 @@ module _ {A : Type 0} where
       ∙ stood-as es 0 s _ _ (omega arith) (omega arith))
       (λ p. turns-some f es n s p ∙ first-turns es f n s p (omega arith))
       (eq-zero-or-pos n)
-
-  -- no further turn alters what a call comes to
-  pub enough : (es : List (Entry A)) (f n : ℕ) → length es < f → turns f (turnedTo es n 0) ≡ sourced es n
-  unfolding sourced
-  enough es f n h = source-turns es f n 0 h ∙ sym (source-turns es (suc (length es)) n 0 (omega arith))

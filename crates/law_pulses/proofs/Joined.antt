@@ -1,7 +1,7 @@
 -- THE COMPOSITION: a run of finite entries before a list holds the head or is passed whole. Assumes nothing.
-use mathlib.Core.Path.{_≡_, refl, sym, ap, _∙_}
+use mathlib.Core.Path.{_≡_, refl, ap, _∙_}
 use mathlib.Core.List.{List, [], _∷_, _++_}
-use Prim.Native.Nat.{ℕ, _+_, _-_, _≤_, _<_}
+use Prim.Native.Nat.{ℕ, _+_, _-_, _<_}
 use native.Mathlib.Omega.{arith}
 use Rattle.law_pulses.specs.Play.{Entry, pulse, endless, rest, over, time, comesTo, Finite}
 use Rattle.law_pulses.proofs.Steps.{rest-nil, rest-zero, rest-here, rest-past, rest-ways}
@@ -24,17 +24,6 @@ module _ {A : Type 0} where
   comes-append [] ys f = refl
   comes-append (endless a v ∷ xs) ys f = absurd f
   comes-append (pulse a v t ∷ xs) ys f = comes-append xs ys f
-
-  -- at the run's own sum the head is still inside it, before its last entries of no length
-  pub rest-in : (xs ys : List (Entry A)) (n : ℕ) → Finite xs → n ≤ time xs → rest (xs ++ ys) n ≡ rest xs n ++ ys
-  unfolding time Finite
-  rest-in [] ys n f h = ap (rest ys) (omega arith) ∙ rest-zero ys ∙ ap (λ (r : List (Entry A)). r ++ ys) (sym (rest-nil n))
-  rest-in (endless a v ∷ xs) ys n f h = absurd f
-  rest-in (pulse a v t ∷ xs) ys n f h =
-      rest-ways (λ r. rest (pulse a v t ∷ xs ++ ys) n ≡ r ++ ys) a v t xs n
-      (λ z. ap (rest (pulse a v t ∷ xs ++ ys)) z ∙ rest-zero _)
-      (λ l. rest-here a v t (xs ++ ys) n l)
-      (λ p g. rest-past a v t (xs ++ ys) n p g ∙ rest-in xs ys (n - t) f (omega arith))
 
   pub rest-after : (xs ys : List (Entry A)) (n : ℕ) → Finite xs → time xs < n → rest (xs ++ ys) n ≡ rest ys (n - time xs)
   unfolding time Finite

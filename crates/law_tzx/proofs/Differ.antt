@@ -1,10 +1,9 @@
 -- Each way out of `kept`, with a piece on which the two readings are computed and differ. Assumes nothing.
 use Prim.Native.Nat.{ℕ}
 use mathlib.Core.Path.{_≡_, refl}
-use mathlib.Core.Bool.{Bool, true, false}
+use mathlib.Core.Bool.{Bool, false}
 use mathlib.Core.List.{List, [], _∷_, _++_, map}
 use lib.ListN.{length, replicate}
-use borrow.Author.Tests.{eq-eqb}
 use Rattle.refusals.specs.Refusals.{generalised}
 use Rattle.cut_fields.specs.Field.{leAt, numberAt, fieldAt, placeOf}
 use Rattle.cut_fields.specs.Run.{times, eachAt, groupsAt}
@@ -96,24 +95,6 @@ ways-played = refl
 pub ways-kept : map (λ e. keptAt (e .tape)) ways ≡ map (λ e. e .kept) ways
 unfolding leAt numberAt fieldAt placeOf times eachAt groupsAt run tableOver entryOf cyclesOf isSingle startLevel cycleLevel bitLevel edged pauseLevel toneOf tonesOf bitsAt halfOf byteOf dataOf pauseOf soundOf entriesOf countedAt passAt textsAt wholeAt sealed enclosed fittingAt readAt binaryDigits orFull heldIf kind10 kind11 kind12 kind13 kind14 stream19 kind19 kind20 kind21 kind22 kind24 kind25 kind2A kind30 kind31 info32 kind32 kind33 kind35 kind5A kinds kindOf takenAs cutAt symbolAt before rowsFrom cycles entrySymbol entryRepeat entryRow pilotOf equalHalves ordinary usedBits symbolNumber singleRow pairRow singlesOf pairsOf dataPart withPilot withData generalOf empty _⟫_ addTones addBlock pend openLoop standardHeader standardCycles standardTones turboTones pureTones pureToneTones pulseAt addRows rowOf standardSound turboSound pairSounds pureSound pauseSound addSound addSounds generalDeed stop48Deed does deedOf act halted each bitPulses bitsIn bytePulses dataPulses bitsSaid pilotCount format10 format11 format12 format13 format14 waveFrom symbolPulse waveOf pilotSymbol repetitions pilotPulses bitAt groupAt dataNumber symbolPulses every symbolsSaid format19 format20 format2A formatOf lengthsOf lasting evenCount kept11 kept12 kept13 firstPulse secondPulse wholeWave keptTimes keptEntry keptPilot keptSymbol keptPairs keptData kept19 kept lengthOf entriesFrom heardIn playedBy formatOn sourceOn keptOn sameLength sameLengths sameHeard ways
 ways-kept = refl
-
-length-self : (l : PulseLength) → sameLength l l ≡ true
-unfolding sameLength
-length-self (lasts n) = eq-eqb n n refl
-length-self forever = refl
-
-lengths-self : (ls : List PulseLength) → sameLengths ls ls ≡ true
-unfolding sameLengths
-lengths-self [] = refl
-lengths-self (l ∷ ls) = rw (length-self l) (lengths-self ls)
-
--- equal answers compare as the same
-pub same-self : (x : Heard) → sameHeard x x ≡ true
-unfolding sameHeard
-same-self (plays ls) = lengths-self ls
-same-self (refused k) = eq-eqb k k refl
-same-self errs = refl
-same-self nothing = refl
 
 -- the readings of each way differ
 pub ways-differ : map (λ e. sameHeard (formatAt (e .tape)) (sourceHeard (e .tape))) ways ≡ map (λ e. false) ways

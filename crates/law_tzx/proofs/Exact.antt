@@ -10,11 +10,11 @@ use lib.Seq.{drop-at}
 use lib.Dec.{ltb, eqb}
 use borrow.Author.Tests.{lt-ltb, ltb-false, eq-eqb, eqb-false, ne-eqb}
 use Rattle.law_base.specs.Rules.{_⇒_, _∣_}
+use Rattle.law_base.proofs.Tests.{neither}
 use Rattle.cut_fields.specs.Field.{leAt}
 use Rattle.rows.specs.Table.{tableOf}
 use Rattle.rows.specs.Rows.{tone}
 use Rattle.rows.specs.declared.Block.{Block}
-use Rattle.rows.specs.declared.Tone.{Tone}
 use Rattle.cut_grammar.specs.declared.TurboData.{TurboData}
 use Rattle.cut_grammar.specs.declared.Piece.{Piece}
 use Rattle.cut_grammar.specs.declared.Piece.the-variants.{Standard, Turbo, Tone as PureTone, Pulses, Pure, Generalized, Pause, GroupStart, GroupEnd, LoopStart, LoopEnd, Stop48, Text, Message, Archive, Hardware, Custom, Glue}
@@ -113,11 +113,6 @@ unfolding pureToneTones wavesOf each lasting
 tone-count x zero l e = omega arith
 tone-count x (suc zero) l e = omega arith
 tone-count x (suc (suc n)) l e = omega arith
-
--- neither test held
-neither : (a b : Bool) → (a || b) ≡ false → (a ≡ false) × (b ≡ false)
-neither true b e = (e, cc)
-neither false b e = (refl, e)
 
 few : (x n : ℕ) → (eqb (suc x) 0 || ltb 1 n) ≡ false → n ≤ 1
 few x n e = let l = ltb-false 1 n (neither (eqb (suc x) 0) (ltb 1 n) e .1) in omega arith

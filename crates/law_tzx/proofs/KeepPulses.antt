@@ -4,12 +4,10 @@ use native.Mathlib.Omega.{arith}
 use mathlib.Core.Path.{_≡_, refl, sym, ap, _∙_}
 use mathlib.Core.Bool.{Bool, true, false}
 use mathlib.Core.List.{List, [], _∷_, _++_, map, append-nil}
-use lib.ListN.{length}
 use lib.Dec.{eqb}
 use borrow.Author.Tests.{eqb-true, eqb-false}
 use Rattle.law_base.proofs.Tests.{first, other}
 use Rattle.cut_fields.specs.Field.{leAt}
-use Rattle.rows.specs.declared.Tone.{Tone}
 use Rattle.load_state.specs.Parser.{Parsed}
 use Rattle.load_state.proofs.Kept.{sure-also, sure-then}
 use Rattle.load_state.specs.Kept.{Sure, sure}

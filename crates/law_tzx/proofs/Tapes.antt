@@ -3,7 +3,7 @@ use Prim.Native.Nat.{ℕ, zero, suc, _+_}
 use native.Mathlib.Omega.{arith}
 use mathlib.Core.Path.{_≡_, refl, sym, ap}
 use mathlib.Core.Bool.{Bool, true, false}
-use mathlib.Core.List.{List, [], _++_}
+use mathlib.Core.List.{List, []}
 use lib.ListN.{length, getD}
 use lib.Dec.{leb, ltb, eqb}
 use Rattle.refusals.specs.Refusals.{badModel, tapeLong, lastBits}
@@ -26,8 +26,7 @@ use Rattle.load_blocks.specs.Adds.{Lent}
 use Rattle.load_blocks.specs.Sounds.{originAt}
 use Rattle.load_source.specs.Source.{Verdict, done, failed, refused, readOn, seeing, foldFrom, halted, tooManyBits, bitsJudged, tzxOf, tzxSee, headed, readTzx, readTap, tzx, no, orTap, orElse, loadOf}
 use Rattle.load_source.specs.Source as source
-use Rattle.load_source.specs.declared.Failure.the-variants as failure
-use Rattle.law_tzx.specs.Format.{Said, formatOf, formatFull, lasting}
+use Rattle.law_tzx.specs.Format.{Said, formatFull, lasting}
 use Rattle.law_tzx.specs.Kept.{kept, Plays, Keeps, as-said}
 use Rattle.law_tzx.specs.Tapes.{keptThen, keptFrom, saidOf, saidThen, formatFrom}
 use Rattle.law_tzx.proofs.Adds.{plays-none, plays-then}

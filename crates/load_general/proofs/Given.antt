@@ -33,15 +33,6 @@ last : (b : Bool) → (b && true) ≡ b
 last true = refl
 last false = refl
 
-first-of : (b d : Bool) → (b && d) ≡ true → b ≡ true
-first-of true d e = refl
-first-of false d e = e
-
-second-of : (b d : Bool) → (b && d) ≡ true → d ≡ true
-second-of true d e = e
-second-of false true e = refl
-second-of false false e = e
-
 module _ (s : List ℕ) (g : GeneralizedData) where
   pub single-given : (i : ℕ) → isGiven (singleRow s g i) ≡ ltb (symbolNumber s g (i * g .nb) 0) (g .asd)
   unfolding singleRow isGiven
@@ -75,10 +66,10 @@ module _ (s : List ℕ) (g : GeneralizedData) where
 
   module _ (i : ℕ) (e : isGiven (pairRow s g i) ≡ true) where
     pub pair-below : symbolNumber s g (2 * i * g .nb) 0 < g .asd
-    pair-below = ltb-true _ _ (first-of _ _ (sym (pair-given i) ∙ e))
+    pair-below = ltb-true _ _ (first _ _ (sym (pair-given i) ∙ e))
 
     pub pair-below-2 : symbolNumber s g (2 * i * g .nb) 1 < g .asd
-    pair-below-2 = ltb-true _ _ (second-of (ltb (symbolNumber s g (2 * i * g .nb) 0) (g .asd)) _ (sym (pair-given i) ∙ e))
+    pair-below-2 = ltb-true _ _ (second (ltb (symbolNumber s g (2 * i * g .nb) 0) (g .asd)) _ (sym (pair-given i) ∙ e))
 
     pub pair-tone : (a : List (List ℕ)) → Kept s (g .symbols) (g .npd) (g .asd) a → (b d : ℕ) → b ≡ symbolNumber s g (2 * i * g .nb) 0 → d ≡ symbolNumber s g (2 * i * g .nb) 1 → pairRow s g i ≡ Gives (plainTone 1 (getD (getD a b []) 0 0) (getD (getD a d []) 0 0))
     unfolding pairRow

@@ -7,6 +7,7 @@ use lib.ListN.{length}
 use lib.Dec.{ltb, eqb}
 use Rattle.refusals.specs.Refusals.{tapeLong}
 use Rattle.law_base.specs.Rules.{_⇒_, _∣_}
+use Rattle.law_base.proofs.Tests.{neither}
 use Rattle.cut_grammar.specs.declared.Piece.{Piece}
 use Rattle.cut_grammar.specs.declared.Taken.{Taken}
 use Rattle.cut_grammar.specs.declared.Taken.the-variants as taken
@@ -51,10 +52,6 @@ module _ (lent : Lent) (s : List ℕ) where
   -- a piece that is no 2A
   other : (origin : Origin) (p : Piece) (t : Parsed) → asks48 (deedOf s p) ≡ false → act lent s 0 origin p t ≡ act lent s 1 origin p t
   other origin p t e = act-model 0 1 origin p t (λ i. absurd (false≢true (sym e ∙ i)))
-
-  neither : (a b : Bool) → (a || b) ≡ false → (a ≡ false) × (b ≡ false)
-  neither true b e = absurd (false≢true (sym e))
-  neither false b e = (refl, e)
 
   -- one thing of two runs: alike where it is no 2A of length 0 and what follows is alike
   module _ (t : Parsed) (k k′ : ℕ → Parsed → Verdict) (r : ℕ → Parsed → Bool) (alike : (x : ℕ) (u : Parsed) → r x u ≡ false → k x u ≡ k′ x u) where

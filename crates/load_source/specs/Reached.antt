@@ -1,6 +1,6 @@
 -- Whether the reading of a TZX reaches a 2A: reads one whole with length 0, also in a reading that errs later. Assumes nothing.
 use Prim.Native.Nat.{ℕ, zero, suc}
-use mathlib.Core.Bool.{Bool, true, false, _||_}
+use mathlib.Core.Bool.{Bool, false, _||_}
 use mathlib.Core.List.{List}
 use lib.ListN.{length}
 use lib.Dec.{ltb}

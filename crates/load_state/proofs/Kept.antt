@@ -1,19 +1,18 @@
 -- What every step keeps: a property of tapes that copying, naming, 22's pause and loops keep, and so one of blocks that naming and pausing
 -- keep, which then holds of all blocks of every tape read. Assumes nothing.
-use Prim.Native.Nat.{ℕ, zero, suc, _+_, _<_}
+use Prim.Native.Nat.{ℕ, zero, suc, _<_}
 use native.Mathlib.Omega.{arith}
 use mathlib.Core.Path.{_≡_, refl}
 use mathlib.Core.Bool.{Bool, true, false}
 use mathlib.Core.List.{List, [], _∷_, _++_, List·Memᴰ, List·Memᴰ·head, List·Memᴰ·tail, Memᴰ·append-left}
 use lib.ListN.{length, getD, drop}
-use lib.Dec.{ltb, leb}
+use lib.Dec.{ltb}
 use borrow.Author.Tests.{ltb-true}
 use Rattle.refusals.specs.Refusals.{blocksFull}
 use Rattle.law_base.specs.Rules.{_⇒_, _∣_}
 use Rattle.rows.specs.declared.Block.{Block}
-use Rattle.rows.specs.declared.Tone.{Tone}
 use Rattle.load_state.specs.declared.Pending.{Pending}
-use Rattle.load_state.specs.declared.Pending.the-variants.{Nothing, First, Text}
+use Rattle.load_state.specs.declared.Pending.the-variants.{Nothing}
 use Rattle.load_state.specs.declared.Loop.{Loop}
 use Rattle.load_state.specs.declared.Halt.the-variants.{Refusal}
 use Rattle.load_state.specs.declared.Loop.the-variants.{Closed, Open}
@@ -65,15 +64,19 @@ pub members : {A : Type 0} (xs : List A) → All (λ x. List·Memᴰ x xs) xs
 members [] = nil
 members (x ∷ xs) = cons (List·Memᴰ·head refl) (all-also (λ y m. List·Memᴰ·tail m) (members xs))
 
+-- one more block, where it has room
+pub block-sure : {K : Parsed → Type 0} (m : ℕ) (r : Block) (t : Parsed) → (length (t .blocks) < m → K (withBlock r t)) → Sure K (addBlock m r t)
+unfolding addBlock
+block-sure {K} m r t h = by-cases (ltb (length (t .blocks)) m) refl
+  where
+    by-cases : (b : Bool) → ltb (length (t .blocks)) m ≡ b → Sure K (b ⇒ on (withBlock r t) ∣ no (Refusal blocksFull))
+    by-cases true e = sure (h (ltb-true _ _ e))
+    by-cases false e = none
+
 -- a property that one more block keeps, where it has room, is kept by copies
 module _ (P : Block → Type 0) (K : Parsed → Type 0) (m : ℕ) (keep : (r : Block) (t : Parsed) → length (t .blocks) < m → P r → K t → K (withBlock r t)) where
   pub block-keeps : (r : Block) (t : Parsed) → P r → K t → Sure K (addBlock m r t)
-  unfolding addBlock
-  block-keeps r t p k = by-cases (ltb (length (t .blocks)) m) refl
-    where
-      by-cases : (b : Bool) → ltb (length (t .blocks)) m ≡ b → Sure K (b ⇒ on (withBlock r t) ∣ no (Refusal blocksFull))
-      by-cases true e = sure (keep r t (ltb-true _ _ e) p k)
-      by-cases false e = none
+  block-keeps r t p k = block-sure m r t (λ room. keep r t room p k)
 
   pub rows-keep : {rs : List Block} → All (λ r. P (nameless r)) rs → (t : Parsed) → K t → Sure K (copyRows m rs t)
   unfolding copyRows

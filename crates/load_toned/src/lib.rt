@@ -9,7 +9,7 @@ use load_blocks::two_tones;
 use load_state::State;
 use load_state::Step;
 use rows::Tone;
-ghost use Rattle.load_blocks.specs.Sounds.{ms, dataBits, addSound};
+ghost use Rattle.load_blocks.specs.Sounds.{ms, addSound};
 ghost use Rattle.load_blocks.specs.Blocks.{turboSound, pureSound, pureToneTones, toneSound};
 ghost use Rattle.load_blocks.specs.Does.{Does};
 

@@ -13,7 +13,7 @@ use Rattle.play_entries.specs.Places.{Tape}
 use Rattle.play_entries.specs.Mounted.{WholeTape}
 use Rattle.play_walk.specs.declared.Position.{Position}
 use Rattle.play_walk.specs.declared.Reached.{Reached}
-use Rattle.play_walk.specs.Heads.{ahead, toldReached}
+use Rattle.play_walk.specs.Heads.{ahead, endedIn, toldReached}
 use Rattle.play_deck.specs.Deck.{validAt}
 use Rattle.play_deck.specs.Calls.{positionIn, endedIn, runCalls, runSources, outcomeIn}
 use Rattle.play_deck.proofs.Answers.{told-ended}

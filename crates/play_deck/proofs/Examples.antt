@@ -12,7 +12,7 @@ use Rattle.rows.proofs.Samples.{rowWords}
 use Rattle.play_entries.specs.declared.Phase.the-variants.{Tones, Pause}
 use Rattle.play_entries.specs.declared.Duration.the-variants.{T, Endless}
 use Rattle.play_entries.specs.Entries.{entryOf, cyclesOf, isSingle, edged, startLevel, cycleLevel, bitLevel, pauseLevel, toneOf, tonesOf, dataOf, pauseOf, soundOf, entriesOf}
-use Rattle.play_entries.specs.Places.{Tape, levelAt, fromEdge, listFrom, leftAt, hasEntry, lengthAt, remains, valid, headOf, leftOf}
+use Rattle.play_entries.specs.Places.{Tape, levelAt, listFrom, leftAt, hasEntry, lengthAt, remains, valid, headOf, leftOf}
 use Rattle.play_walk.specs.declared.Reached.the-variants.{At, Stopped, Ended, NotFormed}
 use Rattle.play_entries.specs.Mounted.{wellRow, firstBad, formed, tapeOf}
 use Rattle.play_walk.specs.Heads.{reachedNo, placed, startAt, stand, levelHere, restLevel, toldAs, toldReached, walked, walkFrom}

@@ -1,5 +1,4 @@
 -- A TAPE WHOSE ROWS ARE ALL WELL FORMED is not cut, and its valid positions pass the checks. Assumes nothing.
-use Prim.Native.Nat.{_-_}
 use native.Mathlib.Omega.{arith}
 use borrow.Author.Tests.{le-ltb, lt-leb}
 use mathlib.Core.Path.{_≡_, refl}

@@ -8,7 +8,7 @@ use mathlib.Core.Path.{_≡_}
 use mathlib.Core.Bool.{Bool, true, false}
 use lib.Dec.{eqb}
 use Rattle.law_base.specs.Rules.{_⇒_, _∣_}
-use mathlib.Core.List.{List, [], _∷_}
+use mathlib.Core.List.{List, []}
 use Rattle.law_pulses.specs.Play.{Level, time}
 use Rattle.law_pulses.proofs.Joined.{time-append}
 use Rattle.law_pulses.specs.Runs.{run}

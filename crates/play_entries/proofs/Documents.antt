@@ -1,7 +1,6 @@
 -- Document rows by computation: each tape's rows with the line of their words, the entries that they give, the line behind. Assumes nothing.
 use Prim.Native.Nat.{ℕ}
 use mathlib.Core.Path.{_≡_, refl}
-use mathlib.Core.Bool.{Bool, true, false}
 use mathlib.Core.List.{List, [], _∷_, _++_, map}
 use Rattle.law_pulses.specs.Play.{low, high, pulse, endless}
 use Rattle.law_pulses.specs.Runs.{run}

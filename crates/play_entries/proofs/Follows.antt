@@ -5,7 +5,6 @@ use native.Mathlib.Omega.{arith}
 use mathlib.Core.Path.{_≡_, sym, ap, ap₂, _∙_}
 use mathlib.Core.List.{List, [], _∷_, _++_, append-assoc}
 use mathlib.Core.Bool.{true, false, not}
-use Rattle.law_base.specs.Rules.{_⇒_, _∣_}
 use Rattle.law_pulses.specs.Play.{Entry, pulse}
 use Rattle.law_pulses.specs.Runs.{run}
 use Rattle.law_pulses.proofs.Runs.{run-split, run-next, run-none}

@@ -7,8 +7,6 @@ use mathlib.Core.List.{List, [], _∷_, _++_}
 use Rattle.law_pulses.specs.Play.{Entry, pulse, endless, rest}
 use Rattle.law_pulses.proofs.Steps.{rest-nil, rest-stop, rest-ways}
 use Rattle.law_pulses.specs.Runs.{run}
-use Rattle.rows.specs.declared.Tone.{Tone}
-use Rattle.rows.specs.declared.Block.{Block}
 use Rattle.play_entries.specs.declared.Phase.{Phase}
 use Rattle.play_entries.specs.declared.Phase.the-variants.{Start, Tones, Data, Edge, Pause}
 use Rattle.play_entries.specs.declared.Duration.{Duration}

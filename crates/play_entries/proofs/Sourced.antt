@@ -1,21 +1,19 @@
 -- A SOURCE ROW: what `entriesOf` and `levelAt` are where the sort is 0. Assumes nothing.
 use Prim.Native.Nat.{ℕ}
-use mathlib.Core.Path.{_≡_, refl, ap, ap₂, _∙_}
-use mathlib.Core.Bool.{Bool, true, false, not, _&&_}
+use mathlib.Core.Path.{_≡_, refl}
+use mathlib.Core.Bool.{Bool, true, false}
 use mathlib.Core.List.{List, [], _∷_, _++_}
 use lib.Dec.{eqb}
 use Rattle.law_base.specs.Rules.{_⇒_, _∣_}
-use Rattle.law_pulses.specs.Play.{Level, low, high, Entry, pulse}
-use Rattle.law_pulses.specs.Runs.{run}
+use Rattle.law_pulses.specs.Play.{low}
 use Rattle.rows.specs.declared.Block.{Block}
 use Rattle.play_levels.specs.Closed.{flipped}
 use Rattle.play_levels.proofs.Voices.{run-same}
 use Rattle.play_entries.specs.declared.Phase.{Phase}
 use Rattle.play_entries.specs.declared.Phase.the-variants.{Start, Tones, Data, Edge, Pause}
-use Rattle.play_entries.specs.declared.Duration.the-variants.{T, Endless}
-use Rattle.play_entries.specs.Entries.{Label, labelAt, entryOf, toneAt, isSource, cyclesOf, isSingle, startLevel, cycleLevel, bitLevel, edged, cycleOf, toneOf, rowEntries, tonesOf, bitsAt, bitEntries, byteOf, byteAt, byteEntries, dataOf, edgeOf, wholePause, pauseOf, pauseLevel, pauseEntry, soundOf, entriesOf}
+use Rattle.play_entries.specs.Entries.{labelAt, entryOf, toneAt, isSource, cyclesOf, isSingle, startLevel, cycleLevel, bitLevel, edged, cycleOf, toneOf, rowEntries, tonesOf, byteOf, dataOf, edgeOf, wholePause, pauseOf, pauseLevel, pauseEntry, soundOf, entriesOf}
 use Rattle.play_entries.specs.Places.{levelAt}
-use Rattle.play_entries.specs.Source.{sourceCycle, sourceTone, sourceBit, sourceByte, sourceEntries, levelOf}
+use Rattle.play_entries.specs.Source.{sourceCycle, sourceTone, sourceByte, sourceEntries, levelOf}
 
 flipped-low : (h : Bool) → flipped h low ≡ h
 flipped-low true = refl

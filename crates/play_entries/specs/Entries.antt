@@ -5,7 +5,7 @@ use mathlib.Core.List.{List, [], _∷_, _++_}
 use lib.Dec.{eqb}
 use lib.ListN.{getD}
 use Rattle.law_base.specs.Rules.{_⇒_, _∣_}
-use Rattle.law_pulses.specs.Play.{Level, low, high, Entry, pulse, endless, time, comesTo}
+use Rattle.law_pulses.specs.Play.{Level, low, Entry, pulse, endless, time, comesTo}
 use Rattle.law_pulses.specs.Source.{isEnded}
 use Rattle.law_pulses.specs.Runs.{run}
 use Rattle.rows.specs.Table.{get}

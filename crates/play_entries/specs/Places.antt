@@ -3,7 +3,7 @@ use Prim.Native.Nat.{ℕ, _+_, _-_, min}
 use mathlib.Core.Bool.{Bool, true, false, not, _&&_, _||_}
 use mathlib.Core.List.{List, [], _∷_, _++_}
 use lib.Dec.{ltb, leb, eqb}
-use Rattle.law_pulses.specs.Play.{Level, low, high, Entry, pulse, endless}
+use Rattle.law_pulses.specs.Play.{Level, Entry, pulse, endless, time}
 use Rattle.law_pulses.specs.Runs.{run}
 use Rattle.rows.specs.Table.{get}
 use Rattle.rows.specs.Rows.{block}
@@ -36,6 +36,10 @@ byteIn w b pos = byteAt (w .bytes) (blockIn w b) pos
 -- THE TAPE'S LIST from block b on
 unfoldable pub listFrom : Tape → ℕ → List (Entry Label)
 listFrom w b = run (λ i. entriesOf (w .bytes) (w .tones) i (blockIn w i)) b (w .count - b)
+
+-- LOADING TIME: all entries up to the first stop or the end
+abbrev pub loadingTime : Tape → ℕ
+loadingTime w = time (listFrom w 0)
 
 -- from block b's pause on; from its edge; from its data byte at pos; from bit k of that byte; from its tone row i; from repetition p of that row
 unfoldable pub fromPause : Tape → ℕ → List (Entry Label)

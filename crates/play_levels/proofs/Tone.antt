@@ -1,9 +1,9 @@
 -- A TONE ROW BY ARITHMETIC is the tone row step by step: every pulse's level, and the line behind it. Assumes nothing.
-use Prim.Native.Nat.{ℕ, zero, suc, _+_, _-_, _%_, _≤_, _<_}
+use Prim.Native.Nat.{ℕ, zero, suc, _+_, _-_, _%_}
 use native.Mathlib.Omega.{arith}
 use native.Mathlib.Decide.{ℕ-discrete}
 use native.Mathlib.Numerals.{add-one}
-use borrow.Author.Tests.{eq-eqb, ne-eqb, eqb-true}
+use borrow.Author.Tests.{eq-eqb, ne-eqb}
 use mathlib.Core.Path.{_≡_, refl, sym, ap, subst, _∙_}
 use mathlib.Core.Bool.{Bool, true, false, not, Bool·not-not}
 use mathlib.Core.List.{[], _∷_, _++_}
@@ -16,10 +16,6 @@ use Rattle.play_levels.specs.declared.Line.{Line}
 use Rattle.play_levels.specs.Voiced.{Signal, tick, behind, voice, sounded, lineBy, voiced, linePast, lots, bare, Voices}
 use Rattle.play_levels.specs.Closed.{beginOf, pulsesOf, isOne, timesOf, secondSignal, waveSignals, toneSignals, turned, firstLevel, lastLevel, lineBefore, lineAfter, waveItem}
 use Rattle.play_levels.proofs.Voices.{voices-none, voices-by, voices-run}
-
-pub turned-none : (v : Level) → turned 0 v ≡ v
-unfolding turned
-turned-none v = refl
 
 pub turned-next : (n : ℕ) (v : Level) → turned (n + 1) v ≡ not (turned n v)
 unfolding turned

@@ -1,6 +1,6 @@
 -- THE DOCUMENT'S LEVELS, step by step: signals are voiced one by one, each from the line that the one before it left. Definitions alone; assumes nothing.
 use Prim.Native.Nat.{ℕ, zero, suc, _+_, _-_, min}
-use mathlib.Core.Bool.{Bool, true, false, not}
+use mathlib.Core.Bool.{not}
 use mathlib.Core.List.{List, [], _∷_, _++_}
 use mathlib.Core.Path.{_≡_}
 use lib.Dec.{eqb}

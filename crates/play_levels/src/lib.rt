@@ -1,7 +1,6 @@
 // The two levels that run along a tape in the document reading, and what a tone row does to them, by arithmetic.
 use rows::Tone;
 ghost use mathlib.Core.Path.{_≡_};
-ghost use mathlib.Core.Bool.{not};
 ghost use Rattle.play_levels.specs.Voiced.{behind};
 ghost use Rattle.play_levels.specs.Closed.{isOne, timesOf, turned, firstLevel, lineAfter};
 

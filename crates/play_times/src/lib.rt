@@ -8,7 +8,8 @@ use rows::Block;
 use rows::Tone;
 ghost use mathlib.Core.Path.{_≡_};
 ghost use mathlib.Core.Bool.{true};
-ghost use Prim.Native.Nat.{ℕ, _+_, _<_, _≤_};
+ghost use mathlib.Core.List.{List};
+ghost use Prim.Native.Nat.{ℕ, _+_, _^_, _<_, _≤_};
 ghost use lib.ListN.{length};
 ghost use Rattle.law_pulses.specs.Play.{Level, time};
 ghost use Rattle.law_pulses.specs.Runs.{run};
@@ -106,14 +107,22 @@ pub fn sound_time(tape: &[u8], tones: &[u64], r: Block) -> u64
     tones_time(tones, r) + data_time(tape, r)
 }
 
+// What a row lasts by its sound's T-states: with its pause, or that it never ends; its callers know them to be those of a well-formed row.
+pub fn lasts(sound: u64, r: Block) -> Duration
+    requires { ⌜ (sound < 2 ^ 50) × (wellNumbers r ≡ true) ⌝ }
+    ensures { λ d. ⌜ ((tape tones : List ℕ) (b : ℕ) → sound ≡ time (soundOf tape tones b r) → d ≡ lastsOf (entriesOf tape tones b r)) ⌝ }
+{
+    if r.endless == 1 {
+        Duration::Endless
+    } else {
+        Duration::T(sound + r.pause)
+    }
+}
+
 // T-states of a block with its pause, or that it never ends; its callers know the row to be well formed.
 pub fn block_time(tape: &[u8], tones: &[u64], r: Block) -> Duration
     requires { ⌜ wellBlock (tapeSize (now tape)) (now tones) r ≡ true ⌝ }
     ensures { λ d. ⌜ ((b : ℕ) → d ≡ lastsOf (entriesOf (now (tape .entry)) (now (tones .entry)) b r)) ⌝ }
 {
-    if r.endless == 1 {
-        Duration::Endless
-    } else {
-        Duration::T(sound_time(tape, tones, r) + r.pause)
-    }
+    lasts(sound_time(tape, tones, r), r)
 }

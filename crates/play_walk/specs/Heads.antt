@@ -1,7 +1,7 @@
 -- Where a head stands, and what a player answers of a list. Definitions alone; assumes nothing.
 use Prim.Native.Nat.{ℕ, _≤_, _<_}
 use mathlib.Core.Path.{_≡_}
-use mathlib.Core.Bool.{true, _&&_}
+use mathlib.Core.Bool.{Bool, true, false, _&&_}
 use mathlib.Core.List.{List, [], _∷_}
 use lib.Dec.{ltb, eqb}
 use Rattle.law_base.specs.Rules.{_⇒_, _∣_}
@@ -68,6 +68,14 @@ unfoldable pub toldAs : Status → Stand → Reached
 toldAs standing s = At s
 toldAs stopped s = Stopped s
 toldAs ended s = Ended s
+
+-- whether an answer is the end
+unfoldable pub endedIn : Reached → Bool
+endedIn (At s) = false
+endedIn (Stopped s) = false
+endedIn (Ended s) = true
+endedIn NotValid = false
+endedIn NotFormed = false
 
 -- a list's answer, as a player gives it: v is the tape w, or it cut
 unfoldable pub toldReached : Tape → Tape → Answer Label → Reached

@@ -24,8 +24,9 @@ ghost use Rattle.law_base.specs.Rules.{_⇒_, _∣_};
 ghost use Rattle.cut_fields.specs.declared.Cursor.the-variants.{At};
 ghost use Rattle.cut_fields.specs.Field.{fieldAt};
 ghost use Rattle.play_entries.specs.Mounted.{tapeOf};
+ghost use Rattle.play_walk.specs.Heads.{endedIn};
 ghost use Rattle.play_deck.specs.Deck.{playMeasured, playSource};
-ghost use Rattle.prog_calls.specs.Playback.{isPlayer, isEnd};
+ghost use Rattle.prog_calls.specs.Playback.{isPlayer};
 
 // The number of w bytes at a place; 0 where they are not all there.
 fn number(s: &[u8], at: u64, w: u64) -> u32
@@ -44,7 +45,7 @@ fn is_player(b: u8) -> bool
 
 // Whether an answer is the end.
 fn is_end(r: Reached) -> bool
-    ensures { λ v. ⌜ v ≡ isEnd r ⌝ }
+    ensures { λ v. ⌜ v ≡ endedIn r ⌝ }
 {
     match r {
         Reached::At(_) => false,

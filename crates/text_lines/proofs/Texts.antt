@@ -2,7 +2,7 @@
 use Prim.Native.Nat.{ℕ, zero, suc, _+_, _*_, _/_, _%_, _≤_}
 use native.Mathlib.Numerals.{add-one}
 use native.Mathlib.Omega.{arith}
-use mathlib.Core.Path.{_≡_, refl, sym, ap, subst, _∙_}
+use mathlib.Core.Path.{_≡_, refl, ap, subst, _∙_}
 use mathlib.Core.Bool.{Bool, true, false}
 use mathlib.Core.List.{List, [], _∷_, _++_, append-assoc}
 use lib.ListN.{length, length-append}
@@ -46,6 +46,10 @@ pub time-long : (d : Duration) → Long 1 20 (timeText d)
 unfolding timeText
 time-long (T n) = decimal-long n
 time-long Endless = record { low = omega arith; high = omega arith }
+
+-- how far the T-states reach
+pub time-next : {d1 d2 : List ℕ} {at r : ℕ} (d : Duration) → Wrote d1 at (timeText d) d2 r → r ≤ at + 20
+time-next d w = let a = time-long d in omega (arith, w .count)
 
 pub mark-long : (t : Bool) → Long 1 1 (markText t)
 unfolding markText
@@ -99,9 +103,11 @@ pub rows-next : {d d1 d2 : List ℕ} {at o1 o2 : ℕ} (w : Tape) (i : ℕ) → W
 unfolding rowsText
 rows-next w i p q = rw add-one (then p q)
 
--- what was written of a row's two parts, up to q
-pub row-written : {out d1 d2 : List ℕ} {at o1 o2 q : ℕ} (s tones blocks : List ℕ) (n i : ℕ) (r : Block) (d : Duration) → r ≡ get block blocks i → d ≡ lastsOf (entriesOf s tones i r) → q ≡ o2
-    → Wrote out at (rowHeadText i r) d1 o1 → Wrote d1 o1 (rowTailText d (nameOf s r)) d2 o2 → Wrote out at (rowText (tapeOf s tones blocks n) i) d2 q
-row-written {out} {d2 = d2} {at} {q = q} s tones blocks n i r d e f g u v =
-    subst (λ (t : List ℕ). Wrote out at t d2 q) (ap (λ (x : Duration). rowHeadText i r ++ rowTailText x (nameOf s r)) f ∙ row-joins s tones blocks n i r e)
-    (subst (λ (o : ℕ). Wrote out at (rowHeadText i r ++ rowTailText d (nameOf s r)) d2 o) (sym g) (then u v))
+-- what was written of a row's two parts
+pub row-written : {out d1 d2 : List ℕ} {at o1 o2 : ℕ} (s tones blocks : List ℕ) (n i : ℕ) (r : Block) (d : Duration)
+    → r ≡ get block blocks i → d ≡ lastsOf (entriesOf s tones i r)
+    → Wrote out at (rowHeadText i r) d1 o1 → Wrote d1 o1 (rowTailText d (nameOf s r)) d2 o2
+    → Wrote out at (rowText (tapeOf s tones blocks n) i) d2 o2
+row-written {out} {d2 = d2} {at} {o2 = o2} s tones blocks n i r d e f u v =
+    let parts = ap (λ (x : Duration). rowHeadText i r ++ rowTailText x (nameOf s r)) f in
+    subst (λ (t : List ℕ). Wrote out at t d2 o2) (parts ∙ row-joins s tones blocks n i r e) (then u v)

@@ -1,11 +1,10 @@
 -- What the contracts of the lines' functions cite: a line's parts, and what every load's tape has. Definitions alone; assumes nothing.
 use Prim.Native.Nat.{ℕ, _+_, _*_, _≤_, _<_}
 use mathlib.Core.Path.{_≡_}
-use mathlib.Core.Bool.{true, _||_}
+use mathlib.Core.Bool.{true}
 use mathlib.Core.List.{List, _++_}
 use lib.ListN.{length}
 use lib.Dec.{eqb}
-use Rattle.law_base.specs.Rules.{_⇒_, _∣_}
 use Rattle.text_out.specs.Out.{ascii, decimal}
 use Rattle.rows.specs.declared.Block.{Block}
 use Rattle.rows.specs.Table.{get}
@@ -13,9 +12,7 @@ use Rattle.rows.specs.Rows.{block}
 use Rattle.rows.specs.Well.{wellBlock}
 use Rattle.text_name.specs.Names.{nameOf}
 use Rattle.play_entries.specs.declared.Duration.{Duration}
-use Rattle.play_entries.specs.declared.Duration.the-variants.{T, Endless}
 use Rattle.play_entries.specs.Mounted.{tapeSize}
-use Rattle.text_lines.specs.declared.Told.{Told}
 use Rattle.text_shown.specs.Shown.{shown}
 use Rattle.text_lines.specs.Lines.{timeText, markText}
 
@@ -25,18 +22,6 @@ rowHeadText i r = decimal i ++ ascii " " ++ markText (eqb (r .selectable) 1) ++ 
 
 abbrev pub rowTailText : Duration → List ℕ → List ℕ
 rowTailText d name = timeText d ++ ascii " " ++ shown name ++ ascii "\n"
-
--- what a row lasts by its sound's T-states
-abbrev pub lastsBy : ℕ → Block → Duration
-lastsBy sound r = eqb (r .endless) 1 ⇒ Endless ∣ T (sound + r .pause)
-
--- one row more, whose text ends at `at`: nothing behind a stop counts
-abbrev pub toldBy : Told → ℕ → ℕ → Block → Told
-toldBy s at sound r = record {
-  at = at;
-  sum = s .over ⇒ s .sum ∣ eqb (r .endless) 1 ⇒ s .sum + sound ∣ s .sum + sound + r .pause;
-  over = s .over || eqb (r .endless) 1;
-}
 
 -- row i is lent and well formed, and its name is at most 510 bytes long
 pub record ReadyRow (bytes tones blocks : List ℕ) (i : ℕ) : Type 0 where

@@ -6,16 +6,15 @@ use lib.Dec.{eqb}
 use Rattle.law_base.specs.Rules.{_⇒_, _∣_}
 use Rattle.text_out.specs.Out.{ascii, decimal}
 use Rattle.play_entries.specs.declared.Duration.{Duration}
-use Rattle.play_entries.specs.declared.Duration.the-variants.{T, Endless}
 use Rattle.play_entries.specs.Entries.{entriesOf, lastsOf}
 use Rattle.play_entries.specs.Places.{Tape, blockIn}
 use Rattle.text_name.specs.Names.{nameOf}
 use Rattle.text_shown.specs.Shown.{shown}
+use Rattle.text_value.specs.Values.{lastsText}
 
 -- T-states (`stop` if endless)
 unfoldable pub timeText : Duration → List ℕ
-timeText (T n) = decimal n
-timeText Endless = ascii "stop"
+timeText d = lastsText (ascii "stop") d
 
 -- selectable mark (`*` or `-`)
 unfoldable pub markText : Bool → List ℕ

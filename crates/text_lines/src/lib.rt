@@ -1,35 +1,33 @@
 // A listing's lines: a block's row as text, and all rows with the loading time.
 use play_entries::Duration;
+use play_loading::Loading;
+use play_loading::none;
+use play_loading::one_more;
+use play_times::lasts;
 use play_times::sound_time;
 use rows::Block;
 use rows::block_at;
 use text_out::put;
-use text_out::put_all;
 use text_out::put_decimal;
 use text_shown::put_shown;
+use text_value::put_lasts;
 ghost use mathlib.Core.Path.{_≡_};
-ghost use mathlib.Core.Bool.{true};
 ghost use Prim.Native.Nat.{ℕ, _+_, _^_, _<_, _≤_};
 ghost use lib.ListN.{length};
 ghost use lib.Dec.{eqb};
-ghost use Rattle.rows.specs.Table.{get};
-ghost use Rattle.rows.specs.Rows.{block};
-ghost use Rattle.rows.specs.Well.{wellNumbers};
-ghost use Rattle.law_pulses.specs.Play.{time};
 ghost use Rattle.text_out.specs.Out.{Wrote};
-ghost use Rattle.play_entries.specs.Places.{listFrom};
+ghost use Rattle.play_entries.specs.Places.{loadingTime};
 ghost use Rattle.play_entries.specs.Mounted.{tapeOf};
-ghost use Rattle.play_entries.specs.Entries.{soundOf};
+ghost use Rattle.play_loading.specs.Sums.{Sums};
 ghost use Rattle.text_name.specs.Names.{nameOf};
 ghost use Rattle.text_shown.specs.Shown.{shown};
-ghost use Rattle.text_lines.specs.Inner.{rowHeadText, rowTailText, lastsBy, toldBy, ReadyRow, Ready};
-ghost use Rattle.text_lines.specs.Lines.{timeText, markText, rowText, rowsText};
+ghost use Rattle.text_lines.specs.Inner.{rowHeadText, rowTailText, ReadyRow, Ready};
+ghost use Rattle.text_lines.specs.Lines.{markText, rowText, rowsText};
 
-// How far the rows are told: where their text ends, the T-states up to the first stop, and whether it was met.
+// How far the rows are told: where their text ends, and what is summed up of the loading time.
 pub struct Told {
     pub at: usize,
-    pub sum: u64,
-    pub over: bool,
+    pub load: Loading,
 }
 
 // A block's name as it is shown; its callers know that 512 bytes hold it.
@@ -43,17 +41,6 @@ fn put_name(out: &mut [u8], at: usize, tape: &[u8], r: Block) -> usize
     let mut name = [0u8; 512];
     let n = text_name::put_name(&mut name, 0, tape, r);
     put_shown(out, at, &name[..n])
-}
-
-// T-states, or `stop`.
-fn put_time(out: &mut [u8], at: usize, d: Duration) -> usize
-    requires { ⌜ at + 20 < 2 ^ 63 ⌝ }
-    ensures { λ r. ⌜ Wrote (now (out .entry)) at (timeText d) (now (out .exit)) r ⌝ }
-{
-    match d {
-        Duration::T(n) => put_decimal(out, at, n),
-        Duration::Endless => put_all(out, at, b"stop"),
-    }
 }
 
 // A star for a selectable block.
@@ -89,63 +76,27 @@ fn put_tail(out: &mut [u8], at: usize, tape: &[u8], r: Block, d: Duration) -> us
     requires { ⌜ at + 600 < 2 ^ 63 ⌝ }
     ensures { λ n. ⌜ Wrote (now (out .entry)) at (rowTailText d (nameOf (now (tape .entry)) r)) (now (out .exit)) n ⌝ }
 {
-    let a = put_time(out, at, d);
+    let a = put_lasts(out, at, d, b"stop");
     let b = put(out, a, b' ');
     let c = put_name(out, b, tape, r);
     put(out, c, b'\n')
 }
 
-// What a row lasts by its sound's T-states, which its callers know to be those of a well-formed row.
-fn lasts(sound: u64, r: Block) -> Duration
-    requires { ⌜ (sound < 2 ^ 50) × (wellNumbers r ≡ true) ⌝ }
-    ensures { λ d. ⌜ d ≡ lastsBy sound r ⌝ }
-{
-    if r.endless == 1 {
-        Duration::Endless
-    } else {
-        Duration::T(sound + r.pause)
-    }
-}
-
-// One row more, whose text ends at `at`; what stands behind a stop isn't counted.
-fn after(s: Told, at: usize, sound: u64, r: Block) -> Told
-    requires { ⌜ (s .sum ≤ 2 ^ 60) × (sound < 2 ^ 50) ⌝ }
-    requires { ⌜ wellNumbers r ≡ true ⌝ }
-    ensures { λ q. ⌜ q ≡ toldBy s at sound r ⌝ }
-{
-    if s.over {
-        return Told {
-            at,
-            sum: s.sum,
-            over: true,
-        };
-    }
-    if r.endless == 1 {
-        return Told {
-            at,
-            sum: s.sum + sound,
-            over: true,
-        };
-    }
-    Told {
-        at,
-        sum: s.sum + sound + r.pause,
-        over: false,
-    }
-}
-
 // The line of row i, which its callers know to be ready; the tape's count is no matter.
 fn put_row(out: &mut [u8], s: Told, tape: &[u8], tones: &[u64], blocks: &[u64], i: u64) -> Told
     requires { ⌜ ReadyRow (now tape) (now tones) (now blocks) i ⌝ }
-    requires { ⌜ (s .at + 1024 < 2 ^ 63) × (s .sum ≤ 2 ^ 60) ⌝ }
+    requires { ⌜ (s .at + 1024 < 2 ^ 63) × (s .load .sum < 2 ^ 63) ⌝ }
     ensures { λ q. ⌜ ((n : ℕ) → Wrote (now (out .entry)) (s .at) (rowText (tapeOf (now (tape .entry)) (now (tones .entry)) (now (blocks .entry)) n) i) (now (out .exit)) (q .at)) ⌝ }
-    ensures { λ q. ⌜ q ≡ toldBy s (q .at) (time (soundOf (now (tape .entry)) (now (tones .entry)) i (get block (now (blocks .entry)) i))) (get block (now (blocks .entry)) i) ⌝ }
+    ensures { λ q. ⌜ ((n : ℕ) → i < n → Sums (tapeOf (now (tape .entry)) (now (tones .entry)) (now (blocks .entry)) n) i (s .load)
+        → Sums (tapeOf (now (tape .entry)) (now (tones .entry)) (now (blocks .entry)) n) (i + 1) (q .load)) ⌝ }
 {
     let r = block_at(blocks, i as usize);
     let sound = sound_time(tape, tones, r);
     let a = put_head(out, s.at, i, r);
     let b = put_tail(out, a, tape, r, lasts(sound, r));
-    after(s, b, sound, r)
+    let l = s.load;
+    let load = one_more(l, sound, r);
+    Told { at: b, load }
 }
 
 // The lines of the first n rows, and the loading time: all entries up to the first stop or the end; our crates alone call it.
@@ -160,13 +111,10 @@ pub fn put_rows(
     requires { ⌜ Ready (now tape) (now tones) (now blocks) n ⌝ }
     requires { ⌜ at ≤ 1024 ⌝ }
     ensures { λ q. ⌜ Wrote (now (out .entry)) at (rowsText (tapeOf (now (tape .entry)) (now (tones .entry)) (now (blocks .entry)) n) n) (now (out .exit)) (q .at) ⌝ }
-    ensures { λ q. ⌜ q .sum ≡ time (listFrom (tapeOf (now (tape .entry)) (now (tones .entry)) (now (blocks .entry)) n) 0) ⌝ }
+    ensures { λ q. ⌜ q .load .sum ≡ loadingTime (tapeOf (now (tape .entry)) (now (tones .entry)) (now (blocks .entry)) n) ⌝ }
 {
-    let mut s = Told {
-        at,
-        sum: 0,
-        over: false,
-    };
+    let load = none();
+    let mut s = Told { at, load };
     let mut i = 0;
     while i < n {
         s = put_row(out, s, tape, tones, blocks, i);

@@ -1,13 +1,12 @@
 -- Laws of what is written: writes one after the other are one write of the whole text, and how long a text is. Assumes nothing.
 use mathlib.Core.Path.{_≡_, refl, sym, ap, _∙_}
 use mathlib.Core.Bool.{Bool, true, false}
-use mathlib.Core.List.{List, [], _∷_, _++_, append-nil, append-assoc}
+use mathlib.Core.List.{List, [], _∷_, _++_}
 use Prim.Native.Nat.{ℕ, zero, suc, _+_, _/_, _%_, _*_, _^_, _<_, _≤_}
 use native.Mathlib.Nat.{add-zero, add-suc, suc-add, add-assoc, mul-suc, div-lt-iff-lt-mul, pow-suc}
-use native.Mathlib.Numerals.{add-one}
 use native.Mathlib.Omega.{arith}
-use lib.ListN.{length, length-append, take, drop, getD, set}
-use lib.Seq.{sets, length-sets, sets-eq, take-suc}
+use lib.ListN.{length, length-append, drop, set}
+use lib.Seq.{sets, length-sets, sets-eq}
 use lib.Dec.{ltb}
 use borrow.Author.Tests.{lt-ltb, le-ltb, le-leb, lt-leb}
 use Rattle.law_base.specs.Rules.{_⇒_, _∣_}
@@ -89,24 +88,11 @@ latin1-length b = cases (ltb b 128)
     cases true = omega arith
     cases false = omega arith
 
-pub take-one-more : (s : List ℕ) (i : ℕ) → i < length s → take (i + 1) s ≡ take i s ++ (getD s i 0 ∷ [])
-take-one-more s i h = rw (add-one, take-suc s i 0 h)
-
--- a text for each byte: one turn, and the length where no byte's text is longer than k
-module _ (f : ℕ → List ℕ) where
-  each-append : (s t : List ℕ) → eachByte f (s ++ t) ≡ eachByte f s ++ eachByte f t
-  unfolding eachByte
-  each-append [] t = refl
-  each-append (b ∷ s) t = rw (each-append s t, append-assoc)
-
-  pub each-one-more : (s : List ℕ) (i : ℕ) → i < length s → eachByte f (take (i + 1) s) ≡ eachByte f (take i s) ++ f (getD s i 0)
-  unfolding eachByte
-  each-one-more s i h = rw (take-one-more s i h, each-append, append-nil)
-
-  pub each-length : (k : ℕ) → ((b : ℕ) → length (f b) ≤ k) → (s : List ℕ) → length (eachByte f s) ≤ k * length s
-  unfolding eachByte
-  each-length k h [] = omega arith
-  each-length k h (b ∷ s) = simp (length-append, mul-suc) (omega (arith, h b, each-length k h s))
+-- a text for each byte, where no byte's text is longer than k
+pub each-length : (f : ℕ → List ℕ) (k : ℕ) → ((b : ℕ) → length (f b) ≤ k) → (s : List ℕ) → length (eachByte f s) ≤ k * length s
+unfolding eachByte
+each-length f k h [] = omega arith
+each-length f k h (b ∷ s) = simp (length-append, mul-suc) (omega (arith, h b, each-length f k h s))
 
 -- each case of a byte and of a number: what the calls wrote is the text
 pub as-plain : {d d1 : List ℕ} {at r : ℕ} (b : ℕ) → b < 128 → Wrote d at (b ∷ []) d1 r → Wrote d at (latin1 b) d1 r

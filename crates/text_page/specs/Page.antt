@@ -3,9 +3,8 @@ use Prim.Native.Nat.{ℕ}
 use mathlib.Core.List.{List, _++_}
 use lib.Dec.{eqb}
 use Rattle.law_base.specs.Rules.{_⇒_, _∣_}
-use Rattle.law_pulses.specs.Play.{time}
 use Rattle.text_out.specs.Out.{ascii, decimal}
-use Rattle.play_entries.specs.Places.{Tape, listFrom}
+use Rattle.play_entries.specs.Places.{Tape, loadingTime}
 use Rattle.load_tape.specs.declared.Format.{Format}
 use Rattle.load_tape.specs.declared.Format.the-variants.{Tap, Tzx}
 use Rattle.text_lines.specs.Lines.{rowsText}
@@ -30,7 +29,7 @@ countText format n =
 
 -- `time T`: all entries up to the first stop or the end
 unfoldable pub loadingText : Tape → List ℕ
-loadingText w = ascii "time " ++ decimal (time (listFrom w 0)) ++ ascii "\n"
+loadingText w = ascii "time " ++ decimal (loadingTime w) ++ ascii "\n"
 
 -- what follows the model's name
 unfoldable pub restText : Format → Tape → List ℕ

@@ -1,6 +1,5 @@
 -- A NAME AS IT PRINTS: one code point of it, and that it grows no longer. Assumes nothing.
 use Prim.Native.Nat.{ℕ, suc, _+_, _≤_, _<_}
-use native.Mathlib.Numerals.{add-one}
 use native.Mathlib.Omega.{arith}
 use mathlib.Core.Path.{_≡_, refl, sym, ap, _∙_}
 use mathlib.Core.Bool.{Bool, true, false, _&&_, _||_}
@@ -13,7 +12,8 @@ use borrow.Author.Tests.{lt-ltb, le-ltb}
 use Rattle.law_base.specs.Rules.{_⇒_, _∣_}
 use Rattle.law_base.proofs.Numbers.{lt-or-ge}
 use Rattle.text_out.specs.Out.{Wrote}
-use Rattle.text_out.proofs.Writing.{wrote-nothing, then, wrote-counted, wrote-whole}
+use Rattle.text_out.proofs.Writing.{wrote-counted, wrote-whole}
+use Rattle.text_out.proofs.Loops.{Goes, goes-none, goes-on, goes-over, byte-here}
 use Rattle.text_shown.specs.Shown.{shown, isC1, printed, width}
 
 -- the last byte, a code point of two bytes, and a byte that another follows
@@ -39,14 +39,12 @@ pub shown-at : (s : List ℕ) (i : ℕ) → i < length s → shown (drop i s) �
 unfolding shown
 shown-at s i h = ⊎-elim more last (lt-or-ge (i + 1) (length s))
   where
-    here : drop i s ≡ getD s i 0 ∷ drop (i + 1) s
-    here = drop-cons s i 0 h ∙ rw add-one
-
     more : i + 1 < length s → shown (drop i s) ≡ printed (isC1 s i) (getD s i 0) ∷ shown (drop (i + width (isC1 s i)) s)
     more k =
         let c = getD s (i + 1) 0 in
         let t = eqb (getD s i 0) 0xC2 && ltb c 0xA0 in
-        let two : drop i s ≡ getD s i 0 ∷ c ∷ drop (suc (i + 1)) s = here ∙ ap (λ (l : List ℕ). getD s i 0 ∷ l) (drop-cons s (i + 1) 0 k) in
+        let next = ap (λ (l : List ℕ). getD s i 0 ∷ l) (drop-cons s (i + 1) 0 k) in
+        let two : drop i s ≡ getD s i 0 ∷ c ∷ drop (suc (i + 1)) s = byte-here s i h ∙ next in
         rw (lt-ltb (i + 1) (length s) k) (
         ap shown two
         ∙ shown-first (getD s i 0) c (drop (suc (i + 1)) s)
@@ -56,7 +54,8 @@ shown-at s i h = ⊎-elim more last (lt-or-ge (i + 1) (length s))
     last : length s ≤ i + 1 → shown (drop i s) ≡ printed (isC1 s i) (getD s i 0) ∷ shown (drop (i + width (isC1 s i)) s)
     last k =
         let none : drop (i + 1) s ≡ [] = drop-of-length-le s k in
-        rw (le-ltb (i + 1) (length s) k, none) (ap shown (here ∙ ap (λ (l : List ℕ). getD s i 0 ∷ l) none) ∙ shown-last (getD s i 0))
+        let alone = byte-here s i h ∙ ap (λ (l : List ℕ). getD s i 0 ∷ l) none in
+        rw (le-ltb (i + 1) (length s) k, none) (ap shown alone ∙ shown-last (getD s i 0))
 
 -- it lies in the name
 pub c1-inside : (s : List ℕ) (i : ℕ) → i < length s → i + width (isC1 s i) ≤ length s
@@ -88,30 +87,29 @@ shown-length (b ∷ c ∷ bs) = by-cases (eqb b 0xC2 && ltb c 0xA0) (ltb b 32 ||
     by-cases false true p q = omega arith
     by-cases false false p q = omega arith
 
--- THE WRITING, code point by code point: what is still to be written ends what was begun
-pub record Goes (d₀ : List ℕ) (at : ℕ) (s : List ℕ) (i : ℕ) (d : List ℕ) (o : ℕ) : Type 0 where
+-- THE WRITING, code point by code point
+pub record Shows (d₀ : List ℕ) (at : ℕ) (s : List ℕ) (i : ℕ) (d : List ℕ) (o : ℕ) : Type 0 where
   pub inside : i ≤ length s
-  pub few : o ≤ at + i
-  pub rest : (d′ : List ℕ) (r : ℕ) → Wrote d o (shown (drop i s)) d′ r → Wrote d₀ at (shown s) d′ r
+  pub goes : Goes (λ j. shown (drop j s)) 1 d₀ at i d o
 
-pub goes-none : (d : List ℕ) (at : ℕ) (s : List ℕ) → Goes d at s 0 d at
-goes-none d at s = record { inside = omega arith; few = omega arith; rest = λ d′ r w. w }
+pub shows-none : (d : List ℕ) (at : ℕ) (s : List ℕ) → Shows d at s 0 d at
+shows-none d at s = record { inside = omega arith; goes = goes-none _ 1 d at }
 
-pub goes-on : {d₀ d d1 s : List ℕ} {at i o o1 b k : ℕ} {c1 : Bool} → Goes d₀ at s i d o → i < length s → c1 ≡ isC1 s i → b ≡ printed c1 (getD s i 0) → k ≡ width c1 → Wrote d o (b ∷ []) d1 o1 → Goes d₀ at s (i + k) d1 o1
-goes-on {s = s} {i = i} {b = b} {k} {c1} g h e p q w =
+pub shows-on : {d₀ d d1 s : List ℕ} {at i o o1 b k : ℕ} {c1 : Bool} → Shows d₀ at s i d o → i < length s
+    → c1 ≡ isC1 s i → b ≡ printed c1 (getD s i 0) → k ≡ width c1 → Wrote d o (b ∷ []) d1 o1 → Shows d₀ at s (i + k) d1 o1
+shows-on {s = s} {i = i} {b = b} {k} {c1} g h e p q w =
     let z : k ≡ width (isC1 s i) = q ∙ ap width e in
     let y : b ≡ printed (isC1 s i) (getD s i 0) = p ∙ ap (λ (t : Bool). printed t (getD s i 0)) e in
     let split : b ∷ shown (drop (i + k) s) ≡ shown (drop i s) =
-    ap (λ (x : ℕ). x ∷ shown (drop (i + k) s)) y ∙ ap (λ (x : ℕ). printed (isC1 s i) (getD s i 0) ∷ shown (drop (i + x) s)) z ∙ sym (shown-at s i h) in
-    record {
-      inside = omega (arith, c1-inside s i h, z);
-      few = omega (arith, g .few, w .count, width-some (isC1 s i), z);
-      rest = λ d′ r u. g .rest d′ r (rw split at (then w u));
-    }
+    ap (λ (x : ℕ). x ∷ shown (drop (i + k) s)) y
+    ∙ ap (λ (x : ℕ). printed (isC1 s i) (getD s i 0) ∷ shown (drop (i + x) s)) z
+    ∙ sym (shown-at s i h) in
+    let some = width-some (isC1 s i) in
+    record { inside = omega (arith, c1-inside s i h, z); goes = goes-on k (g .goes) (sym split) (omega (arith, z)) w }
 
-pub goes-over : {d₀ d s : List ℕ} {at i o : ℕ} → Goes d₀ at s i d o → length s ≤ i → Wrote d₀ at (shown s) d o
+pub shows-over : {d₀ d s : List ℕ} {at i o : ℕ} → Shows d₀ at s i d o → length s ≤ i → Wrote d₀ at (shown s) d o
 unfolding shown
-goes-over {d = d} {s} {i = i} {o} g h = g .rest d o (rw (drop-of-length-le s h) (wrote-nothing d o))
+shows-over {s = s} g h = goes-over (g .goes) (ap shown (drop-of-length-le s h))
 
 -- a text that was written into lent bytes, read back from them
 pub name-part : {d d1 t : List ℕ} {n : ℕ} → Wrote d 0 t d1 n → length t ≤ length d → take n d1 ≡ t

@@ -11,7 +11,11 @@ unfoldable pub flag : Bool → List ℕ
 flag false = ascii "0"
 flag true = ascii "1"
 
--- T-states, or `endless`
+-- T-states, or a word for what never ends
+abbrev pub lastsText : List ℕ → Duration → List ℕ
+lastsText word (T n) = decimal n
+lastsText word Endless = word
+
+-- that word is `endless`
 unfoldable pub durationText : Duration → List ℕ
-durationText (T n) = decimal n
-durationText Endless = ascii "endless"
+durationText d = lastsText (ascii "endless") d

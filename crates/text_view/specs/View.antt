@@ -5,7 +5,7 @@ use mathlib.Core.List.{List, [], _∷_}
 use lib.ListN.{take, drop}
 use lib.Dec.{eqb}
 use Rattle.rows.specs.Table.{get, rowsOf}
-use Rattle.rows.specs.Rows.{block, tone}
+use Rattle.rows.specs.Rows.{block, tone, tonesIn}
 use Rattle.rows.specs.declared.Tone.{Tone}
 use Rattle.rows.specs.declared.Block.{Block}
 use Rattle.play_entries.specs.declared.Duration.{Duration}
@@ -28,10 +28,6 @@ unfoldable pub tonesFrom : List ℕ → ℕ → ℕ → List Tone
 tonesFrom tones from zero = []
 tonesFrom tones from (suc n) = get tone tones from ∷ tonesFrom tones (from + 1) n
 
--- a block's tones, of the tones that were read
-abbrev pub ownTones : List Tone → Block → List Tone
-ownTones ts r = take (r .tones) (drop (r .tone) ts)
-
 abbrev pub viewOf : List ℕ → List Tone → Block → View
 viewOf tape ts r =
     record { name = nameOf tape r; selectable = eqb (r .selectable) 1; tones = ts; zero = r .zero; one = r .one; last = r .last; pause = wholePause r; bytes = take (r .size) (drop (r .start) tape) }
@@ -51,4 +47,4 @@ viewsIn w = rowViews (w .bytes) (w .tones) (rowsOf block (w .blocks) (w .count))
 -- the block list of what was read from a tape: its rows, and its tones
 unfoldable pub blockList : List ℕ → List Tone → List Block → List View
 blockList tape ts [] = []
-blockList tape ts (r ∷ rs) = viewOf tape (ownTones ts r) r ∷ blockList tape ts rs
+blockList tape ts (r ∷ rs) = viewOf tape (tonesIn ts r) r ∷ blockList tape ts rs

@@ -1,5 +1,4 @@
 -- `stand_inside` meets its contract. Assumes nothing.
-use mathlib.Core.Path.{ap, _∙_}
 use Rattle.play_entries.specs.Mounted.{tapeOf}
 use Rattle.play_walk.specs.declared.Position.{Position}
 use Rattle.play_deck.proofs.Checks as checks

@@ -1,6 +1,5 @@
 -- `is_edged` meets its contract. Assumes nothing.
 use borrow.Author.Tests.{eq-eqb, ne-eqb}
-use mathlib.Core.Bool.{not}
 use Rattle.play_entries.specs.Entries.{edged}
 use Rattle.play_phases.proofs.is_edged.Statement.{statement}
 use Rattle.play_phases.proofs.is_edged.Tie as tie

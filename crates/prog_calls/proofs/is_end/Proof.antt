@@ -1,5 +1,5 @@
 -- `is_end` meets its contract. Assumes nothing.
-use Rattle.prog_calls.specs.Playback.{isEnd}
+use Rattle.play_walk.specs.Heads.{endedIn}
 use borrow.Author.Needs.{needs}
 use Rattle.prog_calls.proofs.is_end.Statement.{statement}
 use Rattle.prog_calls.proofs.is_end.Tie as tie
@@ -20,27 +20,27 @@ enum-told-5 : tie.Need-enum-told-5
 enum-told-5 c = search needs
 
 returns : tie.Need-returns
-unfolding isEnd
+unfolding endedIn
 returns c =
     rw (c .enum-told .given .1)
 
 returns-2 : tie.Need-returns-2
-unfolding isEnd
+unfolding endedIn
 returns-2 c =
     rw (c .enum-told2 .given .1)
 
 returns-3 : tie.Need-returns-3
-unfolding isEnd
+unfolding endedIn
 returns-3 c =
     rw (c .enum-told3 .given .1)
 
 returns-4 : tie.Need-returns-4
-unfolding isEnd
+unfolding endedIn
 returns-4 c =
     rw (c .enum-told4 .given .1)
 
 returns-5 : tie.Need-returns-5
-unfolding isEnd
+unfolding endedIn
 returns-5 c =
     rw (c .enum-told5 .given .1)
 

@@ -1,28 +1,26 @@
--- `text::put_all` meets its contract: each turn writes one byte more of s. Assumes nothing.
-use mathlib.Core.Path.{_≡_}
-use Prim.Native.Nat.{_-_, _≤_}
+-- `put_all` meets its contract: each turn writes one byte more of s. Assumes nothing.
+use Prim.Native.Nat.{_-_}
 use native.Mathlib.Omega.{arith}
-use lib.ListN.{length, take}
-use lib.Seq.{take-length, length-take-le}
-use Rattle.text_out.specs.Out.{Wrote}
-use Rattle.text_out.proofs.Writing.{wrote-nothing, then, same-len, take-one-more}
+use lib.ListN.{length}
+use Rattle.text_out.proofs.Writing.{same-len}
+use Rattle.text_out.proofs.Loops.{Spells, spells-none, spells-on, spells-over, itself, each-itself}
 use Rattle.text_out.proofs.put_all.Statement.{statement}
 use Rattle.text_out.proofs.put_all.Tie as tie
 
 abbrev Inv-loop : tie.InvT-loop
-Inv-loop out₀ at s o₀ i₀ out o i = (i ≤ length s) × Wrote out₀ at (take i s) out o
+Inv-loop out₀ at s o₀ i₀ out o i = Spells itself 1 out₀ at s i out o
 
 abbrev μ-loop : tie.MeasureT-loop
 μ-loop out₀ at s o₀ i₀ out o i = length s - i
 
 loop-holds : tie.Need-loop-holds Inv-loop μ-loop
-loop-holds c = (omega arith, wrote-nothing _ _)
+loop-holds c = spells-none
 
 shared-slice-read-put : tie.Need-shared-slice-read-put Inv-loop μ-loop
 shared-slice-read-put c = omega arith
 
 put-requires : tie.Need-put-requires Inv-loop μ-loop
-put-requires c κs = omega (arith, c .before .before .before .loop .inv .1 .count, length-take-le (c .before .before .before .loop .i) (c .before .before .before .before .before .before .args .s .now) (omega arith))
+put-requires c κs = omega (arith, c .before .before .before .loop .inv .goes .few)
 
 add-i : tie.Need-add-i Inv-loop μ-loop
 add-i c = omega arith
@@ -32,16 +30,14 @@ loop-less c = omega arith
 
 loop-again : tie.Need-loop-again Inv-loop μ-loop
 loop-again c =
-    let w = c .before .before .before .before .before .before .loop .inv .1 in
-    (omega arith, rw (take-one-more _ _ (c .before .before .before .before .before .loop-test .taken)) (then w (c .before .before .put .ensures)))
+    let t = c .before .before .before .before .before in
+    spells-on (t .before .loop .inv) (t .loop-test .taken) (omega arith) (c .before .before .put .ensures)
 
 same-length : tie.Need-same-length Inv-loop μ-loop
-same-length c = same-len (c .before .loop .inv .1)
+same-length c = same-len (spells-over (c .before .loop .inv) (c .loop-test .left))
 
 returns : tie.Need-returns Inv-loop μ-loop
-returns c =
-    let e : length (c .before .before .before .before .args .s .now) ≡ c .before .loop .i = omega arith in
-    rw (← take-length (c .before .before .before .before .args .s .now), e) (c .before .loop .inv .1)
+returns c = rw (each-itself _) at (spells-over (c .before .loop .inv) (c .loop-test .left))
 
 pub put-all-spec : {M : Type 1} → statement M
 put-all-spec =

@@ -1,29 +1,27 @@
--- `text::put_latin` meets its contract: each turn writes the text of one byte more. Assumes nothing.
-use mathlib.Core.Path.{_≡_}
-use Prim.Native.Nat.{_-_, _≤_}
+-- `put_latin` meets its contract: each turn writes the text of one byte more. Assumes nothing.
+use Prim.Native.Nat.{_-_}
 use native.Mathlib.Omega.{arith}
-use lib.ListN.{length, take}
-use lib.Seq.{take-length, length-take-le}
-use Rattle.text_out.specs.Out.{Wrote, latin1, latin, eachByte}
-use Rattle.text_out.proofs.Writing.{wrote-nothing, then, same-len, each-one-more, each-length, latin1-length}
+use lib.ListN.{length}
+use Rattle.text_out.specs.Out.{latin1}
+use Rattle.text_out.proofs.Writing.{same-len, latin1-length}
+use Rattle.text_out.proofs.Loops.{Spells, spells-none, spells-on, spells-over}
 use Rattle.text_out.proofs.put_latin.Statement.{statement}
 use Rattle.text_out.proofs.put_latin.Tie as tie
 
 abbrev Inv-loop : tie.InvT-loop
-Inv-loop out₀ at s o₀ i₀ out o i = (i ≤ length s) × Wrote out₀ at (latin (take i s)) out o
+Inv-loop out₀ at s o₀ i₀ out o i = Spells latin1 2 out₀ at s i out o
 
 abbrev μ-loop : tie.MeasureT-loop
 μ-loop out₀ at s o₀ i₀ out o i = length s - i
 
 loop-holds : tie.Need-loop-holds Inv-loop μ-loop
-unfolding eachByte
-loop-holds c = (omega arith, wrote-nothing _ _)
+loop-holds c = spells-none
 
 shared-slice-read-put-latin1 : tie.Need-shared-slice-read-put-latin1 Inv-loop μ-loop
 shared-slice-read-put-latin1 c = omega arith
 
 put-latin1-requires : tie.Need-put-latin1-requires Inv-loop μ-loop
-put-latin1-requires c κs = omega (arith, c .before .before .before .loop .inv .1 .count, each-length latin1 2 latin1-length (take (c .before .before .before .loop .i) (c .before .before .before .before .before .before .args .s .now)), length-take-le (c .before .before .before .loop .i) (c .before .before .before .before .before .before .args .s .now) (omega arith))
+put-latin1-requires c κs = omega (arith, c .before .before .before .loop .inv .goes .few)
 
 add-i : tie.Need-add-i Inv-loop μ-loop
 add-i c = omega arith
@@ -33,16 +31,14 @@ loop-less c = omega arith
 
 loop-again : tie.Need-loop-again Inv-loop μ-loop
 loop-again c =
-    let w = c .before .before .before .before .before .before .loop .inv .1 in
-    (omega arith, rw (each-one-more latin1 _ _ (c .before .before .before .before .before .loop-test .taken)) (then w (c .before .before .put-latin1 .ensures)))
+    let t = c .before .before .before .before .before in
+    spells-on (t .before .loop .inv) (t .loop-test .taken) (latin1-length _) (c .before .before .put-latin1 .ensures)
 
 same-length : tie.Need-same-length Inv-loop μ-loop
-same-length c = same-len (c .before .loop .inv .1)
+same-length c = same-len (spells-over (c .before .loop .inv) (c .loop-test .left))
 
 returns : tie.Need-returns Inv-loop μ-loop
-returns c =
-    let e : length (c .before .before .before .before .args .s .now) ≡ c .before .loop .i = omega arith in
-    rw (← take-length (c .before .before .before .before .args .s .now), e) (c .before .loop .inv .1)
+returns c = spells-over (c .before .loop .inv) (c .loop-test .left)
 
 pub put-latin-spec : {M : Type 1} → statement M
 put-latin-spec =

@@ -38,7 +38,7 @@ returns : tie.Need-returns
 returns c =
     let a = c .before .before .before .before .before .before .before .before .before .before .before .before .before .before .before .before .before .before .before .before .before .before .before .before .before .args in
     let w = c .before .before .before .before .before .before .put-rows in
-    listing-written (a .model) (a .format) (tapeOf (a .tape .now) (a .tones .now) (a .blocks .now) (a .n)) (w .result .sum) (w .ensures .1) (c .before .before .before .before .before .before .before .before .before .before .before .before .before .before .before .before .before .before .put-all .ensures) (c .before .before .before .before .before .before .before .before .before .before .before .before .before .before .put-model .ensures) (c .before .before .before .before .before .before .before .before .before .before .put-count .ensures) (w .ensures .0) (c .before .before .put-total .ensures)
+    listing-written (a .model) (a .format) (tapeOf (a .tape .now) (a .tones .now) (a .blocks .now) (a .n)) (w .result .load .sum) (w .ensures .1) (c .before .before .before .before .before .before .before .before .before .before .before .before .before .before .before .before .before .before .put-all .ensures) (c .before .before .before .before .before .before .before .before .before .before .before .before .before .before .put-model .ensures) (c .before .before .before .before .before .before .before .before .before .before .put-count .ensures) (w .ensures .0) (c .before .before .put-total .ensures)
 
 pub put-listing-spec : {M : Type 1} → statement M
 put-listing-spec =

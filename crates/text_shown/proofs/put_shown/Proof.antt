@@ -4,19 +4,19 @@ use native.Mathlib.Omega.{arith}
 use lib.ListN.{length}
 use borrow.Author.Needs.{needs}
 use Rattle.text_out.proofs.Writing.{same-len}
-use Rattle.text_shown.proofs.Shown.{Goes, goes-none, goes-on, goes-over, width-some}
+use Rattle.text_shown.proofs.Shown.{Shows, shows-none, shows-on, shows-over, width-some}
 use Rattle.text_shown.proofs.put_shown.Statement.{statement}
 use Rattle.text_shown.proofs.put_shown.Tie as tie
 
 abbrev Inv-loop : tie.InvT-loop
-Inv-loop out₀ at name o₀ i₀ out o i = Goes out₀ at name i out o
+Inv-loop out₀ at name o₀ i₀ out o i = Shows out₀ at name i out o
 
 abbrev μ-loop : tie.MeasureT-loop
 μ-loop out₀ at name o₀ i₀ out o i = length name - i
 
 loop-holds : tie.Need-loop-holds Inv-loop μ-loop
 loop-holds c =
-    goes-none _ _ _
+    shows-none _ _ _
 
 is-c1-requires : tie.Need-is-c1-requires Inv-loop μ-loop
 is-c1-requires c κs =
@@ -32,7 +32,8 @@ shown-as-requires c κs =
 
 put-requires : tie.Need-put-requires Inv-loop μ-loop
 put-requires c κs =
-    omega (arith, c .before .before .before .before .before .before .before .before .pre, c .before .before .before .before .before .loop .inv .few)
+    let l = c .before .before .before .before .before in
+    omega (arith, l .before .before .before .pre, l .loop .inv .goes .few)
 
 width-of-requires : tie.Need-width-of-requires Inv-loop μ-loop
 width-of-requires c κs =
@@ -40,24 +41,37 @@ width-of-requires c κs =
 
 add-i : tie.Need-add-i Inv-loop μ-loop
 add-i c =
-    omega (arith, goes-on (c .before .before .before .before .before .before .before .before .before .loop .inv) (c .before .before .before .before .before .before .before .before .loop-test .taken) (c .before .before .before .before .before .before .before .is-c1 .ensures) (c .before .before .before .before .shown-as .ensures) (c .width-of .ensures) (c .before .before .before .put .ensures) .inside, c .before .before .before .before .before .before .before .before .before .before .before .before .pre)
+    let p = c .before .before .before in
+    let t = p .before .before .before .before .before in
+    let q = p .before .before .before .before .is-c1 in
+    let b = p .before .shown-as .ensures in
+    let g = shows-on (t .before .loop .inv) (t .loop-test .taken) (q .ensures) b (c .width-of .ensures) (p .put .ensures) in
+    omega (arith, g .inside)
 
 loop-less : tie.Need-loop-less Inv-loop μ-loop
 loop-less c =
-    let g = goes-on (c .before .before .before .before .before .before .before .before .before .loop .inv) (c .before .before .before .before .before .before .before .before .loop-test .taken) (c .before .before .before .before .before .before .before .is-c1 .ensures) (c .before .before .before .before .shown-as .ensures) (c .width-of .ensures) (c .before .before .before .put .ensures) in
-    omega (arith, g .inside, width-some (c .before .before .before .before .before .before .before .is-c1 .result), c .width-of .ensures)
+    let p = c .before .before .before in
+    let t = p .before .before .before .before .before in
+    let q = p .before .before .before .before .is-c1 in
+    let b = p .before .shown-as .ensures in
+    let g = shows-on (t .before .loop .inv) (t .loop-test .taken) (q .ensures) b (c .width-of .ensures) (p .put .ensures) in
+    omega (arith, g .inside, width-some (q .result), c .width-of .ensures)
 
 loop-again : tie.Need-loop-again Inv-loop μ-loop
 loop-again c =
-    goes-on (c .before .before .before .before .before .before .before .before .before .loop .inv) (c .before .before .before .before .before .before .before .before .loop-test .taken) (c .before .before .before .before .before .before .before .is-c1 .ensures) (c .before .before .before .before .shown-as .ensures) (c .width-of .ensures) (c .before .before .before .put .ensures)
+    let p = c .before .before .before in
+    let t = p .before .before .before .before .before in
+    let q = p .before .before .before .before .is-c1 in
+    let b = p .before .shown-as .ensures in
+    shows-on (t .before .loop .inv) (t .loop-test .taken) (q .ensures) b (c .width-of .ensures) (p .put .ensures)
 
 same-length : tie.Need-same-length Inv-loop μ-loop
 same-length c =
-    same-len (goes-over (c .before .loop .inv) (omega arith))
+    same-len (shows-over (c .before .loop .inv) (omega arith))
 
 returns : tie.Need-returns Inv-loop μ-loop
 returns c =
-    goes-over (c .before .loop .inv) (omega arith)
+    shows-over (c .before .loop .inv) (omega arith)
 
 pub put-shown-spec : {M : Type 1} → statement M
 put-shown-spec =

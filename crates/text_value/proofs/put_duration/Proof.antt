@@ -1,50 +1,21 @@
 -- `put_duration` meets its contract. Assumes nothing.
-use Rattle.text_value.specs.Values.{durationText}
 use borrow.Author.Needs.{needs}
+use Rattle.text_value.specs.Values.{durationText}
 use Rattle.text_value.proofs.put_duration.Statement.{statement}
 use Rattle.text_value.proofs.put_duration.Tie as tie
 
-enum-known-d : tie.Need-enum-known-d
-enum-known-d c = search needs
+slice-aggregate-put-lasts : tie.Need-slice-aggregate-put-lasts
+slice-aggregate-put-lasts c = search needs
 
-put-decimal-requires : tie.Need-put-decimal-requires
-put-decimal-requires c κs = search needs
-
-enum-told : tie.Need-enum-told
-enum-told c = search needs
-
-slice-aggregate-put-all : tie.Need-slice-aggregate-put-all
-slice-aggregate-put-all c = search needs
-
-put-all-requires : tie.Need-put-all-requires
-put-all-requires c κs = search needs
+put-lasts-requires : tie.Need-put-lasts-requires
+put-lasts-requires c κs = search needs
 
 same-length : tie.Need-same-length
 same-length c = search needs
 
 returns : tie.Need-returns
 unfolding durationText
-returns c =
-    rw (c .before .before .before .before .before .d .given .1) (c .before .before .put-decimal .ensures)
-
-same-length-2 : tie.Need-same-length-2
-same-length-2 c = search needs
-
-returns-2 : tie.Need-returns-2
-unfolding durationText
-returns-2 c =
-    rw (c .before .before .before .before .before .enum-told .given .1) (c .before .before .put-all .ensures)
+returns c = c .before .before .put-lasts .ensures
 
 pub put-duration-spec : {M : Type 1} → statement M
-put-duration-spec =
-    tie.close
-    (tie.spec
-    enum-known-d
-    put-decimal-requires
-    enum-told
-    slice-aggregate-put-all
-    put-all-requires
-    same-length
-    returns
-    same-length-2
-    returns-2)
+put-duration-spec = tie.close (tie.spec slice-aggregate-put-lasts put-lasts-requires same-length returns)

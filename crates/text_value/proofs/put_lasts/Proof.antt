@@ -1,8 +1,7 @@
--- `lines::put_time` meets its contract: each arm is one case of the duration. Assumes nothing.
+-- `put_lasts` meets its contract. Assumes nothing.
 use borrow.Author.Needs.{needs}
-use Rattle.text_lines.specs.Lines.{timeText}
-use Rattle.text_lines.proofs.put_time.Statement.{statement}
-use Rattle.text_lines.proofs.put_time.Tie as tie
+use Rattle.text_value.proofs.put_lasts.Statement.{statement}
+use Rattle.text_value.proofs.put_lasts.Tie as tie
 
 enum-known-d : tie.Need-enum-known-d
 enum-known-d c = search needs
@@ -13,9 +12,6 @@ put-decimal-requires c κs = search needs
 enum-told : tie.Need-enum-told
 enum-told c = search needs
 
-slice-aggregate-put-all : tie.Need-slice-aggregate-put-all
-slice-aggregate-put-all c = search needs
-
 put-all-requires : tie.Need-put-all-requires
 put-all-requires c κs = search needs
 
@@ -23,7 +19,6 @@ same-length : tie.Need-same-length
 same-length c = search needs
 
 returns : tie.Need-returns
-unfolding timeText
 returns c =
     rw (c .before .before .before .before .before .d .given .1) (c .before .before .put-decimal .ensures)
 
@@ -31,18 +26,16 @@ same-length-2 : tie.Need-same-length-2
 same-length-2 c = search needs
 
 returns-2 : tie.Need-returns-2
-unfolding timeText
 returns-2 c =
-    rw (c .before .before .before .before .before .enum-told .given .1) (c .before .before .put-all .ensures)
+    rw (c .before .before .before .before .enum-told .given .1) (c .before .before .put-all .ensures)
 
-pub put-time-spec : {M : Type 1} → statement M
-put-time-spec =
+pub put-lasts-spec : {M : Type 1} → statement M
+put-lasts-spec =
     tie.close
     (tie.spec
     enum-known-d
     put-decimal-requires
     enum-told
-    slice-aggregate-put-all
     put-all-requires
     same-length
     returns

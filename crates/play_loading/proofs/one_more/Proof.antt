@@ -1,0 +1,31 @@
+-- `one_more` meets its contract: each return is one law. Assumes nothing.
+use native.Mathlib.Omega.{arith}
+use borrow.Author.Needs.{needs}
+use Rattle.rows.proofs.WellLaws.{numbers-most}
+use Rattle.play_loading.proofs.Summing.{sums-stay, sums-stop, sums-on}
+use Rattle.play_loading.proofs.one_more.Statement.{statement}
+use Rattle.play_loading.proofs.one_more.Tie as tie
+
+returns : tie.Need-returns
+returns c = λ w b k. sums-stay (c .if1 .taken)
+
+add-t5 : tie.Need-add-t5
+add-t5 c = search needs
+
+returns-2 : tie.Need-returns-2
+returns-2 c = λ w b k. sums-stop k (c .before .before .before .if1 .left) (omega arith)
+
+add-t6 : tie.Need-add-t6
+add-t6 c = search needs
+
+add-t7 : tie.Need-add-t7
+add-t7 c =
+    let s = c .before .before .before .before .before in
+    let n = numbers-most (s .args .r) (s .pre .1) in
+    omega (arith, n .pause (omega arith))
+
+returns-3 : tie.Need-returns-3
+returns-3 c = λ w b k. sums-on k (c .before .before .before .before .if1 .left) (omega arith)
+
+pub one-more-spec : {M : Type 1} → statement M
+one-more-spec = tie.close (tie.spec returns add-t5 returns-2 add-t6 add-t7 returns-3)

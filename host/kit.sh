@@ -1,5 +1,5 @@
 # Sourced by scripts that build a C host: the kit's own compiler, linker and loader, so that no package is needed.
-# link_host PROGRAM FILE.c LIBRARY.a   compiles and links; the header is include/glyvrask.h
+# link_host PROGRAM FILE.c LIBRARY.a.. compiles and links; the header is include/glyvrask.h
 # run_host PROGRAM ARGUMENT..          runs it, under the kit's emulator where the machine is no x86-64
 kit=$(dirname "$(dirname "$(rt doc)")")
 own=$kit/on/$(uname -m)
@@ -7,8 +7,10 @@ tools=$own/toolchain
 target=x86_64-unknown-linux-gnu
 
 link_host() {
-    "$tools/bin/clang" --target=$target -fPIC -O1 -ffreestanding -Wall -Wextra -Werror -I include -c "$2" -o "$1.o" &&
-        "$own/bin/rattle-link" --target $target --toolchain "$tools" -o "$1" "$1.o" "$3"
+    host=$1
+    "$tools/bin/clang" --target=$target -fPIC -O1 -ffreestanding -Wall -Wextra -Werror -I include -c "$2" -o "$host.o" || return
+    shift 2
+    "$own/bin/rattle-link" --target $target --toolchain "$tools" -o "$host" "$host.o" "$@"
 }
 
 run_host() {

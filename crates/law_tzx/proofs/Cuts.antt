@@ -35,12 +35,8 @@ use Rattle.load_blocks.specs.declared.Origin.{Origin}
 use Rattle.load_blocks.specs.Adds.{Lent}
 use Rattle.load_source.specs.Source.{act}
 use Rattle.law_tzx.specs.Format.{Said, unsaid, saidPulses, pauseMs, each, pilotSymbol, repetitions, pilotPulses, dataNumber, symbolPulses, every, symbolsSaid, format19, formatOf, formatFull}
-<<<<<<< N
-use Rattle.law_tzx.specs.Kept.{keptPilot, keptData, kept19, kept, Keeps, Tables, FormatCut, KeptAt}
-=======
 use Rattle.law_tzx.specs.Cut.{layout19, layoutOf, formatCut}
-use Rattle.law_tzx.specs.Kept.{keptPilot, keptData, lengthRight, kept19, kept, Keeps, Tables}
->>>>>>> t3
+use Rattle.law_tzx.specs.Kept.{keptPilot, keptData, lengthRight, kept19, kept, Keeps, Tables, FormatCut, KeptAt}
 use Rattle.law_tzx.proofs.Waves.{differ}
 use Rattle.law_tzx.proofs.Symbols.{not-so}
 use Rattle.law_tzx.proofs.Keeps.{keeps}
@@ -123,13 +119,8 @@ module _ (s : List ℕ) (h : GeneralHead) (asd : ℕ) where
       .any (Generalized (generalWith b n))
 
 -- a 19 is its head and its tables
-<<<<<<< N
-general-body : (full : ℕ) (s : List ℕ) (c : Cursor) → (let h = head19 s c in
-    readAt (kind19 full) s c ≡ bodyWith s (h .pause) (h .totp) (h .npp) (h .totd) (h .npd) (orFull full (h .asd)) (h .cursor) (orFull full (h .asp)) (heldIf (h .totp) (orFull full (h .asp))))
-=======
 general-body : (formatFull : ℕ) (s : List ℕ) (c : Cursor) → (let h = head19 s c in
     readAt (kind19 formatFull) s c ≡ bodyWith s h (orFull formatFull (h .asd)) (orFull formatFull (h .asp)) (heldIf (h .totp) (orFull formatFull (h .asp))))
->>>>>>> t3
 unfolding readAt kind19 stream19 passAt head19 bodyWith
 general-body full s c = refl
 
@@ -295,15 +286,6 @@ format-there : (s : List ℕ) (at : ℕ) → at < length s
     → formatCut s at ≡ takenAs (getD s at 0) at (readAt (layoutOf (getD s at 0)) s (At (at + 1)))
 format-there s at h = rw (lt-leb (length s) at h)
 
-<<<<<<< N
-=======
--- what the format cuts at a place where a kept piece was cut
-pub record Cut (s : List ℕ) (at next : ℕ) (piece : Piece) : Type 0 where
-  pub other : Piece
-  pub cut : formatCut s at ≡ taken.Whole (getD s at 0) at next other
-  pub said : (on48 : Bool) → formatOf on48 s other ≡ formatOf on48 s piece
-
->>>>>>> t3
 -- THE FORMAT'S OWN CUT of a kept piece
 pub kept-cut : (s : List ℕ) (at : ℕ) {k a next : ℕ} {piece : Piece} → cutAt s at 255 ≡ taken.Whole k a next piece → kept s piece ≡ true → FormatCut s at next piece
 unfolding takenAs
@@ -313,15 +295,6 @@ kept-cut s at e kept =
     let r = body-same s (getD s at 0) (at + 1) i (unnamed (getD s at 0) at _ (sym (cut-there s at 255 h) ∙ e)) kept in
     record { other = r .other; cut = format-there s at h ∙ ap (takenAs (getD s at 0) at) (r .whole); said = r .said }
 
-<<<<<<< N
-=======
--- the piece that the format cuts at a place, and that the source reading's piece there is played as it says
-pub record KeptAt (lent : Lent) (origin : Origin) (s : List ℕ) (model at next : ℕ) (piece : Piece) (t : Parsed) : Type 0 where
-  pub other : Piece
-  pub cut : formatCut s at ≡ taken.Whole (getD s at 0) at next other
-  pub plays : Sure (λ u. Keeps s t u (formatOf (eqb model 0) s other)) (act lent s model origin piece t)
-
->>>>>>> t3
 -- KEEPS, for a piece of a tape
 pub cut-keeps : (lent : Lent) (origin : Origin) (s : List ℕ) (model at : ℕ) (t : Parsed) {k a next : ℕ} {piece : Piece} → cutAt s at 255 ≡ taken.Whole k a next piece → kept s piece ≡ true → KeptAt lent origin s model at next piece t
 cut-keeps lent origin s model at t {k} {a} {next} {piece} cut e =

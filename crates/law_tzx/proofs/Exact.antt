@@ -136,12 +136,8 @@ pilot-apart : (w v rest : List ℕ) → (count w ≡ count v → ⊥) → count 
 pilot-apart w v rest h e = h (omega (arith, count-append w rest, count-append v rest))
 
 -- two tone rows, the second of one cycle, and data
-<<<<<<< N
-two-rows : (num x a b : ℕ) (bits : List ℕ) → wavesOf (plainTone num x x ∷ plainTone 1 a b ∷ []) ++ bits ≡ again (max 1 num) (x ∷ x ∷ []) ++ a ∷ b ∷ bits
-=======
 pub two-rows : (num x a b : ℕ) (bits : List ℕ)
-    → wavesOf (toneOf num x x ∷ toneOf 1 a b ∷ []) ++ bits ≡ again (max 1 num) (x ∷ x ∷ []) ++ a ∷ b ∷ bits
->>>>>>> t3
+    → wavesOf (plainTone num x x ∷ plainTone 1 a b ∷ []) ++ bits ≡ again (max 1 num) (x ∷ x ∷ []) ++ a ∷ b ∷ bits
 unfolding wavesOf
 two-rows num x a b bits =
     ap (λ (l : List ℕ). (again (max 1 num) (x ∷ x ∷ []) ++ (l ++ [])) ++ bits) (once (a ∷ b ∷ [])) ∙ append-assoc (again (max 1 num) (x ∷ x ∷ [])) (a ∷ b ∷ []) bits

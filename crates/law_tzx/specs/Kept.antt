@@ -13,23 +13,19 @@ use Rattle.rows.specs.Rows.{tone}
 use Rattle.rows.specs.declared.Block.{Block}
 use Rattle.rows.specs.declared.Tone.{Tone as ToneRow}
 use Rattle.play_entries.specs.Entries.{Label, entriesOf}
-<<<<<<< N
-use Rattle.load_state.specs.Parser.{Parsed}
-use Rattle.load_state.specs.Kept.{Sure}
-=======
 use Rattle.load_state.specs.declared.Halt.the-variants.{Refusal}
 use Rattle.load_state.specs.Parser.{Parsed, Out, on, no}
->>>>>>> t3
+use Rattle.load_state.specs.Kept.{Sure}
 use Rattle.cut_grammar.specs.declared.GeneralizedData.{GeneralizedData}
 use Rattle.cut_grammar.specs.Places.{Places}
 use Rattle.cut_grammar.specs.declared.TurboData.{TurboData}
 use Rattle.cut_grammar.specs.declared.Piece.{Piece}
 use Rattle.cut_grammar.specs.declared.Piece.the-variants.{Standard, Turbo, Tone, Pulses, Pure, Generalized, Pause, GroupStart, GroupEnd, LoopStart, LoopEnd, Stop48, Text, Message, Archive, Hardware, Custom, Glue}
-use Rattle.cut_grammar.specs.Cut.{cutAt}
 use Rattle.load_blocks.specs.declared.Origin.{Origin}
 use Rattle.load_blocks.specs.Adds.{Lent}
 use Rattle.load_source.specs.Source.{act}
-use Rattle.law_tzx.specs.Format.{PulseLength, lasts, forever, PulseTrain, Said, sounds, lengthsOf, lasting, bitsSaid, every, symbolPulse, pilotSymbol, repetitions, dataNumber, formatOf, formatFull}
+use Rattle.law_tzx.specs.Format.{PulseLength, lasts, forever, PulseTrain, Said, sounds, lengthsOf, lasting, bitsSaid, every, symbolPulse, pilotSymbol, repetitions, dataNumber, formatOf}
+use Rattle.law_tzx.specs.Cut.{formatCut}
 use Rattle.cut_grammar.specs.declared.Taken.the-variants as taken
 
 -- 2, 4, 6 ..
@@ -184,11 +180,11 @@ Tables s piece = (g : GeneralizedData) → piece ≡ Generalized g → Places s 
 -- what the format cuts at a place where a kept piece was cut
 pub record FormatCut (s : List ℕ) (at next : ℕ) (piece : Piece) : Type 0 where
   pub other : Piece
-  pub cut : cutAt s at formatFull ≡ taken.Whole (getD s at 0) at next other
+  pub cut : formatCut s at ≡ taken.Whole (getD s at 0) at next other
   pub said : (on48 : Bool) → formatOf on48 s other ≡ formatOf on48 s piece
 
 -- the piece that the format cuts at a place, and that the source reading's piece there is played as it says
 pub record KeptAt (lent : Lent) (origin : Origin) (s : List ℕ) (model at next : ℕ) (piece : Piece) (t : Parsed) : Type 0 where
   pub other : Piece
-  pub cut : cutAt s at formatFull ≡ taken.Whole (getD s at 0) at next other
+  pub cut : formatCut s at ≡ taken.Whole (getD s at 0) at next other
   pub plays : Sure (λ u. Keeps s t u (formatOf (eqb model 0) s other)) (act lent s model origin piece t)

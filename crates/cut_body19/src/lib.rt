@@ -29,6 +29,7 @@ fn general_head(tape: &[u8], c: Cursor) -> GeneralHead
     let asd = after(tape, npd, 1);
     let end = asd.cursor;
     GeneralHead {
+        length: length.value,
         pause: pause.value,
         totp: totp.value,
         npp: npp.value,
@@ -111,14 +112,17 @@ pub fn general(tape: &[u8], c: Cursor, full: u32) -> Body
         from,
         bits,
         GeneralizedData {
+            length: h.length,
             pause: h.pause,
             totp: h.totp,
             npp: h.npp,
+            asp0: h.asp,
             asp,
             pilot: place(pilot),
             entries: place(entries),
             totd: h.totd,
             npd: h.npd,
+            asd0: h.asd,
             asd,
             nb,
             symbols: place(symbols),

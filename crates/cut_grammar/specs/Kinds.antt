@@ -40,9 +40,10 @@ kind14 =
 unfoldable pub stream19 : ℕ → GeneralizedData → Layout
 stream19 bits general = fitting bits (pass (fields (general .size) 1) (whole (Generalized general)))
 
-unfoldable pub kind19 : ℕ → Layout
-kind19 full =
-    number 4 λ length. number 2 λ pause.
+-- what follows the length
+abbrev pub body19 : ℕ → ℕ → Layout
+body19 full length =
+    number 2 λ pause.
     number 4 λ totp. number 1 λ npp. number 1 λ asp0.
     number 4 λ totd. number 1 λ npd. number 1 λ asd0.
     let asp = orFull full asp0 in
@@ -53,7 +54,27 @@ kind19 full =
     here λ entries. pass (groups totp 1 1 2) (
     here λ symbols. pass (groups (heldIf totd asd) 1 npd 2) (
     here λ from. stream19 (nb * totd)
-    (record { pause = pause; totp = totp; npp = npp; asp = asp; pilot = pilot; entries = entries; totd = totd; npd = npd; asd = asd; nb = nb; symbols = symbols; from = from; size = size }))))
+    (record {
+      length = length;
+      pause = pause;
+      totp = totp;
+      npp = npp;
+      asp0 = asp0;
+      asp = asp;
+      pilot = pilot;
+      entries = entries;
+      totd = totd;
+      npd = npd;
+      asd0 = asd0;
+      asd = asd;
+      nb = nb;
+      symbols = symbols;
+      from = from;
+      size = size;
+    }))))
+
+unfoldable pub kind19 : ℕ → Layout
+kind19 full = number 4 λ length. body19 full length
 
 -- 20: ms 2
 unfoldable pub kind20 : Layout

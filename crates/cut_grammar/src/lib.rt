@@ -24,16 +24,20 @@ pub struct TurboData {
     pub size: u32,
 }
 
-// What 19 holds: its numbers, and the places of its four tables.
+// What 19 holds: its numbers, and the places of its four tables. The alphabets' sizes are `asp0` and `asd0` as they are written, `asp` and
+// `asd` as they are meant.
 pub struct GeneralizedData {
+    pub length: u32,
     pub pause: u32,
     pub totp: u32,
     pub npp: u32,
+    pub asp0: u32,
     pub asp: u32,
     pub pilot: u64,
     pub entries: u64,
     pub totd: u32,
     pub npd: u32,
+    pub asd0: u32,
     pub asd: u32,
     pub nb: u32,
     pub symbols: u64,
@@ -184,8 +188,9 @@ pub fn whole(piece: Piece, c: Cursor) -> Body
     }
 }
 
-// The numbers that 19 begins with; its length is not one that the format needs.
+// The numbers that 19 begins with, as they are written.
 pub struct GeneralHead {
+    pub length: u32,
     pub pause: u32,
     pub totp: u32,
     pub npp: u32,

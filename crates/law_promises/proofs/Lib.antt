@@ -1,4 +1,5 @@
 pub mod Views
+pub mod Tzx
 pub mod Queries
 pub mod Outcomes
 pub mod Readings

@@ -28,7 +28,7 @@ refused-between k fails e = let z : _≡_ {A = ℕ} 0 1 = cc in absurd (omega ar
 refused-between k (tells {k = j} b) e = let z : j ≡ k = cc in rw z at b
 
 -- an answer is a refusal exactly where the load is
-answers-no : (s : List ℕ) (k : ℕ) (l : Load) → (answerOf (namedLoad s l) ≡ Refused k) ↔ (l ≡ no k)
+pub answers-no : (s : List ℕ) (k : ℕ) (l : Load) → (answerOf (namedLoad s l) ≡ Refused k) ↔ (l ≡ no k)
 unfolding answerOf namedLoad
 answers-no s k (tzx t) = (λ e. let z : _≡_ {A = ℕ} 0 1 = cc in absurd (omega arith), λ e. let z : _≡_ {A = ℕ} 0 1 = cc in absurd (omega arith))
 answers-no s k (tapped t) = (λ e. let z : _≡_ {A = ℕ} 0 1 = cc in absurd (omega arith), λ e. let z : _≡_ {A = ℕ} 0 1 = cc in absurd (omega arith))

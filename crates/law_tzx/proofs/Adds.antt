@@ -36,7 +36,8 @@ plays-none {t = t} p q e =
     record { blocks = []; tones = []; added = p ∙ sym (append-nil (t .blocks)); under = q ∙ sym (append-nil (t .tones)); plays = λ more N b. sym e }
 
 -- the entries of more blocks
-list-append : (s tt : List ℕ) (b : ℕ) (xs ys : List Block) → entriesFrom s tt b (xs ++ ys) ≡ entriesFrom s tt b xs ++ entriesFrom s tt (b + length xs) ys
+pub list-append : (s tt : List ℕ) (b : ℕ) (xs ys : List Block)
+    → entriesFrom s tt b (xs ++ ys) ≡ entriesFrom s tt b xs ++ entriesFrom s tt (b + length xs) ys
 unfolding entriesFrom
 list-append s tt b [] ys = let z : b + 0 ≡ b = omega arith in ap (λ (k : ℕ). entriesFrom s tt k ys) (sym z)
 list-append s tt b (x ∷ xs) ys =

@@ -1,4 +1,4 @@
--- FIELDS THAT WERE THERE, as a whole 19 shows them: their places and numbers, its head, its end. Assumes nothing.
+-- FIELDS THAT WERE THERE, as a whole 19 shows them: their places, its head, its end. Assumes nothing.
 use Prim.Native.Nat.{ℕ, _+_, _-_, _<_, _≤_}
 use native.Mathlib.Omega.{arith}
 use mathlib.Core.Path.{_≡_, refl, sym, ap, _∙_}
@@ -43,15 +43,15 @@ field-stood s (At p) w {q} e =
     stuck i = let z : _≡_ {A = ℕ} 0 1 = cc in omega arith
 field-stood s (cursor.Short p v) w e = absurd (short-stays s p v w e)
 
-byte-at : (s : List ℕ) (p : ℕ) → numberAt s p 1 ≡ getD s p 0
-unfolding numberAt leAt
-byte-at s p = omega arith
+-- where a 19 has its length, and where its tables begin
+pub record Headed (s : List ℕ) (p q : ℕ) : Type 0 where
+  pub length : fieldAt s (At p) 4 .cursor ≡ At (p + 4)
+  pub tables : q ≡ p + 18
 
--- the alphabet's size of a 19 stands seven bytes before its tables
-pub head-byte : (s : List ℕ) (c : Cursor) {q : ℕ} → head19 s c .cursor ≡ At q → head19 s c .asp ≡ getD s (q - 7) 0
-unfolding head19
-head-byte s c {q} e =
-    let length = fieldAt s c 4 in
+pub head-placed : (s : List ℕ) (p : ℕ) {q : ℕ} → head19 s (At p) .cursor ≡ At q → Headed s p q
+unfolding head19 placeOf
+head-placed s p {q} e =
+    let length = fieldAt s (At p) 4 in
     let pause = fieldAt s (length .cursor) 2 in
     let totp = fieldAt s (pause .cursor) 4 in
     let npp = fieldAt s (totp .cursor) 1 in
@@ -62,12 +62,19 @@ head-byte s c {q} e =
     let f7 = field-stood s (totd .cursor) 1 (f8 .began) in
     let f6 = field-stood s (asp .cursor) 4 (f7 .began) in
     let f5 = field-stood s (npp .cursor) 1 (f6 .began) in
-    let m8 = f8 .moved in
-    let m7 = f7 .moved in
-    let m6 = f6 .moved in
+    let f4 = field-stood s (totp .cursor) 1 (f5 .began) in
+    let f3 = field-stood s (pause .cursor) 4 (f4 .began) in
+    let f2 = field-stood s (length .cursor) 2 (f3 .began) in
+    let f1 = field-stood s (At p) 4 (f2 .began) in
+    let m1 : placeOf (length .cursor) ≡ p + 4 = f1 .moved in
+    let m2 = f2 .moved in
+    let m3 = f3 .moved in
+    let m4 = f4 .moved in
     let m5 = f5 .moved in
-    let k : placeOf (npp .cursor) ≡ q - 7 = omega arith in
-    f5 .told ∙ byte-at s (placeOf (npp .cursor)) ∙ ap (λ (p : ℕ). getD s p 0) k
+    let m6 = f6 .moved in
+    let m7 = f7 .moved in
+    let m8 = f8 .moved in
+    record { length = f2 .began ∙ ap At m1; tables = omega arith }
 
 -- a whole piece behind its bits: any other piece would be whole there too
 pub record FittedPiece (x y : Piece) (bits : ℕ) (c d : Cursor) (next : ℕ) : Type 0 where

@@ -48,7 +48,7 @@ plays-once {s} {ls} {ms} {t} {u} p q =
     let tt = tableOf tone (u .tones ++ []) 0 in
     sym (p .plays [] 0 0) ∙ ap (λ (bs : List Block). lasting (lengths (entriesFrom s tt 0 bs))) (sym a ∙ b) ∙ q .plays [] 0 0
 
-said-of : {x y : PulseTrain} → sounds x ≡ sounds y → x ≡ y
+pub said-of : {x y : PulseTrain} → sounds x ≡ sounds y → x ≡ y
 said-of e = cc
 
 keeps-once : {s : List ℕ} {ls : List PulseLength} {t u : Parsed} {said : Said} (x : PulseTrain) → said ≡ sounds x → Plays s ls t u → Keeps s t u said → lasting ls ≡ lasting (lengthsOf x)
@@ -131,7 +131,8 @@ pilot-apart : (w v rest : List ℕ) → (count w ≡ count v → ⊥) → count 
 pilot-apart w v rest h e = h (omega (arith, count-append w rest, count-append v rest))
 
 -- two tone rows, the second of one cycle, and data
-two-rows : (num x a b : ℕ) (bits : List ℕ) → wavesOf (plainTone num x x ∷ plainTone 1 a b ∷ []) ++ bits ≡ again (max 1 num) (x ∷ x ∷ []) ++ a ∷ b ∷ bits
+pub two-rows : (num x a b : ℕ) (bits : List ℕ)
+    → wavesOf (plainTone num x x ∷ plainTone 1 a b ∷ []) ++ bits ≡ again (max 1 num) (x ∷ x ∷ []) ++ a ∷ b ∷ bits
 unfolding wavesOf
 two-rows num x a b bits =
     ap (λ (l : List ℕ). (again (max 1 num) (x ∷ x ∷ []) ++ (l ++ [])) ++ bits) (once (a ∷ b ∷ [])) ∙ append-assoc (again (max 1 num) (x ∷ x ∷ [])) (a ∷ b ∷ []) bits
@@ -202,11 +203,13 @@ standard-count false bits q =
     pilot-apart (again 1612 (2168 ∷ 2168 ∷ [])) (again 3223 (2168 ∷ [])) (667 ∷ 735 ∷ bits)
     (λ e. let a = count-cycles 2167 1612 in let b = count-again 2167 3223 in omega arith) (ap count (sym (two-rows 1612 2168 667 735 bits)) ∙ q)
 
-standard-bits : (origin : Origin) (s : List ℕ) (b : Bool) (from size pause n : ℕ) → dataIn s (rowOf origin (standardSound b from size pause) n) ≡ dataPulses s 855 1710 8 from size
+pub standard-bits : (origin : Origin) (s : List ℕ) (b : Bool) (from size pause n : ℕ)
+    → dataIn s (rowOf origin (standardSound b from size pause) n) ≡ dataPulses s 855 1710 8 from size
 unfolding standardSound rowOf
 standard-bits origin s b from size pause n = refl
 
-standard-pause : (origin : Origin) (b : Bool) (from size pause n : ℕ) → pauseIn (rowOf origin (standardSound b from size pause) n) ≡ lasts pause
+pub standard-pause : (origin : Origin) (b : Bool) (from size pause n : ℕ)
+    → pauseIn (rowOf origin (standardSound b from size pause) n) ≡ lasts pause
 unfolding standardSound rowOf pauseIn
 standard-pause origin b from size pause n = refl
 
@@ -270,7 +273,7 @@ unkept-differs lent origin s model (Generalized g) t k e = absurd (differ (sym k
 unkept-differs lent origin s model (Pause n) t k e = absurd (differ e)
 unkept-differs lent origin s model (GroupStart from size) t k e = absurd (differ e)
 unkept-differs lent origin s model GroupEnd t k e = absurd (differ (sym k))
-unkept-differs lent origin s model (LoopStart times) t k e = absurd (differ e)
+unkept-differs lent origin s model (LoopStart times) t k e = unsaid-differs (rw e) _
 unkept-differs lent origin s model LoopEnd t k e = absurd (differ (sym k))
 unkept-differs lent origin s model (Stop48 length) t k e = differs2A s t (eqb model 0) length e _
 unkept-differs lent origin s model (Text from size) t k e = absurd (differ e)

@@ -22,7 +22,7 @@ use Rattle.load_source.specs.Source.{act, halted}
 use Rattle.law_tzx.specs.Format.{lasts, forever, each, bitPulses, bitsIn, bytePulses, dataPulses, bitsSaid, format11, format12, format13, format14, waveFrom, symbolPulse, waveOf, pilotSymbol, repetitions, pilotPulses, bitAt, groupAt, dataNumber, symbolPulses, every, symbolsSaid, format19, format20, format2A, formatOf, lengthsOf, lasting}
 use Rattle.law_tzx.specs.Kept.{evenCount, kept11, kept12, kept13, firstPulse, secondPulse, wholeWave, keptTimes, keptEntry, keptPilot, keptSymbol, keptPairs, keptData, kept19, kept, lengthOf, entriesFrom}
 use Rattle.law_tzx.specs.Heard.{Heard, plays, heardIn, playedBy, formatOn, sourceOn, keptOn, formatAt, sourceHeard, keptAt, sameLength, sameLengths, sameHeard}
-use Rattle.law_tzx.specs.Tapes.{keptThen, keptFrom, saidOf, saidThen, formatFrom}
+use Rattle.law_tzx.specs.Tapes.{noneOpen, keptThen, keptFrom, saidOf, saidThen, formatFrom}
 
 pub record Example : Type 0 where
   pub tape : List ℕ
@@ -49,11 +49,11 @@ kepts =
     -- 14, two bytes, 1 bit of the last
     row (0x14 ∷ 0x0A ∷ 0x00 ∷ 0x14 ∷ 0x00 ∷ 0x01 ∷ 0x00 ∷ 0x00 ∷ 0x02 ∷ 0x00 ∷ 0x00 ∷ 0xA3 ∷ 0x80 ∷ []) true (plays (lasts 20 ∷ lasts 20 ∷ lasts 10 ∷ lasts 10 ∷ lasts 20 ∷ lasts 20 ∷ lasts 10 ∷ lasts 10 ∷ lasts 10 ∷ lasts 10 ∷ lasts 10 ∷ lasts 10 ∷ lasts 20 ∷ lasts 20 ∷ lasts 20 ∷ lasts 20 ∷ lasts 20 ∷ lasts 20 ∷ [])) (plays (lasts 20 ∷ lasts 20 ∷ lasts 10 ∷ lasts 10 ∷ lasts 20 ∷ lasts 20 ∷ lasts 10 ∷ lasts 10 ∷ lasts 10 ∷ lasts 10 ∷ lasts 10 ∷ lasts 10 ∷ lasts 20 ∷ lasts 20 ∷ lasts 20 ∷ lasts 20 ∷ lasts 20 ∷ lasts 20 ∷ [])) ∷
     -- 19, ordinary data: 9 bits
-    row (0x19 ∷ 0x26 ∷ 0x00 ∷ 0x00 ∷ 0x00 ∷ 0x01 ∷ 0x00 ∷ 0x01 ∷ 0x00 ∷ 0x00 ∷ 0x00 ∷ 0x01 ∷ 0x01 ∷ 0x09 ∷ 0x00 ∷ 0x00 ∷ 0x00 ∷ 0x02 ∷ 0x02 ∷ 0x00 ∷ 0x64 ∷ 0x00 ∷ 0x00 ∷ 0x02 ∷ 0x00 ∷ 0x00 ∷ 0x01 ∷ 0x00 ∷ 0x01 ∷ 0x00 ∷ 0x00 ∷ 0x02 ∷ 0x00 ∷ 0x02 ∷ 0x00 ∷ 0xA3 ∷ 0x80 ∷ []) true (plays (lasts 100 ∷ lasts 100 ∷ lasts 2 ∷ lasts 2 ∷ lasts 1 ∷ lasts 1 ∷ lasts 2 ∷ lasts 2 ∷ lasts 1 ∷ lasts 1 ∷ lasts 1 ∷ lasts 1 ∷ lasts 1 ∷ lasts 1 ∷ lasts 2 ∷ lasts 2 ∷ lasts 2 ∷ lasts 2 ∷ lasts 2 ∷ lasts 2 ∷ lasts 3500 ∷ [])) (plays (lasts 100 ∷ lasts 100 ∷ lasts 2 ∷ lasts 2 ∷ lasts 1 ∷ lasts 1 ∷ lasts 2 ∷ lasts 2 ∷ lasts 1 ∷ lasts 1 ∷ lasts 1 ∷ lasts 1 ∷ lasts 1 ∷ lasts 1 ∷ lasts 2 ∷ lasts 2 ∷ lasts 2 ∷ lasts 2 ∷ lasts 2 ∷ lasts 2 ∷ lasts 3500 ∷ [])) ∷
+    row (0x19 ∷ 0x20 ∷ 0x00 ∷ 0x00 ∷ 0x00 ∷ 0x01 ∷ 0x00 ∷ 0x01 ∷ 0x00 ∷ 0x00 ∷ 0x00 ∷ 0x01 ∷ 0x01 ∷ 0x09 ∷ 0x00 ∷ 0x00 ∷ 0x00 ∷ 0x02 ∷ 0x02 ∷ 0x00 ∷ 0x64 ∷ 0x00 ∷ 0x00 ∷ 0x02 ∷ 0x00 ∷ 0x00 ∷ 0x01 ∷ 0x00 ∷ 0x01 ∷ 0x00 ∷ 0x00 ∷ 0x02 ∷ 0x00 ∷ 0x02 ∷ 0x00 ∷ 0xA3 ∷ 0x80 ∷ []) true (plays (lasts 100 ∷ lasts 100 ∷ lasts 2 ∷ lasts 2 ∷ lasts 1 ∷ lasts 1 ∷ lasts 2 ∷ lasts 2 ∷ lasts 1 ∷ lasts 1 ∷ lasts 1 ∷ lasts 1 ∷ lasts 1 ∷ lasts 1 ∷ lasts 2 ∷ lasts 2 ∷ lasts 2 ∷ lasts 2 ∷ lasts 2 ∷ lasts 2 ∷ lasts 3500 ∷ [])) (plays (lasts 100 ∷ lasts 100 ∷ lasts 2 ∷ lasts 2 ∷ lasts 1 ∷ lasts 1 ∷ lasts 2 ∷ lasts 2 ∷ lasts 1 ∷ lasts 1 ∷ lasts 1 ∷ lasts 1 ∷ lasts 1 ∷ lasts 1 ∷ lasts 2 ∷ lasts 2 ∷ lasts 2 ∷ lasts 2 ∷ lasts 2 ∷ lasts 2 ∷ lasts 3500 ∷ [])) ∷
     -- 19, two pulses apart, and a pilot of two pulses
-    row (0x19 ∷ 0x26 ∷ 0x00 ∷ 0x00 ∷ 0x00 ∷ 0x01 ∷ 0x00 ∷ 0x01 ∷ 0x00 ∷ 0x00 ∷ 0x00 ∷ 0x02 ∷ 0x01 ∷ 0x03 ∷ 0x00 ∷ 0x00 ∷ 0x00 ∷ 0x02 ∷ 0x02 ∷ 0x00 ∷ 0x64 ∷ 0x00 ∷ 0x65 ∷ 0x00 ∷ 0x00 ∷ 0x02 ∷ 0x00 ∷ 0x00 ∷ 0x01 ∷ 0x00 ∷ 0x02 ∷ 0x00 ∷ 0x00 ∷ 0x03 ∷ 0x00 ∷ 0x04 ∷ 0x00 ∷ 0xA0 ∷ []) true (plays (lasts 100 ∷ lasts 101 ∷ lasts 100 ∷ lasts 101 ∷ lasts 3 ∷ lasts 4 ∷ lasts 1 ∷ lasts 2 ∷ lasts 3 ∷ lasts 4 ∷ lasts 3500 ∷ [])) (plays (lasts 100 ∷ lasts 101 ∷ lasts 100 ∷ lasts 101 ∷ lasts 3 ∷ lasts 4 ∷ lasts 1 ∷ lasts 2 ∷ lasts 3 ∷ lasts 4 ∷ lasts 3500 ∷ [])) ∷
+    row (0x19 ∷ 0x21 ∷ 0x00 ∷ 0x00 ∷ 0x00 ∷ 0x01 ∷ 0x00 ∷ 0x01 ∷ 0x00 ∷ 0x00 ∷ 0x00 ∷ 0x02 ∷ 0x01 ∷ 0x03 ∷ 0x00 ∷ 0x00 ∷ 0x00 ∷ 0x02 ∷ 0x02 ∷ 0x00 ∷ 0x64 ∷ 0x00 ∷ 0x65 ∷ 0x00 ∷ 0x00 ∷ 0x02 ∷ 0x00 ∷ 0x00 ∷ 0x01 ∷ 0x00 ∷ 0x02 ∷ 0x00 ∷ 0x00 ∷ 0x03 ∷ 0x00 ∷ 0x04 ∷ 0x00 ∷ 0xA0 ∷ []) true (plays (lasts 100 ∷ lasts 101 ∷ lasts 100 ∷ lasts 101 ∷ lasts 3 ∷ lasts 4 ∷ lasts 1 ∷ lasts 2 ∷ lasts 3 ∷ lasts 4 ∷ lasts 3500 ∷ [])) (plays (lasts 100 ∷ lasts 101 ∷ lasts 100 ∷ lasts 101 ∷ lasts 3 ∷ lasts 4 ∷ lasts 1 ∷ lasts 2 ∷ lasts 3 ∷ lasts 4 ∷ lasts 3500 ∷ [])) ∷
     -- 19, pairs of one pulse
-    row (0x19 ∷ 0x26 ∷ 0x00 ∷ 0x00 ∷ 0x00 ∷ 0x01 ∷ 0x00 ∷ 0x00 ∷ 0x00 ∷ 0x00 ∷ 0x00 ∷ 0x02 ∷ 0x01 ∷ 0x04 ∷ 0x00 ∷ 0x00 ∷ 0x00 ∷ 0x01 ∷ 0x02 ∷ 0x00 ∷ 0x01 ∷ 0x00 ∷ 0x00 ∷ 0x02 ∷ 0x00 ∷ 0xA0 ∷ []) true (plays (lasts 2 ∷ lasts 1 ∷ lasts 2 ∷ lasts 1 ∷ lasts 3500 ∷ [])) (plays (lasts 2 ∷ lasts 1 ∷ lasts 2 ∷ lasts 1 ∷ lasts 3500 ∷ [])) ∷
+    row (0x19 ∷ 0x15 ∷ 0x00 ∷ 0x00 ∷ 0x00 ∷ 0x01 ∷ 0x00 ∷ 0x00 ∷ 0x00 ∷ 0x00 ∷ 0x00 ∷ 0x02 ∷ 0x01 ∷ 0x04 ∷ 0x00 ∷ 0x00 ∷ 0x00 ∷ 0x01 ∷ 0x02 ∷ 0x00 ∷ 0x01 ∷ 0x00 ∷ 0x00 ∷ 0x02 ∷ 0x00 ∷ 0xA0 ∷ []) true (plays (lasts 2 ∷ lasts 1 ∷ lasts 2 ∷ lasts 1 ∷ lasts 3500 ∷ [])) (plays (lasts 2 ∷ lasts 1 ∷ lasts 2 ∷ lasts 1 ∷ lasts 3500 ∷ [])) ∷
     -- 20: a pause, and a stop
     row (0x20 ∷ 0x02 ∷ 0x00 ∷ []) true (plays (lasts 7000 ∷ [])) (plays (lasts 7000 ∷ [])) ∷
     row (0x20 ∷ 0x00 ∷ 0x00 ∷ []) true (plays (forever ∷ [])) (plays (forever ∷ [])) ∷
@@ -80,7 +80,7 @@ kepts-kept = refl
 abbrev whole : List ℕ
 whole = signature ++ 0x01 ∷ 0x14 ∷ 0x12 ∷ 0x64 ∷ 0x00 ∷ 0x04 ∷ 0x00 ∷ 0x20 ∷ 0x01 ∷ 0x00 ∷ 0x2A ∷ 0x00 ∷ 0x00 ∷ 0x00 ∷ 0x00 ∷ []
 
-pub whole-kept : keptFrom whole 23 10 ≡ true
+pub whole-kept : keptFrom whole 23 10 noneOpen ≡ true
 unfolding leAt numberAt fieldAt placeOf times eachAt groupsAt run tableOver entryOf cyclesOf isSingle startLevel cycleLevel bitLevel edged pauseLevel toneOf tonesOf bitsAt halfOf byteOf dataOf pauseOf soundOf entriesOf countedAt passAt textsAt wholeAt sealed enclosed fittingAt readAt binaryDigits orFull heldIf kind10 kind11 kind12 kind13 kind14 stream19 kind19 kind20 kind21 kind22 kind24 kind25 kind2A kind30 kind31 info32 kind32 kind33 kind35 kind5A kinds kindOf takenAs cutAt symbolAt before rowsFrom cycles entrySymbol entryRepeat entryRow pilotOf equalHalves ordinary usedBits symbolNumber singleRow pairRow singlesOf pairsOf dataPart withPilot withData generalOf empty _⟫_ addTones addBlock pend openLoop turboTones pureTones pureToneTones pulseAt addRows rowOf standardSound turboSound pairSounds pureSound pauseSound addSound addSounds generalDeed stop48Deed does deedOf act halted each bitPulses bitsIn bytePulses dataPulses bitsSaid format11 format12 format13 format14 waveFrom symbolPulse waveOf pilotSymbol repetitions pilotPulses bitAt groupAt dataNumber symbolPulses every symbolsSaid format19 format20 format2A formatOf lengthsOf lasting evenCount kept11 kept12 kept13 firstPulse secondPulse wholeWave keptTimes keptEntry keptPilot keptSymbol keptPairs keptData kept19 kept lengthOf entriesFrom heardIn playedBy formatOn sourceOn keptOn sameLength sameLengths sameHeard keptThen keptFrom
 whole-kept = refl
 

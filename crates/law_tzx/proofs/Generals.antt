@@ -4,7 +4,6 @@ use native.Mathlib.Omega.{arith}
 use mathlib.Core.Path.{_≡_, refl, sym, ap, ap₂, _∙_}
 use mathlib.Core.Bool.{Bool, true, false, _&&_, _||_, not}
 use mathlib.Core.List.{List, [], _∷_, _++_, append-nil}
-use lib.ListN.{getD}
 use lib.Dec.{ltb, leb, eqb}
 use borrow.Author.Tests.{ltb-true, lt-ltb, lt-leb, eqb-true, eqb-false, eq-eqb, ne-eqb}
 use Rattle.law_base.specs.Rules.{_⇒_, _∣_}
@@ -113,7 +112,7 @@ module _ (s : List ℕ) (g : GeneralizedData) where
   pilot-clauses : keptPilot s g ≡ true → eqb (g .totp) 0 ≡ false → Pilot
   unfolding keptPilot
   pilot-clauses e q =
-      let size = not (eqb (getD s (g .pilot - 7) 0) 0) in
+      let size = not (eqb (g .asp0) 0) in
       let n = eqb (g .npp) 1 || eqb (g .npp) 2 in
       let all = every (keptEntry s g) 0 (g .totp) in
       let c = second size (n && all) (other (eqb (g .totp) 0) (size && (n && all)) e q) in

@@ -21,7 +21,7 @@ use Rattle.load_blocks.specs.Blocks.{dataSound}
 use Rattle.load_blocks.specs.Adds.{Lent}
 use Rattle.load_blocks.specs.Deeds.{generalDeed, does}
 use Rattle.law_tzx.specs.Format.{PulseLength, lasts, PulseTrain, sounds, pauseMs, each, dataPulses, pilotPulses, symbolPulses, symbolsSaid, format19}
-use Rattle.law_tzx.specs.Kept.{keptPilot, keptData, kept19, Keeps}
+use Rattle.law_tzx.specs.Kept.{keptPilot, keptData, lengthRight, kept19, Keeps}
 use Rattle.law_tzx.proofs.Lengths.{long, long-append, waveIn, wavesOf, dataIn, pauseIn}
 use Rattle.law_tzx.proofs.Symbols.{Parts}
 use Rattle.law_tzx.proofs.Generals.{pilot-part, pilot-said, DataClauses, data-clauses, data-said, data-part, plain-heard}
@@ -84,8 +84,9 @@ module _ (lent : Lent) (origin : Origin) (s : List ℕ) (model : ℕ) (t : Parse
   keep-general : Places s g → kept19 s g ≡ true → Sure (λ u. Keeps s t u (sounds sound19)) (does lent model origin (generalDeed g (generalOf s g)) t)
   unfolding kept19 generalOf withPilot withData
   keep-general places e =
-      let p = pilot-part s g (first (keptPilot s g) (keptData s g) e) in
-      let d = data-clauses s g places (second (keptPilot s g) (keptData s g) e) in
+      let k = second (lengthRight g) (keptPilot s g && keptData s g) e in
+      let p = pilot-part s g (first (keptPilot s g) (keptData s g) k) in
+      let d = data-clauses s g places (second (keptPilot s g) (keptData s g) k) in
       rw (p .given) (by-cases p d (ordinary s g) refl)
     where
       y : Symbol
@@ -104,6 +105,7 @@ module _ (lent : Lent) (origin : Origin) (s : List ℕ) (model : ℕ) (t : Parse
   pub keep19 : Places s g → kept19 s g ≡ true → Sure (λ u. Keeps s t u (format19 s g)) (does lent model origin (generalDeed g (generalOf s g)) t)
   unfolding kept19 format19 symbolsSaid
   keep19 places e =
-      let pilot = pilot-said s g (first (keptPilot s g) (keptData s g) e) in
-      let symbols = data-said s g (data-clauses s g places (second (keptPilot s g) (keptData s g) e)) in
+      let k = second (lengthRight g) (keptPilot s g && keptData s g) e in
+      let pilot = pilot-said s g (first (keptPilot s g) (keptData s g) k) in
+      let symbols = data-said s g (data-clauses s g places (second (keptPilot s g) (keptData s g) k)) in
       rw (pilot, symbols) (keep-general places e)

@@ -10,7 +10,15 @@ pub mod KeepGeneral
 pub mod Keeps
 pub mod Exact
 pub mod CutFields
+pub mod Within
 pub mod Cuts
 pub mod Tapes
+pub mod Unheard
+pub mod Loops
+pub mod EveryLoop
+pub mod Pilots
+pub mod Room
+pub mod Loads
 pub mod Examples
 pub mod Differ
+pub mod Walks

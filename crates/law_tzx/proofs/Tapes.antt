@@ -2,8 +2,8 @@
 use Prim.Native.Nat.{ℕ, zero, suc, _+_}
 use native.Mathlib.Omega.{arith}
 use mathlib.Core.Path.{_≡_, refl, sym, ap}
-use mathlib.Core.Bool.{Bool, true, false}
-use mathlib.Core.List.{List, []}
+use mathlib.Core.Bool.{Bool, true, false, _&&_, not}
+use mathlib.Core.List.{List, [], _++_}
 use lib.ListN.{length, getD}
 use lib.Dec.{leb, ltb, eqb}
 use Rattle.refusals.specs.Refusals.{badModel, tapeLong, lastBits}
@@ -26,9 +26,11 @@ use Rattle.load_blocks.specs.Adds.{Lent}
 use Rattle.load_blocks.specs.Sounds.{originAt}
 use Rattle.load_source.specs.Source.{Verdict, done, failed, refused, readOn, seeing, foldFrom, halted, tooManyBits, bitsJudged, tzxOf, tzxSee, headed, readTzx, readTap, tzx, no, orTap, orElse, loadOf}
 use Rattle.load_source.specs.Source as source
-use Rattle.law_tzx.specs.Format.{Said, formatFull, lasting}
+use Rattle.load_source.specs.declared.Failure.the-variants as failure
+use Rattle.law_tzx.specs.Format.{Said, formatOf, lasting}
+use Rattle.law_tzx.specs.Cut.{layoutOf, formatCut}
 use Rattle.law_tzx.specs.Kept.{kept, Plays, Keeps, as-said}
-use Rattle.law_tzx.specs.Tapes.{keptThen, keptFrom, saidOf, saidThen, formatFrom}
+use Rattle.law_tzx.specs.Tapes.{Open, noneOpen, opened, nests, keptThen, keptFrom, keptTape, saidOf, saidThen, formatFrom, formatTape}
 use Rattle.law_tzx.proofs.Adds.{plays-none, plays-then}
 use Rattle.law_tzx.proofs.Cuts.{cut-keeps}
 
@@ -69,36 +71,40 @@ named-on kind at (body.Unknown described) e = let z : _≡_ {A = ℕ} 0 1 = cc i
 named-on kind at (body.Short p w) e = let z : _≡_ {A = ℕ} 0 1 = cc in omega arith
 named-on kind at (body.Overflow p) e = let z : _≡_ {A = ℕ} 0 1 = cc in omega arith
 
-end-same : (s : List ℕ) (at : ℕ) → cutAt s at source.full ≡ taken.End → cutAt s at formatFull ≡ taken.End
+end-same : (s : List ℕ) (at : ℕ) → cutAt s at source.full ≡ taken.End → formatCut s at ≡ taken.End
 unfolding cutAt
 end-same s at e = by-cases (leb (length s) at) e
   where
     by-cases : (b : Bool) → (b ⇒ taken.End ∣ takenAs (getD s at 0) at (readAt (kindOf source.full (getD s at 0)) s (At (at + 1)))) ≡ taken.End
-        → (b ⇒ taken.End ∣ takenAs (getD s at 0) at (readAt (kindOf formatFull (getD s at 0)) s (At (at + 1)))) ≡ taken.End
+        → (b ⇒ taken.End ∣ takenAs (getD s at 0) at (readAt (layoutOf (getD s at 0)) s (At (at + 1)))) ≡ taken.End
     by-cases true q = refl
     by-cases false q = absurd (named-on (getD s at 0) at (readAt (kindOf source.full (getD s at 0)) s (At (at + 1))) q)
 
 module _ (lent : Lent) (s : List ℕ) (model : ℕ) where
   -- one piece, then the others
-  piece-then : (n at : ℕ) (t u : Parsed) (x : Taken) → cutAt s at source.full ≡ x → keptThen s x (keptFrom s n) ≡ true
+  piece-then : (n at : ℕ) (o : Open) (t u : Parsed) (x : Taken) → cutAt s at source.full ≡ x → keptThen s o x (keptFrom s n) ≡ true
       → seeing (tzxOf lent s model at x) t (foldFrom (tzxSee lent s model) n) ≡ done u
-      → ((next : ℕ) (v : Parsed) → keptFrom s n next ≡ true → foldFrom (tzxSee lent s model) n next v ≡ done u → Plays s (formatFrom (eqb model 0) s n next) v u)
-      → Plays s (saidThen (eqb model 0) s (cutAt s at formatFull) (formatFrom (eqb model 0) s n)) t u
+      → ((next : ℕ) (p : Open) (v : Parsed) → keptFrom s n next p ≡ true → foldFrom (tzxSee lent s model) n next v ≡ done u
+      → Plays s (formatFrom (eqb model 0) s n next) v u)
+      → Plays s (saidThen (eqb model 0) s (formatCut s at) (formatFrom (eqb model 0) s n)) t u
   unfolding keptThen seeing tzxOf saidThen
-  piece-then n at t u taken.End q e f later = rw (end-same s at q) (done-none f)
-  piece-then n at t u (taken.Whole kind from next piece) q e f later =
-      let k = first (kept s piece) (keptFrom s n next) e in
-      let c = cut-keeps lent (originAt kind from) s model at t q k in
+  piece-then n at o t u taken.End q e f later = rw (end-same s at q) (done-none f)
+  piece-then n at o t u (taken.Whole kind from next piece) q e f later =
+      let p = opened kind o in
+      let k = first (kept s piece && not (nests kind o)) (keptFrom s n next p) e in
+      let c = cut-keeps lent (originAt kind from) s model at t q (first (kept s piece) (not (nests kind o)) k) in
       let w = went (foldFrom (tzxSee lent s model) n next) (c .plays) f in
-      rw (c .cut) (plays-then (keeps-said (w .has)) (later next (w .tape) (second (kept s piece) (keptFrom s n next) e) (w .then)))
-  piece-then n at t u (taken.Unknown kind described) q e f later = absurd (let z : _≡_ {A = ℕ} 0 1 = cc in omega arith)
-  piece-then n at t u (taken.Short kind p w) q e f later = absurd (let z : _≡_ {A = ℕ} 0 1 = cc in omega arith)
-  piece-then n at t u (taken.Overflow kind p) q e f later = absurd (let z : _≡_ {A = ℕ} 0 1 = cc in omega arith)
+      let rest = second (kept s piece && not (nests kind o)) (keptFrom s n next p) e in
+      rw (c .cut) (plays-then (keeps-said (w .has)) (later next p (w .tape) rest (w .then)))
+  piece-then n at o t u (taken.Unknown kind described) q e f later = absurd (let z : _≡_ {A = ℕ} 0 1 = cc in omega arith)
+  piece-then n at o t u (taken.Short kind p w) q e f later = absurd (let z : _≡_ {A = ℕ} 0 1 = cc in omega arith)
+  piece-then n at o t u (taken.Overflow kind p) q e f later = absurd (let z : _≡_ {A = ℕ} 0 1 = cc in omega arith)
 
-  run-keeps : (n at : ℕ) (t u : Parsed) → keptFrom s n at ≡ true → foldFrom (tzxSee lent s model) n at t ≡ done u → Plays s (formatFrom (eqb model 0) s n at) t u
+  run-keeps : (n at : ℕ) (o : Open) (t u : Parsed) → keptFrom s n at o ≡ true → foldFrom (tzxSee lent s model) n at t ≡ done u
+      → Plays s (formatFrom (eqb model 0) s n at) t u
   unfolding keptFrom foldFrom formatFrom tzxSee
-  run-keeps zero at t u e f = done-none f
-  run-keeps (suc n) at t u e f = piece-then n at t u (cutAt s at source.full) refl e f (λ next v. run-keeps n next v u)
+  run-keeps zero at o t u e f = absurd (let z : _≡_ {A = ℕ} 0 1 = cc in omega arith)
+  run-keeps (suc n) at o t u e f = piece-then n at o t u (cutAt s at source.full) refl e f (λ next p v. run-keeps n next p v u)
 
   judged-done : {r : Verdict} {u : Parsed} → bitsJudged r ≡ done u → r ≡ done u
   unfolding bitsJudged
@@ -139,5 +145,6 @@ module _ (lent : Lent) (s : List ℕ) (model : ℕ) where
       by-model false false q = by-head (headAt s) (by-read (readTzx lent s model) q)
 
   -- THE TAPE: where every piece is kept, a load's blocks play what the format says of the pieces, one after the other
-  pub tape-keeps : {u : Parsed} → loadOf lent s model ≡ tzx u → keptFrom s (length s) 10 ≡ true → Plays s (formatFrom (eqb model 0) s (length s) 10) empty u
-  tape-keeps {u} e k = run-keeps (length s) 10 empty u k (tzx-run e)
+  pub tape-keeps : {u : Parsed} → loadOf lent s model ≡ tzx u → keptTape s ≡ true → Plays s (formatTape (eqb model 0) s) empty u
+  unfolding keptTape formatTape
+  tape-keeps {u} e k = run-keeps (length s) 10 noneOpen empty u k (tzx-run e)

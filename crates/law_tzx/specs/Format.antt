@@ -151,11 +151,15 @@ format19 s g =
 unfoldable pub format20 : ℕ → Said
 format20 n = eqb n 0 ⇒ saidPulses [] forever ∣ saidPulses [] (pauseMs n)
 
+-- 24: repetitions, above 1; how often the pieces up to the 25 are played is no matter of one piece
+abbrev pub format24 : ℕ → Said
+format24 n = ltb 1 n ⇒ silent ∣ unsaid
+
 -- 2A: length 0; stop the tape, only in 48K mode
 unfoldable pub format2A : Bool → ℕ → Said
 format2A on48 length = eqb length 0 ⇒ (on48 ⇒ saidPulses [] forever ∣ silent) ∣ unsaid
 
--- WHAT THE FORMAT GIVES A PIECE that was cut with an alphabet size of 0 meaning 256. How often the pieces of a loop are played is no matter of one piece
+-- WHAT THE FORMAT GIVES A PIECE that it cut (specs/Cut)
 unfoldable pub formatOf : Bool → List ℕ → Piece → Said
 formatOf on48 s (Standard pause from size) = format10 s pause from size
 formatOf on48 s (Turbo d) = format11 s d
@@ -166,7 +170,7 @@ formatOf on48 s (Generalized g) = format19 s g
 formatOf on48 s (Pause n) = format20 n
 formatOf on48 s (GroupStart from size) = silent
 formatOf on48 s GroupEnd = silent
-formatOf on48 s (LoopStart times) = silent
+formatOf on48 s (LoopStart times) = format24 times
 formatOf on48 s LoopEnd = silent
 formatOf on48 s (Stop48 length) = format2A on48 length
 formatOf on48 s (Text from size) = silent

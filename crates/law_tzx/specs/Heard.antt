@@ -14,7 +14,8 @@ use Rattle.load_state.specs.Parser.{Out, on, no as halt, empty}
 use Rattle.load_blocks.specs.Sounds.{originAt}
 use Rattle.load_blocks.specs.Adds.{Lent}
 use Rattle.load_source.specs.Source as source
-use Rattle.law_tzx.specs.Format.{PulseLength, lasts, forever, Said, sounds, unsaid, formatOf, formatFull, lengthsOf, lasting}
+use Rattle.law_tzx.specs.Format.{PulseLength, lasts, forever, Said, sounds, unsaid, formatOf, lengthsOf, lasting}
+use Rattle.law_tzx.specs.Cut.{formatCut}
 use Rattle.law_tzx.specs.Kept.{kept, lengths, entriesFrom}
 
 -- lengths; a refusal; an error; or nothing that is said
@@ -59,7 +60,7 @@ keptOn s (taken.Short kind p w) = false
 keptOn s (taken.Overflow kind p) = false
 
 abbrev pub formatAt : List ℕ → Heard
-formatAt s = formatOn s (cutAt s 0 formatFull)
+formatAt s = formatOn s (formatCut s 0)
 
 abbrev pub sourceHeard : List ℕ → Heard
 sourceHeard s = sourceOn s (cutAt s 0 source.full)

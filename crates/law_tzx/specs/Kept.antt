@@ -3,8 +3,8 @@ use Prim.Native.Nat.{ℕ, _+_, _*_, _-_, _%_}
 use mathlib.Core.Path.{_≡_}
 use mathlib.Core.Bool.{Bool, true, false, _&&_, _||_, not}
 use mathlib.Core.List.{List, [], _∷_, _++_, map}
-use lib.ListN.{length, getD}
 use lib.Dec.{ltb, eqb}
+use Rattle.refusals.specs.Refusals.{tonesFull, blocksFull}
 use Rattle.law_base.specs.Rules.{_⇒_, _∣_}
 use Rattle.cut_fields.specs.Field.{leAt}
 use Rattle.law_pulses.specs.Play.{Entry, pulse, endless}
@@ -13,18 +13,19 @@ use Rattle.rows.specs.Rows.{tone}
 use Rattle.rows.specs.declared.Block.{Block}
 use Rattle.rows.specs.declared.Tone.{Tone as ToneRow}
 use Rattle.play_entries.specs.Entries.{Label, entriesOf}
-use Rattle.load_state.specs.Parser.{Parsed}
+use Rattle.load_state.specs.declared.Halt.the-variants.{Refusal}
+use Rattle.load_state.specs.Parser.{Parsed, Out, on, no}
 use Rattle.load_state.specs.Kept.{Sure}
 use Rattle.cut_grammar.specs.declared.GeneralizedData.{GeneralizedData}
 use Rattle.cut_grammar.specs.Places.{Places}
 use Rattle.cut_grammar.specs.declared.TurboData.{TurboData}
 use Rattle.cut_grammar.specs.declared.Piece.{Piece}
 use Rattle.cut_grammar.specs.declared.Piece.the-variants.{Standard, Turbo, Tone, Pulses, Pure, Generalized, Pause, GroupStart, GroupEnd, LoopStart, LoopEnd, Stop48, Text, Message, Archive, Hardware, Custom, Glue}
-use Rattle.cut_grammar.specs.Cut.{cutAt}
 use Rattle.load_blocks.specs.declared.Origin.{Origin}
 use Rattle.load_blocks.specs.Adds.{Lent}
 use Rattle.load_source.specs.Source.{act}
-use Rattle.law_tzx.specs.Format.{PulseLength, lasts, forever, PulseTrain, Said, sounds, lengthsOf, lasting, bitsSaid, every, symbolPulse, pilotSymbol, repetitions, dataNumber, formatOf, formatFull}
+use Rattle.law_tzx.specs.Format.{PulseLength, lasts, forever, PulseTrain, Said, sounds, lengthsOf, lasting, bitsSaid, every, symbolPulse, pilotSymbol, repetitions, dataNumber, formatOf}
+use Rattle.law_tzx.specs.Cut.{formatCut}
 use Rattle.cut_grammar.specs.declared.Taken.the-variants as taken
 
 -- 2, 4, 6 ..
@@ -67,7 +68,7 @@ keptEntry s g i =
 unfoldable pub keptPilot : List ℕ → GeneralizedData → Bool
 keptPilot s g =
     eqb (g .totp) 0
-    || (not (eqb (getD s (g .pilot - 7) 0) 0) && ((eqb (g .npp) 1 || eqb (g .npp) 2) && every (keptEntry s g) 0 (g .totp)))
+    || (not (eqb (g .asp0) 0) && ((eqb (g .npp) 1 || eqb (g .npp) 2) && every (keptEntry s g) 0 (g .totp)))
 
 -- symbol i of the data
 unfoldable pub keptSymbol : List ℕ → GeneralizedData → ℕ → Bool
@@ -83,8 +84,12 @@ keptData s g =
     ltb 0 (g .totd)
     && (eqb (g .asd) 2 && (eqb (g .npd) 2 ⇒ every (keptSymbol s g) 0 (g .totd) ∣ (eqb (g .npd) 1 && keptPairs s g)))
 
+-- its length is that of what follows: 14 bytes of numbers, and its tables, from the pilot's alphabet to the last data byte
+abbrev pub lengthRight : GeneralizedData → Bool
+lengthRight g = eqb (g .length) (14 + (g .from + g .size - g .pilot))
+
 unfoldable pub kept19 : List ℕ → GeneralizedData → Bool
-kept19 s g = keptPilot s g && keptData s g
+kept19 s g = lengthRight g && (keptPilot s g && keptData s g)
 
 -- KEPT: the piece is played as the format says, in lengths
 unfoldable pub kept : List ℕ → Piece → Bool
@@ -102,8 +107,8 @@ kept s (Pause n) = true
 kept s (GroupStart from size) = true
 -- the block before it may be given a pause
 kept s GroupEnd = false
--- no sound of its own; the copies come at the loop's end
-kept s (LoopStart times) = true
+-- no sound of its own; the copies come at the loop's end; above 1 is said
+kept s (LoopStart times) = ltb 1 times
 -- one body more
 kept s LoopEnd = false
 -- another length errs
@@ -162,6 +167,12 @@ pub record Plays (s : List ℕ) (ls : List PulseLength) (t t′ : Parsed) : Type
 pub data Keeps (s : List ℕ) (t t′ : Parsed) : Said → Type 0 where
   as-said : {x : PulseTrain} → Plays s (lengthsOf x) t t′ → Keeps s t t′ (sounds x)
 
+-- a step that goes on, or wants tone rows (5) or block rows (6): no other refusal, no error
+pub data Answers : Out → Type 0 where
+  goes : {t : Parsed} → Answers (on t)
+  no-tones : Answers (no (Refusal tonesFull))
+  no-blocks : Answers (no (Refusal blocksFull))
+
 -- a 19's tables are where its numbers say
 abbrev pub Tables : List ℕ → Piece → Type 0
 Tables s piece = (g : GeneralizedData) → piece ≡ Generalized g → Places s g
@@ -169,11 +180,11 @@ Tables s piece = (g : GeneralizedData) → piece ≡ Generalized g → Places s 
 -- what the format cuts at a place where a kept piece was cut
 pub record FormatCut (s : List ℕ) (at next : ℕ) (piece : Piece) : Type 0 where
   pub other : Piece
-  pub cut : cutAt s at formatFull ≡ taken.Whole (getD s at 0) at next other
+  pub cut : formatCut s at ≡ taken.Whole (getD s at 0) at next other
   pub said : (on48 : Bool) → formatOf on48 s other ≡ formatOf on48 s piece
 
 -- the piece that the format cuts at a place, and that the source reading's piece there is played as it says
 pub record KeptAt (lent : Lent) (origin : Origin) (s : List ℕ) (model at next : ℕ) (piece : Piece) (t : Parsed) : Type 0 where
   pub other : Piece
-  pub cut : cutAt s at formatFull ≡ taken.Whole (getD s at 0) at next other
+  pub cut : formatCut s at ≡ taken.Whole (getD s at 0) at next other
   pub plays : Sure (λ u. Keeps s t u (formatOf (eqb model 0) s other)) (act lent s model origin piece t)

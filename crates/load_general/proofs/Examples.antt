@@ -27,7 +27,24 @@ gives p d =
     let entries = length (p .alphabet) in
     let symbols = entries + length (p .rest) in
     generalOf (p .alphabet ++ p .rest ++ d .alphabet ++ d .rest)
-    (record { pause = 0; totp = p .uses; npp = p .pulses; asp = p .size; pilot = 0; entries = entries; totd = d .uses; npd = d .pulses; asd = d .size; nb = bitsOf (d .size - 1); symbols = symbols; from = symbols + length (d .alphabet); size = length (d .rest) })
+    (record {
+      length = 0;
+      pause = 0;
+      totp = p .uses;
+      npp = p .pulses;
+      asp0 = p .size;
+      asp = p .size;
+      pilot = 0;
+      entries = entries;
+      totd = d .uses;
+      npd = d .pulses;
+      asd0 = d .size;
+      asd = d .size;
+      nb = bitsOf (d .size - 1);
+      symbols = symbols;
+      from = symbols + length (d .alphabet);
+      size = length (d .rest);
+    })
 
 -- symbols of one and two short pulses, and entries of a symbol and its repetitions
 abbrev y1 : ℕ → List ℕ

@@ -1,5 +1,10 @@
 -- `general` meets its contract. Assumes nothing.
-use Rattle.cut_grammar.specs.Steps.{head19}
+use mathlib.Core.Path.{_≡_, ap, _∙_}
+use mathlib.Core.List.{List}
+use Rattle.cut_fields.specs.declared.Cursor.{Cursor}
+use Rattle.cut_grammar.specs.declared.Body.{Body}
+use Rattle.cut_grammar.specs.declared.GeneralHead.{GeneralHead}
+use Rattle.cut_grammar.specs.Steps.{head19, tables19}
 use Rattle.cut_grammar.specs.Grammar.{readAt, passAt}
 use Rattle.cut_grammar.specs.Kinds.{kind19}
 use Prim.Native.Nat.{ℕ, _*_, _+_, _≤_, _<_, _^_}
@@ -78,10 +83,35 @@ add-t18 c =
 stream-requires : tie.Need-stream-requires
 stream-requires c κs = search needs
 
+-- the head, then the tables
+head-tables : (full : ℕ) (s : List ℕ) (c : Cursor) {h : GeneralHead} {b : Body} → h ≡ head19 s c → b ≡ tables19 full s h
+    → b ≡ readAt (kind19 full) s c
+unfolding kind19 readAt passAt head19 tables19
+head-tables full s c e q = q ∙ ap (tables19 full s) e
+
 returns : tie.Need-returns
-unfolding kind19 readAt passAt head19
+unfolding tables19
 returns c =
-    rw (c .stream .ensures, c .before .place4 .ensures, c .before .before .place3 .ensures, c .before .before .before .place2 .ensures, c .before .before .before .before .place .ensures, c .before .before .before .before .before .groups3 .ensures, c .before .before .before .before .before .before .held-if2 .ensures, c .before .before .before .before .before .before .before .groups2 .ensures, c .before .before .before .before .before .before .before .before .before .groups .ensures, c .before .before .before .before .before .before .before .before .before .before .held-if .ensures, c .before .before .before .before .before .before .before .before .before .before .before .before .symbol-bits .ensures, c .before .before .before .before .before .before .before .before .before .before .before .before .before .or-full2 .ensures, c .before .before .before .before .before .before .before .before .before .before .before .before .before .before .or-full .ensures, c .before .before .before .before .before .before .before .before .before .before .before .before .before .before .before .general-head .ensures)
+    let g = c .before .before .before .before .before in
+    let e = g .before .before in
+    let p = e .before .before in
+    let n = p .before .before .before in
+    head-tables _ _ _ (n .before .before .before .general-head .ensures)
+    (rw (
+      c .stream .ensures,
+      c .before .place4 .ensures,
+      c .before .before .place3 .ensures,
+      c .before .before .before .place2 .ensures,
+      c .before .before .before .before .place .ensures,
+      g .groups3 .ensures,
+      g .before .held-if2 .ensures,
+      e .groups2 .ensures,
+      p .groups .ensures,
+      p .before .held-if .ensures,
+      n .symbol-bits .ensures,
+      n .before .or-full2 .ensures,
+      n .before .before .or-full .ensures,
+    ))
 
 pub general-spec : {M : Type 1} → statement M
 general-spec =

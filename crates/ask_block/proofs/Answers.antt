@@ -20,6 +20,7 @@ use Rattle.ask_block.specs.declared.Mark.the-variants as mark
 use Rattle.ask_block.specs.declared.Time.the-variants as lasting
 use Rattle.ask_block.specs.Queries.{numberNo, markNo, timeNo, refusalOf, numberUnless, markUnless, timeUnless, lenOf, sizeOf, selectableOf, timeOf, nameIn, lengthOrNoRoom, nameAnswer, nameBytes, loadingIn, loadingOf, EachAnswered}
 use Rattle.ask_block.proofs.Refusals.{refusal-none}
+use Rattle.play_entries.specs.Places.{loadingTime}
 
 -- a rule whose second test fails
 never : {A : Type 0} (t : Bool) (x y : A) → ((t && false) ⇒ x ∣ y) ≡ y

@@ -33,6 +33,7 @@ use Rattle.law_every_load.proofs.Rows.{own-count, own-tone}
 use Rattle.law_every_load.proofs.Every.{every-read, every-row}
 use Rattle.law_every_load.proofs.Formed.{every-formed}
 use Rattle.law_every_load.proofs.Room.{Within, FewBits, load-within, read-bits, load-bits, load-length}
+use Rattle.rows.specs.Rows.{tonesIn}
 
 -- a table of N words that hold the rows is N words
 pub table-length : {R : Type 0} (C : Codec R) (rs : List R) (N : ℕ) → length rs * C .width ≤ N → length (tableOf C rs N) ≡ N

@@ -27,6 +27,8 @@ use Rattle.load_source.specs.Source.{act}
 use Rattle.law_tzx.specs.Format.{PulseLength, lasts, forever, PulseTrain, Said, sounds, lengthsOf, lasting, bitsSaid, every, symbolPulse, pilotSymbol, repetitions, dataNumber, formatOf}
 use Rattle.law_tzx.specs.Cut.{formatCut}
 use Rattle.cut_grammar.specs.declared.Taken.the-variants as taken
+use lib.ListN.{length}
+use lib.ListN.{getD}
 
 -- 2, 4, 6 ..
 unfoldable pub evenCount : ℕ → Bool

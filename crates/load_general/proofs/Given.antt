@@ -19,6 +19,7 @@ use Rattle.load_general.specs.Made.{isGiven, isTones}
 use Rattle.load_general.specs.Held.{Kept}
 use Rattle.load_general.proofs.Parts.{all-given}
 use Rattle.load_general.proofs.Symbols.{kept-first, kept-second}
+use Rattle.law_base.proofs.Tests.{first, second}
 
 -- a number not below the size is refused
 rule : (size n : ℕ) (r : Row) → isGiven (leb size n ⇒ Refused ∣ r) ≡ (ltb n size && isGiven r)

@@ -15,6 +15,8 @@ use Rattle.rows.specs.Rows.{tone, toneMost}
 use Rattle.rows.specs.Well.{inside, wellRanges, wellNumbers, wellCases, wellTones, wellBlock}
 use Rattle.text_header.proofs.Headers.{either, header-length}
 use Rattle.text_name.specs.Names.{isHeader, sizeShown, sizeName, guessed, nameOf}
+use Rattle.rows.proofs.WellLaws.{block-clauses}
+use Rattle.rows.proofs.WellLaws.{ranges-inside}
 
 -- a header has 19 bytes
 pub header-size : (s : List ℕ) (r : Block) → isHeader s r ≡ true → r .size ≡ 19

@@ -17,15 +17,8 @@ ghost use lib.ListN.{length};
 ghost use Rattle.rows.specs.Table.{get, capacityOf};
 ghost use Rattle.rows.specs.Rows.{tone, block, toneMost};
 ghost use Rattle.rows.specs.Well.{wellTone, wellNumbers, wellBlock};
-<<<<<<< N
-ghost use Rattle.play_levels.specs.Closed.{flipped};
-ghost use Rattle.play_entries.specs.Entries.{toneAt, isSource, cyclesOf, isSingle, cyclePulses, cycleTime, lineStart, lineAt, startLevel, cycleLevel, bitLevel, edged, bitsAt, bitOf, halfOf, edgeTime, restOf, wholePause, pauseOf, pauseLevel};
-ghost use Rattle.play_entries.specs.Signals.{lineData, lineBehind};
-ghost use Rattle.play_entries.specs.Places.{cycleHalf, hasEntry, lengthAt, levelAt, remains};
-=======
 ghost use Rattle.play_entries.specs.Entries.{toneAt, cyclesOf, isSingle, cyclePulses, cycleTime, edged, bitsAt, bitOf, halfOf, edgeTime, restOf, wholePause, pauseOf};
 ghost use Rattle.play_entries.specs.Places.{cycleHalf, hasEntry, lengthAt, remains};
->>>>>>> v
 ghost use Rattle.play_entries.specs.Source.{levelOf};
 ghost use Rattle.play_entries.specs.Mounted.{tapeSize};
 

@@ -4,9 +4,15 @@ use play_entries::Duration;
 use play_entries::Phase;
 use play_phases::has_entry;
 use play_phases::length_at;
-use play_phases::level_at;
 use play_phases::may_remain;
-use play_phases::row_well;
+use play_phases::mic;
+use play_phases::size_of;
+use play_voice::Heard;
+use play_voice::hear;
+use play_voice::heard_well;
+use play_voice::is_source;
+use play_voice::level_in;
+use play_voice::unheard;
 use play_walk::Position;
 use play_walk::Reached;
 use play_walk::Stand;
@@ -15,15 +21,20 @@ use play_walk::walk;
 use rows::Block;
 use rows::block_at;
 use rows::block_capacity;
+use rows_well::tones_well;
+use rows_well::words_well;
 ghost use mathlib.Core.Path.{_≡_};
 ghost use mathlib.Core.Bool.{true, _&&_};
-ghost use Rattle.rows.specs.Well.{wellBlock};
-ghost use Rattle.play_entries.specs.Places.{hasEntry, lengthAt, isNone, remains};
+ghost use Rattle.rows_well.specs.Words.{wellWords};
+ghost use Rattle.law_pulses.specs.Play.{low};
+ghost use Rattle.play_entries.specs.Places.{Tape, hasEntry, lengthAt, levelIn, isNone, remains};
 ghost use Rattle.play_entries.specs.Mounted.{tapeSize, tapeOf};
 ghost use lib.Dec.{eqb};
 ghost use Rattle.law_base.specs.Rules.{_⇒_, _∣_};
-ghost use Rattle.play_walk.specs.Heads.{walkFrom, Walkable};
+ghost use Rattle.play_voice.specs.Voice.{silence, rowAt};
+ghost use Rattle.play_walk.specs.Heads.{walkFrom};
 ghost use Rattle.play_deck.specs.declared.Check.the-variants.{Fine};
+ghost use Rattle.play_deck.specs.Assay.{fineIf, verdictOf, readyRow, levelThere, Assayed, Lending, Sounded};
 ghost use Rattle.play_deck.specs.Inside.{endsInside, lessBy, inPlace};
 ghost use Rattle.play_deck.specs.Deck.{atStart, judged, stays, playMeasured, sourceFrom, playSource};
 
@@ -58,9 +69,9 @@ fn none_left(left: Duration) -> bool
     }
 }
 
-// Whether so much may be left of a block's entry; its callers know the row to be well formed.
+// Whether so much may be left of a block's entry; its callers know the row to be well formed but for its tone rows.
 fn has_left(tape: &[u8], tones: &[u64], r: Block, f: Phase, left: Duration) -> bool
-    requires { ⌜ wellBlock (tapeSize (now tape)) (now tones) r ≡ true ⌝ }
+    requires { ⌜ wellWords (tapeSize (now tape)) (now tones) r ≡ true ⌝ }
     ensures { λ v. ⌜ v ≡ (hasEntry (now (tones .entry)) r f && remains left (lengthAt (now (tape .entry)) (now (tones .entry)) r f)) ⌝ }
 {
     if !has_entry(tones, r, f) {
@@ -69,50 +80,118 @@ fn has_left(tape: &[u8], tones: &[u64], r: Block, f: Phase, left: Duration) -> b
     may_remain(left, length_at(tape, tones, r, f))
 }
 
+// Whether a row is well formed; of a document row's tone rows it doesn't tell, which are gone through later.
+fn row_ready(tape: &[u8], tones: &[u64], r: Block) -> bool
+    ensures { λ v. ⌜ v ≡ readyRow (tapeSize (now (tape .entry))) (now (tones .entry)) r ⌝ }
+{
+    if !words_well(size_of(tape), tones, r) {
+        return false;
+    }
+    if r.sort == 0 {
+        return tones_well(tones, r.tone, r.tones);
+    }
+    true
+}
+
+// What a position comes to: its checks; where they are fine the level there; and what was heard on the way.
+pub struct Verdict {
+    pub check: Check,
+    pub level: bool,
+    pub heard: Heard,
+}
+
+// A check that tells no level.
+fn silent(c: Check) -> Verdict
+    ensures { λ a. ⌜ a ≡ verdictOf c low silence ⌝ }
+{
+    Verdict {
+        check: c,
+        level: false,
+        heard: unheard(),
+    }
+}
+
+// The check of a position at or past the count.
+fn check_past(pos: Position) -> Check
+    ensures { λ c. ⌜ c ≡ fineIf (atStart pos) ⌝ }
+{
+    if at_start(pos) {
+        return Check::Fine;
+    }
+    Check::NotValid
+}
+
+// The check of an entry in a well-formed row, by whether so much may be left of it.
+fn check_left(has: bool) -> Check
+    ensures { λ c. ⌜ c ≡ fineIf has ⌝ }
+{
+    if has { Check::Fine } else { Check::NotValid }
+}
+
+// A position in block b, a document row, by one pass over its tone rows; its callers know the row to be well formed but for them.
+fn assay_document(tones: &[u64], blocks: &[u64], b: u64, f: Phase, has: bool) -> Verdict
+    requires { ⌜ Lending (now tones) (now blocks) b ⌝ }
+    requires { ⌜ (has ≡ true → hasEntry (now tones) (rowAt (now blocks) b) f ≡ true) ⌝ }
+    ensures { λ a. ⌜ Sounded (now (tones .entry)) (now (blocks .entry)) b f has a ⌝ }
+{
+    let h = hear(tones, block_at(blocks, b as usize), b, f);
+    if !heard_well(tones, block_at(blocks, b as usize), h) {
+        return silent(Check::NotFormed);
+    }
+    if !has {
+        return silent(Check::NotValid);
+    }
+    Verdict {
+        check: Check::Fine,
+        level: level_in(tones, blocks, b, f, h),
+        heard: h,
+    }
+}
+
+// The checks of a position, in the order of rule 37, and the level there: a document row's tone rows are gone through once for both.
+pub fn assay(tape: &[u8], tones: &[u64], blocks: &[u64], count: u64, pos: Position) -> Verdict
+    ensures { λ a. ⌜ Assayed (tapeOf (now (tape .entry)) (now (tones .entry)) (now (blocks .entry)) count) pos a ⌝ }
+{
+    if (block_capacity(blocks) as u64) < count {
+        return silent(Check::NotFormed);
+    }
+    let b = pos.block;
+    if count <= b {
+        return silent(check_past(pos));
+    }
+    if !row_ready(tape, tones, block_at(blocks, b as usize)) {
+        return silent(Check::NotFormed);
+    }
+    let f = pos.phase;
+    let left = pos.left;
+    let has = has_left(tape, tones, block_at(blocks, b as usize), f, left);
+    if is_source(blocks, b) {
+        return Verdict {
+            check: check_left(has),
+            level: mic(f),
+            heard: unheard(),
+        };
+    }
+    assay_document(tones, blocks, b, f, has)
+}
+
 // The checks of a position, in the order of rule 37.
 pub fn judge(tape: &[u8], tones: &[u64], blocks: &[u64], count: u64, pos: Position) -> Check
     ensures { λ r. ⌜ r ≡ judged (tapeOf (now (tape .entry)) (now (tones .entry)) (now (blocks .entry)) count) pos ⌝ }
 {
-    if (block_capacity(blocks) as u64) < count {
-        return Check::NotFormed;
-    }
-    let b = pos.block;
-    if count <= b {
-        if at_start(pos) {
-            return Check::Fine;
-        }
-        return Check::NotValid;
-    }
-    if !row_well(tape, tones, blocks, b) {
-        return Check::NotFormed;
-    }
-    let f = pos.phase;
-    let left = pos.left;
-    if !has_left(tape, tones, block_at(blocks, b as usize), f, left) {
-        return Check::NotValid;
-    }
-    Check::Fine
+    let a = assay(tape, tones, blocks, count, pos);
+    a.check
 }
 
-// A call of 0 from a position that its callers know to be fine: nothing is altered.
-fn stay(tape: &[u8], tones: &[u64], blocks: &[u64], count: u64, pos: Position) -> Reached
-    requires { ⌜ judged (tapeOf (now tape) (now tones) (now blocks) count) pos ≡ Fine ⌝ }
-    ensures { λ r. ⌜ r ≡ stays (tapeOf (now (tape .entry)) (now (tones .entry)) (now (blocks .entry)) count) pos ⌝ }
+// A call of 0 from a position of this level: nothing is altered.
+fn stay(pos: Position, level: bool) -> Reached
+    ensures { λ r. ⌜ ((w : Tape) → judged w pos ≡ Fine → level ≡ levelThere w pos → r ≡ stays w pos) ⌝ }
 {
     let left = pos.left;
-    let f = pos.phase;
-    let b = pos.block;
-    if count <= b {
-        return Reached::At(Stand {
-            position: pos,
-            passed: 0,
-            level: false,
-        });
-    }
     let here = Stand {
         position: pos,
         passed: 0,
-        level: level_at(tones, block_at(blocks, b as usize), f),
+        level,
     };
     match left {
         Duration::T(_) => Reached::At(here),
@@ -141,23 +220,13 @@ fn less(left: Duration, n: u64) -> Duration
     }
 }
 
-// A call of n that ends inside the entry where the head stands: nothing is passed.
-fn stand_inside(
-    tape: &[u8],
-    tones: &[u64],
-    blocks: &[u64],
-    count: u64,
-    pos: Position,
-    n: u64,
-) -> Reached
-    requires { ⌜ Walkable (tapeOf (now tape) (now tones) (now blocks) count) pos ⌝ }
+// A call of n that ends inside the entry where the head stands, of this level: nothing is passed.
+fn stand_inside(pos: Position, n: u64, level: bool) -> Reached
     requires { ⌜ endsInside (pos .left) n ≡ true ⌝ }
-    ensures { λ r. ⌜ r ≡ inPlace (tapeOf (now (tape .entry)) (now (tones .entry)) (now (blocks .entry)) count) pos n ⌝ }
+    ensures { λ r. ⌜ ((w : Tape) → level ≡ levelIn w (pos .block) (pos .phase) → r ≡ inPlace w pos n) ⌝ }
 {
     let phase = pos.phase;
     let left = pos.left;
-    let b = pos.block;
-    let r = block_at(blocks, b as usize);
     let position = Position {
         block: pos.block,
         phase,
@@ -166,27 +235,37 @@ fn stand_inside(
     Reached::At(Stand {
         position,
         passed: 0,
-        level: level_at(tones, r, phase),
+        level,
     })
 }
 
-// A call of n from a position that its callers know to be fine.
-fn measure(tape: &[u8], tones: &[u64], blocks: &[u64], count: u64, pos: Position, n: u64) -> Reached
-    requires { ⌜ judged (tapeOf (now tape) (now tones) (now blocks) count) pos ≡ Fine ⌝ }
+// A call of n from a position that its callers know to be fine, by what it came to.
+fn measure(
+    tape: &[u8],
+    tones: &[u64],
+    blocks: &[u64],
+    count: u64,
+    pos: Position,
+    n: u64,
+    a: Verdict,
+) -> Reached
+    requires { ⌜ Assayed (tapeOf (now tape) (now tones) (now blocks) count) pos a ⌝ }
+    requires { ⌜ a .check ≡ Fine ⌝ }
     ensures { λ r. ⌜ r ≡ (eqb n 0 ⇒ stays (tapeOf (now (tape .entry)) (now (tones .entry)) (now (blocks .entry)) count) pos
         ∣ walkFrom (tapeOf (now (tape .entry)) (now (tones .entry)) (now (blocks .entry)) count) pos n) ⌝ }
 {
     if n == 0 {
-        return stay(tape, tones, blocks, count, pos);
+        return stay(pos, a.level);
     }
     if count <= pos.block {
         return ends(count, 0);
     }
     let left = pos.left;
     if ends_inside(left, n) {
-        return stand_inside(tape, tones, blocks, count, pos, n);
+        return stand_inside(pos, n, a.level);
     }
-    walk(tape, tones, blocks, count, pos, n)
+    let h = a.heard;
+    walk(tape, tones, blocks, count, pos, n, h)
 }
 
 // The measured player: a call of n T-states from a position.
@@ -200,32 +279,43 @@ pub fn play_measured(
 ) -> Reached
     ensures { λ r. ⌜ r ≡ playMeasured (tapeOf (now (tape .entry)) (now (tones .entry)) (now (blocks .entry)) count) pos n ⌝ }
 {
-    let c = judge(tape, tones, blocks, count, pos);
+    let a = assay(tape, tones, blocks, count, pos);
+    let c = a.check;
     match c {
-        Check::Fine => measure(tape, tones, blocks, count, pos, n as u64),
+        Check::Fine => measure(tape, tones, blocks, count, pos, n as u64, a),
         Check::NotValid => Reached::NotValid,
         Check::NotFormed => Reached::NotFormed,
     }
 }
 
-// The source's play of n from a position that its callers know to be fine.
-fn follow(tape: &[u8], tones: &[u64], blocks: &[u64], count: u64, pos: Position, n: u32) -> Reached
-    requires { ⌜ judged (tapeOf (now tape) (now tones) (now blocks) count) pos ≡ Fine ⌝ }
+// The source's play of n from a position that its callers know to be fine, by what it came to.
+fn follow(
+    tape: &[u8],
+    tones: &[u64],
+    blocks: &[u64],
+    count: u64,
+    pos: Position,
+    n: u32,
+    a: Verdict,
+) -> Reached
+    requires { ⌜ Assayed (tapeOf (now tape) (now tones) (now blocks) count) pos a ⌝ }
+    requires { ⌜ a .check ≡ Fine ⌝ }
     ensures { λ r. ⌜ r ≡ (eqb n 0 ⇒ stays (tapeOf (now (tape .entry)) (now (tones .entry)) (now (blocks .entry)) count) pos
         ∣ sourceFrom (tapeOf (now (tape .entry)) (now (tones .entry)) (now (blocks .entry)) count) pos n) ⌝ }
 {
     if n == 0 {
-        return stay(tape, tones, blocks, count, pos);
+        return stay(pos, a.level);
     }
     if count <= pos.block {
         return ends(count, 0);
     }
     let left = pos.left;
     if ends_inside(left, n as u64) {
-        return stand_inside(tape, tones, blocks, count, pos, n as u64);
+        return stand_inside(pos, n as u64, a.level);
     }
     let more = ran_ahead(tape, tones, blocks, count, pos, n as u64);
-    walk(tape, tones, blocks, count, pos, n as u64 + more)
+    let h = a.heard;
+    walk(tape, tones, blocks, count, pos, n as u64 + more, h)
 }
 
 // The source's play: a call of n T-states from a position.
@@ -239,9 +329,10 @@ pub fn play(
 ) -> Reached
     ensures { λ r. ⌜ r ≡ playSource (tapeOf (now (tape .entry)) (now (tones .entry)) (now (blocks .entry)) count) pos n ⌝ }
 {
-    let c = judge(tape, tones, blocks, count, pos);
+    let a = assay(tape, tones, blocks, count, pos);
+    let c = a.check;
     match c {
-        Check::Fine => follow(tape, tones, blocks, count, pos, n),
+        Check::Fine => follow(tape, tones, blocks, count, pos, n, a),
         Check::NotValid => Reached::NotValid,
         Check::NotFormed => Reached::NotFormed,
     }

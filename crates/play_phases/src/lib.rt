@@ -1,10 +1,7 @@
-// A block's entries by their phases: which there are, how long each is, its level; and whether a row is well formed.
+// A block's entries by their phases: which there are, how long each is; and whether a row is well formed.
 use play_entries::Duration;
 use play_entries::Phase;
-use play_levels::Line;
-use play_levels::first_level;
 use play_levels::is_one;
-use play_levels::line_after;
 use play_levels::times_of;
 use rows::Block;
 use rows::Tone;
@@ -19,10 +16,8 @@ ghost use lib.ListN.{length};
 ghost use Rattle.rows.specs.Table.{get, capacityOf};
 ghost use Rattle.rows.specs.Rows.{tone, block, toneMost};
 ghost use Rattle.rows.specs.Well.{wellTone, wellNumbers, wellBlock};
-ghost use Rattle.play_levels.specs.Closed.{flipped};
-ghost use Rattle.play_entries.specs.Entries.{toneAt, isSource, cyclesOf, isSingle, cyclePulses, cycleTime, lineStart, lineAt, startLevel, cycleLevel, bitLevel, edged, bitsAt, bitOf, halfOf, edgeTime, restOf, wholePause, pauseOf, pauseLevel};
-ghost use Rattle.play_entries.specs.Signals.{lineData, lineBehind};
-ghost use Rattle.play_entries.specs.Places.{cycleHalf, hasEntry, lengthAt, levelAt, remains};
+ghost use Rattle.play_entries.specs.Entries.{toneAt, cyclesOf, isSingle, cyclePulses, cycleTime, edged, bitsAt, bitOf, halfOf, edgeTime, restOf, wholePause, pauseOf};
+ghost use Rattle.play_entries.specs.Places.{cycleHalf, hasEntry, lengthAt, remains};
 ghost use Rattle.play_entries.specs.Source.{levelOf};
 ghost use Rattle.play_entries.specs.Mounted.{tapeSize};
 
@@ -269,134 +264,4 @@ pub fn mic(f: Phase) -> bool
         Phase::Edge => false,
         Phase::Pause => false,
     }
-}
-
-// The line at a row's start.
-pub fn line_start(r: Block) -> Line
-    ensures { λ l. ⌜ l ≡ lineStart r ⌝ }
-{
-    Line {
-        current: r.level == 1,
-        played: r.played == 1,
-    }
-}
-
-// The line before a block's tone row n, or behind the last; a step a tone row. Its callers know the tone rows to be lent.
-pub fn line_at(tones: &[u64], r: Block, n: u64) -> Line
-    requires { ⌜ (r .tone + r .tones ≤ capacityOf tone toneMost (now tones)) × (n ≤ r .tones) ⌝ }
-    ensures { λ l. ⌜ l ≡ lineAt (now (tones .entry)) r n ⌝ }
-{
-    let mut l = line_start(r);
-    let mut i = 0;
-    while i < n {
-        l = line_after(row_tone(tones, r, i), l);
-        i += 1;
-    }
-    l
-}
-
-// The level of the first pulse of repetition p of tone row i.
-fn cycle_level(tones: &[u64], r: Block, i: u64, p: u64) -> bool
-    requires { ⌜ (r .tone + r .tones ≤ capacityOf tone toneMost (now tones)) × (i < r .tones) ⌝ }
-    ensures { λ v. ⌜ v ≡ cycleLevel (now (tones .entry)) r i p ⌝ }
-{
-    if r.sort == 0 {
-        return false;
-    }
-    first_level(row_tone(tones, r, i), line_at(tones, r, i), p)
-}
-
-// The level of the first half of a block's bits.
-fn bit_level(tones: &[u64], r: Block) -> bool
-    requires { ⌜ r .tone + r .tones ≤ capacityOf tone toneMost (now tones) ⌝ }
-    ensures { λ v. ⌜ v ≡ bitLevel (now (tones .entry)) r ⌝ }
-{
-    if r.sort == 0 {
-        return false;
-    }
-    let l = line_at(tones, r, r.tones);
-    l.current
-}
-
-// The level of a block's start.
-pub fn start_level(r: Block) -> bool
-    ensures { λ v. ⌜ v ≡ startLevel r ⌝ }
-{
-    if r.sort == 0 {
-        return false;
-    }
-    r.level == 1
-}
-
-// The level of a block's pause.
-fn pause_level(tones: &[u64], r: Block) -> bool
-    requires { ⌜ r .tone + r .tones ≤ capacityOf tone toneMost (now tones) ⌝ }
-    ensures { λ v. ⌜ v ≡ pauseLevel (now (tones .entry)) r ⌝ }
-{
-    if r.endless == 1 {
-        return false;
-    }
-    if r.pause == 0 {
-        return bit_level(tones, r);
-    }
-    false
-}
-
-// A level, turned where h is true.
-fn flip(h: bool, v: bool) -> bool
-    ensures { λ x. ⌜ x ≡ flipped h v ⌝ }
-{
-    if h { !v } else { v }
-}
-
-// The level of a block's entry. Our crates alone call it: its tone rows are lent, the entry one of it.
-pub fn level_at(tones: &[u64], r: Block, f: Phase) -> bool
-    requires { ⌜ r .tone + r .tones ≤ capacityOf tone toneMost (now tones) ⌝ }
-    requires { ⌜ hasEntry (now tones) r f ≡ true ⌝ }
-    ensures { λ v. ⌜ v ≡ levelAt (now (tones .entry)) r f ⌝ }
-{
-    match f {
-        Phase::Start => start_level(r),
-        Phase::Tones {
-            index,
-            pulse,
-            last_half,
-        } => flip(last_half, cycle_level(tones, r, index, pulse)),
-        Phase::Data { last_half, .. } => flip(last_half, bit_level(tones, r)),
-        Phase::Edge => bit_level(tones, r),
-        Phase::Pause => pause_level(tones, r),
-    }
-}
-
-// The line behind a document row's data.
-fn line_data(tones: &[u64], r: Block) -> Line
-    requires { ⌜ r .tone + r .tones ≤ capacityOf tone toneMost (now tones) ⌝ }
-    ensures { λ l. ⌜ l ≡ lineData (now (tones .entry)) r ⌝ }
-{
-    let l = line_at(tones, r, r.tones);
-    if r.size == 0 {
-        return l;
-    }
-    Line {
-        current: l.current,
-        played: !l.current,
-    }
-}
-
-// The line behind a document row, whose tone rows its callers know to be lent.
-pub fn line_behind(tones: &[u64], r: Block) -> Line
-    requires { ⌜ r .tone + r .tones ≤ capacityOf tone toneMost (now tones) ⌝ }
-    ensures { λ l. ⌜ l ≡ lineBehind (now (tones .entry)) r ⌝ }
-{
-    let quiet = Line {
-        current: false,
-        played: false,
-    };
-    if r.endless == 1 {
-        return quiet;
-    }
-    if r.pause == 0 {
-        return line_data(tones, r);
-    }
-    quiet
 }

@@ -4,7 +4,7 @@ use native.Mathlib.Nat.{mul-le-mul, div-mul-le-self, mul-zero}
 use native.Mathlib.Omega.{arith}
 use borrow.Author.Tests.{lt-ltb, le-ltb, eq-eqb, ne-eqb}
 use native.Mathlib.Decide.{ℕ-discrete}
-use mathlib.Core.Path.{_≡_, sym, subst}
+use mathlib.Core.Path.{_≡_, refl, sym, subst}
 use mathlib.Core.Bool.{Bool, true, false}
 use Rattle.law_base.specs.Rules.{_⇒_, _∣_}
 use mathlib.Core.List.{List}
@@ -14,11 +14,11 @@ use Rattle.rows.specs.Rows.{tone}
 use Rattle.rows.specs.Well.{wellTones}
 use Rattle.rows.proofs.WellLaws.{tone-most, tones-each}
 use Rattle.play_entries.specs.declared.Phase.{Phase}
-use Rattle.play_entries.specs.declared.Phase.the-variants.{Tones}
+use Rattle.play_entries.specs.declared.Phase.the-variants.{Start, Tones, Edge, Pause}
 use Rattle.play_entries.specs.Entries.{toneAt, cyclesOf, isSingle, cyclePulses, cycleTime}
 use Rattle.play_entries.specs.Places.{hasEntry}
 use Rattle.play_entries.proofs.Bounds.{cycles-most, cycle-most}
-use Rattle.play_steps.specs.Steps.{stepTo, dataFrom, pulseFrom, toneFrom, cycleFrom, cyclesStep, oneStep, cyclesFitting, takeCycles}
+use Rattle.play_steps.specs.Steps.{stepTo, dataFrom, pulseFrom, toneFrom, cycleFrom, cyclesStep, oneStep, cyclesFitting, takeCycles, takeOf}
 
 -- the numbers of a well-formed tone row
 pub record Small (r : Block) (t : Tone) : Type 0 where
@@ -89,3 +89,20 @@ module _ (tones : List ℕ) (r : Block) (i : ℕ) where
   pub tone-over : r .tones ≤ i → toneFrom tones r i ≡ dataFrom r 0
   unfolding toneFrom pulseFrom
   tone-over h = let e : r .tones - i ≡ 0 = omega arith in rw e
+
+-- entries that are taken one by one, full or not
+module _ (tape tones : List ℕ) (r : Block) (t d : ℕ) where
+  pub takes-start : (full : Bool) → oneStep tones r Start t ≡ takeOf tape tones r Start full t d
+  unfolding takeOf
+  takes-start true = refl
+  takes-start false = refl
+
+  pub takes-edge : (full : Bool) → oneStep tones r Edge t ≡ takeOf tape tones r Edge full t d
+  unfolding takeOf
+  takes-edge true = refl
+  takes-edge false = refl
+
+  pub takes-pause : (full : Bool) → oneStep tones r Pause t ≡ takeOf tape tones r Pause full t d
+  unfolding takeOf
+  takes-pause true = refl
+  takes-pause false = refl

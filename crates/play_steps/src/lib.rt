@@ -251,6 +251,59 @@ fn take_byte(tape: &[u8], r: Block, pos: u64, t: u64, d: u64) -> Step
     bit_step(r, pos, 0, false, t)
 }
 
+// A turn in the tones, from a half that its callers know to be there; its tone rows are lent and well formed.
+fn take_tone(
+    tones: &[u64],
+    r: Block,
+    i: u64,
+    p: u64,
+    last: bool,
+    full: bool,
+    t: u64,
+    d: u64,
+) -> Step
+    requires { ⌜ (r .tone + r .tones ≤ capacityOf tone toneMost (now tones)) × (wellTones (now tones) (r .tone) (r .tones) ≡ true) ⌝ }
+    requires { ⌜ (i < r .tones) × (p < cyclesOf r (toneAt (now tones) r i)) ⌝ }
+    requires { ⌜ 0 < d ⌝ }
+    ensures { λ s. ⌜ ((tape : List ℕ) → s ≡ takeOf tape (now (tones .entry)) r (Tones i p last) full t d) ⌝ }
+{
+    if !full {
+        return tone_step(tones, r, i, p, last, t);
+    }
+    if last {
+        return tone_step(tones, r, i, p, last, t);
+    }
+    take_cycles(tones, r, i, p, t, d)
+}
+
+// A turn in the data, from a half that its callers know to be there; its byte is lent.
+fn take_bit(tape: &[u8], r: Block, pos: u64, k: u64, last: bool, full: bool, t: u64, d: u64) -> Step
+    requires { ⌜ r .start + r .size ≤ length (now tape) ⌝ }
+    requires { ⌜ (pos < r .size) × (k < bitsAt r pos) ⌝ }
+    requires { ⌜ wellNumbers r ≡ true ⌝ }
+    ensures { λ s. ⌜ ((tones : List ℕ) → s ≡ takeOf (now (tape .entry)) tones r (Data pos k last) full t d) ⌝ }
+{
+    if !full {
+        return bit_step(r, pos, k, last, t);
+    }
+    if last {
+        return bit_step(r, pos, k, last, t);
+    }
+    if k == 0 {
+        return take_byte(tape, r, pos, t, d);
+    }
+    bit_step(r, pos, k, last, t)
+}
+
+// A turn at another entry: a function of its own, so that the row is copied for the call in these arms of `take` alone.
+fn take_entry(tones: &[u64], r: Block, f: Phase, t: u64) -> Step
+    requires { ⌜ r .tone + r .tones ≤ capacityOf tone toneMost (now tones) ⌝ }
+    requires { ⌜ hasEntry (now tones) r f ≡ true ⌝ }
+    ensures { λ s. ⌜ s ≡ oneStep (now (tones .entry)) r f t ⌝ }
+{
+    one_step(tones, r, f, t)
+}
+
 // One turn of the measured walk. Our crates alone call it: from an entry that is there, in a well-formed row.
 pub fn take(tape: &[u8], tones: &[u64], r: Block, f: Phase, full: bool, t: u64, d: u64) -> Step
     requires { ⌜ wellBlock (tapeSize (now tape)) (now tones) r ≡ true ⌝ }
@@ -258,35 +311,19 @@ pub fn take(tape: &[u8], tones: &[u64], r: Block, f: Phase, full: bool, t: u64, 
     requires { ⌜ 0 < d ⌝ }
     ensures { λ s. ⌜ s ≡ takeOf (now (tape .entry)) (now (tones .entry)) r f full t d ⌝ }
 {
-    if !full {
-        return one_step(tones, r, f, t);
-    }
     match f {
-        Phase::Start => one_step(tones, r, f, t),
+        Phase::Start => take_entry(tones, r, f, t),
         Phase::Tones {
             index,
             pulse,
             last_half,
-        } => {
-            if last_half {
-                return one_step(tones, r, f, t);
-            }
-            take_cycles(tones, r, index, pulse, t, d)
-        }
+        } => take_tone(tones, r, index, pulse, last_half, full, t, d),
         Phase::Data {
             pos,
             bit,
             last_half,
-        } => {
-            if last_half {
-                return one_step(tones, r, f, t);
-            }
-            if bit == 0 {
-                return take_byte(tape, r, pos, t, d);
-            }
-            one_step(tones, r, f, t)
-        }
-        Phase::Edge => one_step(tones, r, f, t),
-        Phase::Pause => one_step(tones, r, f, t),
+        } => take_bit(tape, r, pos, bit, last_half, full, t, d),
+        Phase::Edge => take_entry(tones, r, f, t),
+        Phase::Pause => take_entry(tones, r, f, t),
     }
 }

@@ -12,6 +12,8 @@ use Rattle.law_base.specs.Rules.{_⇒_, _∣_}
 use Rattle.law_pulses.specs.Play.{Entry, answer}
 use Rattle.law_pulses.proofs.Lead.{Leads, lead-by}
 use Rattle.rows.specs.declared.Block.{Block}
+use Rattle.rows.specs.Table.{capacityOf}
+use Rattle.rows.specs.Rows.{block, blockMost}
 use Rattle.rows.specs.Well.{wellBlock}
 use Rattle.play_entries.specs.declared.Phase.{Phase}
 use Rattle.play_entries.specs.declared.Phase.the-variants.{Start}
@@ -22,6 +24,8 @@ use Rattle.play_entries.specs.Places.{Tape, blockIn, listFrom, leftAt, hasEntry
 use Rattle.play_entries.proofs.Valid.{Stands, remains-full, stands-valid, start-valid, below-stands}
 use Rattle.play_entries.proofs.Follows.{list-out}
 use Rattle.play_entries.proofs.Parts.{left-part}
+use Rattle.play_entries.proofs.Lent.{row-lent}
+use Rattle.play_voice.specs.Voice.{Standing}
 use Rattle.play_walk.specs.declared.Position.{Position}
 use Rattle.play_steps.specs.declared.Step.{Step}
 use Rattle.play_walk.specs.declared.Reached.the-variants.{At, Stopped, Ended}
@@ -33,6 +37,7 @@ use Rattle.play_walk.specs.Heads.{placed, startAt, stand, walked, nextOf
 use Rattle.play_steps.proofs.Leaps.{Took, took}
 use Rattle.play_walk.proofs.Needed.{WellUpTo, needed, well-before, bad-there, few-entries}
 use Rattle.play_walk.proofs.Leaves.{tells-at, tells-stop, tells-next, tells-end, tells-bad}
+use Rattle.play_walk.proofs.Needed.{Needs}
 
 -- a turn's state, on the tape cut to k: an entry below the cut, known to be full where it is said, the entries counted and left few
 pub record On (w : Tape) (k b : ℕ) (f : Phase) (left : Duration) (full : Bool) (p : ℕ) : Type 0 where
@@ -120,6 +125,16 @@ asks {w} x b l h r e = ap (wellBlock (tapeSize (w .bytes)) (w .tones)) e ∙ x .
 
 pub asks-has : (w : Tape) (b : ℕ) (f : Phase) (r : Block) → r ≡ blockIn w b → hasIn w b f ≡ true → hasEntry (w .tones) r f ≡ true
 asks-has w b f r e h = ap (λ (x : Block). hasEntry (w .tones) x f) e ∙ h
+
+-- what the level where the walk leaves asks
+pub stands-there : {w : Tape} {b₀ k b : ℕ} {f : Phase} {left : Duration} {full : Bool} {p : ℕ}
+    → Needs w b₀ k → w .count ≤ capacityOf block blockMost (w .blocks) → b₀ ≤ b → On w k b f left full p → Standing (w .tones) (w .blocks) b f
+stands-there {w} {b₀} {k} {b} x lent l o =
+    record {
+      row = omega (arith, o .below, x .most);
+      rows = row-lent (w .bytes) (w .tones) (blockIn w b) (asks x b l (o .below) (blockIn w b) refl) .rows;
+      entry = on-has o;
+    }
 
 -- where the tape that a walk may play is cut, and what its rows are
 abbrev pub cutOf : Tape → Position → ℕ

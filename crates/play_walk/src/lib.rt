@@ -2,11 +2,12 @@
 use play_entries::Duration;
 use play_entries::Phase;
 use play_phases::length_at;
-use play_phases::level_at;
 use play_phases::mic;
 use play_phases::row_well;
-use play_phases::start_level;
 use play_steps::take;
+use play_voice::Heard;
+use play_voice::level_in;
+use play_voice::start_level;
 use rows::Block;
 use rows::block_at;
 ghost use mathlib.Core.Path.{_≡_};
@@ -14,8 +15,9 @@ ghost use mathlib.Core.Bool.{true, false};
 ghost use mathlib.Core.List.{List};
 ghost use Prim.Native.Nat.{ℕ, _+_, _≤_};
 ghost use Rattle.rows.specs.Table.{capacityOf};
-ghost use Rattle.rows.specs.Rows.{tone, toneMost, block, blockMost};
-ghost use Rattle.play_entries.specs.Places.{hasEntry, levelAt};
+ghost use Rattle.rows.specs.Rows.{block, blockMost};
+ghost use Rattle.play_entries.specs.Places.{levelAt};
+ghost use Rattle.play_voice.specs.Voice.{Told, rowAt, Standing};
 ghost use Rattle.play_entries.specs.Source.{levelOf};
 ghost use Rattle.play_entries.specs.Mounted.{tapeOf};
 ghost use Rattle.play_walk.specs.Heads.{placed, startAt, stand, restLevel, nextOf, Walkable, walkFrom};
@@ -83,11 +85,19 @@ pub enum Reached {
     NotFormed,
 }
 
-// The head stands in this entry, which its callers know to be one of a row whose tone rows are lent.
-fn stands(tones: &[u64], r: Block, block: u64, phase: Phase, left: u64, passed: u64) -> Reached
-    requires { ⌜ r .tone + r .tones ≤ capacityOf tone toneMost (now tones) ⌝ }
-    requires { ⌜ hasEntry (now tones) r phase ≡ true ⌝ }
-    ensures { λ x. ⌜ x ≡ At (stand (placed block phase (T left)) passed (levelAt (now (tones .entry)) r phase)) ⌝ }
+// The head stands in this entry, which its callers know to be one of a block whose row and tone rows are lent.
+fn stands(
+    tones: &[u64],
+    blocks: &[u64],
+    block: u64,
+    phase: Phase,
+    left: u64,
+    passed: u64,
+    h: Heard,
+) -> Reached
+    requires { ⌜ Standing (now tones) (now blocks) block phase ⌝ }
+    requires { ⌜ Told (now tones) (now blocks) h ⌝ }
+    ensures { λ x. ⌜ x ≡ At (stand (placed block phase (T left)) passed (levelAt (now (tones .entry)) (rowAt (now (blocks .entry)) block) phase)) ⌝ }
 {
     Reached::At(Stand {
         position: Position {
@@ -96,15 +106,15 @@ fn stands(tones: &[u64], r: Block, block: u64, phase: Phase, left: u64, passed: 
             left: Duration::T(left),
         },
         passed,
-        level: level_at(tones, r, phase),
+        level: level_in(tones, blocks, block, phase, h),
     })
 }
 
-// The head stands at an endless pause, which its callers know to be one of a row whose tone rows are lent.
-fn stops(tones: &[u64], r: Block, block: u64, phase: Phase, passed: u64) -> Reached
-    requires { ⌜ r .tone + r .tones ≤ capacityOf tone toneMost (now tones) ⌝ }
-    requires { ⌜ hasEntry (now tones) r phase ≡ true ⌝ }
-    ensures { λ x. ⌜ x ≡ Stopped (stand (placed block phase Endless) passed (levelAt (now (tones .entry)) r phase)) ⌝ }
+// The head stands at an endless pause, which its callers know to be one of a block whose row and tone rows are lent.
+fn stops(tones: &[u64], blocks: &[u64], block: u64, phase: Phase, passed: u64, h: Heard) -> Reached
+    requires { ⌜ Standing (now tones) (now blocks) block phase ⌝ }
+    requires { ⌜ Told (now tones) (now blocks) h ⌝ }
+    ensures { λ x. ⌜ x ≡ Stopped (stand (placed block phase Endless) passed (levelAt (now (tones .entry)) (rowAt (now (blocks .entry)) block) phase)) ⌝ }
 {
     Reached::Stopped(Stand {
         position: Position {
@@ -113,7 +123,7 @@ fn stops(tones: &[u64], r: Block, block: u64, phase: Phase, passed: u64) -> Reac
             left: Duration::Endless,
         },
         passed,
-        level: level_at(tones, r, phase),
+        level: level_in(tones, blocks, block, phase, h),
     })
 }
 
@@ -182,7 +192,7 @@ fn next_block(
     Next::Left(Reached::NotFormed)
 }
 
-// The measured walk of n T-states from a position that its callers know to be valid, below the count, in a well-formed row.
+// The measured walk of n T-states from a position known to be valid, below the count, in a well-formed row; h: rows gone through already.
 pub fn walk(
     tape: &[u8],
     tones: &[u64],
@@ -190,8 +200,10 @@ pub fn walk(
     count: u64,
     pos: Position,
     n: u64,
+    h: Heard,
 ) -> Reached
     requires { ⌜ Walkable (tapeOf (now tape) (now tones) (now blocks) count) pos ⌝ }
+    requires { ⌜ Told (now tones) (now blocks) h ⌝ }
     ensures { λ r. ⌜ r ≡ walkFrom (tapeOf (now (tape .entry)) (now (tones .entry)) (now (blocks .entry)) count) pos n ⌝ }
 {
     let mut block = pos.block;
@@ -204,13 +216,13 @@ pub fn walk(
         let r = block_at(blocks, block as usize);
         'entries: loop {
             let Duration::T(t) = left else {
-                break 'blocks stops(tones, r, block, phase, passed);
+                break 'blocks stops(tones, blocks, block, phase, passed, h);
             };
             if d == 0 {
-                break 'blocks stands(tones, r, block, phase, t, passed);
+                break 'blocks stands(tones, blocks, block, phase, t, passed, h);
             }
             if d < t {
-                break 'blocks stands(tones, r, block, phase, t - d, passed);
+                break 'blocks stands(tones, blocks, block, phase, t - d, passed, h);
             }
             let s = take(tape, tones, r, phase, full, t, d);
             d -= s.time;

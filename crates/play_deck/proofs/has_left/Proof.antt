@@ -1,14 +1,14 @@
 -- `has_left` meets its contract. Assumes nothing.
+use Rattle.play_deck.proofs.Assays.{words-lent}
 use Rattle.rows.proofs.Clauses.{failed, passed}
-use Rattle.play_entries.proofs.Lent.{row-lent}
 use borrow.Author.Needs.{needs}
 use Rattle.play_deck.proofs.has_left.Statement.{statement}
 use Rattle.play_deck.proofs.has_left.Tie as tie
 
 has-entry-requires : tie.Need-has-entry-requires
 has-entry-requires c κs =
-    let s = c .before .before in
-    row-lent (s .args .tape .now) (s .args .tones .now) (s .args .r) (s .pre) .rows
+    let a = c .before .before .args in
+    words-lent (a .tape .now) (a .tones .now) (a .r) (c .before .before .pre) .rows
 
 returns : tie.Need-returns
 returns c =
@@ -16,8 +16,8 @@ returns c =
 
 length-at-requires : tie.Need-length-at-requires
 length-at-requires c κs =
-    let s = c .before .before .before .before in
-    let k = row-lent (s .args .tape .now) (s .args .tones .now) (s .args .r) (s .pre) in
+    let a = c .before .before .before .before .args in
+    let k = words-lent (a .tape .now) (a .tones .now) (a .r) (c .before .before .before .before .pre) in
     ((k .bytes, k .rows), (k .numbers, passed (c .before .has-entry .ensures) (c .if1 .left)))
 
 may-remain-requires : tie.Need-may-remain-requires

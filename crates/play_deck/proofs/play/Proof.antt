@@ -1,19 +1,17 @@
 -- `play` meets its contract. Assumes nothing.
-use mathlib.Core.Path.{sym, _∙_}
 use Rattle.play_deck.specs.Deck.{unless, playSource}
 use borrow.Author.Needs.{needs}
 use Rattle.play_deck.proofs.play.Statement.{statement}
 use Rattle.play_deck.proofs.play.Tie as tie
 
-judge-requires : tie.Need-judge-requires
-judge-requires c κs = search needs
+assay-requires : tie.Need-assay-requires
+assay-requires c κs = search needs
 
 enum-told : tie.Need-enum-told
 enum-told c = search needs
 
 follow-requires : tie.Need-follow-requires
-follow-requires c κs =
-    sym (c .before .before .judge .ensures) ∙ c .enum-told .given .1
+follow-requires c κs = search needs
 
 enum-told-2 : tie.Need-enum-told-2
 enum-told-2 c = search needs
@@ -24,23 +22,23 @@ enum-told-3 c = search needs
 returns : tie.Need-returns
 unfolding playSource unless
 returns c =
-    rw (← c .before .before .before .judge .ensures, c .before .enum-told .given .1) (c .follow .ensures)
+    rw (← c .before .before .before .assay .ensures .check, c .before .enum-told .given .1) (c .follow .ensures)
 
 returns-2 : tie.Need-returns-2
 unfolding playSource unless
 returns-2 c =
-    rw (← c .before .before .judge .ensures, c .enum-told2 .given .1)
+    rw (← c .before .before .assay .ensures .check, c .enum-told2 .given .1)
 
 returns-3 : tie.Need-returns-3
 unfolding playSource unless
 returns-3 c =
-    rw (← c .before .before .judge .ensures, c .enum-told3 .given .1)
+    rw (← c .before .before .assay .ensures .check, c .enum-told3 .given .1)
 
 pub play-spec : {M : Type 1} → statement M
 play-spec =
     tie.close
     (tie.spec
-    judge-requires
+    assay-requires
     enum-told
     follow-requires
     enum-told-2

@@ -1,19 +1,17 @@
 -- `play_measured` meets its contract. Assumes nothing.
-use mathlib.Core.Path.{sym, _∙_}
 use Rattle.play_deck.specs.Deck.{unless, playMeasured}
 use borrow.Author.Needs.{needs}
 use Rattle.play_deck.proofs.play_measured.Statement.{statement}
 use Rattle.play_deck.proofs.play_measured.Tie as tie
 
-judge-requires : tie.Need-judge-requires
-judge-requires c κs = search needs
+assay-requires : tie.Need-assay-requires
+assay-requires c κs = search needs
 
 enum-told : tie.Need-enum-told
 enum-told c = search needs
 
 measure-requires : tie.Need-measure-requires
-measure-requires c κs =
-    sym (c .before .before .judge .ensures) ∙ c .enum-told .given .1
+measure-requires c κs = search needs
 
 enum-told-2 : tie.Need-enum-told-2
 enum-told-2 c = search needs
@@ -24,23 +22,23 @@ enum-told-3 c = search needs
 returns : tie.Need-returns
 unfolding playMeasured unless
 returns c =
-    rw (← c .before .before .before .judge .ensures, c .before .enum-told .given .1) (c .measure .ensures)
+    rw (← c .before .before .before .assay .ensures .check, c .before .enum-told .given .1) (c .measure .ensures)
 
 returns-2 : tie.Need-returns-2
 unfolding playMeasured unless
 returns-2 c =
-    rw (← c .before .before .judge .ensures, c .enum-told2 .given .1)
+    rw (← c .before .before .assay .ensures .check, c .enum-told2 .given .1)
 
 returns-3 : tie.Need-returns-3
 unfolding playMeasured unless
 returns-3 c =
-    rw (← c .before .before .judge .ensures, c .enum-told3 .given .1)
+    rw (← c .before .before .assay .ensures .check, c .enum-told3 .given .1)
 
 pub play-measured-spec : {M : Type 1} → statement M
 play-measured-spec =
     tie.close
     (tie.spec
-    judge-requires
+    assay-requires
     enum-told
     measure-requires
     enum-told-2

@@ -3,11 +3,11 @@ use borrow.Author.Needs.{needs}
 use Rattle.play_walk.proofs.stands.Statement.{statement}
 use Rattle.play_walk.proofs.stands.Tie as tie
 
-level-at-requires : tie.Need-level-at-requires
-level-at-requires c κs = search needs
+level-in-requires : tie.Need-level-in-requires
+level-in-requires c κs = search needs
 
 returns : tie.Need-returns
-returns c = rw (c .level-at .ensures)
+returns c = rw (c .level-in .ensures)
 
 pub stands-spec : {M : Type 1} → statement M
-stands-spec = tie.close (tie.spec level-at-requires returns)
+stands-spec = tie.close (tie.spec level-in-requires returns)

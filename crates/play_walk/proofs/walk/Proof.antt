@@ -11,29 +11,29 @@ use Rattle.rows.specs.declared.Block.{Block}
 use Rattle.play_entries.specs.Places.{leftAt, lengthAt}
 use Rattle.play_walk.specs.declared.Position.{Position}
 use Rattle.play_walk.proofs.Needed.{well-before}
-use Rattle.play_walk.proofs.Turns.{cutOf, rows-of, On, on-has, on-first, on-start, asks, asks-has, leaves-at, leaves-stopped, less-none, step-most, step-few, step-has, turn-lead, turn-on, turn-less, turn-out, next-into, next-left}
+use Rattle.play_walk.proofs.Turns.{cutOf, rows-of, On, on-has, stands-there, on-first, on-start, asks, asks-has, leaves-at, leaves-stopped, less-none, step-most, step-few, step-has, turn-lead, turn-on, turn-less, turn-out, next-into, next-left}
 use Rattle.play_walk.specs.Heads.{walkFrom}
 use Rattle.play_entries.specs.Mounted.{firstBad, cutTo, formed, tapeOf}
 use Rattle.play_walk.proofs.walk.Statement.{statement}
 use Rattle.play_walk.proofs.walk.Tie as tie
 
 abbrev Inv-entries : tie.InvT-entries
-Inv-entries tape tones blocks count n block phase₀ left₀ full₀ d₀ passed₀ r phase left full d passed =
+Inv-entries tape tones blocks count n h block phase₀ left₀ full₀ d₀ passed₀ r phase left full d passed =
     (k : ℕ) → On (tapeOf tape tones blocks count) k block phase₀ left₀ full₀ passed₀
     → Leads (leftAt (cutTo (tapeOf tape tones blocks count) k) block phase₀ left₀) d₀ passed₀ (leftAt (cutTo (tapeOf tape tones blocks count) k) block phase left) d passed
     × On (tapeOf tape tones blocks count) k block phase left full passed
 
 abbrev μ-entries : tie.MeasureT-entries
-μ-entries tape tones blocks count n block phase₀ left₀ full₀ d₀ passed₀ r phase left full d passed =
+μ-entries tape tones blocks count n h block phase₀ left₀ full₀ d₀ passed₀ r phase left full d passed =
     length (leftAt (cutTo (tapeOf tape tones blocks count) (block + 1)) block phase left)
 
 abbrev Inv-blocks2 : tie.InvT-blocks2
-Inv-blocks2 tape tones blocks count n block₀ phase₀ left₀ full₀ d₀ passed₀ block phase left full d passed =
+Inv-blocks2 tape tones blocks count n h block₀ phase₀ left₀ full₀ d₀ passed₀ block phase left full d passed =
     Leads (leftAt (cutTo (tapeOf tape tones blocks count) (firstBad (tapeOf tape tones blocks count) block₀ (count - block₀))) block₀ phase₀ left₀) d₀ passed₀ (leftAt (cutTo (tapeOf tape tones blocks count) (firstBad (tapeOf tape tones blocks count) block₀ (count - block₀))) block phase left) d passed
     × (On (tapeOf tape tones blocks count) (firstBad (tapeOf tape tones blocks count) block₀ (count - block₀)) block phase left full passed × block₀ ≤ block)
 
 abbrev μ-blocks2 : tie.MeasureT-blocks2
-μ-blocks2 tape tones blocks count n block₀ phase₀ left₀ full₀ d₀ passed₀ block phase left full d passed =
+μ-blocks2 tape tones blocks count n h block₀ phase₀ left₀ full₀ d₀ passed₀ block phase left full d passed =
     count - block
 
 blocks2-holds : tie.Need-blocks2-holds Inv-entries μ-entries Inv-blocks2 μ-blocks2
@@ -43,17 +43,17 @@ blocks2-holds c =
     let w = tapeOf (a .tape .now) (a .tones .now) (a .blocks .now) (a .count) in
     let q : Position = a .pos in
     let k = cutOf w q in
-    let x = rows-of w q (s .pre) in
-    (lead-here _ _ _, (on-first w q k (s .pre) x, omega arith))
+    let x = rows-of w q (s .pre .0) in
+    (lead-here _ _ _, (on-first w q k (s .pre .0) x, omega arith))
 
 block-at-requires : tie.Need-block-at-requires Inv-entries μ-entries Inv-blocks2 μ-blocks2
 block-at-requires c κs =
     let s = c .before .before .before .before in
     let a = s .args in
     let w = tapeOf (a .tape .now) (a .tones .now) (a .blocks .now) (a .count) in
-    let x = rows-of w (a .pos) (s .pre) in
+    let x = rows-of w (a .pos) (s .pre .0) in
     let B = c .blocks2 in
-    omega (arith, B .inv .1 .0 .below, x .most, s .pre .lent)
+    omega (arith, B .inv .1 .0 .below, x .most, s .pre .0 .lent)
 
 entries-holds : tie.Need-entries-holds Inv-entries μ-entries Inv-blocks2 μ-blocks2
 entries-holds c =
@@ -72,13 +72,9 @@ stops-requires c κs =
     let s = u .before .before .before .before .before in
     let a = s .args in
     let w = tapeOf (a .tape .now) (a .tones .now) (a .blocks .now) (a .count) in
-    let k = cutOf w (a .pos) in
-    let x = rows-of w (a .pos) (s .pre) in
     let B = u .before .blocks2 in
-    let E = e .entries in
-    let i = E .inv k (B .inv .1 .0) in
-    let g = asks x (B .block) (B .inv .1 .1) (i .1 .below) (u .block-at .result) (u .block-at .ensures) in
-    (row-lent (a .tape .now) (a .tones .now) (u .block-at .result) g .rows, asks-has w (B .block) (E .phase) (u .block-at .result) (u .block-at .ensures) (on-has (i .1)))
+    let i = e .entries .inv (cutOf w (a .pos)) (B .inv .1 .0) in
+    (stands-there (rows-of w (a .pos) (s .pre .0)) (s .pre .0 .lent) (B .inv .1 .1) (i .1), s .pre .1)
 
 stands-requires : tie.Need-stands-requires Inv-entries μ-entries Inv-blocks2 μ-blocks2
 stands-requires c κs =
@@ -87,13 +83,9 @@ stands-requires c κs =
     let s = u .before .before .before .before .before in
     let a = s .args in
     let w = tapeOf (a .tape .now) (a .tones .now) (a .blocks .now) (a .count) in
-    let k = cutOf w (a .pos) in
-    let x = rows-of w (a .pos) (s .pre) in
     let B = u .before .blocks2 in
-    let E = e .entries in
-    let i = E .inv k (B .inv .1 .0) in
-    let g = asks x (B .block) (B .inv .1 .1) (i .1 .below) (u .block-at .result) (u .block-at .ensures) in
-    (row-lent (a .tape .now) (a .tones .now) (u .block-at .result) g .rows, asks-has w (B .block) (E .phase) (u .block-at .result) (u .block-at .ensures) (on-has (i .1)))
+    let i = e .entries .inv (cutOf w (a .pos)) (B .inv .1 .0) in
+    (stands-there (rows-of w (a .pos) (s .pre .0)) (s .pre .0 .lent) (B .inv .1 .1) (i .1), s .pre .1)
 
 sub-stands : tie.Need-sub-stands Inv-entries μ-entries Inv-blocks2 μ-blocks2
 sub-stands c =
@@ -106,13 +98,9 @@ stands-requires-2 c κs =
     let s = u .before .before .before .before .before in
     let a = s .args in
     let w = tapeOf (a .tape .now) (a .tones .now) (a .blocks .now) (a .count) in
-    let k = cutOf w (a .pos) in
-    let x = rows-of w (a .pos) (s .pre) in
     let B = u .before .blocks2 in
-    let E = e .entries in
-    let i = E .inv k (B .inv .1 .0) in
-    let g = asks x (B .block) (B .inv .1 .1) (i .1 .below) (u .block-at .result) (u .block-at .ensures) in
-    (row-lent (a .tape .now) (a .tones .now) (u .block-at .result) g .rows, asks-has w (B .block) (E .phase) (u .block-at .result) (u .block-at .ensures) (on-has (i .1)))
+    let i = e .entries .inv (cutOf w (a .pos)) (B .inv .1 .0) in
+    (stands-there (rows-of w (a .pos) (s .pre .0)) (s .pre .0 .lent) (B .inv .1 .1) (i .1), s .pre .1)
 
 take-requires : tie.Need-take-requires Inv-entries μ-entries Inv-blocks2 μ-blocks2
 take-requires c κs =
@@ -120,7 +108,7 @@ take-requires c κs =
     let a = s .args in
     let w = tapeOf (a .tape .now) (a .tones .now) (a .blocks .now) (a .count) in
     let k = cutOf w (a .pos) in
-    let x = rows-of w (a .pos) (s .pre) in
+    let x = rows-of w (a .pos) (s .pre .0) in
     let B = c .before .before .before .before .before .before .before .blocks2 in
     let E = c .before .before .before .before .before .entries in
     let i = E .inv k (B .inv .1 .0) in
@@ -154,7 +142,7 @@ length-at-requires c κs =
     let a = s .args in
     let w = tapeOf (a .tape .now) (a .tones .now) (a .blocks .now) (a .count) in
     let k = cutOf w (a .pos) in
-    let x = rows-of w (a .pos) (s .pre) in
+    let x = rows-of w (a .pos) (s .pre .0) in
     let B = c .before .before .before .before .before .before .before .before .before .before .before .blocks2 in
     let E = c .before .before .before .before .before .before .before .before .before .entries in
     let i = E .inv k (B .inv .1 .0) in
@@ -189,11 +177,11 @@ add-block c =
     let a = s .args in
     let w = tapeOf (a .tape .now) (a .tones .now) (a .blocks .now) (a .count) in
     let k = cutOf w (a .pos) in
-    let x = rows-of w (a .pos) (s .pre) in
+    let x = rows-of w (a .pos) (s .pre .0) in
     let B = c .before .before .before .before .before .before .before .before .before .before .before .blocks2 in
     let E = c .before .before .before .before .before .before .before .before .before .entries in
     let i = E .inv k (B .inv .1 .0) in
-    omega (arith, i .1 .below, x .most, s .pre .lent)
+    omega (arith, i .1 .below, x .most, s .pre .0 .lent)
 
 next-block-requires : tie.Need-next-block-requires Inv-entries μ-entries Inv-blocks2 μ-blocks2
 next-block-requires c κs =
@@ -201,11 +189,11 @@ next-block-requires c κs =
     let a = s .args in
     let w = tapeOf (a .tape .now) (a .tones .now) (a .blocks .now) (a .count) in
     let k = cutOf w (a .pos) in
-    let x = rows-of w (a .pos) (s .pre) in
+    let x = rows-of w (a .pos) (s .pre .0) in
     let B = c .before .before .before .before .before .before .before .before .before .before .before .blocks2 in
     let E = c .before .before .before .before .before .before .before .before .before .entries in
     let i = E .inv k (B .inv .1 .0) in
-    (omega (arith, i .1 .below, x .most), s .pre .lent)
+    (omega (arith, i .1 .below, x .most), s .pre .0 .lent)
 
 enum-known-next : tie.Need-enum-known-next Inv-entries μ-entries Inv-blocks2 μ-blocks2
 enum-known-next c = search needs
@@ -219,7 +207,7 @@ blocks2-less c =
     let a = s .args in
     let w = tapeOf (a .tape .now) (a .tones .now) (a .blocks .now) (a .count) in
     let k = cutOf w (a .pos) in
-    let x = rows-of w (a .pos) (s .pre) in
+    let x = rows-of w (a .pos) (s .pre .0) in
     let B = c .before .before .before .before .before .before .before .before .before .before .before .before .before .before .blocks2 in
     let E = c .before .before .before .before .before .before .before .before .before .before .before .before .entries in
     let i = E .inv k (B .inv .1 .0) in
@@ -232,7 +220,7 @@ blocks2-again c =
     let a = s .args in
     let w = tapeOf (a .tape .now) (a .tones .now) (a .blocks .now) (a .count) in
     let k = cutOf w (a .pos) in
-    let x = rows-of w (a .pos) (s .pre) in
+    let x = rows-of w (a .pos) (s .pre .0) in
     let B = c .before .before .before .before .before .before .before .before .before .before .before .before .before .before .blocks2 in
     let E = c .before .before .before .before .before .before .before .before .before .before .before .before .entries in
     let i = E .inv k (B .inv .1 .0) in
@@ -251,7 +239,7 @@ returns c =
     let B = c .before .before .before .before .before .blocks2 in
     let E = c .before .before .before .entries in
     let i = E .inv k (B .inv .1 .0) in
-    rw (c .before .before .before .before .block-at .ensures) at (c .stops .ensures) ∙ sym (leaves-stopped w k (B .block) (E .phase) (E .left) (E .full) (E .passed) (i .1) (lead-on (B .inv .0) (i .0)) (c .before .enum-told .given .1))
+    c .stops .ensures ∙ sym (leaves-stopped w k (B .block) (E .phase) (E .left) (E .full) (E .passed) (i .1) (lead-on (B .inv .0) (i .0)) (c .before .enum-told .given .1))
 
 returns-2 : tie.Need-returns-2 Inv-entries μ-entries Inv-blocks2 μ-blocks2
 unfolding walkFrom formed
@@ -264,7 +252,7 @@ returns-2 c =
     let E = c .before .before .before .before .before .entries in
     let i = E .inv k (B .inv .1 .0) in
     let z : _ ≡ _ = leaves-at w k (B .block) (E .phase) (E .left) (E .full) (E .passed) (i .1) (lead-on (B .inv .0) (i .0)) _ (c .before .before .before .left .given .1) (inl (c .before .if1 .taken)) in
-    rw (c .before .before .before .before .before .before .block-at .ensures) at (c .stands .ensures) ∙ less-none _ _ _ _ (c .before .if1 .taken) ∙ sym z
+    c .stands .ensures ∙ less-none _ _ _ _ (c .before .if1 .taken) ∙ sym z
 
 returns-3 : tie.Need-returns-3 Inv-entries μ-entries Inv-blocks2 μ-blocks2
 unfolding walkFrom formed
@@ -276,7 +264,7 @@ returns-3 c =
     let B = c .before .before .before .before .before .before .before .before .blocks2 in
     let E = c .before .before .before .before .before .before .entries in
     let i = E .inv k (B .inv .1 .0) in
-    rw (c .before .before .before .before .before .before .before .block-at .ensures) at (c .stands2 .ensures) ∙ sym (leaves-at w k (B .block) (E .phase) (E .left) (E .full) (E .passed) (i .1) (lead-on (B .inv .0) (i .0)) _ (c .before .before .before .before .left .given .1) (inr (c .before .if2 .taken)))
+    c .stands2 .ensures ∙ sym (leaves-at w k (B .block) (E .phase) (E .left) (E .full) (E .passed) (i .1) (lead-on (B .inv .0) (i .0)) _ (c .before .before .before .before .left .given .1) (inr (c .before .if2 .taken)))
 
 returns-4 : tie.Need-returns-4 Inv-entries μ-entries Inv-blocks2 μ-blocks2
 unfolding walkFrom formed
@@ -285,7 +273,7 @@ returns-4 c =
     let a = s .args in
     let w = tapeOf (a .tape .now) (a .tones .now) (a .blocks .now) (a .count) in
     let k = cutOf w (a .pos) in
-    let x = rows-of w (a .pos) (s .pre) in
+    let x = rows-of w (a .pos) (s .pre .0) in
     let B = c .before .before .before .before .before .before .before .before .before .before .before .before .before .before .before .blocks2 in
     let E = c .before .before .before .before .before .before .before .before .before .before .before .before .before .entries in
     let i = E .inv k (B .inv .1 .0) in

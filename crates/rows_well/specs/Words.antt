@@ -1,0 +1,10 @@
+-- A block's row without its tone rows. Definitions alone; assumes nothing.
+use Prim.Native.Nat.{ℕ}
+use mathlib.Core.Bool.{Bool, _&&_}
+use mathlib.Core.List.{List}
+use Rattle.rows.specs.Well.{wellRanges, wellNumbers, wellCases}
+use Rattle.rows.specs.declared.Block.{Block}
+
+-- its ranges, its numbers, its flags and cases
+unfoldable pub wellWords : ℕ → List ℕ → Block → Bool
+wellWords tape tones r = wellRanges tape tones r && (wellNumbers r && wellCases r)

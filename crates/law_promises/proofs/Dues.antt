@@ -41,7 +41,6 @@ use Rattle.law_promises.specs.Numbers.{Comes, here, past, Due, ends, err
 use Rattle.law_promises.specs.Needs.{NeedsPiece, at-piece, NeedsBlock, at-block}
 use Rattle.law_promises.proofs.Lacking.{Adding, standard-adds, act-adds}
 use Rattle.law_promises.proofs.Runs.{comes-map}
-use Rattle.law_promises.proofs.Dues.{Panics}
 
 -- a generalised piece that the definition refuses by 4: where it is cut, or by what it gives
 pub data Panics (s : List ℕ) (at : ℕ) (t : Parsed) : Type 0 where

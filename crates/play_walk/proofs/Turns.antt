@@ -37,7 +37,6 @@ use Rattle.play_walk.specs.Heads.{placed, startAt, stand, walked, nextOf
 use Rattle.play_steps.proofs.Leaps.{Took, took}
 use Rattle.play_walk.proofs.Needed.{WellUpTo, needed, well-before, bad-there, few-entries}
 use Rattle.play_walk.proofs.Leaves.{tells-at, tells-stop, tells-next, tells-end, tells-bad}
-use Rattle.play_walk.proofs.Needed.{Needs}
 
 -- a turn's state, on the tape cut to k: an entry below the cut, known to be full where it is said, the entries counted and left few
 pub record On (w : Tape) (k b : ℕ) (f : Phase) (left : Duration) (full : Bool) (p : ℕ) : Type 0 where
@@ -128,7 +127,7 @@ asks-has w b f r e h = ap (λ (x : Block). hasEntry (w .tones) x f) e ∙ h
 
 -- what the level where the walk leaves asks
 pub stands-there : {w : Tape} {b₀ k b : ℕ} {f : Phase} {left : Duration} {full : Bool} {p : ℕ}
-    → Needs w b₀ k → w .count ≤ capacityOf block blockMost (w .blocks) → b₀ ≤ b → On w k b f left full p → Standing (w .tones) (w .blocks) b f
+    → WellUpTo w b₀ k → w .count ≤ capacityOf block blockMost (w .blocks) → b₀ ≤ b → On w k b f left full p → Standing (w .tones) (w .blocks) b f
 stands-there {w} {b₀} {k} {b} x lent l o =
     record {
       row = omega (arith, o .below, x .most);

@@ -8,7 +8,6 @@ use Rattle.play_entries.specs.Places.{Tape, loadingTime}
 use Rattle.load_tape.specs.declared.Format.{Format}
 use Rattle.load_tape.specs.declared.Format.the-variants.{Tap, Tzx}
 use Rattle.text_lines.specs.Lines.{rowsText}
-use Rattle.law_pulses.specs.Play.{time}
 
 -- models print as 48K, 128K, Plus3
 unfoldable pub modelText : ℕ → List ℕ

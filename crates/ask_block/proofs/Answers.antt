@@ -1,4 +1,5 @@
--- ON A WHOLE TAPE, whose counted rows are all lent and well formed, no query answers 8, 9 or 11: each answer without its refusals. Assumes nothing.
+-- ON A WHOLE TAPE, whose counted rows are all lent and well formed, no query answers 8, 9 or 11: each answer without its refusals.
+-- Assumes nothing.
 use Prim.Native.Nat.{ℕ, _<_}
 use borrow.Author.Tests.{le-ltb}
 use mathlib.Core.Path.{_≡_, refl, ap, _∙_}
@@ -18,7 +19,9 @@ use Rattle.play_entries.proofs.Formed.{whole-formed}
 use Rattle.ask_block.specs.declared.Number.the-variants as number
 use Rattle.ask_block.specs.declared.Mark.the-variants as mark
 use Rattle.ask_block.specs.declared.Time.the-variants as lasting
-use Rattle.ask_block.specs.Queries.{numberNo, markNo, timeNo, refusalOf, numberUnless, markUnless, timeUnless, lenOf, sizeOf, selectableOf, timeOf, nameIn, lengthOrNoRoom, nameAnswer, nameBytes, loadingIn, loadingOf, EachAnswered}
+use Rattle.ask_block.specs.Queries.{numberNo, markNo, timeNo, refusalOf, numberUnless, markUnless, timeUnless, lenOf, sizeOf}
+use Rattle.ask_block.specs.Queries.{selectableOf, timeOf, nameIn, lengthOrNoRoom, nameAnswer, nameBytes, loadingIn}
+use Rattle.ask_block.specs.Queries.{loadingOf, EachAnswered}
 use Rattle.ask_block.proofs.Refusals.{refusal-none}
 use Rattle.play_entries.specs.Places.{loadingTime}
 

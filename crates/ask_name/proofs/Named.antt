@@ -29,14 +29,16 @@ pub row-inside : (w : Tape) (i : ℕ) (r : Block) → r ≡ blockIn w i → well
 unfolding wellRow
 row-inside w i r q g =
     let h = inside-tape (tapeSize (w .bytes)) (w .tones) (blockIn w i) g in
-    let at = subst (λ (y : Block). (y .start + y .size ≤ tapeSize (w .bytes)) × (y .text + y .chars ≤ tapeSize (w .bytes))) (sym q) h in
+    let at = subst (λ (y : Block). (y .start + y .size ≤ tapeSize (w .bytes)) × (y .text + y .chars ≤ tapeSize (w .bytes)))
+    (sym q) h in
     record { body = omega (arith, at .0); name = omega (arith, at .1); short = omega (arith, at .1) }
 
 -- an answer and the bytes it leaves are what the contract says
 abbrev pub NameAnswered : Tape → ℕ → List ℕ → Number → List ℕ → Type 0
 NameAnswered w i out n out′ = (n ≡ nameAnswer w i out) × (out′ ≡ nameBytes w i out)
 
-pub name-refused : (w : Tape) (i k : ℕ) (out : List ℕ) → k ≡ refusalOf w i → (k ≡ 0 → ⊥) → NameAnswered w i out (number.Refused k) out
+pub name-refused : (w : Tape) (i k : ℕ) (out : List ℕ) → k ≡ refusalOf w i → (k ≡ 0 → ⊥)
+    → NameAnswered w i out (number.Refused k) out
 unfolding nameAnswer nameBytes
 name-refused w i k out e f =
     let z : refusalOf w i ≡ 0 → ⊥ = λ y. f (e ∙ y) in
@@ -46,13 +48,15 @@ module _ (w : Tape) (i k : ℕ) (e : k ≡ refusalOf w i) (z : k ≡ 0) (r : Blo
   same : nameOf (w .bytes) r ≡ nameIn w i
   same = ap (nameOf (w .bytes)) q
 
-  pub name-short : {dry dry′ : List ℕ} {n : ℕ} (out : List ℕ) → Wrote dry 0 (nameOf (w .bytes) r) dry′ n → length out < n → NameAnswered w i out (number.Refused noRoom) out
+  pub name-short : {dry dry′ : List ℕ} {n : ℕ} (out : List ℕ) → Wrote dry 0 (nameOf (w .bytes) r) dry′ n → length out < n
+      → NameAnswered w i out (number.Refused noRoom) out
   unfolding nameAnswer nameBytes lengthOrNoRoom
   name-short out p h =
       let d = dry-short out (rw same at p) h in
       (number-given k e z (rw (d .0) refl), rw (← e, z) (sym (d .1)))
 
-  pub name-told : {dry dry′ out out′ : List ℕ} {n n′ : ℕ} → Wrote dry 0 (nameOf (w .bytes) r) dry′ n → Wrote out 0 (nameOf (w .bytes) r) out′ n′ → n ≤ length out
+  pub name-told : {dry dry′ out out′ : List ℕ} {n n′ : ℕ} → Wrote dry 0 (nameOf (w .bytes) r) dry′ n
+      → Wrote out 0 (nameOf (w .bytes) r) out′ n′ → n ≤ length out
       → NameAnswered w i out (number.Is n) out′
   unfolding nameAnswer nameBytes lengthOrNoRoom
   name-told p p′ h =

@@ -16,8 +16,10 @@ pub fn block_name(
     i: u64,
     out: &mut [u8],
 ) -> Number
-    ensures { λ r. ⌜ r ≡ nameAnswer (tapeOf (now (tape .entry)) (now (tones .entry)) (now (blocks .entry)) count) i (now (out .entry)) ⌝ }
-    ensures { λ _. ⌜ now (out .exit) ≡ nameBytes (tapeOf (now (tape .entry)) (now (tones .entry)) (now (blocks .entry)) count) i (now (out .entry)) ⌝ }
+    ensures { λ r. ⌜ r
+        ≡ nameAnswer (tapeOf (now (tape .entry)) (now (tones .entry)) (now (blocks .entry)) count) i (now (out .entry)) ⌝ }
+    ensures { λ _. ⌜ now (out .exit)
+        ≡ nameBytes (tapeOf (now (tape .entry)) (now (tones .entry)) (now (blocks .entry)) count) i (now (out .entry)) ⌝ }
 {
     let k = refusal(tape, tones, blocks, count, i);
     if k != 0 {

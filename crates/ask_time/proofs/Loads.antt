@@ -31,7 +31,8 @@ unfolding formed
 needs w = needed w 0 (omega arith)
 
 -- out: at a stop
-pub loads-stop : (w : Tape) {b : ℕ} {s : Loading} → s .over ≡ true → Sums (formed w 0) b s → number.Is (s .sum) ≡ loadingIn w (formed w 0)
+pub loads-stop : (w : Tape) {b : ℕ} {s : Loading} → s .over ≡ true → Sums (formed w 0) b s
+    → number.Is (s .sum) ≡ loadingIn w (formed w 0)
 unfolding loadingIn
 loads-stop w o l = rw (l .stops o) (ap number.Is (sym (l .whole o)))
 
@@ -68,8 +69,10 @@ module _ {w : Tape} {b : ℕ} {s : Loading} (l : Loads w b s) where
 
       -- what a turn asks, where the table has no more rows than it may
       pub summable : w .count ≤ 4096 → ((s .sum < 2 ^ 63) × (t < 2 ^ 50)) × (wellNumbers r ≡ true)
-      summable k =
-          ((omega (arith, l .sums .few), omega (arith, sound-few sounds)), block-clauses (tapeSize (w .bytes)) (w .tones) r row-well .numbers)
+      summable k = (
+        (omega (arith, l .sums .few), omega (arith, sound-few sounds)),
+        block-clauses (tapeSize (w .bytes)) (w .tones) r row-well .numbers,
+      )
 
     pub loads-on : {s′ : Loading} → s′ .over ≡ false → Sums (formed w 0) (b + 1) s′ → Loads w (b + 1) s′
     loads-on o m = record { from = omega (arith, below); sums = m; going = o }

@@ -14,7 +14,8 @@ use cut_grammar::sealed;
 use cut_grammar::whole;
 ghost use mathlib.Core.Path.{_≡_};
 ghost use Rattle.cut_grammar.specs.Grammar.{textsAt, readAt};
-ghost use Rattle.cut_grammar.specs.Kinds.{kind10, kind11, kind12, kind13, kind14, kind20, kind21, kind24, kind2A, kind30, kind31, info32, kind32, kind33, kind35};
+ghost use Rattle.cut_grammar.specs.Kinds.{kind10, kind11, kind12, kind13, kind14, kind20, kind21, kind24, kind2A, kind30, kind31, info32};
+ghost use Rattle.cut_grammar.specs.Kinds.{kind32, kind33, kind35};
 
 // 10
 pub fn standard(tape: &[u8], c: Cursor) -> Body

@@ -22,7 +22,8 @@ le-more s h p (suc (suc (suc zero))) l = omega (arith, le-small s h p 3)
 le-more s h p (suc (suc (suc (suc w)))) l = omega arith
 
 -- one byte more at the low end
-pub le-step : (s : List ℕ) (p k w : ℕ) → k < w → leAt s (p + k) (w - k) ≡ leAt s (p + (k + 1)) (w - (k + 1)) * 256 + getD s (p + k) 0
+pub le-step : (s : List ℕ) (p k w : ℕ) → k < w
+    → leAt s (p + k) (w - k) ≡ leAt s (p + (k + 1)) (w - (k + 1)) * 256 + getD s (p + k) 0
 unfolding leAt
 le-step s p k w h =
     let e : w - k ≡ suc (w - (k + 1)) = omega arith in

@@ -36,7 +36,8 @@ module _ (f : Cursor → Cursor) (g l : ℕ) (moves : (p : ℕ) → p + g ≤ l 
       let e : p + g + n * g ≡ p + suc n * g = omega arith in
       rw (moves p (omega arith)) (times-whole n (p + g) (omega arith) ∙ ap At e)
 
-  times-short : (q n p : ℕ) → q < n → (0 < q → p + q * g ≤ l) → Stopped (f (At (p + q * g))) → times f n (At p) ≡ f (At (p + q * g))
+  times-short : (q n p : ℕ) → q < n → (0 < q → p + q * g ≤ l) → Stopped (f (At (p + q * g)))
+      → times f n (At p) ≡ f (At (p + q * g))
   unfolding times
   times-short q zero p h k s = absurd (not-suc-le-zero h)
   times-short zero (suc n) p h k s =
@@ -50,7 +51,8 @@ module _ (f : Cursor → Cursor) (g l : ℕ) (moves : (p : ℕ) → p + g ≤ l 
       (times-short q n (p + g) (omega arith) (λ _. omega arith) (rw e at s))
 
   -- what code that divides gives: q steps at once, then, where steps are left, the one that stops
-  pub times-wholes : {n p q : ℕ} → Wholes l p n g q → (l < p + q * g + g → Stopped (f (At (p + q * g)))) → q < n → times f n (At p) ≡ f (At (p + q * g))
+  pub times-wholes : {n p q : ℕ} → Wholes l p n g q → (l < p + q * g + g → Stopped (f (At (p + q * g)))) → q < n
+      → times f n (At p) ≡ f (At (p + q * g))
   times-wholes {n} {p} {q} w stops h =
       let a = w .fits in
       times-short q n p h (λ k. let b = w .there k in omega arith) (stops (w .most h))
@@ -78,7 +80,8 @@ pub record Stood (c : Cursor) (b q : ℕ) : Type 0 where
 not-there : {c : Cursor} {q : ℕ} → Stopped c → c ≡ At q → ⊥
 not-there stopped e = told e
 
-module _ (f : Cursor → Cursor) (g l : ℕ) (moves : (p : ℕ) → p + g ≤ l → f (At p) ≡ At (p + g)) (stops : (p : ℕ) → l < p + g → Stopped (f (At p))) where
+module _ (f : Cursor → Cursor) (g l : ℕ) (moves : (p : ℕ) → p + g ≤ l → f (At p) ≡ At (p + g))
+    (stops : (p : ℕ) → l < p + g → Stopped (f (At p))) where
   times-moved : (n p : ℕ) {q : ℕ} → times f n (At p) ≡ At q → q ≡ p + n * g
   unfolding times
   times-moved zero p {q} e = let z = zero-mul g in let i : p ≡ q = cc in omega arith
@@ -138,7 +141,8 @@ module _ (s : List ℕ) where
   field-inside (At p) w {e} h =
       ⊎-elim
       (λ (a : length s < p + w). let z : _≡_ {A = Cursor} (Short p w) (At e) = sym (field-stops w p a) ∙ h in absurd (told z))
-      (λ (a : p + w ≤ length s). let z : _≡_ {A = Cursor} (At (p + w)) (At e) = sym (field-moves w p a) ∙ h in let i : p + w ≡ e = cc in omega arith)
+      (λ (a : p + w ≤ length s). let z : _≡_ {A = Cursor} (At (p + w)) (At e) = sym (field-moves w p a) ∙ h in
+      let i : p + w ≡ e = cc in omega arith)
       (lt-or-ge (length s) (p + w))
   field-inside (Short p v) w h = absurd (told h)
 
@@ -190,9 +194,11 @@ module _ (s : List ℕ) where
       → groupsAt s (At p) n h k w ≡ eachAt s (fieldAt s (At (p + q * (h + k * w))) h .cursor) k w
   unfolding groupsAt
   groups-short h k w {n} {p} {q} t l =
-      times-wholes (λ c. eachAt s (fieldAt s c h .cursor) k w) (h + k * w) (length s) (group-moves h k w) t (group-stops h k w (p + q * (h + k * w))) l
+      times-wholes (λ c. eachAt s (fieldAt s c h .cursor) k w) (h + k * w) (length s) (group-moves h k w) t
+      (group-stops h k w (p + q * (h + k * w))) l
 
-  pub groups-all : (h k w : ℕ) {n p q : ℕ} → Wholes (length s) p n (h + k * w) q → n ≤ q → groupsAt s (At p) n h k w ≡ At (p + q * (h + k * w))
+  pub groups-all : (h k w : ℕ) {n p q : ℕ} → Wholes (length s) p n (h + k * w) q → n ≤ q
+      → groupsAt s (At p) n h k w ≡ At (p + q * (h + k * w))
   unfolding groupsAt
   groups-all h k w {n} t l = times-all (λ c. eachAt s (fieldAt s c h .cursor) k w) (h + k * w) (length s) (group-moves h k w) n t l
 

@@ -20,7 +20,8 @@ use Rattle.cut_grammar.specs.Ends.{stands, Ends, ends, none, short, wide
 use Rattle.cut_grammar.proofs.Layouts.{forward, own}
 
 -- what ends a piece under its name
-named-ends : {a b : ℕ} (kind at : ℕ) {k p next : ℕ} {x : Body} {piece : Piece} → Ends a b x → takenAs kind at x ≡ taken.Whole k p next piece → (a ≤ next) × (next ≤ b)
+named-ends : {a b : ℕ} (kind at : ℕ) {k p next : ℕ} {x : Body} {piece : Piece} → Ends a b x
+    → takenAs kind at x ≡ taken.Whole k p next piece → (a ≤ next) × (next ≤ b)
 unfolding takenAs
 named-ends {a} {b} kind at {next = next} (ends {p = q} h t) e = let i : q ≡ next = cc in (omega arith, omega arith)
 named-ends kind at none e = absurd (let z : _≡_ {A = ℕ} 0 1 = cc in omega arith)
@@ -43,7 +44,8 @@ never e = let z : _≡_ {A = ℕ} 0 1 = cc in omega arith
 module _ (s : List ℕ) (at full : ℕ) {k a next : ℕ} {piece : Piece} (e : cutAt s at full ≡ taken.Whole k a next piece) where
   pub cut-inside : at < length s
   cut-inside =
-      ⊎-elim (λ (h : at < length s). h) (λ (h : length s ≤ at). absurd (never (sym (cut-end s at full h) ∙ e))) (lt-or-ge at (length s))
+      ⊎-elim (λ (h : at < length s). h) (λ (h : length s ≤ at). absurd (never (sym (cut-end s at full h) ∙ e)))
+      (lt-or-ge at (length s))
 
   -- forward, and inside the tape
   pub cut-forward : (at < next) × (next ≤ length s)
@@ -54,7 +56,8 @@ module _ (s : List ℕ) (at full : ℕ) {k a next : ℕ} {piece : Piece} (e : cu
       (omega (arith, r .0), r .1)
 
   -- decided by its own bytes
-  own-bytes : {m : ℕ} {x y : Body} → next ≤ m → Own (length s) m x y → takenAs (getD s at 0) at x ≡ taken.Whole k a next piece → y ≡ x
+  own-bytes : {m : ℕ} {x y : Body} → next ≤ m → Own (length s) m x y
+      → takenAs (getD s at 0) at x ≡ taken.Whole k a next piece → y ≡ x
   own-bytes h Own.same q = refl
   own-bytes h (Own.beyond b) q = let r = named-ends (getD s at 0) at b q in absurd (omega (arith, r .0))
 

@@ -21,7 +21,8 @@ use Rattle.cut_grammar.specs.Ends.{StandsIn, stands, stuck}
 use Rattle.cut_grammar.proofs.Layouts.{OwnRead, OwnPlace, field-past, field-forward, field-own, place-own}
 
 -- the tests before a block
-tap-there : (s : List ℕ) (at : ℕ) → at + 1 < length s → tapAt s at ≡ tapBlock (countedAt s (At at) 2) (countedAt s (At at) 2 .cursor)
+tap-there : (s : List ℕ) (at : ℕ) → at + 1 < length s
+    → tapAt s at ≡ tapBlock (countedAt s (At at) 2) (countedAt s (At at) 2 .cursor)
 unfolding tapAt
 tap-there s at h = rw (lt-leb (length s) at (omega arith), ne-eqb (at + 1) (length s) (λ e. omega arith))
 
@@ -57,7 +58,8 @@ end-own : {l m next : ℕ} {x y : Cursor} → OwnPlace l m x y → x ≡ At next
 end-own (OwnPlace.same h) e k = refl
 end-own (OwnPlace.beyond i) e k = let r = stands-at i e in absurd (omega (arith, r .0))
 
-span-own : (s : List ℕ) (m : ℕ) {next : ℕ} {x y : Read} → OwnRead (length s) m x y → spanOf s x .cursor ≡ At next → next ≤ m → spanOf (take m s) y ≡ spanOf s x
+span-own : (s : List ℕ) (m : ℕ) {next : ℕ} {x y : Read} → OwnRead (length s) m x y → spanOf s x .cursor ≡ At next → next ≤ m
+    → spanOf (take m s) y ≡ spanOf s x
 unfolding spanOf
 span-own s m (OwnRead.same {v} {p} h) e k = let q = end-own (place-own (field-own v s m p h)) e k in rw q
 span-own s m (OwnRead.beyond {x} i) e k =

@@ -21,7 +21,8 @@ use Rattle.cut_fields.proofs.Runs.{field-there, field-short}
 use Rattle.cut_grammar.specs.declared.Piece.{Piece}
 use Rattle.cut_grammar.specs.declared.Body.{Body}
 use Rattle.cut_grammar.specs.declared.Body.the-variants.{Whole, Unknown, Short, Overflow}
-use Rattle.cut_grammar.specs.Grammar.{Passed, bytes, fields, groups, texts, Layout, number, counted, here, pass, within, fitting, whole, unknown, countedAt, textsAt, passAt, wholeAt, sealed, enclosed, fittingAt, readAt}
+use Rattle.cut_grammar.specs.Grammar.{Passed, bytes, fields, groups, texts, Layout, number, counted, here, pass, within, fitting}
+use Rattle.cut_grammar.specs.Grammar.{whole, unknown, countedAt, textsAt, passAt, wholeAt, sealed, enclosed, fittingAt, readAt}
 use Rattle.cut_grammar.specs.Ends.{StandsIn, stands, stuck, Ends, ends, none, short, wide, Own}
 
 -- two reads of which the first, where it ends at or before k, is the second
@@ -56,7 +57,8 @@ field-past s a p w h =
     (λ (t : p + w ≤ length s). rw (field-there s w p t) (stands h t))
     (lt-or-ge (length s) (p + w))
 
-pub field-forward : (w : ℕ) (s : List ℕ) (a : ℕ) (c : Cursor) → StandsIn a (length s) c → StandsIn a (length s) (fieldAt s c w .cursor)
+pub field-forward : (w : ℕ) (s : List ℕ) (a : ℕ) (c : Cursor) → StandsIn a (length s) c
+    → StandsIn a (length s) (fieldAt s c w .cursor)
 field-forward w s a (At p) (stands h t) = field-past s a p w (omega arith)
 field-forward w s a (cursor.Short p v) stuck = unfold fieldAt in stuck
 
@@ -81,7 +83,8 @@ place-own (beyond h) = beyond h
 field-moves : (w : ℕ) → Moves (λ s c. fieldAt s c w .cursor)
 field-moves w = record { forward = field-forward w; own = λ s k p h. place-own (field-own w s k p h) }
 
-then-own : {f : List ℕ → Cursor → Cursor} → Moves f → (s : List ℕ) (k : ℕ) {x y : Cursor} → OwnPlace (length s) k x y → OwnPlace (length s) k (f s x) (f (take k s) y)
+then-own : {f : List ℕ → Cursor → Cursor} → Moves f → (s : List ℕ) (k : ℕ) {x y : Cursor} → OwnPlace (length s) k x y
+    → OwnPlace (length s) k (f s x) (f (take k s) y)
 then-own m s k (same h) = m .own s k _ h
 then-own m s k (beyond h) = beyond (m .forward s (k + 1) _ h)
 
@@ -96,7 +99,8 @@ module _ {f : List ℕ → Cursor → Cursor} (m : Moves f) where
   times-forward (suc n) s a (At p) h = times-forward n s a (f s (At p)) (m .forward s a (At p) h)
   times-forward (suc n) s a (cursor.Short p w) h = stuck
 
-  times-own : (n : ℕ) (s : List ℕ) (k : ℕ) {x y : Cursor} → OwnPlace (length s) k x y → OwnPlace (length s) k (times (f s) n x) (times (f (take k s)) n y)
+  times-own : (n : ℕ) (s : List ℕ) (k : ℕ) {x y : Cursor} → OwnPlace (length s) k x y
+      → OwnPlace (length s) k (times (f s) n x) (times (f (take k s)) n y)
   unfolding times
   times-own zero s k o = o
   times-own (suc n) s k (same {p} h) = times-own n s k (m .own s k p h)
@@ -114,7 +118,10 @@ counted-own s k (beyond {x} h) = beyond (field-forward (x .value) s (k + 1) (x .
 counted-moves : (w : ℕ) → Moves (λ s c. countedAt s c w .cursor)
 unfolding countedAt
 counted-moves w =
-    record { forward = λ s a c h. field-forward (fieldAt s c w .value) s a (fieldAt s c w .cursor) (field-forward w s a c h); own = λ s k p h. counted-own s k (field-own w s k p h) }
+    record {
+      forward = λ s a c h. field-forward (fieldAt s c w .value) s a (fieldAt s c w .cursor) (field-forward w s a c h);
+      own = λ s k p h. counted-own s k (field-own w s k p h);
+    }
 
 -- what is passed over
 pass-moves : (part : Passed) → Moves (passAt part)
@@ -170,7 +177,8 @@ module _ (s : List ℕ) (k : ℕ) where
   abbrev Rest : Layout → Type 0
   Rest l = (p : ℕ) → p ≤ k → Own (length s) k (readAt l s (At p)) (readAt l (take k s) (At p))
 
-  after : (l : Layout) → Rest l → {x y : Cursor} → OwnPlace (length s) k x y → Own (length s) k (readAt l s x) (readAt l (take k s) y)
+  after : (l : Layout) → Rest l → {x y : Cursor} → OwnPlace (length s) k x y
+      → Own (length s) k (readAt l s x) (readAt l (take k s) y)
   after l r (same {p} h) = r p h
   after l r (beyond {x} h) = Own.beyond (forward l s (k + 1) x h)
 
@@ -187,7 +195,8 @@ module _ (s : List ℕ) (k : ℕ) where
       Own.beyond (forward (rest (placeOf (x .cursor)) (x .value)) s (k + 1) _ (field-forward (x .value) s (k + 1) (x .cursor) h))
 
   after-body : (inner : Layout) (p : ℕ) {x y : Cursor} → OwnPlace (length s) k x y
-      → Own (length s) k (enclosed (λ end. readAt inner (take end s) (At p)) x) (enclosed (λ end. readAt inner (take end (take k s)) (At p)) y)
+      → Own (length s) k (enclosed (λ end. readAt inner (take end s) (At p)) x)
+      (enclosed (λ end. readAt inner (take end (take k s)) (At p)) y)
   unfolding enclosed
   after-body inner p (same {p = end} h) = rw (take-take end k s h) Own.same
   after-body inner p (beyond {x} h) =

@@ -16,7 +16,8 @@ use Rattle.cut_grammar.specs.declared.Piece.{Piece}
 use Rattle.cut_grammar.specs.declared.Body.{Body}
 use Rattle.cut_grammar.specs.declared.Body.the-variants.{Whole, Unknown, Short, Overflow}
 use Rattle.cut_grammar.specs.declared.Taken.the-variants as taken
-use Rattle.cut_grammar.specs.Grammar.{Layout, number, counted, here, pass, within, fitting, whole, unknown, countedAt, passAt, wholeAt, sealed, enclosed, fittingAt, readAt}
+use Rattle.cut_grammar.specs.Grammar.{Layout, number, counted, here, pass, within, fitting, whole, unknown, countedAt, passAt}
+use Rattle.cut_grammar.specs.Grammar.{wholeAt, sealed, enclosed, fittingAt, readAt}
 use Rattle.cut_grammar.specs.Cut.{takenAs}
 
 module _ (is : Piece → Bool) where
@@ -66,7 +67,8 @@ module _ (is : Piece → Bool) where
   unfolding readAt
   other-none (number w rest) o s c = other-none (rest (fieldAt s c w .value)) (o (fieldAt s c w .value)) s (fieldAt s c w .cursor)
   other-none (counted w rest) o s c =
-      other-none (rest (countedAt s c w .from) (countedAt s c w .size)) (o (countedAt s c w .from) (countedAt s c w .size)) s (countedAt s c w .cursor)
+      other-none (rest (countedAt s c w .from) (countedAt s c w .size)) (o (countedAt s c w .from) (countedAt s c w .size)) s
+      (countedAt s c w .cursor)
   other-none (here rest) o s c = other-none (rest (placeOf c)) (o (placeOf c)) s c
   other-none (pass part rest) o s c = other-none rest o s (passAt part s c)
   other-none (within n inner) o s c =
@@ -91,7 +93,8 @@ found-every P (a ∷ more) x d (h & rest) k = by-cases (eqb x (a .key)) (found-e
     by-cases false r = r
 
 -- a body under its name
-pub unnamed : (kind at : ℕ) (b : Body) {k a next : ℕ} {x : Piece} → takenAs kind at b ≡ taken.Whole k a next x → b ≡ Whole x next
+pub unnamed : (kind at : ℕ) (b : Body) {k a next : ℕ} {x : Piece} → takenAs kind at b ≡ taken.Whole k a next x
+    → b ≡ Whole x next
 unfolding takenAs
 unnamed kind at (Whole y p) e = cc
 unnamed kind at (Unknown described) e = absurd (let z : _≡_ {A = ℕ} 0 1 = cc in omega arith)

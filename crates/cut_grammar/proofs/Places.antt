@@ -38,17 +38,22 @@ record Streamed (s : List ℕ) (bits : ℕ) (g₀ g : GeneralizedData) (c : Curs
   fits : bits ≤ 4294967295
   stood : Stood c (g₀ .size * 1) next
 
-whole-streamed : (s : List ℕ) (g₀ : GeneralizedData) (c d : Cursor) {g : GeneralizedData} {next : ℕ} → eachAt s c (g₀ .size) 1 ≡ d → wholeAt (piece.Generalized g₀) d ≡ Whole (piece.Generalized g) next → (g₀ ≡ g) × Stood c (g₀ .size * 1) next
+whole-streamed : (s : List ℕ) (g₀ : GeneralizedData) (c d : Cursor) {g : GeneralizedData} {next : ℕ}
+    → eachAt s c (g₀ .size) 1 ≡ d → wholeAt (piece.Generalized g₀) d ≡ Whole (piece.Generalized g) next
+    → (g₀ ≡ g) × Stood c (g₀ .size * 1) next
 unfolding wholeAt
 whole-streamed s g₀ c (At q) {next = next} f e =
     let i : q ≡ next = cc in (cc, each-stood s (g₀ .size) 1 c (f ∙ ap At i))
 whole-streamed s g₀ c (cursor.Short q w) f e = absurd (let z : _≡_ {A = ℕ} 0 1 = cc in omega arith)
 
-streamed : (s : List ℕ) (bits : ℕ) (g₀ : GeneralizedData) (c : Cursor) {g : GeneralizedData} {next : ℕ} → readAt (stream19 bits g₀) s c ≡ Whole (piece.Generalized g) next → Streamed s bits g₀ g c next
+streamed : (s : List ℕ) (bits : ℕ) (g₀ : GeneralizedData) (c : Cursor) {g : GeneralizedData} {next : ℕ}
+    → readAt (stream19 bits g₀) s c ≡ Whole (piece.Generalized g) next → Streamed s bits g₀ g c next
 unfolding readAt stream19 passAt fittingAt
 streamed s bits g₀ (At p) {g} {next} e = by-cases (leb bits 4294967295) refl e
   where
-    by-cases : (t : Bool) → leb bits 4294967295 ≡ t → (t ⇒ wholeAt (piece.Generalized g₀) (eachAt s (At p) (g₀ .size) 1) ∣ Overflow p) ≡ Whole (piece.Generalized g) next → Streamed s bits g₀ g (At p) next
+    by-cases : (t : Bool) → leb bits 4294967295 ≡ t
+        → (t ⇒ wholeAt (piece.Generalized g₀) (eachAt s (At p) (g₀ .size) 1) ∣ Overflow p) ≡ Whole (piece.Generalized g) next
+        → Streamed s bits g₀ g (At p) next
     by-cases true b q =
         let r = whole-streamed s g₀ (At p) (eachAt s (At p) (g₀ .size) 1) refl q in
         record { same = r .0; fits = leb-true _ _ b; stood = r .1 }
@@ -62,9 +67,11 @@ streamed s bits g₀ (cursor.Short p w) e =
 
 -- what a layout says of the 19 that it gives
 abbrev Placed : ℕ → List ℕ → Body → Type 0
-Placed full s b = (g : GeneralizedData) (next : ℕ) → b ≡ Whole (piece.Generalized g) next → next ≤ length s → Found19 full s g next
+Placed full s b =
+    (g : GeneralizedData) (next : ℕ) → b ≡ Whole (piece.Generalized g) next → next ≤ length s → Found19 full s g next
 
-other-placed : {full : ℕ} (is : Piece → Bool) → ((g : GeneralizedData) → is (piece.Generalized g) ≡ true) → (l : Layout) → Other is l → (s : List ℕ) (c : Cursor) → Placed full s (readAt l s c)
+other-placed : {full : ℕ} (is : Piece → Bool) → ((g : GeneralizedData) → is (piece.Generalized g) ≡ true) → (l : Layout)
+    → Other is l → (s : List ℕ) (c : Cursor) → Placed full s (readAt l s c)
 other-placed is i l o s c g next e h = absurd (other-none is l o s c (piece.Generalized g) next (i g) e)
 
 -- an alphabet's size
@@ -90,7 +97,8 @@ module _ (full : ℕ) (s : List ℕ) (g₀ : GeneralizedData) (asp asd pilot ent
   tables : entries ≡ groupsAt s pilot (heldIf (g₀ .totp) (g₀ .asp)) 1 (g₀ .npp) 2
       → symbols ≡ groupsAt s entries (g₀ .totp) 1 1 2
       → from ≡ groupsAt s symbols (heldIf (g₀ .totd) (g₀ .asd)) 1 (g₀ .npd) 2
-      → g₀ .pilot ≡ placeOf pilot → g₀ .entries ≡ placeOf entries → g₀ .symbols ≡ placeOf symbols → g₀ .from ≡ placeOf from
+      → g₀ .pilot ≡ placeOf pilot → g₀ .entries ≡ placeOf entries → g₀ .symbols ≡ placeOf symbols
+      → g₀ .from ≡ placeOf from
       → g₀ .nb ≡ bitsOf (g₀ .asd - 1) → g₀ .size ≡ (g₀ .nb * g₀ .totd + 7) / 8
       → g₀ .asp ≡ orFull full (fieldAt s asp 1 .value) → g₀ .asd ≡ orFull full (fieldAt s asd 1 .value)
       → Placed full s (readAt (stream19 (g₀ .nb * g₀ .totd) g₀) s from)
@@ -105,8 +113,17 @@ module _ (full : ℕ) (s : List ℕ) (g₀ : GeneralizedData) (asp asd pilot ent
       let m5 = t .stood .moved in
       let end : next ≡ g₀ .from + g₀ .size = omega arith in
       let places : Places s g₀ =
-      record { entries = omega arith; symbols = omega arith; from = omega arith; inside = omega arith; bits = n; size = z; fits = t .fits } in
-      let small : (c : Cursor) → ((i : ℕ) → getD s i 0 < 256) → (most : ℕ) → full ≤ most → 255 ≤ most → orFull full (fieldAt s c 1 .value) ≤ most =
+      record {
+        entries = omega arith;
+        symbols = omega arith;
+        from = omega arith;
+        inside = omega arith;
+        bits = n;
+        size = z;
+        fits = t .fits;
+      } in
+      let small : (c : Cursor) → ((i : ℕ) → getD s i 0 < 256) → (most : ℕ) → full ≤ most → 255 ≤ most
+      → orFull full (fieldAt s c 1 .value) ≤ most =
       λ c b most f k. full-small full (fieldAt s c 1 .value) most f (le-trans (byte-small s b c) k) in
       subst (λ (x : GeneralizedData). Found19 full s x next) (t .same)
       (record { end = end; places = places; sizes = λ b most f k. (rw a (small asp b most f k), rw d (small asd b most f k)) })
@@ -123,6 +140,8 @@ rows-placed {full} general s c = general-placed full s c
 rows-placed (other l o) s c = other-placed isListed (λ _. refl) l o s c
 
 -- a whole 19 has its tables where its places say
-pub cut-places : (s : List ℕ) (at full : ℕ) {k a next : ℕ} {g : GeneralizedData} → cutAt s at full ≡ taken.Whole k a next (piece.Generalized g) → Found19 full s g next
+pub cut-places : (s : List ℕ) (at full : ℕ) {k a next : ℕ} {g : GeneralizedData}
+    → cutAt s at full ≡ taken.Whole k a next (piece.Generalized g) → Found19 full s g next
 cut-places s at full {next = next} {g = g} e =
-    rows-placed (row-of full (getD s at 0)) s (At (at + 1)) g next (unnamed (getD s at 0) at _ (sym (cut-there s at full (cut-inside s at full e)) ∙ e)) (cut-forward s at full e .1)
+    rows-placed (row-of full (getD s at 0)) s (At (at + 1)) g next
+    (unnamed (getD s at 0) at _ (sym (cut-there s at full (cut-inside s at full e)) ∙ e)) (cut-forward s at full e .1)

@@ -27,7 +27,8 @@ use Rattle.cut_grammar.proofs.Sorts.{sortOf, isPulses, isListed, RowSor
 abbrev Ended : Body → Type 0
 Ended b = (count from next : ℕ) → b ≡ Whole (piece.Pulses count from) next → next ≡ from + count * 2
 
-other-ended : (is : Piece → Bool) → ((count from : ℕ) → is (piece.Pulses count from) ≡ true) → (l : Layout) → Other is l → (s : List ℕ) (c : Cursor) → Ended (readAt l s c)
+other-ended : (is : Piece → Bool) → ((count from : ℕ) → is (piece.Pulses count from) ≡ true) → (l : Layout) → Other is l
+    → (s : List ℕ) (c : Cursor) → Ended (readAt l s c)
 other-ended is h l o s c count from next e = absurd (other-none is l o s c (piece.Pulses count from) next (h count from) e)
 
 whole-ended : (s : List ℕ) (n : ℕ) (c d : Cursor) → eachAt s c n 2 ≡ d → Ended (wholeAt (piece.Pulses n (placeOf c)) d)
@@ -52,7 +53,9 @@ rows-ended {full} general s c = other-ended isPulses (λ _ _. refl) (kind19 full
 rows-ended (other l o) s c = other-ended isListed (λ _ _. refl) l o s c
 
 -- a whole 13 ends where its pulses do, inside the tape
-pub cut-pulses : (s : List ℕ) (at full : ℕ) {k a next count from : ℕ} → cutAt s at full ≡ taken.Whole k a next (piece.Pulses count from) → from + count * 2 ≤ length s
+pub cut-pulses : (s : List ℕ) (at full : ℕ) {k a next count from : ℕ}
+    → cutAt s at full ≡ taken.Whole k a next (piece.Pulses count from) → from + count * 2 ≤ length s
 cut-pulses s at full {next = next} {count} {from} e =
-    let m = rows-ended (row-of full (getD s at 0)) s (At (at + 1)) count from next (unnamed (getD s at 0) at _ (sym (cut-there s at full (cut-inside s at full e)) ∙ e)) in
+    let m = rows-ended (row-of full (getD s at 0)) s (At (at + 1)) count from next
+    (unnamed (getD s at 0) at _ (sym (cut-there s at full (cut-inside s at full e)) ∙ e)) in
     omega (arith, m, cut-forward s at full e .1)

@@ -1,4 +1,5 @@
--- Of all rows of the grammar's table, 13's alone gives pulses and 19's alone a generalised piece: the one list of kinds that says so. Assumes nothing.
+-- Of all rows of the grammar's table, 13's alone gives pulses and 19's alone a generalised piece: the one list of kinds that says so.
+-- Assumes nothing.
 use Prim.Native.Nat.{ℕ}
 use mathlib.Core.Path.{refl}
 use mathlib.Core.Bool.{Bool, not}
@@ -6,7 +7,8 @@ use lib.Dec.{eqb}
 use Rattle.cut_grammar.specs.declared.Piece.{Piece}
 use Rattle.cut_grammar.specs.declared.Piece.the-variants as piece
 use Rattle.cut_grammar.specs.Grammar.{Layout, unknown}
-use Rattle.cut_grammar.specs.Kinds.{kind10, kind11, kind12, kind13, kind14, kind19, kind20, kind21, kind22, kind24, kind25, kind2A, kind30, kind31, info32, kind32, kind33, kind35, kind5A, unread, kinds, kindOf}
+use Rattle.cut_grammar.specs.Kinds.{kind10, kind11, kind12, kind13, kind14, kind19, kind20, kind21, kind22, kind24, kind25, kind2A}
+use Rattle.cut_grammar.specs.Kinds.{kind30, kind31, info32, kind32, kind33, kind35, kind5A, unread, kinds, kindOf}
 use Rattle.cut_grammar.proofs.Others.{Other, Every, no-more, _&_, found-every}
 
 -- 1 for pulses, 2 for a generalised piece, 0 for any other
@@ -46,7 +48,8 @@ pub data RowSort (full : ℕ) : Layout → Type 0 where
   other : (l : Layout) → Other isListed l → RowSort full l
 
 each-row : (full : ℕ) → Every (RowSort full) (kinds full)
-unfolding sortOf kinds kind10 kind11 kind12 kind14 kind20 kind21 kind22 kind24 kind25 kind2A kind30 kind31 info32 kind32 kind33 kind35 kind5A
+unfolding sortOf kinds kind10 kind11 kind12 kind14 kind20 kind21 kind22 kind24 kind25 kind2A kind30 kind31 info32 kind32
+    kind33 kind35 kind5A
 each-row full =
     other kind10 (λ _ _ _. refl) &
     other kind11 (λ _ _ _ _ _ _ _ _ _ _. refl) &

@@ -24,14 +24,16 @@ unfolding binaryDigits
 digits-zero zero = refl
 digits-zero (suc f) = refl
 
-pub digits-more : (k n : ℕ) → k < 32 → (n ≡ 0 → ⊥) → k + binaryDigits (32 - k) n ≡ k + 1 + binaryDigits (32 - (k + 1)) (n / 2)
+pub digits-more : (k n : ℕ) → k < 32 → (n ≡ 0 → ⊥)
+    → k + binaryDigits (32 - k) n ≡ k + 1 + binaryDigits (32 - (k + 1)) (n / 2)
 unfolding binaryDigits
 digits-more k n h z =
     let e : 32 - k ≡ suc (32 - (k + 1)) = omega arith in
     rw (e, ne-eqb n 0 z) (omega arith)
 
 -- the texts after one of them
-pub texts-more : (s : List ℕ) (c : Cursor) (n : ℕ) → 0 < n → textsAt s c n ≡ textsAt s (countedAt s (fieldAt s c 1 .cursor) 1 .cursor) (n - 1)
+pub texts-more : (s : List ℕ) (c : Cursor) (n : ℕ) → 0 < n
+    → textsAt s c n ≡ textsAt s (countedAt s (fieldAt s c 1 .cursor) 1 .cursor) (n - 1)
 unfolding textsAt times
 texts-more s c zero h = absurd (omega arith)
 texts-more s (At p) (suc n) h = let e : suc n - 1 ≡ n = omega arith in rw e
@@ -39,6 +41,7 @@ texts-more s (cursor.Short p w) (suc n) h =
     unfold countedAt fieldAt in sym (times-stopped (λ c. countedAt s (fieldAt s c 1 .cursor) 1 .cursor) (suc n - 1) stopped)
 
 -- one byte of what a tape begins with
-pub starts-more : (s xs : List ℕ) (i : ℕ) → i < length xs → startsAt s i (drop i xs) ≡ (eqb (getD s i 0) (getD xs i 0) && startsAt s (i + 1) (drop (i + 1) xs))
+pub starts-more : (s xs : List ℕ) (i : ℕ) → i < length xs
+    → startsAt s i (drop i xs) ≡ (eqb (getD s i 0) (getD xs i 0) && startsAt s (i + 1) (drop (i + 1) xs))
 unfolding startsAt
 starts-more s xs i h = rw (drop-cons xs i 0 h, add-one)

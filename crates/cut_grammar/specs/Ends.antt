@@ -1,4 +1,5 @@
--- What theorems of every layout say: where a cursor stands, where a piece ends, and that two answers are one. Definitions alone; assumes nothing.
+-- What theorems of every layout say: where a cursor stands, where a piece ends, and that two answers are one.
+-- Definitions alone; assumes nothing.
 use Prim.Native.Nat.{ℕ, _+_, _≤_}
 use mathlib.Core.Bool.{Bool}
 use Rattle.cut_fields.specs.declared.Cursor.{Cursor}

@@ -4,8 +4,11 @@ use mathlib.Core.Bool.{true, _||_}
 use mathlib.Core.List.{List, [], _∷_}
 use Rattle.law_base.specs.Arms.{Arm, _▸_, lookup, between}
 use Rattle.cut_grammar.specs.declared.GeneralizedData.{GeneralizedData}
-use Rattle.cut_grammar.specs.declared.Piece.the-variants.{Standard, Turbo, Tone, Pulses, Pure, Generalized, Pause, GroupStart, GroupEnd, LoopStart, LoopEnd, Stop48, Text, Message, Archive, Hardware, Custom, Glue}
-use Rattle.cut_grammar.specs.Grammar.{Layout, number, counted, here, pass, within, fitting, whole, unknown, bytes, fields, groups, texts, bitsOf, orFull, heldIf}
+use Rattle.cut_grammar.specs.declared.Piece.the-variants.{Standard, Turbo, Tone, Pulses, Pure, Generalized, Pause, GroupStart}
+use Rattle.cut_grammar.specs.declared.Piece.the-variants.{GroupEnd, LoopStart, LoopEnd, Stop48, Text, Message, Archive, Hardware}
+use Rattle.cut_grammar.specs.declared.Piece.the-variants.{Custom, Glue}
+use Rattle.cut_grammar.specs.Grammar.{Layout, number, counted, here, pass, within, fitting, whole, unknown, bytes, fields, groups}
+use Rattle.cut_grammar.specs.Grammar.{texts, bitsOf, orFull, heldIf}
 
 -- 10: pause ms 2, length 2, data
 unfoldable pub kind10 : Layout
@@ -18,7 +21,18 @@ kind11 =
     number 1 λ last. number 2 λ pause. counted 3 λ from size.
     whole
     (Turbo
-    (record { pilot = pilot; sync1 = sync1; sync2 = sync2; zero = nil; one = one; pilots = pilots; last = last; pause = pause; from = from; size = size }))
+    (record {
+      pilot = pilot;
+      sync1 = sync1;
+      sync2 = sync2;
+      zero = nil;
+      one = one;
+      pilots = pilots;
+      last = last;
+      pause = pause;
+      from = from;
+      size = size;
+    }))
 
 -- 12: pulse length 2, number of pulses 2
 unfoldable pub kind12 : Layout
@@ -135,8 +149,10 @@ unread = unknown true
 unfoldable pub kinds : ℕ → List (Arm Layout)
 kinds full =
     0x10 ▸ kind10 ∷ 0x11 ▸ kind11 ∷ 0x12 ▸ kind12 ∷ 0x13 ▸ kind13 ∷ 0x14 ▸ kind14 ∷ 0x19 ▸ kind19 full ∷
-    0x20 ▸ kind20 ∷ 0x21 ▸ kind21 ∷ 0x22 ▸ kind22 ∷ 0x23 ▸ unread ∷ 0x24 ▸ kind24 ∷ 0x25 ▸ kind25 ∷ 0x2A ▸ kind2A ∷ 0x2B ▸ unread ∷
-    0x30 ▸ kind30 ∷ 0x31 ▸ kind31 ∷ 0x32 ▸ kind32 ∷ 0x33 ▸ kind33 ∷ 0x34 ▸ unread ∷ 0x35 ▸ kind35 ∷ 0x40 ▸ unread ∷ 0x5A ▸ kind5A ∷ []
+    0x20 ▸ kind20 ∷ 0x21 ▸ kind21 ∷ 0x22 ▸ kind22 ∷ 0x23 ▸ unread ∷ 0x24 ▸ kind24 ∷ 0x25 ▸ kind25 ∷
+    0x2A ▸ kind2A ∷ 0x2B ▸ unread ∷
+    0x30 ▸ kind30 ∷ 0x31 ▸ kind31 ∷ 0x32 ▸ kind32 ∷ 0x33 ▸ kind33 ∷ 0x34 ▸ unread ∷ 0x35 ▸ kind35 ∷
+    0x40 ▸ unread ∷ 0x5A ▸ kind5A ∷ []
 
 -- every kind from 0 to 255 has its row: 15 to 18 and 26 to 28 are described too, and any other kind is not
 unfoldable pub kindOf : ℕ → ℕ → Layout

@@ -21,4 +21,5 @@ pub record Places (s : List ℕ) (g : GeneralizedData) : Type 0 where
 pub record Found19 (full : ℕ) (s : List ℕ) (g : GeneralizedData) (next : ℕ) : Type 0 where
   pub end : next ≡ g .from + g .size
   pub places : Places s g
-  pub sizes : ((i : ℕ) → getD s i 0 < 256) → (most : ℕ) → full ≤ most → 255 ≤ most → (g .asp ≤ most) × (g .asd ≤ most)
+  pub sizes : ((i : ℕ) → getD s i 0 < 256) → (most : ℕ) → full ≤ most → 255 ≤ most
+      → (g .asp ≤ most) × (g .asd ≤ most)

@@ -1,4 +1,5 @@
-// The grammar of a tape: what its head, a TZX piece and a TAP block are; what every piece is cut with; the head and one TAP block cut out of the bytes.
+// The grammar of a tape: what its head, a TZX piece and a TAP block are; what every piece is cut with;
+// the head and one TAP block cut out of the bytes.
 // What a reading makes of them is not here.
 use cut_fields::Cursor;
 use cut_fields::field;

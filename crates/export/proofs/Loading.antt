@@ -27,14 +27,19 @@ unwritten (Tape f b t) row h = rw (lt-leb 3 (length row) h)
 unwritten (Refused k) row h = tell-refused k row .1
 
 pub load-short : (l : Load) (B N : ℕ) (bs ts row : List ℕ) → length row < 3
-    → (_≡_ {A = ℕ} noRoom (loadNumber (answerOf l) row)) × ((bs ≡ loadTable row bs (blockTable B l)) × ((ts ≡ loadTable row ts (toneTable N l)) × (row ≡ valuesOf (ofLoaded (answerOf l)) row)))
+    → (_≡_ {A = ℕ} noRoom (loadNumber (answerOf l) row))
+    × ((bs ≡ loadTable row bs (blockTable B l))
+    × ((ts ≡ loadTable row ts (toneTable N l)) × (row ≡ valuesOf (ofLoaded (answerOf l)) row)))
 unfolding loadNumber loadTable
 load-short l B N bs ts row h =
     (rw (lt-ltb (length row) 3 h), (rw (lt-ltb (length row) 3 h), (rw (lt-ltb (length row) 3 h), unwritten (answerOf l) row h)))
 
-pub load-told : (l : Load) (B N : ℕ) (bs ts row : List ℕ) {a : Loaded} {bs′ ts′ row′ : List ℕ} {k : ℕ} → 3 ≤ length row → Leaves B N l a bs′ ts′
+pub load-told : (l : Load) (B N : ℕ) (bs ts row : List ℕ) {a : Loaded} {bs′ ts′ row′ : List ℕ} {k : ℕ} → 3 ≤ length row
+    → Leaves B N l a bs′ ts′
     → (k ≡ numberOf (ofLoaded a) row) × (row′ ≡ valuesOf (ofLoaded a) row)
-    → (k ≡ loadNumber (answerOf l) row) × ((bs′ ≡ loadTable row bs (blockTable B l)) × ((ts′ ≡ loadTable row ts (toneTable N l)) × (row′ ≡ valuesOf (ofLoaded (answerOf l)) row)))
+    → (k ≡ loadNumber (answerOf l) row)
+    × ((bs′ ≡ loadTable row bs (blockTable B l))
+    × ((ts′ ≡ loadTable row ts (toneTable N l)) × (row′ ≡ valuesOf (ofLoaded (answerOf l)) row)))
 unfolding loadNumber loadTable
 load-told l B N bs ts row {a} h q e =
     let n = e .0 ∙ whole a row h ∙ ap (λ (x : Loaded). ofLoaded x .no) (q .answer) in

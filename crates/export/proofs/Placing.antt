@@ -45,7 +45,8 @@ module _ (w : Tape) where
   by-other false false true e f = refl
   by-other false false false e f = absurd (f e)
 
-  pub none-bad : (ws : List ℕ) {k : ℕ} → 0 < length ws → k ≡ refusalOf w (getD ws 0 0) → k ≡ badRow → badRow ≡ misplacedNo w ws
+  pub none-bad : (ws : List ℕ) {k : ℕ} → 0 < length ws → k ≡ refusalOf w (getD ws 0 0) → k ≡ badRow
+      → badRow ≡ misplacedNo w ws
   unfolding refusalOf misplacedNo
   none-bad [] h e f = absurd (omega arith)
   none-bad (b ∷ ws) h e f = by-bad (overfull w) (leb (w .count) b) (wellRow w b) e f

@@ -18,7 +18,8 @@ use Rattle.play_walk.specs.declared.Reached.{Reached}
 use Rattle.play_walk.specs.Heads.{reachedNo, walkFrom}
 use Rattle.play_deck.specs.declared.Check.{Check}
 use Rattle.play_deck.specs.declared.Check.the-variants.{NotValid, NotFormed}
-use Rattle.play_deck.specs.Deck.{atStart, ruledOut, illFormed, validAt, judged, unless, stays, playMeasured, sourceFrom, playSource, numberFor, blockOf, blockAt}
+use Rattle.play_deck.specs.Deck.{atStart, ruledOut, illFormed, validAt, judged, unless, stays, playMeasured, sourceFrom, playSource}
+use Rattle.play_deck.specs.Deck.{numberFor, blockOf, blockAt}
 use Rattle.host_words.specs.Words.{unhalved, phaseFrom, spanFrom, joined, positionFrom}
 use Rattle.export.specs.Export.{misplacedNo, withPlace, measuredAt}
 

@@ -1,4 +1,5 @@
--- What a C host gets of a position as words, a load and a name: the answer, and what is left of each lent row. Definitions alone; assumes nothing.
+-- What a C host gets of a position as words, a load and a name: the answer, and what is left of each lent row.
+-- Definitions alone; assumes nothing.
 use Prim.Native.Nat.{ℕ}
 use mathlib.Core.List.{List, [], _∷_}
 use lib.Dec.{ltb, leb}

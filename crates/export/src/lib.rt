@@ -27,7 +27,8 @@ ghost use Rattle.export.specs.Export.{loadIn, misplacedNo, selectedAt, s
 
 // Words that name no position, in rule 37's order: 11 for the count, 9 for the block number that stands first, 11 for its row, 9.
 fn misplaced(tape: &[u8], tones: &[u64], blocks: &[u64], count: u64, words: &[u64]) -> u32
-    ensures { λ k. ⌜ k ≡ misplacedNo (tapeOf (now (tape .entry)) (now (tones .entry)) (now (blocks .entry)) count) (now (words .entry)) ⌝ }
+    ensures { λ k. ⌜ k
+        ≡ misplacedNo (tapeOf (now (tape .entry)) (now (tones .entry)) (now (blocks .entry)) count) (now (words .entry)) ⌝ }
 {
     if overfull(blocks, count) {
         return BAD_ROW;
@@ -50,10 +51,17 @@ pub extern "C" fn glyvrask_load(
     tones: &mut [u64],
     answer: &mut [u64],
 ) -> u32
-    ensures { λ k. ⌜ k ≡ loadNumber (answerOf (loadIn (now (blocks .entry)) (now (tones .entry)) (now (tape .entry)) model)) (now (answer .entry)) ⌝ }
-    ensures { λ _. ⌜ now (blocks .exit) ≡ loadTable (now (answer .entry)) (now (blocks .entry)) (blockTable (length (now (blocks .entry))) (loadIn (now (blocks .entry)) (now (tones .entry)) (now (tape .entry)) model)) ⌝ }
-    ensures { λ _. ⌜ now (tones .exit) ≡ loadTable (now (answer .entry)) (now (tones .entry)) (toneTable (length (now (tones .entry))) (loadIn (now (blocks .entry)) (now (tones .entry)) (now (tape .entry)) model)) ⌝ }
-    ensures { λ _. ⌜ now (answer .exit) ≡ valuesOf (ofLoaded (answerOf (loadIn (now (blocks .entry)) (now (tones .entry)) (now (tape .entry)) model))) (now (answer .entry)) ⌝ }
+    ensures { λ k. ⌜ k
+        ≡ loadNumber (answerOf (loadIn (now (blocks .entry)) (now (tones .entry)) (now (tape .entry)) model)) (now (answer .entry)) ⌝ }
+    ensures { λ _. ⌜ now (blocks .exit)
+        ≡ loadTable (now (answer .entry)) (now (blocks .entry))
+        (blockTable (length (now (blocks .entry))) (loadIn (now (blocks .entry)) (now (tones .entry)) (now (tape .entry)) model)) ⌝ }
+    ensures { λ _. ⌜ now (tones .exit)
+        ≡ loadTable (now (answer .entry)) (now (tones .entry))
+        (toneTable (length (now (tones .entry))) (loadIn (now (blocks .entry)) (now (tones .entry)) (now (tape .entry)) model)) ⌝ }
+    ensures { λ _. ⌜ now (answer .exit)
+        ≡ valuesOf (ofLoaded (answerOf (loadIn (now (blocks .entry)) (now (tones .entry)) (now (tape .entry)) model)))
+        (now (answer .entry)) ⌝ }
 {
     if answer.len() < 3 {
         return NO_ROOM;
@@ -64,8 +72,10 @@ pub extern "C" fn glyvrask_load(
 // How many blocks the tape has.
 #[no_mangle]
 pub extern "C" fn glyvrask_len(blocks: &[u64], count: u64, answer: &mut [u64]) -> u32
-    ensures { λ k. ⌜ ((bytes tones : List ℕ) → k ≡ numberOf (ofNumber (lenOf (tapeOf bytes tones (now (blocks .entry)) count))) (now (answer .entry))) ⌝ }
-    ensures { λ _. ⌜ ((bytes tones : List ℕ) → now (answer .exit) ≡ valuesOf (ofNumber (lenOf (tapeOf bytes tones (now (blocks .entry)) count))) (now (answer .entry))) ⌝ }
+    ensures { λ k. ⌜ ((bytes tones : List ℕ)
+        → k ≡ numberOf (ofNumber (lenOf (tapeOf bytes tones (now (blocks .entry)) count))) (now (answer .entry))) ⌝ }
+    ensures { λ _. ⌜ ((bytes tones : List ℕ)
+        → now (answer .exit) ≡ valuesOf (ofNumber (lenOf (tapeOf bytes tones (now (blocks .entry)) count))) (now (answer .entry))) ⌝ }
 {
     tell_number(ask_block::len(blocks, count), answer)
 }
@@ -81,9 +91,17 @@ pub extern "C" fn glyvrask_block_name(
     out: &mut [u8],
     answer: &mut [u64],
 ) -> u32
-    ensures { λ k. ⌜ k ≡ numberOf (ofNumber (nameAnswer (tapeOf (now (tape .entry)) (now (tones .entry)) (now (blocks .entry)) count) i (now (out .entry)))) (now (answer .entry)) ⌝ }
-    ensures { λ _. ⌜ now (out .exit) ≡ nameLeft (tapeOf (now (tape .entry)) (now (tones .entry)) (now (blocks .entry)) count) i (now (answer .entry)) (now (out .entry)) ⌝ }
-    ensures { λ _. ⌜ now (answer .exit) ≡ valuesOf (ofNumber (nameAnswer (tapeOf (now (tape .entry)) (now (tones .entry)) (now (blocks .entry)) count) i (now (out .entry)))) (now (answer .entry)) ⌝ }
+    ensures { λ k. ⌜ k
+        ≡ numberOf
+        (ofNumber (nameAnswer (tapeOf (now (tape .entry)) (now (tones .entry)) (now (blocks .entry)) count) i (now (out .entry))))
+        (now (answer .entry)) ⌝ }
+    ensures { λ _. ⌜ now (out .exit)
+        ≡ nameLeft (tapeOf (now (tape .entry)) (now (tones .entry)) (now (blocks .entry)) count) i (now (answer .entry))
+        (now (out .entry)) ⌝ }
+    ensures { λ _. ⌜ now (answer .exit)
+        ≡ valuesOf
+        (ofNumber (nameAnswer (tapeOf (now (tape .entry)) (now (tones .entry)) (now (blocks .entry)) count) i (now (out .entry))))
+        (now (answer .entry)) ⌝ }
 {
     if answer.len() < 1 {
         return tell_number(ask_block::block_size(tape, tones, blocks, count, i), answer); // the name's refusals, and no byte written
@@ -104,8 +122,12 @@ pub extern "C" fn glyvrask_block_size(
     i: u64,
     answer: &mut [u64],
 ) -> u32
-    ensures { λ k. ⌜ k ≡ numberOf (ofNumber (sizeOf (tapeOf (now (tape .entry)) (now (tones .entry)) (now (blocks .entry)) count) i)) (now (answer .entry)) ⌝ }
-    ensures { λ _. ⌜ now (answer .exit) ≡ valuesOf (ofNumber (sizeOf (tapeOf (now (tape .entry)) (now (tones .entry)) (now (blocks .entry)) count) i)) (now (answer .entry)) ⌝ }
+    ensures { λ k. ⌜ k
+        ≡ numberOf (ofNumber (sizeOf (tapeOf (now (tape .entry)) (now (tones .entry)) (now (blocks .entry)) count) i))
+        (now (answer .entry)) ⌝ }
+    ensures { λ _. ⌜ now (answer .exit)
+        ≡ valuesOf (ofNumber (sizeOf (tapeOf (now (tape .entry)) (now (tones .entry)) (now (blocks .entry)) count) i))
+        (now (answer .entry)) ⌝ }
 {
     tell_number(ask_block::block_size(tape, tones, blocks, count, i), answer)
 }
@@ -120,8 +142,12 @@ pub extern "C" fn glyvrask_block_selectable(
     i: u64,
     answer: &mut [u64],
 ) -> u32
-    ensures { λ k. ⌜ k ≡ numberOf (ofMark (selectableOf (tapeOf (now (tape .entry)) (now (tones .entry)) (now (blocks .entry)) count) i)) (now (answer .entry)) ⌝ }
-    ensures { λ _. ⌜ now (answer .exit) ≡ valuesOf (ofMark (selectableOf (tapeOf (now (tape .entry)) (now (tones .entry)) (now (blocks .entry)) count) i)) (now (answer .entry)) ⌝ }
+    ensures { λ k. ⌜ k
+        ≡ numberOf (ofMark (selectableOf (tapeOf (now (tape .entry)) (now (tones .entry)) (now (blocks .entry)) count) i))
+        (now (answer .entry)) ⌝ }
+    ensures { λ _. ⌜ now (answer .exit)
+        ≡ valuesOf (ofMark (selectableOf (tapeOf (now (tape .entry)) (now (tones .entry)) (now (blocks .entry)) count) i))
+        (now (answer .entry)) ⌝ }
 {
     tell_mark(
         ask_block::block_selectable(tape, tones, blocks, count, i),
@@ -139,8 +165,12 @@ pub extern "C" fn glyvrask_block_time(
     i: u64,
     answer: &mut [u64],
 ) -> u32
-    ensures { λ k. ⌜ k ≡ numberOf (ofTime (timeOf (tapeOf (now (tape .entry)) (now (tones .entry)) (now (blocks .entry)) count) i)) (now (answer .entry)) ⌝ }
-    ensures { λ _. ⌜ now (answer .exit) ≡ valuesOf (ofTime (timeOf (tapeOf (now (tape .entry)) (now (tones .entry)) (now (blocks .entry)) count) i)) (now (answer .entry)) ⌝ }
+    ensures { λ k. ⌜ k
+        ≡ numberOf (ofTime (timeOf (tapeOf (now (tape .entry)) (now (tones .entry)) (now (blocks .entry)) count) i))
+        (now (answer .entry)) ⌝ }
+    ensures { λ _. ⌜ now (answer .exit)
+        ≡ valuesOf (ofTime (timeOf (tapeOf (now (tape .entry)) (now (tones .entry)) (now (blocks .entry)) count) i))
+        (now (answer .entry)) ⌝ }
 {
     tell_time(ask_block::block_time(tape, tones, blocks, count, i), answer)
 }
@@ -154,8 +184,12 @@ pub extern "C" fn glyvrask_loading_time(
     count: u64,
     answer: &mut [u64],
 ) -> u32
-    ensures { λ k. ⌜ k ≡ numberOf (ofNumber (loadingOf (tapeOf (now (tape .entry)) (now (tones .entry)) (now (blocks .entry)) count))) (now (answer .entry)) ⌝ }
-    ensures { λ _. ⌜ now (answer .exit) ≡ valuesOf (ofNumber (loadingOf (tapeOf (now (tape .entry)) (now (tones .entry)) (now (blocks .entry)) count))) (now (answer .entry)) ⌝ }
+    ensures { λ k. ⌜ k
+        ≡ numberOf (ofNumber (loadingOf (tapeOf (now (tape .entry)) (now (tones .entry)) (now (blocks .entry)) count)))
+        (now (answer .entry)) ⌝ }
+    ensures { λ _. ⌜ now (answer .exit)
+        ≡ valuesOf (ofNumber (loadingOf (tapeOf (now (tape .entry)) (now (tones .entry)) (now (blocks .entry)) count)))
+        (now (answer .entry)) ⌝ }
 {
     tell_number(ask_time::loading_time(tape, tones, blocks, count), answer)
 }
@@ -179,8 +213,12 @@ pub extern "C" fn glyvrask_position_block(
     position: &[u64],
     answer: &mut [u64],
 ) -> u32
-    ensures { λ k. ⌜ k ≡ numberOf (selectedAt (tapeOf (now (tape .entry)) (now (tones .entry)) (now (blocks .entry)) count) (now (position .entry))) (now (answer .entry)) ⌝ }
-    ensures { λ _. ⌜ now (answer .exit) ≡ valuesOf (selectedAt (tapeOf (now (tape .entry)) (now (tones .entry)) (now (blocks .entry)) count) (now (position .entry))) (now (answer .entry)) ⌝ }
+    ensures { λ k. ⌜ k
+        ≡ numberOf (selectedAt (tapeOf (now (tape .entry)) (now (tones .entry)) (now (blocks .entry)) count) (now (position .entry)))
+        (now (answer .entry)) ⌝ }
+    ensures { λ _. ⌜ now (answer .exit)
+        ≡ valuesOf (selectedAt (tapeOf (now (tape .entry)) (now (tones .entry)) (now (blocks .entry)) count) (now (position .entry)))
+        (now (answer .entry)) ⌝ }
 {
     match position_from(position) {
         Placed::Is(pos) => tell_selected(play_menu::block(tape, tones, blocks, count, pos), answer),
@@ -199,8 +237,12 @@ pub extern "C" fn glyvrask_play(
     n: u32,
     answer: &mut [u64],
 ) -> u32
-    ensures { λ k. ⌜ k ≡ numberOf (sourceAt (tapeOf (now (tape .entry)) (now (tones .entry)) (now (blocks .entry)) count) (now (position .entry)) n) (now (answer .entry)) ⌝ }
-    ensures { λ _. ⌜ now (answer .exit) ≡ valuesOf (sourceAt (tapeOf (now (tape .entry)) (now (tones .entry)) (now (blocks .entry)) count) (now (position .entry)) n) (now (answer .entry)) ⌝ }
+    ensures { λ k. ⌜ k
+        ≡ numberOf (sourceAt (tapeOf (now (tape .entry)) (now (tones .entry)) (now (blocks .entry)) count) (now (position .entry)) n)
+        (now (answer .entry)) ⌝ }
+    ensures { λ _. ⌜ now (answer .exit)
+        ≡ valuesOf (sourceAt (tapeOf (now (tape .entry)) (now (tones .entry)) (now (blocks .entry)) count) (now (position .entry)) n)
+        (now (answer .entry)) ⌝ }
 {
     match position_from(position) {
         Placed::Is(pos) => tell_reached(
@@ -222,8 +264,12 @@ pub extern "C" fn glyvrask_play_measured(
     n: u32,
     answer: &mut [u64],
 ) -> u32
-    ensures { λ k. ⌜ k ≡ numberOf (measuredAt (tapeOf (now (tape .entry)) (now (tones .entry)) (now (blocks .entry)) count) (now (position .entry)) n) (now (answer .entry)) ⌝ }
-    ensures { λ _. ⌜ now (answer .exit) ≡ valuesOf (measuredAt (tapeOf (now (tape .entry)) (now (tones .entry)) (now (blocks .entry)) count) (now (position .entry)) n) (now (answer .entry)) ⌝ }
+    ensures { λ k. ⌜ k
+        ≡ numberOf (measuredAt (tapeOf (now (tape .entry)) (now (tones .entry)) (now (blocks .entry)) count) (now (position .entry)) n)
+        (now (answer .entry)) ⌝ }
+    ensures { λ _. ⌜ now (answer .exit)
+        ≡ valuesOf (measuredAt (tapeOf (now (tape .entry)) (now (tones .entry)) (now (blocks .entry)) count) (now (position .entry)) n)
+        (now (answer .entry)) ⌝ }
 {
     match position_from(position) {
         Placed::Is(pos) => {

@@ -1,5 +1,5 @@
-// Lists the tapes on standard input one after the other: 4 bytes give how many there are; each has a model's number (1 byte), the tape's length (4 bytes),
-// at most 65,536, and the tape. Numbers are little-endian.
+// Lists the tapes on standard input one after the other: 4 bytes give how many there are; each has a model's number (1 byte), the tape's
+// length (4 bytes), at most 65,536, and the tape. Numbers are little-endian.
 use gate_input::read_bytes;
 use gate_input::read_count;
 use gate_input::read_number;

@@ -1,6 +1,7 @@
-// Plays rows that stand in tables, the runs on standard input one after the other: 4 bytes give how many there are; each has `m` (the measured player) or `s` (the
-// source's), how many block rows and tone rows (2 bytes each), the block that is started from (4 bytes), how many calls (2 bytes, at most 1,000), the tape's length
-// (4 bytes), each call's count (4 bytes), the words of the block rows and of the tone rows (4 bytes each), and the tape. Numbers are little-endian.
+// Plays rows that stand in tables, the runs on standard input one after the other: 4 bytes give how many there are; each has `m` (the
+// measured player) or `s` (the source's), how many block rows and tone rows (2 bytes each), the block that is started from (4 bytes), how
+// many calls (2 bytes, at most 1,000), the tape's length (4 bytes), each call's count (4 bytes),
+// the words of the block rows and of the tone rows (4 bytes each), and the tape. Numbers are little-endian.
 use gate_input::LARGEST;
 use gate_input::read_count;
 use gate_input::read_number;

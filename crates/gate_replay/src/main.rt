@@ -1,6 +1,7 @@
-// Loads the tapes on standard input one after the other and prints each answer: 4 bytes give how many there are; each has a model's number (1 byte), what is lent
-// of the block table and of the tone table (rows, 4 bytes, and words of a broken row, 1 byte, of each), the tape's length (4 bytes), and the tape. Numbers are
-// little-endian. Rows are counted, not words, so that the input stays as it is when a row grows.
+// Loads the tapes on standard input one after the other and prints each answer: 4 bytes give how many there are; each has a model's number
+// (1 byte), what is lent of the block table and of the tone table (rows, 4 bytes, and words of a broken row, 1 byte, of each), the tape's
+// length (4 bytes), and the tape. Numbers are little-endian.
+// Rows are counted, not words, so that the input stays as it is when a row grows.
 use gate_input::read_bytes;
 use gate_input::read_count;
 use gate_input::read_number;

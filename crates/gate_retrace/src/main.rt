@@ -1,4 +1,5 @@
-// Prints the runs on standard input one after the other: 4 bytes give how many there are; each has its length (4 bytes) and its description.
+// Prints the runs on standard input one after the other: 4 bytes give how many there are;
+// each has its length (4 bytes) and its description.
 use gate_input::read_bytes;
 use gate_input::read_count;
 use prog_calls::print_trace;

@@ -13,7 +13,8 @@ use Rattle.text_out.specs.Out.{fits, told}
 use Rattle.host_answers.specs.Answers.{refusedBy, numberOf, valuesOf}
 
 -- one word more
-pub tell-turn : (ws row row′ : List ℕ) (j : ℕ) → row′ ≡ paste row 0 ws j → j < length row → j < length ws → set row′ j (getD ws j 0) ≡ paste row 0 ws (j + 1)
+pub tell-turn : (ws row row′ : List ℕ) (j : ℕ) → row′ ≡ paste row 0 ws j → j < length row → j < length ws
+    → set row′ j (getD ws j 0) ≡ paste row 0 ws (j + 1)
 tell-turn ws row row′ j e hr hw =
     let z : j ≡ 0 + j = omega arith in
     ap (λ (r : List ℕ). set r j (getD ws j 0)) e
@@ -22,16 +23,19 @@ tell-turn ws row row′ j e hr hw =
     ∙ ap (λ (n : ℕ). paste row 0 ws n) (sym (add-one j))
 
 -- a row of fewer words is not written, and the answer is 10
-pub tell-short : (ws row : List ℕ) → length row < length ws → (_≡_ {A = ℕ} noRoom (fits ws row ⇒ 0 ∣ noRoom)) × (row ≡ told ws row)
+pub tell-short : (ws row : List ℕ) → length row < length ws
+    → (_≡_ {A = ℕ} noRoom (fits ws row ⇒ 0 ∣ noRoom)) × (row ≡ told ws row)
 unfolding told
 tell-short ws row h = (rw (lt-leb (length ws) (length row) h), rw (lt-leb (length ws) (length row) h))
 
 -- in a row that holds them they stand first
-pub tell-whole : (ws row row′ : List ℕ) (j : ℕ) → length ws ≤ length row → j ≡ length ws → row′ ≡ paste row 0 ws j → (_≡_ {A = ℕ} 0 (fits ws row ⇒ 0 ∣ noRoom)) × (row′ ≡ told ws row)
+pub tell-whole : (ws row row′ : List ℕ) (j : ℕ) → length ws ≤ length row → j ≡ length ws → row′ ≡ paste row 0 ws j
+    → (_≡_ {A = ℕ} 0 (fits ws row ⇒ 0 ∣ noRoom)) × (row′ ≡ told ws row)
 unfolding told
 tell-whole ws row row′ j h k e =
     let z : 0 + j ≡ length ws = omega arith in
-    let first : paste row 0 ws j ≡ ws ++ drop (length ws) row = rw (z, k) (ap (λ (t : List ℕ). t ++ drop (length ws) row) (take-length ws)) in
+    let first : paste row 0 ws j ≡ ws ++ drop (length ws) row =
+    rw (z, k) (ap (λ (t : List ℕ). t ++ drop (length ws) row) (take-length ws)) in
     (rw (le-leb (length ws) (length row) h), rw (le-leb (length ws) (length row) h) (e ∙ first))
 
 -- a refusal is its number, whatever row is lent, and the row stays

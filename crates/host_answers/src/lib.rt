@@ -18,7 +18,8 @@ ghost use mathlib.Core.Path.{_≡_};
 ghost use Rattle.law_base.specs.Rules.{_⇒_, _∣_};
 ghost use Rattle.refusals.specs.Refusals.{noRoom};
 ghost use Rattle.text_out.specs.Out.{fits, told};
-ghost use Rattle.host_answers.specs.Answers.{numberOf, valuesOf, ofNumber, ofMark, ofTime, ofPosition, ofSelected, standWords, ofReached, formatNumber, ofLoaded};
+ghost use Rattle.host_answers.specs.Answers.{numberOf, valuesOf, ofNumber, ofMark, ofTime, ofPosition, ofSelected, standWords};
+ghost use Rattle.host_answers.specs.Answers.{ofReached, formatNumber, ofLoaded};
 
 // The words into a row that holds them, and 0; else 10, and nothing is written.
 fn tell(words: &[u64], answer: &mut [u64]) -> u32

@@ -19,7 +19,8 @@ use Rattle.host_words.specs.declared.Phased.the-variants as phased
 use Rattle.host_words.specs.declared.Spanned.{Spanned}
 use Rattle.host_words.specs.declared.Spanned.the-variants as spanned
 use Rattle.host_words.specs.declared.Placed.the-variants as place
-use Rattle.host_words.specs.Words.{flagOf, spot, spotOf, span, spanOf, wordsOf, unhalved, halved, phaseFrom, spanFrom, joined, positionFrom}
+use Rattle.host_words.specs.Words.{flagOf, spot, spotOf, span, spanOf, wordsOf, unhalved, halved, phaseFrom, spanFrom}
+use Rattle.host_words.specs.Words.{joined, positionFrom}
 
 -- the words of a phase name it
 phase-back : (f : Phase) → phaseFrom (spotOf f .phase) (spotOf f .item) (spotOf f .part) (spotOf f .half) ≡ phased.Is f
@@ -43,7 +44,8 @@ position-back q rest =
     rw (le-ltb (length (wordsOf q ++ rest)) 7 (omega arith), phase-back (q .phase), span-back (q .left))
 
 -- a rule holds or the rest does
-either : {A : Type 0} {B : Type 0} (t : Bool) (x y : A) {z : A} → (t ⇒ x ∣ y) ≡ z → (t ≡ true → x ≡ z → B) → (t ≡ false → y ≡ z → B) → B
+either : {A : Type 0} {B : Type 0} (t : Bool) (x y : A) {z : A} → (t ⇒ x ∣ y) ≡ z → (t ≡ true → x ≡ z → B)
+    → (t ≡ false → y ≡ z → B) → B
 either true x y e f g = f refl e
 either false x y e f g = g refl e
 
@@ -55,10 +57,16 @@ bare-spot f g n a b h s e =
     (λ t q.
     let u = second (eqb a 0) (eqb b 0 && eqb h 0) t in
     let same : f ≡ g = cc in
-    rw (eqb-true a 0 (first (eqb a 0) (eqb b 0 && eqb h 0) t), eqb-true b 0 (first (eqb b 0) (eqb h 0) u), eqb-true h 0 (second (eqb b 0) (eqb h 0) u), ← same) s)
+    rw (
+      eqb-true a 0 (first (eqb a 0) (eqb b 0 && eqb h 0) t),
+      eqb-true b 0 (first (eqb b 0) (eqb h 0) u),
+      eqb-true h 0 (second (eqb b 0) (eqb h 0) u),
+      ← same,
+    ) s)
     (λ t q. cc)
 
-halved-spot : (f : Bool → Phase) (g : Phase) (n a b h : ℕ) → ((v : Bool) → spotOf (f v) ≡ spot n a b (flagOf v)) → halved f h ≡ phased.Is g → spotOf g ≡ spot n a b h
+halved-spot : (f : Bool → Phase) (g : Phase) (n a b h : ℕ) → ((v : Bool) → spotOf (f v) ≡ spot n a b (flagOf v))
+    → halved f h ≡ phased.Is g → spotOf g ≡ spot n a b h
 unfolding halved flagOf
 halved-spot f g n a b h s e =
     either (eqb h 0) _ _ e
@@ -94,11 +102,13 @@ span-words e n d q =
     rw (eqb-true e 1 (first (eqb e 1) (eqb n 0) t), eqb-true n 0 (second (eqb e 1) (eqb n 0) t), ← same))
     (λ _ r. cc))
 
-joined-words : (b f a p h e n : ℕ) (q : Position) → joined b (phaseFrom f a p h) (spanFrom e n) ≡ place.Is q → b ∷ f ∷ a ∷ p ∷ h ∷ e ∷ n ∷ [] ≡ wordsOf q
+joined-words : (b f a p h e n : ℕ) (q : Position) → joined b (phaseFrom f a p h) (spanFrom e n) ≡ place.Is q
+    → b ∷ f ∷ a ∷ p ∷ h ∷ e ∷ n ∷ [] ≡ wordsOf q
 unfolding joined wordsOf
 joined-words b f a p h e n q j = parts (phaseFrom f a p h) (spanFrom e n) refl refl j
   where
-    parts : (x : Phased) (y : Spanned) → phaseFrom f a p h ≡ x → spanFrom e n ≡ y → joined b x y ≡ place.Is q → b ∷ f ∷ a ∷ p ∷ h ∷ e ∷ n ∷ [] ≡ wordsOf q
+    parts : (x : Phased) (y : Spanned) → phaseFrom f a p h ≡ x → spanFrom e n ≡ y → joined b x y ≡ place.Is q
+        → b ∷ f ∷ a ∷ p ∷ h ∷ e ∷ n ∷ [] ≡ wordsOf q
     parts (phased.Is g) (spanned.Is d) u v w =
         let at : place.Is (record { block = b; phase = g; left = d }) ≡ place.Is q = w in
         let same : record { block = b; phase = g; left = d } ≡ q = cc in

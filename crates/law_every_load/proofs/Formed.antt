@@ -32,8 +32,10 @@ pub record Named (s : List ℕ) (mark case text chars : ℕ) : Type 0 where
 brought-fine : {s : List ℕ} {p : Pending} → Bytes s → Brought (sourceTable s) p → FineName s p
 brought-fine {s} {p} b q = subst (FineName s) (q .is) (deed-fine s b (q .piece) (q .cut .sized) .name)
 
-pub given-small : {s : List ℕ} {mark case text chars : ℕ} → Bytes s → GivenName (sourceTable s) mark case text chars → Named s mark case text chars
-given-small b GivenName.none = record { name = record { inside = omega arith; small = omega arith }; small = omega arith; told = omega arith }
+pub given-small : {s : List ℕ} {mark case text chars : ℕ} → Bytes s → GivenName (sourceTable s) mark case text chars
+    → Named s mark case text chars
+given-small b GivenName.none =
+    record { name = record { inside = omega arith; small = omega arith }; small = omega arith; told = omega arith }
 given-small b (GivenName.first q) = record { name = brought-fine b q; small = omega arith; told = omega arith }
 given-small b (GivenName.later q) = record { name = brought-fine b q; small = omega arith; told = omega arith }
 given-small b (GivenName.text q) = record { name = brought-fine b q; small = omega arith; told = omega arith }
@@ -44,22 +46,56 @@ unfolding paused
 paused-formed {s} ts r h = by-cases (eqb (r .endless) 0 && eqb (r .pause) 0)
   where
     by-cases : (b : Bool) → Formed s ts (b ⇒ withPause 3500 r ∣ r)
-    by-cases true = record { bytes = h .bytes; name = h .name; zero = h .zero; one = h .one; pause = omega arith; endless = h .endless; selectable = h .selectable; named = h .named; tones = h .tones; source = h .source }
+    by-cases true = record {
+      bytes = h .bytes;
+      name = h .name;
+      zero = h .zero;
+      one = h .one;
+      pause = omega arith;
+      endless = h .endless;
+      selectable = h .selectable;
+      named = h .named;
+      tones = h .tones;
+      source = h .source;
+    }
     by-cases false = h
 
 -- a row at birth
 row-formed : {s : List ℕ} (origin : Origin) (d : Sound) (tone : ℕ) → FineSound s d → Formed s (d .tones) (rowOf origin d tone)
 unfolding rowOf
-row-formed origin d tone h = record { bytes = h .bytes; name = omega arith; zero = h .zero; one = h .one; pause = h .pause; endless = h .endless; selectable = h .mark; named = h .named; tones = h .tones; source = record { is = refl; low = refl; silent = refl } }
+row-formed origin d tone h = record {
+  bytes = h .bytes;
+  name = omega arith;
+  zero = h .zero;
+  one = h .one;
+  pause = h .pause;
+  endless = h .endless;
+  selectable = h .mark;
+  named = h .named;
+  tones = h .tones;
+  source = record { is = refl; low = refl; silent = refl };
+}
 
 module _ (s : List ℕ) (b : Bytes s) where
   piece-formed : Births (sourceTable s) (Formed s)
   piece-formed origin d tone (of {piece = piece} f m) = row-formed origin d tone (all-at (deed-fine s b piece (f .sized) .sounds) m)
 
-  named-formed : {mark case text chars : ℕ} (ts : List Tone) (r : Block) → GivenName (sourceTable s) mark case text chars → Formed s ts r → Formed s ts (renamed mark case text chars r)
+  named-formed : {mark case text chars : ℕ} (ts : List Tone) (r : Block) → GivenName (sourceTable s) mark case text chars
+      → Formed s ts r → Formed s ts (renamed mark case text chars r)
   named-formed {mark} {case} {text} {chars} ts r g h =
       let n = given-small b g in
-      record { bytes = h .bytes; name = n .name .inside; zero = h .zero; one = h .one; pause = h .pause; endless = h .endless; selectable = n .small; named = n .told; tones = h .tones; source = h .source }
+      record {
+        bytes = h .bytes;
+        name = n .name .inside;
+        zero = h .zero;
+        one = h .one;
+        pause = h .pause;
+        endless = h .endless;
+        selectable = n .small;
+        named = n .told;
+        tones = h .tones;
+        source = h .source;
+      }
 
   -- EVERY ROW IS FORMED
   pub every-formed : Everywhere s (Formed s)
@@ -72,6 +108,17 @@ module _ (s : List ℕ) (b : Bytes s) where
           naming = λ mark case text chars ts r g h. named-formed ts r g h;
           pausing = λ ts r h. paused-formed ts r h;
           passing = λ ts r h.
-              record { bytes = h .bytes; name = h .name; zero = h .zero; one = h .one; pause = h .pause; endless = h .endless; selectable = omega arith; named = h .named; tones = h .tones; source = h .source };
+              record {
+                bytes = h .bytes;
+                name = h .name;
+                zero = h .zero;
+                one = h .one;
+                pause = h .pause;
+                endless = h .endless;
+                selectable = omega arith;
+                named = h .named;
+                tones = h .tones;
+                source = h .source;
+              };
         };
       }

@@ -24,11 +24,14 @@ module _ {lent : Lent} {M : Sound → Origin → Type 0} {Q : Pending → Type 0
   sound-keeps origin d t m h = by-cases (leb (length (t .tones) + length (d .tones)) (lent .tones)) refl
     where
       by-cases : (b : Bool) → leb (length (t .tones) + length (d .tones)) (lent .tones) ≡ b
-          → Sure K ((b ⇒ on (withTones (d .tones) t) ∣ no (Refusal tonesFull)) ⟫ addBlock (lent .blocks) (rowOf origin d (length (t .tones))))
+          → Sure K
+          ((b ⇒ on (withTones (d .tones) t) ∣ no (Refusal tonesFull)) ⟫ addBlock (lent .blocks) (rowOf origin d (length (t .tones))))
       by-cases true e = block-sure (lent .blocks) _ (withTones (d .tones) t) (λ room. k .adding origin d t m (leb-true _ _ e) room h)
       by-cases false e = none
 
-  pub sounds-keep : (origin : Origin) {ds : List Sound} → All (λ d. M d origin) ds → (t : Parsed) → K t → Sure K (addSounds lent origin ds t)
+  pub sounds-keep : (origin : Origin) {ds : List Sound} → All (λ d. M d origin) ds → (t : Parsed) → K t
+      → Sure K (addSounds lent origin ds t)
   unfolding addSounds
   sounds-keep origin nil t h = sure h
-  sounds-keep origin (cons {x = d} {xs = ds} m ms) t h = sure-then (addSounds lent origin ds) (sound-keeps origin d t m h) (sounds-keep origin ms)
+  sounds-keep origin (cons {x = d} {xs = ds} m ms) t h =
+      sure-then (addSounds lent origin ds) (sound-keeps origin d t m h) (sounds-keep origin ms)

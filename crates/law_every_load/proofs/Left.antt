@@ -1,4 +1,5 @@
--- The tables that a load leaves are well formed throughout: no query and no player answers 11 of them. Assumes nothing but that bytes are below 256.
+-- The tables that a load leaves are well formed throughout: no query and no player answers 11 of them.
+-- Assumes nothing but that bytes are below 256.
 use Prim.Native.Nat.{ℕ, _<_}
 use native.Mathlib.Omega.{arith}
 use mathlib.Core.Path.{_≡_, ap, _∙_}
@@ -30,7 +31,8 @@ pub record Left (B N : ℕ) (s : List ℕ) (a : Load) (n : ℕ) (bt tt : List �
   pub blocks : bt ≡ tableOf block (nameAll s false (tape .blocks)) B
   pub tones : tt ≡ tableOf tone (tape .tones) N
 
-pub left-of : {B N : ℕ} (s : List ℕ) (a : Load) {f : Format} {n k : ℕ} {bt tt : List ℕ} → Leaves B N (namedLoad s a) (loaded.Tape f n k) bt tt → Left B N s a n bt tt
+pub left-of : {B N : ℕ} (s : List ℕ) (a : Load) {f : Format} {n k : ℕ} {bt tt : List ℕ}
+    → Leaves B N (namedLoad s a) (loaded.Tape f n k) bt tt → Left B N s a n bt tt
 unfolding namedLoad namedTape answerOf blockTable toneTable
 left-of s (tzx t) {n = n} l =
     let e = l .answer in
@@ -43,12 +45,15 @@ left-of s (tapped t) {n = n} l =
 left-of s (no j) l = let e = l .answer in absurd (let z : _≡_ {A = ℕ} 0 1 = cc in omega arith)
 
 -- a tape mounted over equal tables
-pub mounted-same : (s : List ℕ) {tt tt₀ bt bt₀ : List ℕ} {n n₀ : ℕ} → tt ≡ tt₀ → bt ≡ bt₀ → n ≡ n₀ → tapeOf s tt bt n ≡ tapeOf s tt₀ bt₀ n₀
+pub mounted-same : (s : List ℕ) {tt tt₀ bt bt₀ : List ℕ} {n n₀ : ℕ} → tt ≡ tt₀ → bt ≡ bt₀ → n ≡ n₀
+    → tapeOf s tt bt n ≡ tapeOf s tt₀ bt₀ n₀
 mounted-same s {tt₀ = tt₀} {bt} {bt₀} {n} p q e =
-    ap (λ (x : List ℕ). tapeOf s x bt n) p ∙ ap (λ (x : List ℕ). tapeOf s tt₀ x n) q ∙ ap (λ (x : ℕ). tapeOf s tt₀ bt₀ x) e
+    ap (λ (x : List ℕ). tapeOf s x bt n) p ∙ ap (λ (x : List ℕ). tapeOf s tt₀ x n) q
+    ∙ ap (λ (x : ℕ). tapeOf s tt₀ bt₀ x) e
 
 -- A LOAD THAT LEFT n BLOCKS left a whole tape
-module _ (B N : ℕ) (s : List ℕ) (model : ℕ) {f : Format} {n k : ℕ} {bt tt : List ℕ} (b : Bytes s) (l : Leaves B N (loadNamed (lentOf B N) s model) (loaded.Tape f n k) bt tt) where
+module _ (B N : ℕ) (s : List ℕ) (model : ℕ) {f : Format} {n k : ℕ} {bt tt : List ℕ} (b : Bytes s)
+    (l : Leaves B N (loadNamed (lentOf B N) s model) (loaded.Tape f n k) bt tt) where
   pub left : Left B N s (loadOf (lentOf B N) s model) n bt tt
   unfolding loadNamed
   left = left-of s (loadOf (lentOf B N) s model) l
@@ -59,7 +64,8 @@ module _ (B N : ℕ) (s : List ℕ) (model : ℕ) {f : Format} {n k : ℕ} {bt t
   pub left-well : (i : ℕ) → i < n → wellRow (tapeOf s tt bt n) i ≡ true
   left-well i h =
       let q = left in
-      ap (λ (w : entries.Tape). wellRow w i) (mounted-same s (q .tones) (q .blocks) (q .count)) ∙ loaded-well B N s model b (q .reads) i (omega (arith, q .count))
+      ap (λ (w : entries.Tape). wellRow w i) (mounted-same s (q .tones) (q .blocks) (q .count))
+      ∙ loaded-well B N s model b (q .reads) i (omega (arith, q .count))
 
   pub left-whole : WholeTape (tapeOf s tt bt n)
   left-whole = record { lent = ltb-false (capacityOf block blockMost bt) n left-fits; rows = left-well }

@@ -22,7 +22,8 @@ use Rattle.load_blocks.specs.Adds.{Lent}
 use Rattle.load_blocks.specs.Sounds.{originAt}
 use Rattle.load_source.specs.declared.Failure.{Failure}
 use Rattle.load_source.specs.Source as source
-use Rattle.load_source.specs.Source.{See, thing, Verdict, readOn, seeing, foldFrom, halted, tapKind, full, tooManyBits, bitsJudged, tzxOf, tzxSee, headed, readTzx, tapOf, tapSee, readTap, Load, orTap, orElse, loadOf}
+use Rattle.load_source.specs.Source.{See, thing, Verdict, readOn, seeing, foldFrom, halted, tapKind, full, tooManyBits, bitsJudged, tzxOf}
+use Rattle.load_source.specs.Source.{tzxSee, headed, readTzx, tapOf, tapSee, readTap, Load, orTap, orElse, loadOf}
 use Rattle.law_every_load.specs.Sizes.{Bytes}
 use Rattle.law_every_load.specs.Made.{Pends, OfPiece, of}
 use Rattle.law_every_load.specs.OfSource.{sourceTable, tapTable, Reads, as-tzx, as-tap}
@@ -65,14 +66,16 @@ module _ {K : Parsed → Type 0} where
   after-keeps k (none {k = Refusal j}) f = refused
   after-keeps k (none {k = Length n}) f = failed
 
-  seeing-keeps : {x : See} (k : ℕ → Parsed → Verdict) → Safe K x → ((at : ℕ) (t : Parsed) → K t → Final K (k at t)) → (t : Parsed) → K t → Final K (seeing x t k)
+  seeing-keeps : {x : See} (k : ℕ → Parsed → Verdict) → Safe K x → ((at : ℕ) (t : Parsed) → K t → Final K (k at t))
+      → (t : Parsed) → K t → Final K (seeing x t k)
   unfolding seeing
   seeing-keeps k over f t h = done h
   seeing-keeps k bad f t h = failed
   seeing-keeps k refuses f t h = refused
   seeing-keeps k (does {next = next} g) f t h = after-keeps (k next) (g t h) (f next)
 
-  fold-keeps : (see : ℕ → See) → ((at : ℕ) → Safe K (see at)) → (n at : ℕ) (t : Parsed) → K t → Final K (foldFrom see n at t)
+  fold-keeps : (see : ℕ → See) → ((at : ℕ) → Safe K (see at)) → (n at : ℕ) (t : Parsed) → K t
+      → Final K (foldFrom see n at t)
   unfolding foldFrom
   fold-keeps see safe zero at t h = done h
   fold-keeps see safe (suc n) at t h = seeing-keeps (foldFrom see n) (safe at) (fold-keeps see safe n) t h
@@ -108,7 +111,8 @@ module _ {lent : Lent} {s : List ℕ} (b : Bytes s) where
     tzx-keeps model = by-head (headAt s)
       where
         by-head : (x : Heading) → Final (LetThrough K) (headed lent s model x)
-        by-head (heading.Version major minor) = judged-keeps (fold-keeps (tzxSee lent s model) (tzx-safe model) (length s) 10 empty (k .begins))
+        by-head (heading.Version major minor) =
+            judged-keeps (fold-keeps (tzxSee lent s model) (tzx-safe model) (length s) 10 empty (k .begins))
         by-head heading.BadSignature = failed
         by-head (heading.Short p w) = failed
 
@@ -120,7 +124,9 @@ module _ {lent : Lent} {s : List ℕ} (b : Bytes s) where
         by-cut : (x : TakenTap) → tapAt s at ≡ x → Safe L (tapOf lent s at x)
         by-cut tap.End e = over
         by-cut tap.Lone e = over
-        by-cut (tap.Block from size next) e = does (λ t h. sound-keeps l (originAt tapKind at) _ t (of {piece = record { from = from; size = size }} (record { next = next; cut = e; range = tap-sized s at e b }) (List·Memᴰ·head refl)) h)
+        by-cut (tap.Block from size next) e =
+            does (λ t h. sound-keeps l (originAt tapKind at) _ t (of {piece = record { from = from; size = size }}
+            (record { next = next; cut = e; range = tap-sized s at e b }) (List·Memᴰ·head refl)) h)
         by-cut (tap.Short p w) e = bad
 
     tap-read : Final L (readTap lent s)
@@ -139,21 +145,26 @@ or-else (done h) f = tzx h
 or-else failed f = or-tap f
 or-else refused f = no
 
-load-answers : {K L : Parsed → Type 0} (lent : Lent) (s : List ℕ) (model : ℕ) → Final K (readTzx lent s model) → Final L (readTap lent s) → Answers K L (loadOf lent s model)
+load-answers : {K L : Parsed → Type 0} (lent : Lent) (s : List ℕ) (model : ℕ) → Final K (readTzx lent s model)
+    → Final L (readTap lent s) → Answers K L (loadOf lent s model)
 unfolding loadOf
 load-answers {K} {L} lent s model f g = by-cases (leb 3 model) (ltb 1048576 (length s))
   where
-    by-cases : (a b : Bool) → Answers K L (a ⇒ source.no badModel ∣ b ⇒ source.no tapeLong ∣ orElse (readTzx lent s model) (readTap lent s))
+    by-cases : (a b : Bool)
+        → Answers K L (a ⇒ source.no badModel ∣ b ⇒ source.no tapeLong ∣ orElse (readTzx lent s model) (readTap lent s))
     by-cases true b = no
     by-cases false true = no
     by-cases false false = or-else f g
 
-answered : {K L M : Parsed → Type 0} {a : Load} {t : Parsed} → ((u : Parsed) → K u → M u) → ((u : Parsed) → L u → M u) → Answers K L a → Reads a t → M t
+answered : {K L M : Parsed → Type 0} {a : Load} {t : Parsed} → ((u : Parsed) → K u → M u) → ((u : Parsed) → L u → M u)
+    → Answers K L a → Reads a t → M t
 answered f g (tzx h) as-tzx = f _ h
 answered f g (tapped h) as-tap = g _ h
 
 -- THE INDUCTION: where a TZX's pieces keep K, a TAP's blocks keep L, and each gives M, every tape that a load reads has M
 module _ {K L M : Parsed → Type 0} (lent : Lent) (s : List ℕ) (model : ℕ) {t : Parsed} where
-  pub load-keeps : Bytes s → Invariant lent (OfPiece (sourceTable s)) (Pends (sourceTable s)) K → Invariant lent (OfPiece (tapTable s)) (Pends (sourceTable s)) L → ((u : Parsed) → LetThrough K u → M u) → ((u : Parsed) → L u → M u)
+  pub load-keeps : Bytes s → Invariant lent (OfPiece (sourceTable s)) (Pends (sourceTable s)) K
+      → Invariant lent (OfPiece (tapTable s)) (Pends (sourceTable s)) L → ((u : Parsed) → LetThrough K u → M u)
+      → ((u : Parsed) → L u → M u)
       → Reads (loadOf lent s model) t → M t
   load-keeps b k l f g r = answered f g (load-answers lent s model (tzx-keeps b k model) (tap-read b l)) r

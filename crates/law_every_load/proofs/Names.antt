@@ -61,7 +61,8 @@ name-most s r h =
     (either 510 (eqb (r .named) 1) _ _ (omega arith) (omega (arith, each-length latin1 2 latin1-length t)))
 
 -- EVERY NAME OF THE TABLE
-pub loaded-names : (B N : ℕ) (s : List ℕ) (model : ℕ) {t : Parsed} → Bytes s → Reads (loadOf (lentOf B N) s model) t → (i : ℕ) → i < length (t .blocks)
+pub loaded-names : (B N : ℕ) (s : List ℕ) (model : ℕ) {t : Parsed} → Bytes s → Reads (loadOf (lentOf B N) s model) t → (i : ℕ)
+    → i < length (t .blocks)
     → length (nameOf s (get block (tableOf block (nameAll s false (t .blocks)) B) i)) ≤ 510
 loaded-names B N s model {t} b r i h =
     let rows = nameAll s false (t .blocks) in

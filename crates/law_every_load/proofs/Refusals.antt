@@ -20,14 +20,17 @@ use Rattle.cut_grammar.specs.Cut.{cutAt, tapAt, headAt}
 use Rattle.load_state.specs.declared.Loop.{Loop}
 use Rattle.load_state.specs.declared.Loop.the-variants.{Closed, Open}
 use Rattle.load_state.specs.declared.Halt.the-variants.{Refusal, Length}
-use Rattle.load_state.specs.Parser.{Parsed, Out, on, no as halt, empty, _⟫_, addTones, addBlock, pend, endGroup, openLoop, copyRows, copies, closed, closeLoop}
+use Rattle.load_state.specs.Parser.{Parsed, Out, on, no as halt, empty, _⟫_, addTones, addBlock, pend, endGroup, openLoop, copyRows}
+use Rattle.load_state.specs.Parser.{copies, closed, closeLoop}
 use Rattle.load_blocks.specs.Adds.{Lent, addRows}
 use Rattle.load_blocks.specs.declared.Origin.{Origin}
 use Rattle.load_blocks.specs.Sounds.{Sound, originAt, addSound, addSounds}
 use Rattle.load_blocks.specs.Deeds.{Deed, adding, groups, texts, groupEnds, opens, closes, panics, errs, does as enact}
 use Rattle.load_source.specs.declared.Failure.{Failure}
 use Rattle.load_source.specs.Meaning.{deedOf}
-use Rattle.load_source.specs.Source.{See, theEnd, bad, refuses, thing, Verdict, done, failed, refused, act, halted, readOn, seeing, foldFrom, tooManyBits, bitsJudged, tzxOf, tzxSee, headed, readTzx, tapOf, tapSee, readTap, full, Load, no, orTap, orElse, loadOf}
+use Rattle.load_source.specs.Source.{See, theEnd, bad, refuses, thing, Verdict, done, failed, refused, act, halted, readOn, seeing}
+use Rattle.load_source.specs.Source.{foldFrom, tooManyBits, bitsJudged, tzxOf, tzxSee, headed, readTzx, tapOf, tapSee, readTap, full, Load}
+use Rattle.load_source.specs.Source.{no, orTap, orElse, loadOf}
 use Rattle.load_tape.specs.Load.{namedLoad}
 use Rattle.law_every_load.specs.Numbered.{Numbered, as-tzx, as-tap, by}
 
@@ -67,7 +70,8 @@ pub either : (P : Out → Type 0) (b : Bool) {x y : Out} → P x → P y → P (
 either P true h k = h
 either P false h k = k
 
-then-says : {lo hi : ℕ} {o : Out} {f : Parsed → Out} → HaltsBy lo hi o → ((t : Parsed) → HaltsBy lo hi (f t)) → HaltsBy lo hi (o ⟫ f)
+then-says : {lo hi : ℕ} {o : Out} {f : Parsed → Out} → HaltsBy lo hi o → ((t : Parsed) → HaltsBy lo hi (f t))
+    → HaltsBy lo hi (o ⟫ f)
 unfolding _⟫_
 then-says (goes {t}) h = h t
 then-says (says k) h = says k
@@ -75,11 +79,13 @@ then-says fails h = fails
 
 tones-says : (most : ℕ) (ts : List Tone) (t : Parsed) → HaltsBy tonesFull blocksFull (addTones most ts t)
 unfolding addTones
-tones-says most ts t = either (HaltsBy tonesFull blocksFull) (leb (length (t .tones) + length ts) most) goes (says (record { low = omega arith; high = omega arith }))
+tones-says most ts t = either (HaltsBy tonesFull blocksFull) (leb (length (t .tones) + length ts) most) goes
+    (says (record { low = omega arith; high = omega arith }))
 
 block-says : (most : ℕ) (r : Block) (t : Parsed) → HaltsBy tonesFull blocksFull (addBlock most r t)
 unfolding addBlock
-block-says most r t = either (HaltsBy tonesFull blocksFull) (ltb (length (t .blocks)) most) goes (says (record { low = omega arith; high = omega arith }))
+block-says most r t =
+    either (HaltsBy tonesFull blocksFull) (ltb (length (t .blocks)) most) goes (says (record { low = omega arith; high = omega arith }))
 
 -- copies of a loop
 row-says : (most : ℕ) (rs : List Block) (t : Parsed) → HaltsBy tonesFull blocksFull (copyRows most rs t)
@@ -109,7 +115,8 @@ module _ (lent : Lent) where
 
   does-says : (model : ℕ) (origin : Origin) (d : Deed) (t : Parsed) → HaltsBy generalised blocksFull (enact lent model origin d t)
   unfolding enact pend endGroup openLoop closeLoop
-  does-says model origin (adding only48 ds) t = either (HaltsBy generalised blocksFull) (only48 && not (eqb model 0)) goes (wider (sounds-say origin ds t))
+  does-says model origin (adding only48 ds) t =
+      either (HaltsBy generalised blocksFull) (only48 && not (eqb model 0)) goes (wider (sounds-say origin ds t))
   does-says model origin (groups from size) t = goes
   does-says model origin (texts from size) t = goes
   does-says model origin groupEnds t = goes
@@ -139,20 +146,23 @@ module _ (lent : Lent) where
     tap-sees at (tap.Short p w) = bad-seen
 
   -- a run of things, and what is judged of it
-  after-tells : {lo hi : ℕ} {o : Out} {k : Parsed → Verdict} → HaltsBy lo hi o → ((t : Parsed) → Tells lo hi (k t)) → Tells lo hi (readOn o k)
+  after-tells : {lo hi : ℕ} {o : Out} {k : Parsed → Verdict} → HaltsBy lo hi o → ((t : Parsed) → Tells lo hi (k t))
+      → Tells lo hi (readOn o k)
   unfolding readOn halted
   after-tells (goes {t}) h = h t
   after-tells (says b) h = tells b
   after-tells fails h = fails
 
-  seeing-tells : {lo hi : ℕ} {x : See} {k : ℕ → Parsed → Verdict} → Sees lo hi x → (t : Parsed) → ((n : ℕ) (u : Parsed) → Tells lo hi (k n u)) → Tells lo hi (seeing x t k)
+  seeing-tells : {lo hi : ℕ} {x : See} {k : ℕ → Parsed → Verdict} → Sees lo hi x → (t : Parsed)
+      → ((n : ℕ) (u : Parsed) → Tells lo hi (k n u)) → Tells lo hi (seeing x t k)
   unfolding seeing
   seeing-tells ends t h = whole
   seeing-tells bad-seen t h = fails
   seeing-tells (sees b) t h = tells b
   seeing-tells (does {next} f) t h = after-tells (f t) (h next)
 
-  run-tells : {lo hi : ℕ} {see : ℕ → See} → ((at : ℕ) → Sees lo hi (see at)) → (n at : ℕ) (t : Parsed) → Tells lo hi (foldFrom see n at t)
+  run-tells : {lo hi : ℕ} {see : ℕ → See} → ((at : ℕ) → Sees lo hi (see at)) → (n at : ℕ) (t : Parsed)
+      → Tells lo hi (foldFrom see n at t)
   unfolding foldFrom
   run-tells h zero at t = whole
   run-tells h (suc n) at t = seeing-tells (h at) t (λ m u. run-tells h n m u)

@@ -56,16 +56,22 @@ Any t = Unit {0}
 
 any-keeps : (lent : Lent) (M : Sound → Origin → Type 0) (Q : Pending → Type 0) → Invariant lent M Q Any
 any-keeps lent M Q =
-    record { begins = tt; adding = λ origin d t m a b h. tt; steps = record { copying = λ r t i b h. tt; naming = λ p t q h. tt; pausing = λ t h. tt; looping = λ l t h. tt } }
+    record {
+      begins = tt;
+      adding = λ origin d t m a b h. tt;
+      steps = record { copying = λ r t i b h. tt; naming = λ p t q h. tt; pausing = λ t h. tt; looping = λ l t h. tt };
+    }
 
 -- last bits at most 8 where there is data
 abbrev pub FewBits : Block → Type 0
 FewBits r = 0 < r .size → r .last ≤ 8
 
-bits-one : (r : Block) (rest : Bool) → ((ltb 0 (r .size) && ltb 8 (r .last)) ⇒ true ∣ rest) ≡ false → FewBits r × (rest ≡ false)
+bits-one : (r : Block) (rest : Bool) → ((ltb 0 (r .size) && ltb 8 (r .last)) ⇒ true ∣ rest) ≡ false
+    → FewBits r × (rest ≡ false)
 bits-one r rest e = by-cases (ltb 0 (r .size)) (ltb 8 (r .last)) refl refl e
   where
-    by-cases : (a b : Bool) → ltb 0 (r .size) ≡ a → ltb 8 (r .last) ≡ b → ((a && b) ⇒ true ∣ rest) ≡ false → FewBits r × (rest ≡ false)
+    by-cases : (a b : Bool) → ltb 0 (r .size) ≡ a → ltb 8 (r .last) ≡ b → ((a && b) ⇒ true ∣ rest) ≡ false
+        → FewBits r × (rest ≡ false)
     by-cases true true p q f = absurd (let z : _≡_ {A = ℕ} 0 1 = cc in omega arith)
     by-cases true false p q f = (λ _. ltb-false 8 (r .last) q, f)
     by-cases false b p q f = (λ h. absurd (let z = ltb-false 0 (r .size) p in omega arith), f)
@@ -82,7 +88,11 @@ Eight ts r = r .last ≡ 8
 eight-lasts : (s : List ℕ) → LastsThrough (sourceTable s) Eight
 unfolding unselected
 eight-lasts s =
-    record { naming = λ mark case text chars ts r g h. h; pausing = λ ts r h. rw (paused-same (λ q. q .last) r refl) h; passing = λ ts r h. h }
+    record {
+      naming = λ mark case text chars ts r g h. h;
+      pausing = λ ts r h. rw (paused-same (λ q. q .last) r refl) h;
+      passing = λ ts r h. h;
+    }
 
 tap-eight : {s : List ℕ} → Births (tapTable s) Eight
 unfolding standardSound rowOf
@@ -105,12 +115,14 @@ module _ (lent : Lent) (s : List ℕ) (model : ℕ) {t : Parsed} where
   -- ALL ROWS ARE LENT ONES
   pub load-within : Bytes s → Reads (loadOf lent s model) t → Within lent t
   load-within b r =
-      load-keeps lent s model b (within-keeps lent (OfPiece (sourceTable s)) (Pends (sourceTable s))) (within-keeps lent (OfPiece (tapTable s)) (Pends (sourceTable s))) (λ u h. h .kept) (λ u h. h) r
+      load-keeps lent s model b (within-keeps lent (OfPiece (sourceTable s)) (Pends (sourceTable s)))
+      (within-keeps lent (OfPiece (tapTable s)) (Pends (sourceTable s))) (λ u h. h .kept) (λ u h. h) r
 
   -- LAST BITS: for TZX by refusal 7, for TAP by the standard block's 8
   pub read-bits : Bytes s → Reads (loadOf lent s model) t → All FewBits (t .blocks)
   read-bits b r =
-      load-keeps lent s model b (any-keeps lent (OfPiece (sourceTable s)) (Pends (sourceTable s))) (rows-keep (eight-lasts s) tap-eight lent) (λ u h. bits-all (u .blocks) (h .bits)) (λ u h. all-also eight-bits (h .rows)) r
+      load-keeps lent s model b (any-keeps lent (OfPiece (sourceTable s)) (Pends (sourceTable s)))
+      (rows-keep (eight-lasts s) tap-eight lent) (λ u h. bits-all (u .blocks) (h .bits)) (λ u h. all-also eight-bits (h .rows)) r
 
   pub load-bits : Bytes s → Reads (loadOf lent s model) t → All FewBits (nameAll s false (t .blocks))
   unfolding unselected
@@ -119,4 +131,5 @@ module _ (lent : Lent) (s : List ℕ) (model : ℕ) {t : Parsed} where
   -- refusal 2
   pub load-length : Reads (loadOf lent s model) t → length s ≤ 1048576
   unfolding loadOf
-  load-length r = ltb-false 1048576 (length s) (past-two (orElse (readTzx lent s model) (readTap lent s)) (leb 3 model) (ltb 1048576 (length s)) r)
+  load-length r =
+      ltb-false 1048576 (length s) (past-two (orElse (readTzx lent s model) (readTap lent s)) (leb 3 model) (ltb 1048576 (length s)) r)

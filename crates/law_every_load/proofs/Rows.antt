@@ -58,27 +58,35 @@ module _ {P : List Tone → Block → Type 0} where
       let i = h .inside in
       let n : r .tone ≤ length all = omega arith in
       let m : r .tones ≤ length (drop (r .tone) all) = rw length-drop (omega arith) in
-      let e : tonesIn (all ++ ts) r ≡ tonesIn all r = ap (take (r .tones)) (drop-append-le (r .tone) all ts n) ∙ take-append-le (r .tones) (drop (r .tone) all) ts m in
+      let e : tonesIn (all ++ ts) r ≡ tonesIn all r =
+      ap (take (r .tones)) (drop-append-le (r .tone) all ts n) ∙ take-append-le (r .tones) (drop (r .tone) all) ts m in
       record { inside = rw length-append (omega arith); has = rw e (h .has) }
 
   -- a row over the last ones
   row-new : (all ts : List Tone) (r : Block) → r .tone ≡ length all → r .tones ≡ length ts → P ts r → RowOver P (all ++ ts) r
   row-new all ts r e n h =
-      let q : tonesIn (all ++ ts) r ≡ ts = ap (take (r .tones)) (drop-at all ts (r .tone) (sym e)) ∙ take-all (r .tones) ts (omega arith) in
+      let q : tonesIn (all ++ ts) r ≡ ts =
+      ap (take (r .tones)) (drop-at all ts (r .tone) (sym e)) ∙ take-all (r .tones) ts (omega arith) in
       record { inside = rw length-append (omega arith); has = rw q h }
 
   module _ {T : Table} (k : LastsThrough T P) where
     row-named : (all : List Tone) (p : Pending) (r : Block) → Pends T p → RowOver P all r → RowOver P all (named p r)
     row-named all Nothing r q h = h
-    row-named all (First from size) r q h = record { inside = h .inside; has = k .naming 1 3 from size (tonesIn all r) r (GivenName.first q) (h .has) }
-    row-named all (Later from size) r q h = record { inside = h .inside; has = k .naming 0 4 from size (tonesIn all r) r (GivenName.later q) (h .has) }
-    row-named all (Text from size) r q h = record { inside = h .inside; has = k .naming 1 2 from size (tonesIn all r) r (GivenName.text q) (h .has) }
+    row-named all (First from size) r q h =
+        record { inside = h .inside; has = k .naming 1 3 from size (tonesIn all r) r (GivenName.first q) (h .has) }
+    row-named all (Later from size) r q h =
+        record { inside = h .inside; has = k .naming 0 4 from size (tonesIn all r) r (GivenName.later q) (h .has) }
+    row-named all (Text from size) r q h =
+        record { inside = h .inside; has = k .naming 1 2 from size (tonesIn all r) r (GivenName.text q) (h .has) }
 
     row-paused : (all : List Tone) (r : Block) → RowOver P all r → RowOver P all (paused r)
     row-paused all r h =
         let e : tonesIn all (paused r) ≡ tonesIn all r = paused-same (tonesIn all) r refl in
         let n : paused r .tone + paused r .tones ≡ r .tone + r .tones = paused-same (λ q. q .tone + q .tones) r refl in
-        record { inside = omega (arith, h .inside); has = subst (λ (ts : List Tone). P ts (paused r)) (sym e) (k .pausing (tonesIn all r) r (h .has)) }
+        record {
+          inside = omega (arith, h .inside);
+          has = subst (λ (ts : List Tone). P ts (paused r)) (sym e) (k .pausing (tonesIn all r) r (h .has));
+        }
 
     lasting : (all : List Tone) → Lasting (RowOver P all) (Pends T)
     lasting all =
@@ -91,14 +99,16 @@ module _ {P : List Tone → Block → Type 0} where
         }
 
     -- rows of sounds with M, which have P, keep it
-    module _ {M : Sound → Origin → Type 0} (has : (origin : Origin) (d : Sound) (tone : ℕ) → M d origin → P (d .tones) (rowOf origin d tone)) where
+    module _ {M : Sound → Origin → Type 0}
+        (has : (origin : Origin) (d : Sound) (tone : ℕ) → M d origin → P (d .tones) (rowOf origin d tone)) where
       pub rows-keep : (lent : Lent) → Invariant lent M (Pends T) (λ t. KeptSoFar (RowOver P (t .tones)) (Pends T) t)
       unfolding empty rowOf
       rows-keep lent =
           record {
             begins = kept-empty (lasting []);
             adding = λ origin d t m _ _ h.
-                with-block (lasting (t .tones ++ d .tones)) (rowOf origin d (length (t .tones))) (withTones (d .tones) t) (row-new (t .tones) (d .tones) _ refl refl (has origin d _ m))
+                with-block (lasting (t .tones ++ d .tones)) (rowOf origin d (length (t .tones))) (withTones (d .tones) t)
+                (row-new (t .tones) (d .tones) _ refl refl (has origin d _ m))
                 (record { rows = all-also (row-longer (t .tones) (d .tones)) (h .rows); name = h .name });
             steps = record {
               copying = λ r t i n h. kept-steps (lasting (t .tones)) (lent .blocks) .copying r t i n h;
@@ -109,7 +119,8 @@ module _ {P : List Tone → Block → Type 0} where
           }
 
 -- the naming pass keeps what it leaves of a row alone
-pub named-all : {Q : Block → Type 0} (s : List ℕ) → ((r : Block) → Q r → Q (unselected r)) → (p : Bool) {rs : List Block} → All Q rs → All Q (nameAll s p rs)
+pub named-all : {Q : Block → Type 0} (s : List ℕ) → ((r : Block) → Q r → Q (unselected r)) → (p : Bool) {rs : List Block}
+    → All Q rs → All Q (nameAll s p rs)
 unfolding nameAll nameOne
 named-all s f p nil = nil
 named-all {Q} s f p (cons {x = r} h hs) = cons (by-cases (isHeader s r) p) (named-all s f (isHeader s r) hs)

@@ -23,8 +23,10 @@ use Rattle.cut_grammar.specs.declared.Body.the-variants.{Whole, Unknown, Short,
 use Rattle.cut_grammar.specs.declared.Taken.the-variants as taken
 use Rattle.cut_grammar.specs.declared.TakenTap.{TakenTap}
 use Rattle.cut_grammar.specs.declared.TakenTap.the-variants as tap
-use Rattle.cut_grammar.specs.Grammar.{Layout, number, counted, here, pass, within, fitting, whole, unknown, countedAt, passAt, wholeAt, sealed, enclosed, fittingAt, readAt}
-use Rattle.cut_grammar.specs.Kinds.{kind10, kind11, kind12, kind13, kind14, stream19, kind19, kind20, kind21, kind22, kind24, kind25, kind2A, kind30, kind31, info32, kind32, kind33, kind35, kind5A, unread, kinds, kindOf}
+use Rattle.cut_grammar.specs.Grammar.{Layout, number, counted, here, pass, within, fitting, whole, unknown, countedAt, passAt, wholeAt}
+use Rattle.cut_grammar.specs.Grammar.{sealed, enclosed, fittingAt, readAt}
+use Rattle.cut_grammar.specs.Kinds.{kind10, kind11, kind12, kind13, kind14, stream19, kind19, kind20, kind21, kind22, kind24, kind25}
+use Rattle.cut_grammar.specs.Kinds.{kind2A, kind30, kind31, info32, kind32, kind33, kind35, kind5A, unread, kinds, kindOf}
 use Rattle.cut_grammar.specs.Cut.{takenAs, cutAt, tapBlock, tapAt}
 use Rattle.cut_grammar.proofs.Layouts.{forward}
 use Rattle.cut_grammar.proofs.Cutting.{cut-there, cut-inside}
@@ -57,12 +59,14 @@ field-ends : (s : List ℕ) (c : Cursor) (w : ℕ) {e : ℕ} → fieldAt s c w .
 unfolding fieldAt placeOf
 field-ends s (At p) w {e} q =
     ⊎-elim
-    (λ (t : length s < p + w). let z : _≡_ {A = Cursor} (cursor.Short p w) (At e) = sym (rw (field-short s w p t)) ∙ q in absurd (let n : _≡_ {A = ℕ} 0 1 = cc in omega arith))
+    (λ (t : length s < p + w). let z : _≡_ {A = Cursor} (cursor.Short p w) (At e) = sym (rw (field-short s w p t)) ∙ q in
+    absurd (let n : _≡_ {A = ℕ} 0 1 = cc in omega arith))
     (λ (t : p + w ≤ length s). t)
     (lt-or-ge (length s) (p + w))
 field-ends s (cursor.Short p v) w q = absurd (let z : _≡_ {A = ℕ} 0 1 = cc in omega arith)
 
-counted-inside : (s : List ℕ) (c : Cursor) (w : ℕ) {e : ℕ} → countedAt s c w .cursor ≡ At e → countedAt s c w .from + countedAt s c w .size ≤ length s
+counted-inside : (s : List ℕ) (c : Cursor) (w : ℕ) {e : ℕ} → countedAt s c w .cursor ≡ At e
+    → countedAt s c w .from + countedAt s c w .size ≤ length s
 unfolding countedAt
 counted-inside s c w q = field-ends s (fieldAt s c w .cursor) (fieldAt s c w .value) q
 
@@ -70,7 +74,8 @@ counted-small : (s : List ℕ) → Bytes s → (c : Cursor) (w : ℕ) → counte
 unfolding countedAt
 counted-small s b c w = field-small s b c w
 
-counted-range : (s : List ℕ) → Bytes s → (c : Cursor) (w : ℕ) {most e : ℕ} → countedAt s c w .cursor ≡ At e → length s ≤ most → Range most (256 ^ w) (countedAt s c w .from) (countedAt s c w .size)
+counted-range : (s : List ℕ) → Bytes s → (c : Cursor) (w : ℕ) {most e : ℕ} → countedAt s c w .cursor ≡ At e
+    → length s ≤ most → Range most (256 ^ w) (countedAt s c w .from) (countedAt s c w .size)
 counted-range s b c w q h = record { inside = omega (arith, counted-inside s c w q); small = counted-small s b c w }
 
 -- the first bytes of a tape are bytes
@@ -78,7 +83,8 @@ take-bytes : (s : List ℕ) → Bytes s → (n : ℕ) → Bytes (take n s)
 take-bytes s b n i =
     ⊎-elim
     (λ (h : i < n). rw (getD-take n s i 0 h) (b i))
-    (λ (h : n ≤ i). let l : length (take n s) ≤ i = rw length-take (omega arith) in rw (List·getD-eq-default (take n s) 0 l) (omega arith))
+    (λ (h : n ≤ i). let l : length (take n s) ≤ i = rw length-take (omega arith) in
+    rw (List·getD-eq-default (take n s) 0 l) (omega arith))
     (lt-or-ge i n)
 
 -- an answer of which a whole piece has P
@@ -141,25 +147,31 @@ module _ (P : Piece → Type 0) (most : ℕ) where
   Allows (unknown described) = Unit {0}
 
   counted-gives : (rest : ℕ → ℕ → Layout) (s : List ℕ) → Bytes s → length s ≤ most → (c : Cursor) (w : ℕ)
-      → (Range most (256 ^ w) (countedAt s c w .from) (countedAt s c w .size) → Gives P (readAt (rest (countedAt s c w .from) (countedAt s c w .size)) s (countedAt s c w .cursor)))
+      → (Range most (256 ^ w) (countedAt s c w .from) (countedAt s c w .size)
+      → Gives P (readAt (rest (countedAt s c w .from) (countedAt s c w .size)) s (countedAt s c w .cursor)))
       → Gives P (readAt (rest (countedAt s c w .from) (countedAt s c w .size)) s (countedAt s c w .cursor))
   counted-gives rest s b h c w go = by-end (countedAt s c w .cursor) refl
     where
-      by-end : (d : Cursor) → countedAt s c w .cursor ≡ d → Gives P (readAt (rest (countedAt s c w .from) (countedAt s c w .size)) s (countedAt s c w .cursor))
+      by-end : (d : Cursor) → countedAt s c w .cursor ≡ d
+          → Gives P (readAt (rest (countedAt s c w .from) (countedAt s c w .size)) s (countedAt s c w .cursor))
       by-end (At e) q = go (counted-range s b c w q h)
       by-end (cursor.Short p v) q =
-          gives-none (forward (rest (countedAt s c w .from) (countedAt s c w .size)) s (length s + 1) (countedAt s c w .cursor) (rw q stuck))
+          gives-none
+          (forward (rest (countedAt s c w .from) (countedAt s c w .size)) s (length s + 1) (countedAt s c w .cursor) (rw q stuck))
 
   allowed : (l : Layout) → Allows l → (s : List ℕ) → Bytes s → length s ≤ most → (c : Cursor) → Gives P (readAt l s c)
   unfolding readAt
-  allowed (number w rest) a s b h c = allowed (rest (fieldAt s c w .value)) (a (fieldAt s c w .value) (field-small s b c w)) s b h (fieldAt s c w .cursor)
+  allowed (number w rest) a s b h c =
+      allowed (rest (fieldAt s c w .value)) (a (fieldAt s c w .value) (field-small s b c w)) s b h (fieldAt s c w .cursor)
   allowed (counted w rest) a s b h c =
       counted-gives rest s b h c w (λ r.
-      allowed (rest (countedAt s c w .from) (countedAt s c w .size)) (a (countedAt s c w .from) (countedAt s c w .size) r) s b h (countedAt s c w .cursor))
+      allowed (rest (countedAt s c w .from) (countedAt s c w .size)) (a (countedAt s c w .from) (countedAt s c w .size) r) s b h
+      (countedAt s c w .cursor))
   allowed (here rest) a s b h c = allowed (rest (placeOf c)) (a (placeOf c)) s b h c
   allowed (pass part rest) a s b h c = allowed rest a s b h (passAt part s c)
   allowed (within n inner) a s b h c =
-      enclosed-gives (λ end. readAt inner (take end s) c) (fieldAt s c n .cursor) (λ end. allowed inner a (take end s) (take-bytes s b end) (rw length-take (omega arith)) c)
+      enclosed-gives (λ end. readAt inner (take end s) c) (fieldAt s c n .cursor)
+      (λ end. allowed inner a (take end s) (take-bytes s b end) (rw length-take (omega arith)) c)
   allowed (fitting bits rest) a s b h c = fitting-gives bits c (readAt rest s c) (allowed rest a s b h c)
   allowed (whole x) a s b h c = whole-gives x c a
   allowed (unknown described) a s b h c = not-known
@@ -170,10 +182,12 @@ module _ (most : ℕ) where
   allows l h = h
 
   each-allows : (full : ℕ) → Every (Allows (Numbers most) most) (kinds full)
-  unfolding kinds kind10 kind11 kind12 kind13 kind14 stream19 kind19 kind20 kind21 kind22 kind24 kind25 kind2A kind30 kind31 info32 kind32 kind33 kind35 kind5A
+  unfolding kinds kind10 kind11 kind12 kind13 kind14 stream19 kind19 kind20 kind21 kind22 kind24 kind25 kind2A kind30 kind31 info32 kind32
+      kind33 kind35 kind5A
   each-allows full =
       allows kind10 (λ _ a _ _ b. (a, b)) &
-      allows kind11 (λ _ a _ b _ d _ e _ f _ g _ h _ i _ _ j. record { pilot = a; sync1 = b; sync2 = d; zero = e; one = f; pilots = g; last = h; pause = i; bytes = j }) &
+      allows kind11 (λ _ a _ b _ d _ e _ f _ g _ h _ i _ _ j.
+      record { pilot = a; sync1 = b; sync2 = d; zero = e; one = f; pilots = g; last = h; pause = i; bytes = j }) &
       allows kind12 (λ _ a _ b. (a, b)) &
       allows kind13 (λ _ a _. a) &
       allows kind14 (λ _ a _ b _ d _ e _ _ f. record { zero = a; one = b; last = d; pause = e; bytes = f }) &
@@ -202,7 +216,8 @@ module _ (most : ℕ) where
 
 module _ (s : List ℕ) (at : ℕ) {k a next : ℕ} {piece : Piece} (e : cutAt s at full ≡ taken.Whole k a next piece) where
   body : readAt (kindOf full (getD s at 0)) s (At (at + 1)) ≡ Whole piece next
-  body = unnamed (getD s at 0) at (readAt (kindOf full (getD s at 0)) s (At (at + 1))) (sym (cut-there s at full (cut-inside s at full e)) ∙ e)
+  body = unnamed (getD s at 0)
+      at (readAt (kindOf full (getD s at 0)) s (At (at + 1))) (sym (cut-there s at full (cut-inside s at full e)) ∙ e)
 
   -- a piece is named by its own byte and place
   pub cut-named : cutAt s at full ≡ taken.Whole (getD s at 0) at next piece
@@ -212,7 +227,8 @@ module _ (s : List ℕ) (at : ℕ) {k a next : ℕ} {piece : Piece} (e : cutAt s
   -- WHAT A CUT PIECE IS
   pub cut-sized : Bytes s → Sized s piece
   cut-sized b =
-      let g = allowed (Numbers (length s)) (length s) (kindOf full (getD s at 0)) (kinds-allow (length s) full (getD s at 0)) s b (le-refl (length s)) (At (at + 1)) in
+      let g = allowed (Numbers (length s)) (length s) (kindOf full (getD s at 0)) (kinds-allow (length s) full (getD s at 0)) s b
+      (le-refl (length s)) (At (at + 1)) in
       record { numbers = gives-piece g body; fit = cut-fit s at piece b e }
 
 -- what a TAP gives of which a block has its range
@@ -226,17 +242,20 @@ tap-gives : (s : List ℕ) → Bytes s → (at : ℕ) → GivesTap (length s) (t
 unfolding tapAt tapBlock
 tap-gives s b at = by-cases (leb (length s) at) (eqb (at + 1) (length s)) (countedAt s (At at) 2 .cursor) refl
   where
-    by-cases : (t u : Bool) (d : Cursor) → countedAt s (At at) 2 .cursor ≡ d → GivesTap (length s) (t ⇒ tap.End ∣ u ⇒ tap.Lone ∣ tapBlock (countedAt s (At at) 2) d)
+    by-cases : (t u : Bool) (d : Cursor) → countedAt s (At at) 2 .cursor ≡ d
+        → GivesTap (length s) (t ⇒ tap.End ∣ u ⇒ tap.Lone ∣ tapBlock (countedAt s (At at) 2) d)
     by-cases true u d q = end
     by-cases false true d q = lone
     by-cases false false (At e) q = block (counted-range s b (At at) 2 q (le-refl (length s)))
     by-cases false false (cursor.Short p w) q = too-few
 
 -- what a block of a TAP is
-pub tap-sized : (s : List ℕ) (at : ℕ) {from size next : ℕ} → tapAt s at ≡ tap.Block from size next → Bytes s → Range (length s) 65536 from size
+pub tap-sized : (s : List ℕ) (at : ℕ) {from size next : ℕ} → tapAt s at ≡ tap.Block from size next → Bytes s
+    → Range (length s) 65536 from size
 tap-sized s at e b = of (tap-gives s b at) e
   where
-    of : {x : TakenTap} {from size next : ℕ} → GivesTap (length s) x → x ≡ tap.Block from size next → Range (length s) 65536 from size
+    of : {x : TakenTap} {from size next : ℕ} → GivesTap (length s) x → x ≡ tap.Block from size next
+        → Range (length s) 65536 from size
     of {from = from} {size} (block {from = f} {size = n} r) q = let i : f ≡ from = cc in let j : n ≡ size = cc in rw (i, j) at r
     of end q = absurd (let z : _≡_ {A = ℕ} 0 1 = cc in omega arith)
     of lone q = absurd (let z : _≡_ {A = ℕ} 0 1 = cc in omega arith)

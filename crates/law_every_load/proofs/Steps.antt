@@ -47,7 +47,8 @@ does-keeps k model origin panics f t h = none
 does-keeps k model origin (errs n) f t h = none
 
 -- a name that a deed brings is no group's later one
-brought : {s : List ℕ} {at : ℕ} {piece : Piece} → From s at piece → (d : Deed) → deedOf s piece ≡ d → Pends (sourceTable s) (brings d)
+brought : {s : List ℕ} {at : ℕ} {piece : Piece} → From s at piece → (d : Deed) → deedOf s piece ≡ d
+    → Pends (sourceTable s) (brings d)
 unfolding brings
 brought f (adding only48 ds) e = tt
 brought {at = at} {piece} f (groups from size) e = record { at = at; piece = piece; cut = f; is = rw e }
@@ -60,7 +61,9 @@ brought f (errs n) e = tt
 
 -- any piece
 pub act-keeps : {lent : Lent} {s : List ℕ} {K : Parsed → Type 0} → Invariant lent (OfPiece (sourceTable s)) (Pends (sourceTable s)) K
-    → (model at : ℕ) (piece : Piece) → From s at piece → (t : Parsed) → K t → Sure K (act lent s model (originAt (getD s at 0) at) piece t)
+    → (model at : ℕ) (piece : Piece) → From s at piece → (t : Parsed) → K t
+    → Sure K (act lent s model (originAt (getD s at 0) at) piece t)
 unfolding act
 act-keeps {s = s} k model at piece f t h =
-    does-keeps k model (originAt (getD s at 0) at) (deedOf s piece) (record { sounds = all-also (λ d m. of f m) (members (soundsOf (deedOf s piece))); name = brought f (deedOf s piece) refl }) t h
+    does-keeps k model (originAt (getD s at 0) at) (deedOf s piece)
+    (record { sounds = all-also (λ d m. of f m) (members (soundsOf (deedOf s piece))); name = brought f (deedOf s piece) refl }) t h

@@ -13,7 +13,9 @@ use Rattle.cut_grammar.specs.declared.GeneralizedData.{GeneralizedData}
 use Rattle.load_general.specs.declared.Row.{Row}
 use Rattle.load_general.specs.declared.Row.the-variants.{Refused, Gives}
 use Rattle.load_general.specs.General as general
-use Rattle.load_general.specs.General.{Symbol, symbolAt, Part, before, rowsFrom, cycles, entrySymbol, entryRepeat, entryRow, pilotOf, ordinary, usedBits, symbolNumber, singleRow, pairRow, singlesOf, pairsOf, dataPart, withData, withPilot, generalOf}
+use Rattle.load_general.specs.General.{Symbol, symbolAt, Part, before, rowsFrom, cycles, entrySymbol, entryRepeat, entryRow, pilotOf}
+use Rattle.load_general.specs.General.{ordinary, usedBits, symbolNumber, singleRow, pairRow, singlesOf, pairsOf, dataPart, withData}
+use Rattle.load_general.specs.General.{withPilot, generalOf}
 use Rattle.load_state.proofs.Kept.{all-append}
 use Rattle.load_state.specs.Kept.{All, nil, cons}
 use Rattle.law_every_load.specs.Sizes.{Bytes}
@@ -31,7 +33,8 @@ data FinePart : Part → Type 0 where
 pub data Fine : general.Given → Type 0 where
   refused4 : Fine general.refused4
   stop : Fine general.stop
-  plain : {ts : List Tone} {nil one last : ℕ} → All Halves ts → nil ≤ 65535 → one ≤ 65535 → Fine (general.plain ts nil one last)
+  plain : {ts : List Tone} {nil one last : ℕ} → All Halves ts → nil ≤ 65535 → one ≤ 65535
+      → Fine (general.plain ts nil one last)
   toned : {ts : List Tone} → All Halves ts → Fine (general.toned ts)
 
 -- a rule's answer has what both answers have
@@ -91,14 +94,20 @@ module _ (s : List ℕ) (b : Bytes s) where
     entry-fine i =
         let n = entrySymbol s g i in
         either-row (leb (g .asp) n) FineRow.refused
-        (cycles-fine (symbolAt s (g .pilot) (g .npp) n) (leAt s (g .entries + i * 3 + 1) 2) (first-small (g .pilot) (g .npp) n) (second-small (g .pilot) (g .npp) n) (two-small (g .entries + i * 3 + 1)))
+        (cycles-fine (symbolAt s (g .pilot) (g .npp) n) (leAt s (g .entries + i * 3 + 1) 2) (first-small (g .pilot) (g .npp) n)
+        (second-small (g .pilot) (g .npp) n) (two-small (g .entries + i * 3 + 1)))
 
     single-fine : (i : ℕ) → FineRow (singleRow s g i)
     unfolding singleRow
     single-fine i =
         let n = symbolNumber s g (i * g .nb) 0 in
         either-row (leb (g .asd) n) FineRow.refused
-        (gives (record { num = omega arith; len1 = first-small (g .symbols) (g .npd) n; len2 = second-small (g .symbols) (g .npd) n; wave = omega arith }))
+        (gives (record {
+          num = omega arith;
+          len1 = first-small (g .symbols) (g .npd) n;
+          len2 = second-small (g .symbols) (g .npd) n;
+          wave = omega arith;
+        }))
 
     pair-fine : (i : ℕ) → FineRow (pairRow s g i)
     unfolding pairRow
@@ -107,7 +116,12 @@ module _ (s : List ℕ) (b : Bytes s) where
         let m = symbolNumber s g (2 * i * g .nb) 1 in
         either-row (leb (g .asd) n) FineRow.refused
         (either-row (leb (g .asd) m) FineRow.refused
-        (gives (record { num = omega arith; len1 = first-small (g .symbols) (g .npd) n; len2 = first-small (g .symbols) (g .npd) m; wave = omega arith })))
+        (gives (record {
+          num = omega arith;
+          len1 = first-small (g .symbols) (g .npd) n;
+          len2 = first-small (g .symbols) (g .npd) m;
+          wave = omega arith;
+        })))
 
     pilot-fine : FinePart (pilotOf s g)
     unfolding pilotOf
@@ -122,7 +136,8 @@ module _ (s : List ℕ) (b : Bytes s) where
         either-part (eqb (g .totd) 0) FinePart.refused
         (either-part (leb 8 (g .nb)) FinePart.refused
         (either-part (eqb (g .npd) 2) (either-part (eqb (g .nb) 0) FinePart.refused (rows-fine single-fine 0 (g .totd)))
-        (either-part (eqb (g .npd) 1) (either-part (eqb (g .nb) 0 && ltb 1 (g .totd)) FinePart.refused (rows-fine pair-fine 0 (g .totd / 2)))
+        (either-part (eqb (g .npd) 1)
+        (either-part (eqb (g .nb) 0 && ltb 1 (g .totd)) FinePart.refused (rows-fine pair-fine 0 (g .totd / 2)))
         stops)))
 
     parts-fine : {p : Part} → FinePart p → Fine (withPilot s g p)
@@ -131,7 +146,9 @@ module _ (s : List ℕ) (b : Bytes s) where
     parts-fine stops = stop
     parts-fine (small {ts = ts} h) = by-cases (ltb 0 (g .totd) && ordinary s g)
       where
-        by-cases : (t : Bool) → Fine (t ⇒ general.plain ts (symbolAt s (g .symbols) 2 0 .first) (symbolAt s (g .symbols) 2 1 .first) (usedBits (g .totd)) ∣ withData ts (dataPart s g))
+        by-cases : (t : Bool)
+            → Fine (t ⇒ general.plain ts (symbolAt s (g .symbols) 2 0 .first) (symbolAt s (g .symbols) 2 1 .first) (usedBits (g .totd))
+            ∣ withData ts (dataPart s g))
         by-cases true = plain h (first-small (g .symbols) 2 0) (first-small (g .symbols) 2 1)
         by-cases false = with-fine h data-fine
 

@@ -1,4 +1,5 @@
--- EVERY ROW OF EVERY LOAD IS WELL FORMED, so that no query or player of a loaded table answers 11. Assumes nothing but that bytes are below 256.
+-- EVERY ROW OF EVERY LOAD IS WELL FORMED, so that no query or player of a loaded table answers 11.
+-- Assumes nothing but that bytes are below 256.
 use Prim.Native.Nat.{ℕ, zero, suc, _+_, _*_, _≤_, _<_}
 use native.Mathlib.Omega.{arith}
 use native.Mathlib.Nat.{add-zero}
@@ -41,10 +42,12 @@ table-length C rs N h = over-length C rs (zeros N) (rw length-replicate h) ∙ l
 
 tone-well : (t : Tone) → Halves t → wellTone t ≡ true
 unfolding wellTone
-tone-well t h = rw (le-leb (t .num) 65535 (h .num), le-leb (t .len1) 65535 (h .len1), le-leb (t .len2) 65535 (h .len2), le-leb (t .wave) 11 (h .wave))
+tone-well t h =
+    rw (le-leb (t .num) 65535 (h .num), le-leb (t .len1) 65535 (h .len1), le-leb (t .len2) 65535 (h .len2), le-leb (t .wave) 11 (h .wave))
 
 -- tone rows that are well formed one by one
-tones-well : (tones : List ℕ) (from n : ℕ) → ((i : ℕ) → i < n → wellTone (get tone tones (from + i)) ≡ true) → wellTones tones from n ≡ true
+tones-well : (tones : List ℕ) (from n : ℕ) → ((i : ℕ) → i < n → wellTone (get tone tones (from + i)) ≡ true)
+    → wellTones tones from n ≡ true
 unfolding wellTones
 tones-well tones from zero h = refl
 tones-well tones from (suc n) h =
@@ -74,7 +77,24 @@ module _ (s : List ℕ) (all : List Tone) (N : ℕ) (room : length all ≤ toneR
       let g : d ≡ getD (tonesIn all r) j d = own-tone all r i N j d k in
       ap wellTone g ∙ tone-well (getD (tonesIn all r) j d) (all-get (f .tones) j d (rw (own-count all r i) k))) in
       let c : capacityOf tone toneMost (tableOf tone all N) ≡ toneRoom N = rw n in
-      rw (c, le-leb (r .tone + r .tones) (toneRoom N) (omega arith), le-leb (r .start + r .size) (length s) (f .bytes), le-leb (r .text + r .chars) (length s) (f .name), le-leb (r .zero) 65535 (f .zero), le-leb (r .one) 65535 (f .one), le-leb (r .pause) 229372500 (f .pause), or-true (eqb (r .endless) 1), last-well r b, le-leb (r .endless) 1 (f .endless), le-leb (r .selectable) 1 (f .selectable), f .source .low, f .source .silent, f .source .is, le-leb (r .named) 4 (f .named), tones)
+      rw (
+        c,
+        le-leb (r .tone + r .tones) (toneRoom N) (omega arith),
+        le-leb (r .start + r .size) (length s) (f .bytes),
+        le-leb (r .text + r .chars) (length s) (f .name),
+        le-leb (r .zero) 65535 (f .zero),
+        le-leb (r .one) 65535 (f .one),
+        le-leb (r .pause) 229372500 (f .pause),
+        or-true (eqb (r .endless) 1),
+        last-well r b,
+        le-leb (r .endless) 1 (f .endless),
+        le-leb (r .selectable) 1 (f .selectable),
+        f .source .low,
+        f .source .silent,
+        f .source .is,
+        le-leb (r .named) 4 (f .named),
+        tones,
+      )
 
 -- a mounted table of rows that are well formed
 module _ (B : ℕ) (s tones : List ℕ) (rows : List Block) where
@@ -83,7 +103,8 @@ module _ (B : ℕ) (s tones : List ℕ) (rows : List Block) where
       let n : length (tableOf block rows B) ≡ B = table-length block rows B (omega arith) in
       rw n (le-ltb (blockRoom B) (length rows) h)
 
-  table-well : length s ≤ 1048576 → All (λ r. wellBlock (length s) tones r ≡ true) rows → (i : ℕ) → i < length rows → wellRow (tapeOf s tones (tableOf block rows B) (length rows)) i ≡ true
+  table-well : length s ≤ 1048576 → All (λ r. wellBlock (length s) tones r ≡ true) rows → (i : ℕ) → i < length rows
+      → wellRow (tapeOf s tones (tableOf block rows B) (length rows)) i ≡ true
   unfolding wellRow
   table-well m all i h =
       let d = get block (tableOf block rows B) i in
@@ -99,27 +120,33 @@ module _ (B N : ℕ) (s : List ℕ) (model : ℕ) {t : Parsed} (b : Bytes s) (r 
   -- EVERY ROW, before and after names are given out
   pub read-well : All (λ q. wellBlock (length s) (tableOf tone (t .tones) N) q ≡ true) (t .blocks)
   read-well =
-      all-both (row-well s (t .tones) N (within .tones)) (every-read (lentOf B N) s model (every-formed s b) b r) (read-bits (lentOf B N) s model b r)
+      all-both (row-well s (t .tones) N (within .tones)) (every-read (lentOf B N) s model (every-formed s b) b r)
+      (read-bits (lentOf B N) s model b r)
 
   pub every-well : All (λ q. wellBlock (length s) (tableOf tone (t .tones) N) q ≡ true) (nameAll s false (t .blocks))
   every-well =
-      all-both (row-well s (t .tones) N (within .tones)) (every-row (lentOf B N) s model (every-formed s b) b r) (load-bits (lentOf B N) s model b r)
+      all-both (row-well s (t .tones) N (within .tones)) (every-row (lentOf B N) s model (every-formed s b) b r)
+      (load-bits (lentOf B N) s model b r)
 
   -- THE COUNT FITS THE TABLE
-  pub loaded-fits : overfull (tapeOf s (tableOf tone (t .tones) N) (tableOf block (nameAll s false (t .blocks)) B) (length (t .blocks))) ≡ false
+  pub loaded-fits : overfull (tapeOf s (tableOf tone (t .tones) N) (tableOf block (nameAll s false (t .blocks)) B) (length (t .blocks)))
+      ≡ false
   loaded-fits =
       let l = name-all-length s false (t .blocks) in
       rw (← l) (table-fits B s (tableOf tone (t .tones) N) (nameAll s false (t .blocks)) (rw l (within .blocks)))
 
   -- EVERY ROW OF THE TABLE IS WELL FORMED
-  pub loaded-well : (i : ℕ) → i < length (t .blocks) → wellRow (tapeOf s (tableOf tone (t .tones) N) (tableOf block (nameAll s false (t .blocks)) B) (length (t .blocks))) i ≡ true
+  pub loaded-well : (i : ℕ) → i < length (t .blocks)
+      → wellRow (tapeOf s (tableOf tone (t .tones) N) (tableOf block (nameAll s false (t .blocks)) B) (length (t .blocks))) i ≡ true
   loaded-well i h =
       let l = name-all-length s false (t .blocks) in
-      rw (← l) (table-well B s (tableOf tone (t .tones) N) (nameAll s false (t .blocks)) (load-length (lentOf B N) s model r) every-well i (rw l h))
+      rw (← l)
+      (table-well B s (tableOf tone (t .tones) N) (nameAll s false (t .blocks)) (load-length (lentOf B N) s model r) every-well i (rw l h))
 
   -- and so before the naming pass
   pub read-fits : overfull (tapeOf s (tableOf tone (t .tones) N) (tableOf block (t .blocks) B) (length (t .blocks))) ≡ false
   read-fits = table-fits B s (tableOf tone (t .tones) N) (t .blocks) (within .blocks)
 
-  pub read-rows : (i : ℕ) → i < length (t .blocks) → wellRow (tapeOf s (tableOf tone (t .tones) N) (tableOf block (t .blocks) B) (length (t .blocks))) i ≡ true
+  pub read-rows : (i : ℕ) → i < length (t .blocks)
+      → wellRow (tapeOf s (tableOf tone (t .tones) N) (tableOf block (t .blocks) B) (length (t .blocks))) i ≡ true
   read-rows i h = table-well B s (tableOf tone (t .tones) N) (t .blocks) (load-length (lentOf B N) s model r) read-well i h

@@ -25,5 +25,6 @@ any s = record {
   lasts = record { naming = λ mark case text chars ts r g h. tt; pausing = λ ts r h. tt; passing = λ ts r h. tt };
 }
 
-pub rows-within : (lent : Lent) (s : List ℕ) (model : ℕ) {t : Parsed} → Bytes s → Reads (loadOf lent s model) t → All (λ r. r .tone + r .tones ≤ length (t .tones)) (nameAll s false (t .blocks))
+pub rows-within : (lent : Lent) (s : List ℕ) (model : ℕ) {t : Parsed} → Bytes s → Reads (loadOf lent s model) t
+    → All (λ r. r .tone + r .tones ≤ length (t .tones)) (nameAll s false (t .blocks))
 rows-within lent s model b r = all-also (λ q h. h .inside) (every-row lent s model (any s) b r)

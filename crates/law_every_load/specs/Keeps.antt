@@ -11,11 +11,12 @@ use Rattle.load_blocks.specs.Adds.{Lent}
 use Rattle.load_blocks.specs.Sounds.{Sound, rowOf}
 use Rattle.load_source.specs.Source.{tooManyBits}
 
--- WHAT IS ASKED OF A PROPERTY K OF TAPES: the empty tape has it; a block of a sound and an origin with M, with room for all of its tone rows,
--- keeps it; so do the parser's steps
+-- WHAT IS ASKED OF A PROPERTY K OF TAPES: the empty tape has it; a block of a sound and an origin with M, with room for all of its tone
+-- rows, keeps it; so do the parser's steps
 pub record Invariant (lent : Lent) (M : Sound → Origin → Type 0) (Q : Pending → Type 0) (K : Parsed → Type 0) : Type 0 where
   pub begins : K empty
-  pub adding : (origin : Origin) (d : Sound) (t : Parsed) → M d origin → length (t .tones) + length (d .tones) ≤ lent .tones → length (t .blocks) < lent .blocks
+  pub adding : (origin : Origin) (d : Sound) (t : Parsed) → M d origin → length (t .tones) + length (d .tones) ≤ lent .tones
+      → length (t .blocks) < lent .blocks
       → K t → K (withBlock (rowOf origin d (length (t .tones))) (withTones (d .tones) t))
   pub steps : Steps (lent .blocks) Q K
 

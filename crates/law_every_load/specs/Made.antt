@@ -1,4 +1,5 @@
--- What rows a reading makes, and of what; what is asked of a property that is to hold of every row. Of any reading: its table is a parameter.
+-- What rows a reading makes, and of what; what is asked of a property that is to hold of every row.
+-- Of any reading: its table is a parameter.
 -- Definitions alone; assumes nothing.
 use Prim.Native.Nat.{ℕ, _+_, _≤_}
 use mathlib.Core.Path.{_≡_}
@@ -14,7 +15,8 @@ use Rattle.load_blocks.specs.declared.Origin.{Origin}
 use Rattle.load_blocks.specs.Sounds.{Sound, originAt, rowOf}
 use Rattle.text_name.specs.Names.{unselected}
 
--- A READING'S TABLE over a tape: its pieces, which of them is cut at a place and with what kind, and each one's sounds and the name that it brings
+-- A READING'S TABLE over a tape: its pieces, which of them is cut at a place and with what kind,
+-- and each one's sounds and the name that it brings
 pub record Table : Type 1 where
   pub Piece : Type 0
   pub Cut : ℕ → Piece → Type 0
@@ -57,6 +59,7 @@ abbrev pub Births : Table → (List Tone → Block → Type 0) → Type 0
 Births T P = (origin : Origin) (d : Sound) (tone : ℕ) → OfPiece T d origin → P (d .tones) (rowOf origin d tone)
 
 pub record LastsThrough (T : Table) (P : List Tone → Block → Type 0) : Type 0 where
-  pub naming : (mark case text chars : ℕ) (ts : List Tone) (r : Block) → GivenName T mark case text chars → P ts r → P ts (renamed mark case text chars r)
+  pub naming : (mark case text chars : ℕ) (ts : List Tone) (r : Block) → GivenName T mark case text chars → P ts r
+      → P ts (renamed mark case text chars r)
   pub pausing : (ts : List Tone) (r : Block) → P ts r → P ts (paused r)
   pub passing : (ts : List Tone) (r : Block) → P ts r → P ts (unselected r)

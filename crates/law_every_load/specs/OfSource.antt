@@ -48,7 +48,8 @@ tapTable s = record {
   Piece = TapData;
   Cut = FromTap s;
   kind = λ at. tapKind;
-  sounds = λ d. let header = standardHeader s (d .from) (d .size) in standardSound header (d .from) (d .size) (standardPause header) ∷ [];
+  sounds = λ d. let header = standardHeader s (d .from) (d .size) in
+      standardSound header (d .from) (d .size) (standardPause header) ∷ [];
   brings = λ d. Nothing;
 }
 

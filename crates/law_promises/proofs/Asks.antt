@@ -21,7 +21,8 @@ use Rattle.ask_block.specs.declared.Number.{Number}
 use Rattle.ask_block.specs.declared.Number.the-variants as number
 use Rattle.ask_block.specs.declared.Mark.the-variants as mark
 use Rattle.ask_block.specs.declared.Time.the-variants as lasting
-use Rattle.ask_block.specs.Queries.{numberNo, markNo, timeNo, refusalOf, lenOf, numberUnless, markUnless, timeUnless, sizeOf, selectableOf, timeOf, nameIn, lengthOrNoRoom, nameAnswer, nameBytes, loadingIn, loadingOf}
+use Rattle.ask_block.specs.Queries.{numberNo, markNo, timeNo, refusalOf, lenOf, numberUnless, markUnless, timeUnless, sizeOf, selectableOf}
+use Rattle.ask_block.specs.Queries.{timeOf, nameIn, lengthOrNoRoom, nameAnswer, nameBytes, loadingIn, loadingOf}
 use Rattle.play_walk.specs.Heads.{startAt}
 use Rattle.law_promises.specs.Numbers.{PastCount, Unformed, Asked, Reaches, enough}
 use Rattle.law_promises.proofs.Reaching.{Runs, runs-reach, comes-finite, start-cuts}
@@ -56,17 +57,21 @@ time-unless zero d = refl
 time-unless (suc k) d = refl
 
 -- the refusal m, or, where it is none, what x has
-after : (m : ℕ) (x : Number) (k : ℕ) → 1 ≤ k → (numberNo (numberUnless m x) ≡ k) ↔ ((m ≡ k) ⊎ ((m ≡ 0) × (numberNo x ≡ k)))
+after : (m : ℕ) (x : Number) (k : ℕ) → 1 ≤ k
+    → (numberNo (numberUnless m x) ≡ k) ↔ ((m ≡ k) ⊎ ((m ≡ 0) × (numberNo x ≡ k)))
 unfolding numberNo numberUnless
 after zero x k l = (λ e. inr (refl, e), λ h. ⊎-elim (λ z. absurd (omega arith)) (λ z. z .1) h)
 after (suc m) x k l = (λ e. inl e, λ h. ⊎-elim (λ z. z) (λ z. absurd (omega (arith, z .0))) h)
 
 -- 10, or none
-room : (text out : List ℕ) → (numberNo (lengthOrNoRoom text out) ≡ 0) ⊎ ((numberNo (lengthOrNoRoom text out) ≡ noRoom) × (length out < length text))
+room : (text out : List ℕ)
+    → (numberNo (lengthOrNoRoom text out) ≡ 0) ⊎ ((numberNo (lengthOrNoRoom text out) ≡ noRoom) × (length out < length text))
 unfolding numberNo lengthOrNoRoom
 room text out = of (fits text out) refl
   where
-    of : (b : Bool) → fits text out ≡ b → (numberNo (b ⇒ number.Is (length text) ∣ number.Refused noRoom) ≡ 0) ⊎ ((numberNo (b ⇒ number.Is (length text) ∣ number.Refused noRoom) ≡ noRoom) × (length out < length text))
+    of : (b : Bool) → fits text out ≡ b
+        → (numberNo (b ⇒ number.Is (length text) ∣ number.Refused noRoom) ≡ 0)
+        ⊎ ((numberNo (b ⇒ number.Is (length text) ∣ number.Refused noRoom) ≡ noRoom) × (length out < length text))
     of true e = inl refl
     of false e = inr (refl, leb-false _ _ e)
 
@@ -99,7 +104,8 @@ module _ (w : Tape) (i : ℕ) where
       of e (bad a b c q) = inr (leb-false _ _ b, c)
       of e (none a b c q) = absurd (omega arith)
 
-      by-full : (a : Bool) → (i < w .count) × (wellRow w i ≡ false) → _≡_ {A = ℕ} (a ⇒ badRow ∣ leb (w .count) i ⇒ noBlock ∣ wellRow w i ⇒ 0 ∣ badRow) badRow
+      by-full : (a : Bool) → (i < w .count) × (wellRow w i ≡ false)
+          → _≡_ {A = ℕ} (a ⇒ badRow ∣ leb (w .count) i ⇒ noBlock ∣ wellRow w i ⇒ 0 ∣ badRow) badRow
       by-full true x = refl
       by-full false x = rw (lt-leb (w .count) i (x .0), x .1)
 
@@ -127,13 +133,18 @@ module _ (w : Tape) (i : ℕ) where
   time-no = time-unless (refusalOf w i) _
 
   -- the name: the refusal's number, then 10
-  name-no : (out : List ℕ) (k : ℕ) → 1 ≤ k → (numberNo (nameAnswer w i out) ≡ k) ↔ ((refusalOf w i ≡ k) ⊎ ((refusalOf w i ≡ 0) × (numberNo (lengthOrNoRoom (nameIn w i) out) ≡ k)))
+  name-no : (out : List ℕ) (k : ℕ) → 1 ≤ k
+      → (numberNo (nameAnswer w i out) ≡ k)
+      ↔ ((refusalOf w i ≡ k) ⊎ ((refusalOf w i ≡ 0) × (numberNo (lengthOrNoRoom (nameIn w i) out) ≡ k)))
   unfolding nameAnswer
   name-no out k l = after (refusalOf w i) (lengthOrNoRoom (nameIn w i) out) k l
 
-  name-other : (out : List ℕ) (k : ℕ) → 1 ≤ k → (k ≡ noRoom → ⊥) → (numberNo (nameAnswer w i out) ≡ k) ↔ (refusalOf w i ≡ k)
+  name-other : (out : List ℕ) (k : ℕ) → 1 ≤ k → (k ≡ noRoom → ⊥)
+      → (numberNo (nameAnswer w i out) ≡ k) ↔ (refusalOf w i ≡ k)
   name-other out k l d = (
-    λ e. ⊎-elim (λ x. x) (λ x. absurd (⊎-elim (λ z. absurd (omega (arith, x .1, z))) (λ z. d (sym (x .1) ∙ z .0)) (room (nameIn w i) out))) (name-no out k l .0 e),
+    λ e. ⊎-elim (λ x. x)
+        (λ x. absurd (⊎-elim (λ z. absurd (omega (arith, x .1, z))) (λ z. d (sym (x .1) ∙ z .0)) (room (nameIn w i) out)))
+        (name-no out k l .0 e),
     λ e. name-no out k l .1 (inl e),
   )
 
@@ -153,7 +164,9 @@ module _ (w : Tape) (i : ℕ) where
   -- 10: output buffer shorter than the text
   pub given-10-name : (out : List ℕ) → (numberNo (nameAnswer w i out) ≡ noRoom) ↔ (Asked w i × (length out < length (nameIn w i)))
   given-10-name out = (
-    λ e. ⊎-elim (λ x. absurd (never-10 x of-rules)) (λ x. (refusal-none .0 (x .0), ⊎-elim (λ z. absurd (omega (arith, x .1, z))) (λ z. z .1) (room (nameIn w i) out))) (name-no out noRoom (omega arith) .0 e),
+    λ e. ⊎-elim (λ x. absurd (never-10 x of-rules))
+        (λ x. (refusal-none .0 (x .0), ⊎-elim (λ z. absurd (omega (arith, x .1, z))) (λ z. z .1) (room (nameIn w i) out)))
+        (name-no out noRoom (omega arith) .0 e),
     λ h. name-no out noRoom (omega arith) .1 (inr (refusal-none .1 (h .0), no-room (nameIn w i) out (h .1))),
   )
     where
@@ -191,11 +204,13 @@ ended-is stopped e = let z : _≡_ {A = ℕ} 0 1 = cc in absurd (omega arith)
 ended-is ended e = refl
 
 -- the loading time, as the definition tests it
-loading-runs : (w : Tape) → (numberNo (loadingOf w) ≡ badRow) ↔ ((overfull w ≡ true) ⊎ Runs w 0 (comesTo (listFrom (formed w 0) 0)))
+loading-runs : (w : Tape)
+    → (numberNo (loadingOf w) ≡ badRow) ↔ ((overfull w ≡ true) ⊎ Runs w 0 (comesTo (listFrom (formed w 0) 0)))
 unfolding numberNo loadingOf loadingIn
 loading-runs w = (
   λ e. of (overfull w) (isEnded end && ltb (formed w 0 .count) (w .count)) refl refl e,
-  λ h. ⊎-elim (λ x. rw x) (λ x. back (overfull w) (isEnded end && ltb (formed w 0 .count) (w .count)) (rw (x .over, lt-ltb (formed w 0 .count) (w .count) (x .cut)))) h,
+  λ h. ⊎-elim (λ x. rw x) (λ x. back (overfull w) (isEnded end && ltb (formed w 0 .count) (w .count))
+      (rw (x .over, lt-ltb (formed w 0 .count) (w .count) (x .cut)))) h,
 )
   where
     end : Status
@@ -204,9 +219,13 @@ loading-runs w = (
     answer : Bool → Bool → Number
     answer a b = a ⇒ number.Refused badRow ∣ b ⇒ number.Refused badRow ∣ number.Is (loadingTime (formed w 0))
 
-    of : (a b : Bool) → overfull w ≡ a → (isEnded end && ltb (formed w 0 .count) (w .count)) ≡ b → numberNo (answer a b) ≡ badRow → (overfull w ≡ true) ⊎ Runs w 0 end
+    of : (a b : Bool) → overfull w ≡ a → (isEnded end && ltb (formed w 0 .count) (w .count)) ≡ b
+        → numberNo (answer a b) ≡ badRow → (overfull w ≡ true) ⊎ Runs w 0 end
     of true b q f e = inl q
-    of false true q f e = inr (record { over = ended-is end (first (isEnded end) (ltb (formed w 0 .count) (w .count)) f); cut = ltb-true _ _ (second (isEnded end) (ltb (formed w 0 .count) (w .count)) f) })
+    of false true q f e = inr (record {
+      over = ended-is end (first (isEnded end) (ltb (formed w 0 .count) (w .count)) f);
+      cut = ltb-true _ _ (second (isEnded end) (ltb (formed w 0 .count) (w .count)) f);
+    })
     of false false q f e = absurd (omega arith)
 
     back : (a b : Bool) → b ≡ true → numberNo (answer a b) ≡ badRow
@@ -215,7 +234,8 @@ loading-runs w = (
     back false false e = cc
 
 -- its entries up to the first stop or the end come to a row that is not well formed
-pub given-11-loading : (w : Tape) → (numberNo (loadingOf w) ≡ badRow) ↔ ((overfull w ≡ true) ⊎ ((k : ℕ) × Reaches w (startAt 0) enough k))
+pub given-11-loading : (w : Tape)
+    → (numberNo (loadingOf w) ≡ badRow) ↔ ((overfull w ≡ true) ⊎ ((k : ℕ) × Reaches w (startAt 0) enough k))
 unfolding leftAt
 given-11-loading w =
     let es = listFrom (formed w 0) 0 in
@@ -229,7 +249,8 @@ pub name-stays : (w : Tape) (i : ℕ) (out : List ℕ) → 0 < numberNo (nameAns
 unfolding numberNo numberUnless nameAnswer lengthOrNoRoom nameBytes told
 name-stays w i out h = of (refusalOf w i) (fits (nameIn w i) out) h
   where
-    of : (m : ℕ) (b : Bool) → 0 < numberNo (numberUnless m (b ⇒ number.Is (length (nameIn w i)) ∣ number.Refused noRoom)) → (eqb m 0 ⇒ (b ⇒ nameIn w i ++ drop (length (nameIn w i)) out ∣ out) ∣ out) ≡ out
+    of : (m : ℕ) (b : Bool) → 0 < numberNo (numberUnless m (b ⇒ number.Is (length (nameIn w i)) ∣ number.Refused noRoom))
+        → (eqb m 0 ⇒ (b ⇒ nameIn w i ++ drop (length (nameIn w i)) out ∣ out) ∣ out) ≡ out
     of zero true l = absurd (omega arith)
     of zero false l = refl
     of (suc m) b l = rw (ne-eqb (suc m) 0 (λ e. omega arith))

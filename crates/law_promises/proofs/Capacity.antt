@@ -23,7 +23,8 @@ use Rattle.cut_grammar.specs.Cut.{cutAt, tapAt, headAt}
 use Rattle.load_state.specs.declared.Loop.{Loop}
 use Rattle.load_state.specs.declared.Loop.the-variants.{Closed, Open}
 use Rattle.load_state.specs.declared.Halt.the-variants.{Refusal, Length}
-use Rattle.load_state.specs.Parser.{Parsed, Out, on, no as halt, empty, _⟫_, withTones, withBlock, withBody, nameless, addTones, addBlock}
+use Rattle.load_state.specs.Parser.{Parsed, Out, on, no as halt, empty, _⟫_, withTones, withBlock, withBody, nameless}
+use Rattle.load_state.specs.Parser.{addTones, addBlock}
 use Rattle.load_state.specs.Parser.{pend, endGroup, openLoop, copyRows, copies, closed, closeLoop}
 use Rattle.load_blocks.specs.Adds.{Lent, addRows}
 use Rattle.load_blocks.specs.declared.Origin.{Origin}
@@ -31,7 +32,8 @@ use Rattle.load_blocks.specs.Sounds.{Sound, originAt, rowOf, addSound, addSound
 use Rattle.load_blocks.specs.Deeds.{Deed, adding, groups, texts, groupEnds, opens, closes, panics, errs, does}
 use Rattle.load_source.specs.declared.Failure.{Failure}
 use Rattle.load_source.specs.Meaning.{deedOf}
-use Rattle.load_source.specs.Source.{See, Verdict, done, failed, refused, act, halted, readOn, seeing, foldFrom, full, tooManyBits, bitsJudged}
+use Rattle.load_source.specs.Source.{See, Verdict, done, failed, refused, act, halted, readOn, seeing, foldFrom, full}
+use Rattle.load_source.specs.Source.{tooManyBits, bitsJudged}
 use Rattle.load_source.specs.Source.{tzxOf, tzxSee, headed, readTzx, tapOf, tapSee, readTap, Load, tzx, tapped, no, orTap, orElse, loadOf}
 use Rattle.load_tape.specs.Load.{namedTape, namedLoad, loadNamed}
 use Rattle.law_every_load.specs.OfSource.{Reads as Accepts, as-tzx, as-tap}
@@ -72,14 +74,16 @@ abbrev Reads : (Lent → Verdict) → Verdict → Type 0
 Reads f r = Tends refused f r
 
 -- one step after another
-then-near : {x y : Out} {f g : Parsed → Out} → Near (λ k. halt (Refusal k)) x y → ((t : Parsed) → Near (λ k. halt (Refusal k)) (f t) (g t))
+then-near : {x y : Out} {f g : Parsed → Out} → Near (λ k. halt (Refusal k)) x y
+    → ((t : Parsed) → Near (λ k. halt (Refusal k)) (f t) (g t))
     → Near (λ k. halt (Refusal k)) (x ⟫ f) (y ⟫ g)
 unfolding _⟫_
 then-near (same {x = on t}) h = h t
 then-near (same {x = halt k}) h = same
 then-near (short n) h = short n
 
-then-enough : {f : Lent → Out} {g : Lent → Parsed → Out} {h : Parsed → Out} (o : Out) → Enough f o → ((t : Parsed) → Enough (λ l. g l t) (h t))
+then-enough : {f : Lent → Out} {g : Lent → Parsed → Out} {h : Parsed → Out} (o : Out) → Enough f o
+    → ((t : Parsed) → Enough (λ l. g l t) (h t))
     → Enough (λ l. f l ⟫ g l) (o ⟫ h)
 unfolding _⟫_
 then-enough {g = g} (on t) e k =
@@ -89,7 +93,8 @@ then-enough {g = g} (on t) e k =
     }
 then-enough (halt j) e k = record { rows = e .rows; settled = λ m a. rw (e .settled m a) }
 
-tends-then : {f : Lent → Out} {o : Out} {g : Lent → Parsed → Out} {h : Parsed → Out} → Steps f o → ((t : Parsed) → Steps (λ l. g l t) (h t))
+tends-then : {f : Lent → Out} {o : Out} {g : Lent → Parsed → Out} {h : Parsed → Out} → Steps f o
+    → ((t : Parsed) → Steps (λ l. g l t) (h t))
     → Steps (λ l. f l ⟫ g l) (o ⟫ h)
 tends-then {o = o} a b =
     record {
@@ -161,7 +166,8 @@ tends-looped Closed t = tends-as (on t)
 tends-looped (Open start times) t = tends-copies times (drop start (t .blocks)) (withBody Closed t)
 
 -- what a piece does
-tends-does : (model : ℕ) (origin : Origin) (d : Deed) (t : Parsed) → Steps (λ l. does l model origin d t) (boundlessDoes model origin d t)
+tends-does : (model : ℕ) (origin : Origin) (d : Deed) (t : Parsed)
+    → Steps (λ l. does l model origin d t) (boundlessDoes model origin d t)
 unfolding does boundlessDoes closeLoop
 tends-does model origin (adding only48 ds) t = by-model (only48 && not (eqb model 0))
   where
@@ -184,7 +190,8 @@ after-near (same {x = on t}) h = h t
 after-near (same {x = halt k}) h = same
 after-near (short n) h = short n
 
-after-enough : {f : Lent → Out} {g : Lent → Parsed → Verdict} {h : Parsed → Verdict} (o : Out) → Enough f o → ((t : Parsed) → Enough (λ l. g l t) (h t))
+after-enough : {f : Lent → Out} {g : Lent → Parsed → Verdict} {h : Parsed → Verdict} (o : Out) → Enough f o
+    → ((t : Parsed) → Enough (λ l. g l t) (h t))
     → Enough (λ l. readOn (f l) (g l)) (readOn o h)
 unfolding readOn
 after-enough {g = g} (on t) e k =
@@ -194,7 +201,8 @@ after-enough {g = g} (on t) e k =
     }
 after-enough (halt j) e k = record { rows = e .rows; settled = λ m a. rw (e .settled m a) }
 
-tends-after : {f : Lent → Out} {o : Out} {g : Lent → Parsed → Verdict} {h : Parsed → Verdict} → Steps f o → ((t : Parsed) → Reads (λ l. g l t) (h t))
+tends-after : {f : Lent → Out} {o : Out} {g : Lent → Parsed → Verdict} {h : Parsed → Verdict} → Steps f o
+    → ((t : Parsed) → Reads (λ l. g l t) (h t))
     → Reads (λ l. readOn (f l) (g l)) (readOn o h)
 tends-after {o = o} a b =
     record {
@@ -326,7 +334,8 @@ module _ (s : List ℕ) (model : ℕ) where
   large-enough = load-tends .enough
 
   -- WHATEVER IS LENT, a load is the one without tables, or refused by 5 or 6
-  pub lent-decides : (l : Lent) → (loadNamed l s model ≡ boundlessLoad s model) ⊎ ((k : ℕ) × Full k × (loadNamed l s model ≡ no k))
+  pub lent-decides : (l : Lent)
+      → (loadNamed l s model ≡ boundlessLoad s model) ⊎ ((k : ℕ) × Full k × (loadNamed l s model ≡ no k))
   lent-decides l = of (with-rows (large-enough .rows) (large-enough .settled))
     where
       reach : (m : Lent) → Larger m m
@@ -344,7 +353,8 @@ module _ (s : List ℕ) (model : ℕ) where
       of (short {k = k} n) = inr (k, n, refl)
 
   -- ACCEPTED IS ACCEPTED IN LARGER TABLES, and the load is the same
-  pub larger-load : {l m : Lent} → Larger l m → {t : Parsed} → Accepts (loadNamed l s model) t → loadNamed m s model ≡ loadNamed l s model
+  pub larger-load : {l m : Lent} → Larger l m → {t : Parsed} → Accepts (loadNamed l s model) t
+      → loadNamed m s model ≡ loadNamed l s model
   larger-load {l} {m} h r = of (load-tends .larger l m h) r
     where
       of : {x y : Load} {t : Parsed} → Near no x y → Accepts x t → y ≡ x
@@ -389,7 +399,8 @@ after-clear panicked h = four
 after-clear erred h = fails
 
 abbrev Passes : (ℕ → See) → Type 0
-Passes see = (at : ℕ) (t : Parsed) (k : ℕ → Parsed → Verdict) → ((next : ℕ) (u : Parsed) → Clear (k next u)) → Clear (seeing (see at) t k)
+Passes see = (at : ℕ) (t : Parsed) (k : ℕ → Parsed → Verdict) → ((next : ℕ) (u : Parsed) → Clear (k next u))
+    → Clear (seeing (see at) t k)
 
 run-clear : (see : ℕ → See) → Passes see → (n at : ℕ) (t : Parsed) → Clear (foldFrom see n at t)
 unfolding foldFrom
@@ -480,7 +491,8 @@ module _ (s : List ℕ) (model : ℕ) where
   unfolding boundlessLoad boundlessTap
   never-short = named-roomy s _ (by-tests (leb 3 model) (ltb 1048576 (length s)))
     where
-      by-tests : (a b : Bool) → Roomy (a ⇒ no badModel ∣ b ⇒ no tapeLong ∣ orElse (boundlessTzx s model (headAt s)) (boundlessTap s))
+      by-tests : (a b : Bool)
+          → Roomy (a ⇒ no badModel ∣ b ⇒ no tapeLong ∣ orElse (boundlessTzx s model (headAt s)) (boundlessTap s))
       by-tests true b = refused-roomy badModel (inl (omega arith))
       by-tests false true = refused-roomy tapeLong (inl (omega arith))
       by-tests false false = or-else-roomy (tzx-clear (headAt s)) (run-clear _ tap-passes (length s) 0 empty)

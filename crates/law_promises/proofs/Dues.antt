@@ -1,4 +1,5 @@
--- WHERE EACH NUMBER OF A READING IS DUE: 4 at a generalised piece on which the Rust panics, 5 and 6 at a piece that lacks rows, 7 at the end. Assumes nothing.
+-- WHERE EACH NUMBER OF A READING IS DUE: 4 at a generalised piece on which the Rust panics, 5 and 6 at a piece that lacks rows,
+-- 7 at the end. Assumes nothing.
 use Prim.Native.Nat.{ℕ, _+_, _≤_, _<_}
 use native.Mathlib.Omega.{arith}
 use borrow.Author.Tests.{lt-ltb, ltb-true}
@@ -14,7 +15,9 @@ use Rattle.law_base.proofs.Tests.{first, second}
 use Rattle.rows.specs.declared.Block.{Block}
 use Rattle.cut_grammar.specs.declared.GeneralizedData.{GeneralizedData}
 use Rattle.cut_grammar.specs.declared.Piece.{Piece}
-use Rattle.cut_grammar.specs.declared.Piece.the-variants.{Standard, Turbo, Tone as PureTone, Pulses, Pure, Generalized, Pause, GroupStart, GroupEnd, LoopStart, LoopEnd, Stop48, Text, Message, Archive, Hardware, Custom, Glue}
+use Rattle.cut_grammar.specs.declared.Piece.the-variants.{Standard, Turbo, Tone as PureTone, Pulses, Pure, Generalized, Pause, GroupStart}
+use Rattle.cut_grammar.specs.declared.Piece.the-variants.{GroupEnd, LoopStart, LoopEnd, Stop48, Text, Message, Archive, Hardware}
+use Rattle.cut_grammar.specs.declared.Piece.the-variants.{Custom, Glue}
 use Rattle.cut_grammar.specs.declared.Taken.{Taken}
 use Rattle.cut_grammar.specs.declared.Taken.the-variants as taken
 use Rattle.cut_grammar.specs.declared.TakenTap.{TakenTap}
@@ -31,13 +34,16 @@ use Rattle.load_blocks.specs.Sounds.{originAt, addSound}
 use Rattle.load_blocks.specs.Blocks.{standardHeader, standardPause, standardSound, stopSound}
 use Rattle.load_blocks.specs.Adds.{Lent}
 use Rattle.load_blocks.specs.Deeds as deed
-use Rattle.load_blocks.specs.Deeds.{Deed, adding, adds48, groups, texts, groupEnds, opens, closes, panics, generalDeed, stop48Deed, does as enact}
+use Rattle.load_blocks.specs.Deeds.{Deed, adding, adds48, groups, texts, groupEnds, opens, closes, panics, generalDeed}
+use Rattle.load_blocks.specs.Deeds.{stop48Deed, does as enact}
 use Rattle.load_source.specs.Meaning.{deedOf}
-use Rattle.load_source.specs.Source.{refuses, thing, Verdict, done, refused, act, halted, tooManyBits, tapKind, full, tzxOf, tzxSee, tapOf, tapSee}
+use Rattle.load_source.specs.Source.{refuses, thing, Verdict, done, refused, act, halted, tooManyBits, tapKind, full, tzxOf, tzxSee}
+use Rattle.load_source.specs.Source.{tapOf, tapSee}
 use Rattle.load_source.proofs.Rest.{tzx-stops, tzx-sees, sees-piece, tap-stops}
 use Rattle.law_every_load.proofs.Room.{Within}
 use Rattle.law_every_load.proofs.Refusals.{HaltsBy, goes, says, fails, either, sounds-say, closed-says}
-use Rattle.law_promises.specs.Numbers.{Comes, here, past, Due, ends, errs, stands, answers, Overlong, this, later, OverlongAt, Bounded}
+use Rattle.law_promises.specs.Numbers.{Comes, here, past, Due, ends, errs, stands, answers, Overlong, this, later}
+use Rattle.law_promises.specs.Numbers.{OverlongAt, Bounded}
 use Rattle.law_promises.specs.Needs.{NeedsPiece, at-piece, NeedsBlock, at-block}
 use Rattle.law_promises.proofs.Lacking.{Adding, standard-adds, act-adds}
 use Rattle.law_promises.proofs.Runs.{comes-map}
@@ -82,9 +88,11 @@ data Refused4 (s : List ℕ) : Piece → Type 0 where
 
 module _ (lent : Lent) (s : List ℕ) (model : ℕ) where
   -- only `panics` is refused by 4, and only a 19 of the table is `panics`
-  does-four : (origin : Origin) (d : Deed) (t : Parsed) → enact lent model origin d t ≡ halt (Refusal generalised) → panicking d ≡ true
+  does-four : (origin : Origin) (d : Deed) (t : Parsed) → enact lent model origin d t ≡ halt (Refusal generalised)
+      → panicking d ≡ true
   unfolding enact panicking pend endGroup openLoop closeLoop
-  does-four origin (adding only48 ds) t e = never-four (either (HaltsBy tonesFull blocksFull) (only48 && not (eqb model 0)) goes (sounds-say lent origin ds t)) e
+  does-four origin (adding only48 ds) t e =
+      never-four (either (HaltsBy tonesFull blocksFull) (only48 && not (eqb model 0)) goes (sounds-say lent origin ds t)) e
   does-four origin (groups from size) t e = never-four goes e
   does-four origin (texts from size) t e = never-four goes e
   does-four origin groupEnds t e = never-four goes e
@@ -134,7 +142,8 @@ module _ (lent : Lent) (s : List ℕ) (model : ℕ) where
 
   -- a thing of a TZX: a piece, or a kind not named
   data Thing (at next : ℕ) (does : Parsed → Out) : Type 0 where
-    whole : {kind from : ℕ} {piece : Piece} → cutAt s at full ≡ taken.Whole kind from next piece → does ≡ act lent s model (originAt kind from) piece → Thing at next does
+    whole : {kind from : ℕ} {piece : Piece} → cutAt s at full ≡ taken.Whole kind from next piece
+        → does ≡ act lent s model (originAt kind from) piece → Thing at next does
     skip : next ≡ at + 1 → does ≡ on → Thing at next does
 
   tzx-thing : (at next : ℕ) (does : Parsed → Out) → tzxSee lent s model at ≡ thing next does → Thing at next does
@@ -175,22 +184,28 @@ module _ (lent : Lent) (s : List ℕ) (model : ℕ) where
   due-four (ends e) f = let z : _≡_ {A = ℕ} 0 1 = cc in absurd (omega arith)
   due-four (errs e) f = let z : _≡_ {A = ℕ} 0 1 = cc in absurd (omega arith)
   due-four (stands {at = at} {k = k} {t = t} e) f = tzx-stands at k t e .1
-  due-four (answers {at = at} {next = next} {k = k} {does = does} {t = t} e d) f = of (tzx-thing at next does e) (d ∙ ap halt (halted-by k generalised f))
+  due-four (answers {at = at} {next = next} {k = k} {does = does} {t = t} e d) f =
+      of (tzx-thing at next does e) (d ∙ ap halt (halted-by k generalised f))
     where
       of : Thing at next does → does t ≡ halt (Refusal generalised) → Panics s at t
       of (whole {piece = piece} q x) y = by-piece piece q (act-four _ piece t (ap (λ (h : Parsed → Out). h t) (sym x) ∙ y))
         where
           by-piece : {kind from : ℕ} (p : Piece) → cutAt s at full ≡ taken.Whole kind from next p → Refused4 s p → Panics s at t
           by-piece p c (is h) = within c h
-      of (skip q x) y = let u : on t ≡ halt (Refusal generalised) = ap (λ (h : Parsed → Out). h t) (sym x) ∙ y in let z : _≡_ {A = ℕ} 0 1 = cc in absurd (omega arith)
+      of (skip q x) y =
+          let u : on t ≡ halt (Refusal generalised) = ap (λ (h : Parsed → Out). h t) (sym x) ∙ y in
+          let z : _≡_ {A = ℕ} 0 1 = cc in
+          absurd (omega arith)
 
   four-due : {at : ℕ} {t : Parsed} → Panics s at t → Due (tzxSee lent s model) (refused generalised) at t
   unfolding tzxOf act deedOf generalDeed enact halted
   four-due {at} (before q) = stands (tzx-sees lent s model at (sym q))
-  four-due {at} {t} (within {kind = kind} {from = from} {g = g} q e) = answers {k = Refusal generalised} (sees-piece lent s model at (sym q)) (ap (λ (x : general.Given). enact lent model (originAt kind from) (generalDeed g x) t) e)
+  four-due {at} {t} (within {kind = kind} {from = from} {g = g} q e) = answers {k = Refusal generalised}
+      (sees-piece lent s model at (sym q)) (ap (λ (x : general.Given). enact lent model (originAt kind from) (generalDeed g x) t) e)
 
   -- 5 and 6
-  due-needs : (k : ℕ) → tonesFull ≤ k → {r : Verdict} {at : ℕ} {t : Parsed} → Within lent t → Due (tzxSee lent s model) r at t → r ≡ refused k
+  due-needs : (k : ℕ) → tonesFull ≤ k → {r : Verdict} {at : ℕ} {t : Parsed} → Within lent t → Due (tzxSee lent s model) r at t
+      → r ≡ refused k
       → NeedsPiece lent s model k at t
   due-needs k h w (ends e) f = let z : _≡_ {A = ℕ} 0 1 = cc in absurd (omega arith)
   due-needs k h w (errs e) f = let z : _≡_ {A = ℕ} 0 1 = cc in absurd (omega arith)
@@ -199,7 +214,8 @@ module _ (lent : Lent) (s : List ℕ) (model : ℕ) where
       of (tzx-thing at next does e) (d ∙ ap halt (halted-by j k f))
     where
       of : Thing at next does → does t ≡ halt (Refusal k) → NeedsPiece lent s model k at t
-      of (whole {piece = p} q x) y = at-piece q (act-adds lent s model _ p t w .lacking k h .0 (ap (λ (f : Parsed → Out). f t) (sym x) ∙ y))
+      of (whole {piece = p} q x) y =
+          at-piece q (act-adds lent s model _ p t w .lacking k h .0 (ap (λ (f : Parsed → Out). f t) (sym x) ∙ y))
       of (skip q x) y =
           let u : on t ≡ halt (Refusal k) = ap (λ (f : Parsed → Out). f t) (sym x) ∙ y in
           let z : _≡_ {A = ℕ} 0 1 = cc in
@@ -233,7 +249,8 @@ module _ (lent : Lent) (s : List ℕ) (model : ℕ) where
 -- a TAP's things are blocks
 module _ (lent : Lent) (s : List ℕ) where
   abbrev blockDoes : ℕ → ℕ → ℕ → Parsed → Out
-  blockDoes at from size = addSound lent (originAt tapKind at) (standardSound (standardHeader s from size) from size (standardPause (standardHeader s from size)))
+  blockDoes at from size = addSound lent (originAt tapKind at)
+      (standardSound (standardHeader s from size) from size (standardPause (standardHeader s from size)))
 
   data TapThing (at next : ℕ) (does : Parsed → Out) : Type 0 where
     is-block : {from size : ℕ} → tapAt s at ≡ tap.Block from size next → does ≡ blockDoes at from size → TapThing at next does
@@ -270,7 +287,8 @@ module _ (lent : Lent) (s : List ℕ) where
   block-adds : (at from size : ℕ) (t : Parsed) → Within lent t → Adding lent (2 ∷ []) t (blockDoes at from size t)
   block-adds at from size t w = standard-adds lent (originAt tapKind at) (standardHeader s from size) from size _ t w
 
-  due-tap : (k : ℕ) → tonesFull ≤ k → {r : Verdict} {at : ℕ} {t : Parsed} → Within lent t → Due (tapSee lent s) r at t → r ≡ refused k
+  due-tap : (k : ℕ) → tonesFull ≤ k → {r : Verdict} {at : ℕ} {t : Parsed} → Within lent t → Due (tapSee lent s) r at t
+      → r ≡ refused k
       → NeedsBlock lent s k at t
   due-tap k h w (ends e) f = let z : _≡_ {A = ℕ} 0 1 = cc in absurd (omega arith)
   due-tap k h w (errs e) f = let z : _≡_ {A = ℕ} 0 1 = cc in absurd (omega arith)
@@ -282,7 +300,8 @@ module _ (lent : Lent) (s : List ℕ) where
       of (is-block {from = from} {size = size} q x) y =
           at-block q (block-adds at from size t w .lacking k h .0 (ap (λ (f : Parsed → Out). f t) (sym x) ∙ y))
 
-  tap-due : (k : ℕ) → tonesFull ≤ k → {at : ℕ} {t : Parsed} → Within lent t → NeedsBlock lent s k at t → Due (tapSee lent s) (refused k) at t
+  tap-due : (k : ℕ) → tonesFull ≤ k → {at : ℕ} {t : Parsed} → Within lent t → NeedsBlock lent s k at t
+      → Due (tapSee lent s) (refused k) at t
   unfolding halted tapSee tapOf
   tap-due k h {at} {t} w (at-block {from = from} {size = size} q l) =
       answers {k = Refusal k} (ap (tapOf lent s at) q) (block-adds at from size t w .lacking k h .1 l)
@@ -304,8 +323,10 @@ unfolding tooManyBits
 bits-long [] e = let z : _≡_ {A = ℕ} 0 1 = cc in absurd (omega arith)
 bits-long (r ∷ rs) e = of (ltb 0 (r .size) && ltb 8 (r .last)) refl e (λ f. bits-long rs f)
   where
-    of : (b : Bool) → (ltb 0 (r .size) && ltb 8 (r .last)) ≡ b → (b ⇒ true ∣ tooManyBits rs) ≡ true → (tooManyBits rs ≡ true → Overlong rs) → Overlong (r ∷ rs)
-    of true q f more = this (ltb-true _ _ (first (ltb 0 (r .size)) (ltb 8 (r .last)) q)) (ltb-true _ _ (second (ltb 0 (r .size)) (ltb 8 (r .last)) q))
+    of : (b : Bool) → (ltb 0 (r .size) && ltb 8 (r .last)) ≡ b → (b ⇒ true ∣ tooManyBits rs) ≡ true
+        → (tooManyBits rs ≡ true → Overlong rs) → Overlong (r ∷ rs)
+    of true q f more =
+        this (ltb-true _ _ (first (ltb 0 (r .size)) (ltb 8 (r .last)) q)) (ltb-true _ _ (second (ltb 0 (r .size)) (ltb 8 (r .last)) q))
     of false q f more = later (more f)
 
 long-bits : {rs : List Block} → Overlong rs → tooManyBits rs ≡ true
@@ -322,8 +343,11 @@ module _ (lent : Lent) (s : List ℕ) (model : ℕ) where
   abbrev Late : ℕ → Parsed → Type 0
   Late at t = (u : Parsed) × (tooManyBits (u .blocks) ≡ true) × Comes (tzxSee lent s model) (Due (tzxSee lent s model) (done u)) at t
 
-  late-judged : {u : Parsed} → tooManyBits (u .blocks) ≡ true → {r : Verdict} {at : ℕ} {t : Parsed} → Due (tzxSee lent s model) r at t → r ≡ done u → OverlongAt lent s model at t
-  late-judged {u} b (ends {t = t} e) f = let z : t ≡ u = cc in record { whole = e; bits = bits-long _ (ap (λ (x : Parsed). tooManyBits (x .blocks)) z ∙ b) }
+  late-judged : {u : Parsed} → tooManyBits (u .blocks) ≡ true → {r : Verdict} {at : ℕ} {t : Parsed}
+      → Due (tzxSee lent s model) r at t → r ≡ done u → OverlongAt lent s model at t
+  late-judged {u} b (ends {t = t} e) f =
+      let z : t ≡ u = cc in
+      record { whole = e; bits = bits-long _ (ap (λ (x : Parsed). tooManyBits (x .blocks)) z ∙ b) }
   late-judged b (errs e) f = let z : _≡_ {A = ℕ} 0 1 = cc in absurd (omega arith)
   late-judged b (stands e) f = let z : _≡_ {A = ℕ} 0 1 = cc in absurd (omega arith)
   late-judged b (answers {k = k} e d) f = absurd (halted-never k f)

@@ -16,8 +16,10 @@ use Rattle.load_state.specs.Parser.{Parsed, empty}
 use Rattle.load_blocks.specs.Adds.{Lent}
 use Rattle.load_source.specs.declared.Failure.{Failure}
 use Rattle.load_source.specs.declared.Failure.the-variants as failure
-use Rattle.load_source.specs.Source.{See, Verdict, done, failed, refused, foldFrom, tooManyBits, bitsJudged, tzxSee, headed, readTzx, tapSee, readTap, halted}
-use Rattle.law_promises.specs.Numbers.{Errs, Headed, Comes, here, past, Due, ends, errs, stands, answers, ByTzx, ByTap, Bad, short, length48}
+use Rattle.load_source.specs.Source.{See, Verdict, done, failed, refused, foldFrom, tooManyBits, bitsJudged, tzxSee, headed, readTzx}
+use Rattle.load_source.specs.Source.{tapSee, readTap, halted}
+use Rattle.law_promises.specs.Numbers.{Errs, Headed, Comes, here, past, Due, ends, errs, stands, answers, ByTzx, ByTap, Bad}
+use Rattle.law_promises.specs.Numbers.{short, length48}
 use Rattle.law_promises.proofs.Runs.{comes-map, run-due}
 use Rattle.law_promises.proofs.Loads.{tzx-headed}
 use Rattle.law_promises.proofs.Dues.{tzx-bounded, tap-bounded}
@@ -54,11 +56,14 @@ module _ (lent : Lent) (s : List ℕ) where
   tap-errs =
       (λ x. comes-map (λ at t d. due-bad d refl) (run (x .0) .0 (x .1)), λ c. let x = bad-due c in (x .0, run (x .0) .1 (x .1)))
     where
-      run : (f : Failure) → (foldFrom (tapSee lent s) (length s) 0 empty ≡ failed f) ↔ Comes (tapSee lent s) (Due (tapSee lent s) (failed f)) 0 empty
+      run : (f : Failure)
+          → (foldFrom (tapSee lent s) (length s) 0 empty ≡ failed f) ↔ Comes (tapSee lent s) (Due (tapSee lent s) (failed f)) 0 empty
       run f = run-due (tap-bounded lent s) (length s) 0 empty (failed f) (omega arith)
 
   module _ (model : ℕ) where
-    run : (f : Failure) → (foldFrom (tzxSee lent s model) (length s) 10 empty ≡ failed f) ↔ Comes (tzxSee lent s model) (Due (tzxSee lent s model) (failed f)) 10 empty
+    run : (f : Failure)
+        → (foldFrom (tzxSee lent s model) (length s) 10 empty ≡ failed f)
+        ↔ Comes (tzxSee lent s model) (Due (tzxSee lent s model) (failed f)) 10 empty
     run f = run-due (tzx-bounded lent s model) (length s) 10 empty (failed f) (omega arith)
 
     -- TZX: a short read or bad signature is an error
@@ -66,10 +71,12 @@ module _ (lent : Lent) (s : List ℕ) where
     unfolding readTzx headed bitsJudged
     tzx-errs = (
       λ x. of (headAt s) refl (x .0) (x .1),
-      λ h. ⊎-elim (λ n. none (headAt s) refl n) (λ x. let y = bad-due (x .1) in (y .0, tzx-headed lent s model (x .0) ∙ ap bitsJudged (run (y .0) .1 (y .1)))) h,
+      λ h. ⊎-elim (λ n. none (headAt s) refl n)
+          (λ x. let y = bad-due (x .1) in (y .0, tzx-headed lent s model (x .0) ∙ ap bitsJudged (run (y .0) .1 (y .1)))) h,
     )
       where
-        of : (h : Heading) → headAt s ≡ h → (f : Failure) → headed lent s model h ≡ failed f → (Headed s → ⊥) ⊎ ByTzx lent s model (Bad (tzxSee lent s model))
+        of : (h : Heading) → headAt s ≡ h → (f : Failure) → headed lent s model h ≡ failed f
+            → (Headed s → ⊥) ⊎ ByTzx lent s model (Bad (tzxSee lent s model))
         of (heading.Version major minor) q f e = inr ((major, minor, q), comes-map (λ at t d. due-bad d refl) (run f .0 (judged-bad _ e)))
         of heading.BadSignature q f e = inl (λ x. let y = sym q ∙ x .2 in let z : _≡_ {A = ℕ} 0 1 = cc in absurd (omega arith))
         of (heading.Short p w) q f e = inl (λ x. let y = sym q ∙ x .2 in let z : _≡_ {A = ℕ} 0 1 = cc in absurd (omega arith))

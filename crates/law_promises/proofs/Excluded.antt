@@ -1,4 +1,5 @@
--- EXCLUDED: refusing all tapes, one fixed listing, a player that stays put, one that plays only the first call of a cutting, an invented entry count:
+-- EXCLUDED: refusing all tapes, one fixed listing, a player that stays put, one that plays only the first call of a cutting,
+-- an invented entry count:
 -- none agrees with the definitions that the contracts cite. Assumes nothing.
 use Prim.Native.Nat.{ℕ, _<_}
 use native.Mathlib.Omega.{arith}
@@ -24,8 +25,10 @@ use Rattle.text_name.specs.Names.{isHeader, sizeShown, sizeName, guessed, nameO
 use Rattle.play_entries.specs.declared.Phase.the-variants.{Tones}
 use Rattle.play_entries.specs.declared.Duration.{Duration}
 use Rattle.play_entries.specs.declared.Duration.the-variants.{T, Endless}
-use Rattle.play_entries.specs.Entries.{entryOf, cyclesOf, isSingle, startLevel, cycleLevel, bitLevel, edged, pauseLevel, toneOf, tonesOf, dataOf, pauseOf, soundOf, entriesOf, lastsOf}
-use Rattle.play_entries.specs.Places.{Tape, listFrom, levelAt, fromPause, fromEdge, fromSecond, fromByte, fromTone, fromCycle, leftAt, hasEntry, lengthAt, remains, valid, headOf, leftOf}
+use Rattle.play_entries.specs.Entries.{entryOf, cyclesOf, isSingle, startLevel, cycleLevel, bitLevel, edged, pauseLevel, toneOf, tonesOf}
+use Rattle.play_entries.specs.Entries.{dataOf, pauseOf, soundOf, entriesOf, lastsOf}
+use Rattle.play_entries.specs.Places.{Tape, listFrom, levelAt, fromPause, fromEdge, fromSecond, fromByte, fromTone, fromCycle, leftAt}
+use Rattle.play_entries.specs.Places.{hasEntry, lengthAt, remains, valid, headOf, leftOf}
 use Rattle.play_entries.specs.Mounted.{wellRow, firstBad, formed, tapeOf}
 use Rattle.load_tape.specs.Load.{namedTape, namedLoad, loadNamed, blockTable, toneTable}
 use Rattle.play_walk.specs.declared.Position.{Position}
@@ -40,7 +43,12 @@ use Rattle.listing.specs.Listing.{loadedOf, Listing, mounted, listed, listingOf
 
 -- an empty tape is listed in 37 bytes, and `00 00` in 67
 lists : (answerTo (listingOf [] 0) (replicate 99 0) ≡ 37) × (answerTo (listingOf (0 ∷ 0 ∷ []) 0) (replicate 99 0) ≡ 67)
-unfolding countedAt comesTo leAt numberAt fieldAt placeOf startsAt headAt tapBlock tapAt empty _⟫_ addTones addBlock rowOf standardHeader standardCycles standardTones standardSound standardPause addRows addSound readOn seeing foldFrom headed readTzx tapOf tapSee readTap orTap orElse loadOf decimal digits isHeader sizeShown sizeName guessed nameOf unselected nameOne nameAll namedTape namedLoad loadNamed blockTable toneTable tableOver time run entryOf cyclesOf isSingle startLevel cycleLevel bitLevel edged pauseLevel toneOf tonesOf dataOf pauseOf soundOf entriesOf lastsOf listFrom shown timeText markText rowText rowsText modelText formatText countText loadingText restText listingText loadedOf mounted listed listingOf answerTo
+unfolding countedAt comesTo leAt numberAt fieldAt placeOf startsAt headAt tapBlock tapAt empty _⟫_ addTones addBlock rowOf standardHeader
+    standardCycles standardTones standardSound standardPause addRows addSound readOn seeing foldFrom headed readTzx tapOf tapSee readTap
+    orTap orElse loadOf decimal digits isHeader sizeShown sizeName guessed nameOf unselected nameOne nameAll namedTape namedLoad loadNamed
+    blockTable toneTable tableOver time run entryOf cyclesOf isSingle startLevel cycleLevel bitLevel edged pauseLevel toneOf tonesOf dataOf
+    pauseOf soundOf entriesOf lastsOf listFrom shown timeText markText rowText rowsText modelText formatText countText loadingText restText
+    listingText loadedOf mounted listed listingOf answerTo
 lists = (refl, refl)
 
 -- refusing all tapes
@@ -50,7 +58,8 @@ no-refusing-all all = omega (arith, all [] (replicate 99 0), lists .0)
 -- one fixed listing
 pub no-one-listing : (l : Listing) → ((s : List ℕ) → listingOf s 0 ≡ l) → ⊥
 no-one-listing l one =
-    let e : answerTo (listingOf [] 0) (replicate 99 0) ≡ answerTo (listingOf (0 ∷ 0 ∷ []) 0) (replicate 99 0) = ap (λ (x : Listing). answerTo x (replicate 99 0)) (one [] ∙ sym (one (0 ∷ 0 ∷ []))) in
+    let e : answerTo (listingOf [] 0) (replicate 99 0) ≡ answerTo (listingOf (0 ∷ 0 ∷ []) 0) (replicate 99 0) =
+    ap (λ (x : Listing). answerTo x (replicate 99 0)) (one [] ∙ sym (one (0 ∷ 0 ∷ []))) in
     omega (arith, e, lists .0, lists .1)
 
 -- two cycles of 100 and 100, no data, no pause
@@ -61,7 +70,10 @@ two = tapeOf [] (2 ∷ 100 ∷ 100 ∷ 0 ∷ []) (rowWords (0 ∷ 1 ∷ 0 ∷ 0 
 plays : (playMeasured two (startAt 0) 99 ≡ At (stand (placed 0 (Tones 0 0 false) (T 1)) 1 low))
     × (playMeasured two (placed 0 (Tones 0 0 false) (T 1)) 1 ≡ At (stand (placed 0 (Tones 0 0 true) (T 100)) 1 high))
     × (playMeasured two (startAt 7) 99 ≡ Ended (stand (startAt 1) 0 low))
-unfolding playMeasured unless judged ruledOut illFormed wellRow wellBlock wellRanges wellNumbers wellCases wellTones wellTone valid hasEntry remains lengthAt walkFrom walked formed firstBad toldReached toldAs levelHere restLevel headOf leftOf answer rest over statusHere status leftAt fromCycle fromTone fromByte levelAt fromPause fromEdge fromSecond listFrom entriesOf soundOf tonesOf toneOf cyclesOf isSingle startLevel cycleLevel bitLevel edged pauseLevel dataOf pauseOf entryOf run
+unfolding playMeasured unless judged ruledOut illFormed wellRow wellBlock wellRanges wellNumbers wellCases wellTones wellTone valid hasEntry
+    remains lengthAt walkFrom walked formed firstBad toldReached toldAs levelHere restLevel headOf leftOf answer rest over statusHere status
+    leftAt fromCycle fromTone fromByte levelAt fromPause fromEdge fromSecond listFrom entriesOf soundOf tonesOf toneOf cyclesOf isSingle
+    startLevel cycleLevel bitLevel edged pauseLevel dataOf pauseOf entryOf run
 plays = (refl, refl, refl)
 
 leftIn : Duration → ℕ
@@ -72,11 +84,15 @@ leftIn Endless = 0
 pub no-staying : ((w : Tape) (q : Position) (n : ℕ) → positionIn q (playMeasured w q n) ≡ q) → ⊥
 unfolding positionIn leftIn
 no-staying stays =
-    let e : _≡_ {A = ℕ} 1 0 = ap (λ (q : Position). leftIn (q .left)) (sym (ap (positionIn (startAt 0)) (plays .0)) ∙ stays two (startAt 0) 99) in
+    let e : _≡_ {A = ℕ} 1 0 =
+    ap (λ (q : Position). leftIn (q .left)) (sym (ap (positionIn (startAt 0)) (plays .0)) ∙ stays two (startAt 0) 99) in
     absurd (omega arith)
 
 -- one that plays only the first call of a cutting
-pub no-first-only : ((w : Tape) (q : Position) (n m : ℕ) → positionIn (positionIn q (playMeasured w q n)) (playMeasured w (positionIn q (playMeasured w q n)) m) ≡ positionIn q (playMeasured w q n)) → ⊥
+pub no-first-only : ((w : Tape) (q : Position) (n m : ℕ)
+    → positionIn (positionIn q (playMeasured w q n)) (playMeasured w (positionIn q (playMeasured w q n)) m)
+    ≡ positionIn q (playMeasured w q n))
+    → ⊥
 unfolding positionIn leftIn
 no-first-only first =
     let q : Position = placed 0 (Tones 0 0 false) (T 1) in
@@ -89,5 +105,6 @@ no-first-only first =
 pub no-invented : (count : ℕ → ℕ) → ((w : Tape) (q : Position) (n : ℕ) → passedIn (playMeasured w q n) ≡ count n) → ⊥
 unfolding passedIn
 no-invented count counts =
-    let e : _≡_ {A = ℕ} 1 0 = sym (ap passedIn (plays .0)) ∙ counts two (startAt 0) 99 ∙ sym (counts two (startAt 7) 99) ∙ ap passedIn (plays .2) in
+    let e : _≡_ {A = ℕ} 1 0 =
+    sym (ap passedIn (plays .0)) ∙ counts two (startAt 0) 99 ∙ sym (counts two (startAt 7) 99) ∙ ap passedIn (plays .2) in
     absurd (omega arith)

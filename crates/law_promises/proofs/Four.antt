@@ -22,9 +22,12 @@ use Rattle.load_general.specs.declared.Row.{Row}
 use Rattle.load_general.specs.declared.Row.the-variants.{Refused, Gives}
 use Rattle.load_state.specs.Parser.{Parsed}
 use Rattle.load_source.specs.Source.{full}
-use Rattle.load_general.specs.General.{Given, Symbol, plainTone, dataSymbol, Part, refused, stops, tones, refused4, plain, before, rowsFrom, cycles, symbolAt, entrySymbol, entryRepeat, entryRow, pilotOf, ordinary, usedBits, symbolNumber, singleRow, pairRow, singlesOf, pairsOf, dataPart, withData, withPilot, generalOf}
+use Rattle.load_general.specs.General.{Given, Symbol, plainTone, dataSymbol, Part, refused, stops, tones, refused4, plain, before}
+use Rattle.load_general.specs.General.{rowsFrom, cycles, symbolAt, entrySymbol, entryRepeat, entryRow, pilotOf, ordinary, usedBits}
+use Rattle.load_general.specs.General.{symbolNumber, singleRow, pairRow, singlesOf, pairsOf, dataPart, withData, withPilot, generalOf}
 use Rattle.law_promises.specs.Four as four
-use Rattle.law_promises.specs.Four.{BadEntry, symbol, repeat, BadPilot, entry, first, NoStop, no-entry, pulses, BadParts, dataAt, Four, BadData, none, eight, no-bits, no-bits-paired, single, pair}
+use Rattle.law_promises.specs.Four.{BadEntry, symbol, repeat, BadPilot, entry, first, NoStop, no-entry, pulses, BadParts, dataAt}
+use Rattle.law_promises.specs.Four.{Four, BadData, none, eight, no-bits, no-bits-paired, single, pair}
 use Rattle.law_promises.proofs.Dues as panic
 use Rattle.law_promises.proofs.Dues.{Panics}
 use Rattle.law_promises.proofs.Overflow.{overflow-exactly}
@@ -54,7 +57,8 @@ rows-bad : (row : ℕ → Row) (i n : ℕ) → rowsFrom row i n ≡ refused → 
 unfolding rowsFrom
 rows-bad row i zero e = absurd (let z : _≡_ {A = ℕ} 0 1 = cc in omega arith)
 rows-bad row i (suc n) e =
-    ⊎-elim (λ h. bad {j = i} (omega arith) (omega arith) h) (λ h. further (rows-bad row (i + 1) n h)) (before-refused (row i) (rowsFrom row (i + 1) n) e)
+    ⊎-elim (λ h. bad {j = i} (omega arith) (omega arith) h) (λ h. further (rows-bad row (i + 1) n h))
+    (before-refused (row i) (rowsFrom row (i + 1) n) e)
   where
     further : RowRefused row (i + 1) n → RowRefused row i (suc n)
     further (bad {j} a b r) = bad {j = j} (omega (arith, a)) (omega (arith, b)) r
@@ -69,7 +73,8 @@ bad-rows row i (suc n) j a b r =
     (here-or-past i j a)
   where
     here-or-past : (i j : ℕ) → i ≤ j → (i ≡ j) ⊎ (i < j)
-    here-or-past i j a = ⊎-elim (λ (z : j - i ≡ 0). inl (omega (arith, a, z))) (λ (p : 0 < j - i). inr (omega (arith, p))) (eq-zero-or-pos (j - i))
+    here-or-past i j a =
+        ⊎-elim (λ (z : j - i ≡ 0). inl (omega (arith, a, z))) (λ (p : 0 < j - i). inr (omega (arith, p))) (eq-zero-or-pos (j - i))
 
 with-refused : (ps : List Tone) {x : Part} → x ≡ refused → withData ps x ≡ refused4
 unfolding withData
@@ -81,7 +86,8 @@ differ e = let z : _≡_ {A = ℕ} 1 0 = ap (λ (t : Bool). t ⇒ 0 ∣ 1) e in 
 module _ (s : List ℕ) (g : GeneralizedData) where
   cycles-bad : (y : Symbol) (n : ℕ) → cycles y n ≡ Refused → (y .second ≡ 0) × (n ≡ 65535)
   unfolding cycles
-  cycles-bad y n e = at-second (plainTone ((n + 1) / 2) (y .first) (y .first)) (plainTone n (y .first) (y .second)) (eqb (y .second) 0) refl (eqb n 65535) refl e
+  cycles-bad y n e = at-second (plainTone ((n + 1) / 2) (y .first) (y .first)) (plainTone n (y .first) (y .second)) (eqb (y .second) 0) refl
+      (eqb n 65535) refl e
     where
       at-second : (t u : Tone) (a : Bool) → eqb (y .second) 0 ≡ a → (b : Bool) → eqb n 65535 ≡ b
           → (a ⇒ (b ⇒ Refused ∣ Gives t) ∣ Gives u) ≡ Refused → (y .second ≡ 0) × (n ≡ 65535)
@@ -94,16 +100,20 @@ module _ (s : List ℕ) (g : GeneralizedData) where
   entry-bad i e = by-cases (leb (g .asp) (entrySymbol s g i)) refl e
     where
       by-cases : (a : Bool) → leb (g .asp) (entrySymbol s g i) ≡ a
-          → (a ⇒ Refused ∣ cycles (symbolAt s (g .pilot) (g .npp) (entrySymbol s g i)) (entryRepeat s g i)) ≡ Refused → BadEntry s g i
+          → (a ⇒ Refused ∣ cycles (symbolAt s (g .pilot) (g .npp) (entrySymbol s g i)) (entryRepeat s g i)) ≡ Refused
+          → BadEntry s g i
       by-cases true p h = symbol (leb-true _ _ p)
-      by-cases false p h = let c = cycles-bad (symbolAt s (g .pilot) (g .npp) (entrySymbol s g i)) (entryRepeat s g i) h in repeat (c .0) (c .1)
+      by-cases false p h =
+          let c = cycles-bad (symbolAt s (g .pilot) (g .npp) (entrySymbol s g i)) (entryRepeat s g i) h in
+          repeat (c .0) (c .1)
 
   bad-entry : (i : ℕ) → BadEntry s g i → entryRow s g i ≡ Refused
   unfolding entryRow cycles
   bad-entry i (symbol h) = rw (le-leb _ _ h)
   bad-entry i (repeat p q) = by-cases (leb (g .asp) (entrySymbol s g i))
     where
-      by-cases : (a : Bool) → (a ⇒ Refused ∣ cycles (symbolAt s (g .pilot) (g .npp) (entrySymbol s g i)) (entryRepeat s g i)) ≡ Refused
+      by-cases : (a : Bool)
+          → (a ⇒ Refused ∣ cycles (symbolAt s (g .pilot) (g .npp) (entrySymbol s g i)) (entryRepeat s g i)) ≡ Refused
       by-cases true = refl
       by-cases false = rw (eq-eqb _ _ p, eq-eqb _ _ q)
 
@@ -129,7 +139,8 @@ module _ (s : List ℕ) (g : GeneralizedData) where
   unfolding pilotOf
   pilot-bad e = by-cases (eqb (g .totp) 0) refl (eqb (g .npp) 1 || eqb (g .npp) 2) refl (leb (g .asp) (entrySymbol s g 0)) refl e
     where
-      by-cases : (a : Bool) → eqb (g .totp) 0 ≡ a → (b : Bool) → (eqb (g .npp) 1 || eqb (g .npp) 2) ≡ b → (c : Bool) → leb (g .asp) (entrySymbol s g 0) ≡ c
+      by-cases : (a : Bool) → eqb (g .totp) 0 ≡ a → (b : Bool) → (eqb (g .npp) 1 || eqb (g .npp) 2) ≡ b → (c : Bool)
+          → leb (g .asp) (entrySymbol s g 0) ≡ c
           → (a ⇒ tones [] ∣ b ⇒ rowsFrom (entryRow s g) 0 (g .totp) ∣ c ⇒ refused ∣ stops) ≡ refused → BadPilot s g
       by-cases true p b q c r h = absurd (let z : _≡_ {A = ℕ} 0 1 = cc in omega arith)
       by-cases false p true q c r h = of-row (rows-bad (entryRow s g) 0 (g .totp) h)
@@ -141,15 +152,19 @@ module _ (s : List ℕ) (g : GeneralizedData) where
 
   bad-pilot : BadPilot s g → pilotOf s g ≡ refused
   unfolding pilotOf
-  bad-pilot (entry {i} n h b) = rw (ne-eqb (g .totp) 0 (omega (arith, h)), is-one-or-two n) (bad-rows (entryRow s g) 0 (g .totp) i (omega arith) (omega (arith, h)) (bad-entry i b))
+  bad-pilot (entry {i} n h b) = rw (ne-eqb (g .totp) 0 (omega (arith, h)), is-one-or-two n)
+      (bad-rows (entryRow s g) 0 (g .totp) i (omega arith) (omega (arith, h)) (bad-entry i b))
   bad-pilot (first n m p h) = rw (ne-eqb (g .totp) 0 (omega (arith, p)), ne-eqb (g .npp) 1 n, ne-eqb (g .npp) 2 m, le-leb _ _ h)
 
   -- a data symbol, a pair of them
   single-bad : (i : ℕ) → singleRow s g i ≡ Refused → g .asd ≤ symbolNumber s g (i * g .nb) 0
   unfolding singleRow
-  single-bad i e = by-cases (plainTone 1 (dataSymbol s g (symbolNumber s g (i * g .nb) 0) .first) (dataSymbol s g (symbolNumber s g (i * g .nb) 0) .second)) (leb (g .asd) (symbolNumber s g (i * g .nb) 0)) refl e
+  single-bad i e = by-cases
+      (plainTone 1 (dataSymbol s g (symbolNumber s g (i * g .nb) 0) .first) (dataSymbol s g (symbolNumber s g (i * g .nb) 0) .second))
+      (leb (g .asd) (symbolNumber s g (i * g .nb) 0)) refl e
     where
-      by-cases : (t : Tone) (a : Bool) → leb (g .asd) (symbolNumber s g (i * g .nb) 0) ≡ a → (a ⇒ Refused ∣ Gives t) ≡ Refused → g .asd ≤ symbolNumber s g (i * g .nb) 0
+      by-cases : (t : Tone) (a : Bool) → leb (g .asd) (symbolNumber s g (i * g .nb) 0) ≡ a → (a ⇒ Refused ∣ Gives t) ≡ Refused
+          → g .asd ≤ symbolNumber s g (i * g .nb) 0
       by-cases t true p h = leb-true _ _ p
       by-cases t false p h = absurd (let z : _≡_ {A = ℕ} 0 1 = cc in omega arith)
 
@@ -158,16 +173,19 @@ module _ (s : List ℕ) (g : GeneralizedData) where
   bad-single i h = rw (le-leb _ _ h)
 
   abbrev pairTone : ℕ → Tone
-  pairTone i = plainTone 1 (dataSymbol s g (symbolNumber s g (2 * i * g .nb) 0) .first) (dataSymbol s g (symbolNumber s g (2 * i * g .nb) 1) .first)
+  pairTone i =
+      plainTone 1 (dataSymbol s g (symbolNumber s g (2 * i * g .nb) 0) .first) (dataSymbol s g (symbolNumber s g (2 * i * g .nb) 1) .first)
 
   abbrev Either : ℕ → Type 0
   Either i = (g .asd ≤ symbolNumber s g (2 * i * g .nb) 0) ⊎ (g .asd ≤ symbolNumber s g (2 * i * g .nb) 1)
 
   pair-bad : (i : ℕ) → pairRow s g i ≡ Refused → Either i
   unfolding pairRow
-  pair-bad i e = by-cases (leb (g .asd) (symbolNumber s g (2 * i * g .nb) 0)) refl (leb (g .asd) (symbolNumber s g (2 * i * g .nb) 1)) refl e
+  pair-bad i e =
+      by-cases (leb (g .asd) (symbolNumber s g (2 * i * g .nb) 0)) refl (leb (g .asd) (symbolNumber s g (2 * i * g .nb) 1)) refl e
     where
-      by-cases : (a : Bool) → leb (g .asd) (symbolNumber s g (2 * i * g .nb) 0) ≡ a → (b : Bool) → leb (g .asd) (symbolNumber s g (2 * i * g .nb) 1) ≡ b
+      by-cases : (a : Bool) → leb (g .asd) (symbolNumber s g (2 * i * g .nb) 0) ≡ a → (b : Bool)
+          → leb (g .asd) (symbolNumber s g (2 * i * g .nb) 1) ≡ b
           → (a ⇒ Refused ∣ b ⇒ Refused ∣ Gives (pairTone i)) ≡ Refused → Either i
       by-cases true p b q h = inl (leb-true _ _ p)
       by-cases false p true q h = inr (leb-true _ _ q)
@@ -178,7 +196,8 @@ module _ (s : List ℕ) (g : GeneralizedData) where
   bad-pair i (inl h) = rw (le-leb _ _ h)
   bad-pair i (inr h) = by-cases (leb (g .asd) (symbolNumber s g (2 * i * g .nb) 0))
     where
-      by-cases : (a : Bool) → (a ⇒ Refused ∣ leb (g .asd) (symbolNumber s g (2 * i * g .nb) 1) ⇒ Refused ∣ Gives (pairTone i)) ≡ Refused
+      by-cases : (a : Bool)
+          → (a ⇒ Refused ∣ leb (g .asd) (symbolNumber s g (2 * i * g .nb) 1) ⇒ Refused ∣ Gives (pairTone i)) ≡ Refused
       by-cases true = refl
       by-cases false = rw (le-leb _ _ h)
 
@@ -200,7 +219,8 @@ module _ (s : List ℕ) (g : GeneralizedData) where
       of-row : RowRefused (pairRow s g) 0 (g .totd / 2) → BadData s g
       of-row (bad {j} x y z) = pair {i = j} n (omega (arith, y)) (pair-bad j z)
 
-      by-cases : (a : Bool) → eqb (g .nb) 0 ≡ a → (b : Bool) → ltb 1 (g .totd) ≡ b → ((a && b) ⇒ refused ∣ rowsFrom (pairRow s g) 0 (g .totd / 2)) ≡ refused → BadData s g
+      by-cases : (a : Bool) → eqb (g .nb) 0 ≡ a → (b : Bool) → ltb 1 (g .totd) ≡ b
+          → ((a && b) ⇒ refused ∣ rowsFrom (pairRow s g) 0 (g .totd / 2)) ≡ refused → BadData s g
       by-cases true p true q h = no-bits-paired (eqb-true _ _ p) n (ltb-true _ _ q)
       by-cases true p false q h = of-row (rows-bad (pairRow s g) 0 (g .totd / 2) h)
       by-cases false p b q h = of-row (rows-bad (pairRow s g) 0 (g .totd / 2) h)
@@ -209,7 +229,8 @@ module _ (s : List ℕ) (g : GeneralizedData) where
   unfolding dataPart
   data-bad e = by-cases (eqb (g .totd) 0) refl (leb 8 (g .nb)) refl (eqb (g .npd) 2) refl (eqb (g .npd) 1) refl e
     where
-      by-cases : (a : Bool) → eqb (g .totd) 0 ≡ a → (b : Bool) → leb 8 (g .nb) ≡ b → (c : Bool) → eqb (g .npd) 2 ≡ c → (d : Bool) → eqb (g .npd) 1 ≡ d
+      by-cases : (a : Bool) → eqb (g .totd) 0 ≡ a → (b : Bool) → leb 8 (g .nb) ≡ b → (c : Bool) → eqb (g .npd) 2 ≡ c
+          → (d : Bool) → eqb (g .npd) 1 ≡ d
           → (a ⇒ refused ∣ b ⇒ refused ∣ c ⇒ singlesOf s g ∣ d ⇒ pairsOf s g ∣ stops) ≡ refused → BadData s g
       by-cases true p b q c r d t h = none (eqb-true _ _ p)
       by-cases false p true q c r d t h = eight (leb-true _ _ q)
@@ -232,19 +253,24 @@ module _ (s : List ℕ) (g : GeneralizedData) where
 
   one-data : g .npd ≡ 1 → pairsOf s g ≡ refused → dataPart s g ≡ refused
   unfolding dataPart
-  one-data n e = data-by (eqb (g .npd) 2 ⇒ singlesOf s g ∣ eqb (g .npd) 1 ⇒ pairsOf s g ∣ stops) (rw (ne-eqb (g .npd) 2 (omega (arith, n)), eq-eqb (g .npd) 1 n) e)
+  one-data n e = data-by (eqb (g .npd) 2 ⇒ singlesOf s g ∣ eqb (g .npd) 1 ⇒ pairsOf s g ∣ stops)
+      (rw (ne-eqb (g .npd) 2 (omega (arith, n)), eq-eqb (g .npd) 1 n) e)
 
   bad-data : BadData s g → dataPart s g ≡ refused
   unfolding dataPart singlesOf pairsOf
   bad-data (none e) = rw (eq-eqb _ _ e)
   bad-data (eight h) = by-cases (eqb (g .totd) 0)
     where
-      by-cases : (a : Bool) → (a ⇒ refused ∣ leb 8 (g .nb) ⇒ refused ∣ (eqb (g .npd) 2 ⇒ singlesOf s g ∣ eqb (g .npd) 1 ⇒ pairsOf s g ∣ stops)) ≡ refused
+      by-cases : (a : Bool)
+          → (a ⇒ refused ∣ leb 8 (g .nb) ⇒ refused
+          ∣ (eqb (g .npd) 2 ⇒ singlesOf s g ∣ eqb (g .npd) 1 ⇒ pairsOf s g ∣ stops))
+          ≡ refused
       by-cases true = refl
       by-cases false = rw (le-leb 8 (g .nb) h)
   bad-data (no-bits z n) = two-data n (rw (eq-eqb (g .nb) 0 z))
   bad-data (no-bits-paired z n m) = one-data n (rw (eq-eqb (g .nb) 0 z, lt-ltb 1 (g .totd) m))
-  bad-data (single {i} n h b) = two-data n (singles-row (bad-rows (singleRow s g) 0 (g .totd) i (omega arith) (omega (arith, h)) (bad-single i b)))
+  bad-data (single {i} n h b) =
+      two-data n (singles-row (bad-rows (singleRow s g) 0 (g .totd) i (omega arith) (omega (arith, h)) (bad-single i b)))
     where
       singles-row : rowsFrom (singleRow s g) 0 (g .totd) ≡ refused → singlesOf s g ≡ refused
       singles-row e = by-cases (eqb (g .nb) 0)
@@ -252,7 +278,8 @@ module _ (s : List ℕ) (g : GeneralizedData) where
           by-cases : (a : Bool) → (a ⇒ refused ∣ rowsFrom (singleRow s g) 0 (g .totd)) ≡ refused
           by-cases true = refl
           by-cases false = e
-  bad-data (pair {i} n h b) = one-data n (pairs-row (bad-rows (pairRow s g) 0 (g .totd / 2) i (omega arith) (omega (arith, h)) (bad-pair i b)))
+  bad-data (pair {i} n h b) =
+      one-data n (pairs-row (bad-rows (pairRow s g) 0 (g .totd / 2) i (omega arith) (omega (arith, h)) (bad-pair i b)))
     where
       pairs-row : rowsFrom (pairRow s g) 0 (g .totd / 2) ≡ refused → pairsOf s g ≡ refused
       pairs-row e = by-cases (eqb (g .nb) 0 && ltb 1 (g .totd))

@@ -21,7 +21,8 @@ use Rattle.load_state.specs.declared.Loop.{Loop}
 use Rattle.load_state.specs.declared.Loop.the-variants.{Closed, Open}
 use Rattle.load_state.specs.declared.Halt.{Halt}
 use Rattle.load_state.specs.declared.Halt.the-variants.{Refusal, Length}
-use Rattle.load_state.specs.Parser.{Parsed, Out, on, no as halt, _⟫_, withTones, withBlock, withBody, nameless, addTones, addBlock, pend, endGroup, openLoop, copyRows, copies, closed, closeLoop}
+use Rattle.load_state.specs.Parser.{Parsed, Out, on, no as halt, _⟫_, withTones, withBlock, withBody, nameless, addTones, addBlock, pend}
+use Rattle.load_state.specs.Parser.{endGroup, openLoop, copyRows, copies, closed, closeLoop}
 use Rattle.load_state.proofs.Adds.{paused-length}
 use Rattle.load_blocks.specs.Adds.{Lent, addRows}
 use Rattle.load_blocks.specs.Blocks.{standardTones, standardSound}

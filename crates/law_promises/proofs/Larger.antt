@@ -78,8 +78,10 @@ module _ (B N C M : ℕ) (s : List ℕ) (model : ℕ) (b : Bytes s) (h : B ≤ C
       let few : length (nameAll s false (q .tape .blocks)) ≤ blockRoom B = omega (arith, same, w .blocks) in (
         l′ .answer ∙ ap answerOf x ∙ sym (l .answer),
         (
-          l′ .blocks ∙ ap (blockTable C) x ∙ blocks-grown B C r few h ∙ ap (λ (t : List ℕ). t ++ zeros (C - B)) (sym (l .blocks)),
-          l′ .tones ∙ ap (toneTable M) x ∙ tones-grown N M r (w .tones) j ∙ ap (λ (t : List ℕ). t ++ zeros (M - N)) (sym (l .tones)),
+          l′ .blocks ∙ ap (blockTable C) x ∙ blocks-grown B C r few h
+              ∙ ap (λ (t : List ℕ). t ++ zeros (C - B)) (sym (l .blocks)),
+          l′ .tones ∙ ap (toneTable M) x ∙ tones-grown N M r (w .tones) j
+              ∙ ap (λ (t : List ℕ). t ++ zeros (M - N)) (sym (l .tones)),
         ),
       )
 

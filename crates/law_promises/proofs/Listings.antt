@@ -30,20 +30,30 @@ sized-no out k m (long {t = t} h) = (λ e. absurd (of (fits t out) e), λ e. let
     of false e = absurd (omega arith)
 sized-no out k m (small {k = j} a b) = (λ e. ap refused e, λ e. let z : j ≡ k = cc in z)
 
-sized-10 : (out : List ℕ) {l : Listing} → TextOrNo l → (answerTo l out ≡ noRoom) ↔ ((t : List ℕ) × (l ≡ text t) × (length out < length t))
+sized-10 : (out : List ℕ) {l : Listing} → TextOrNo l
+    → (answerTo l out ≡ noRoom) ↔ ((t : List ℕ) × (l ≡ text t) × (length out < length t))
 unfolding answerTo
-sized-10 out (long {t = t} h) = (λ e. (t, refl, of (fits t out) refl e), λ x. let e = x .1 in let z : t ≡ x .0 = cc in let y : length t ≡ length (x .0) = ap length z in rw (lt-leb (length t) (length out) (omega (arith, x .2, y))))
+sized-10 out (long {t = t} h) = (
+  λ e. (t, refl, of (fits t out) refl e),
+  λ x. let e = x .1 in
+      let z : t ≡ x .0 = cc in
+      let y : length t ≡ length (x .0) = ap length z in
+      rw (lt-leb (length t) (length out) (omega (arith, x .2, y))),
+)
   where
     of : (b : Bool) → fits t out ≡ b → (b ⇒ length t ∣ noRoom) ≡ noRoom → length out < length t
     of true q e = absurd (omega arith)
     of false q e = leb-false _ _ q
-sized-10 out (small {k = j} a b) = (λ e. absurd (omega arith), λ x. let e = x .1 in let z : _≡_ {A = ℕ} 0 1 = cc in absurd (omega arith))
+sized-10 out (small {k = j} a b) =
+    (λ e. absurd (omega arith), λ x. let e = x .1 in let z : _≡_ {A = ℕ} 0 1 = cc in absurd (omega arith))
 
 -- a listing is refused where the load is
 listed-no : (s : List ℕ) (model k : ℕ) (l : Load) → (listed s model l ≡ refused k) ↔ (answerOf l ≡ Refused k)
 unfolding listed answerOf
-listed-no s model k (tzx t) = (λ e. let z : _≡_ {A = ℕ} 0 1 = cc in absurd (omega arith), λ e. let z : _≡_ {A = ℕ} 0 1 = cc in absurd (omega arith))
-listed-no s model k (tapped t) = (λ e. let z : _≡_ {A = ℕ} 0 1 = cc in absurd (omega arith), λ e. let z : _≡_ {A = ℕ} 0 1 = cc in absurd (omega arith))
+listed-no s model k (tzx t) =
+    (λ e. let z : _≡_ {A = ℕ} 0 1 = cc in absurd (omega arith), λ e. let z : _≡_ {A = ℕ} 0 1 = cc in absurd (omega arith))
+listed-no s model k (tapped t) =
+    (λ e. let z : _≡_ {A = ℕ} 0 1 = cc in absurd (omega arith), λ e. let z : _≡_ {A = ℕ} 0 1 = cc in absurd (omega arith))
 listed-no s model k (no j) = (λ e. let z : j ≡ k = cc in ap Refused z, λ e. let z : j ≡ k = cc in ap refused z)
 
 apart : (i j : ℕ) → refused i ≡ refused j → i ≡ j
@@ -73,17 +83,25 @@ module _ (s : List ℕ) (model : ℕ) where
     -- 2: in the listing, over 65,535
     pub listing-2 : (answerTo (listingOf s model) out ≡ tapeLong) ↔ ((model < 3) × (65535 < length s))
     unfolding loadedOf
-    listing-2 = (λ e. of (number tapeLong (omega arith) .0 e), λ h. number tapeLong (omega arith) .1 (by-size (lt-leb _ _ (h .0)) (lt-ltb _ _ (h .1)) refl))
+    listing-2 = (
+      λ e. of (number tapeLong (omega arith) .0 e),
+      λ h. number tapeLong (omega arith) .1 (by-size (lt-leb _ _ (h .0)) (lt-ltb _ _ (h .1)) refl),
+    )
       where
         of : Checks tapeLong → (model < 3) × (65535 < length s)
         of (by-model e q) = absurd (omega arith)
         of (by-size e f q) = (leb-false _ _ e, ltb-true _ _ f)
-        of (by-rest e f q) = let x = given-2 _ s model .0 (listed-no s model tapeLong _ .0 q) in absurd (omega (arith, x .1, ltb-false 65535 (length s) f))
+        of (by-rest e f q) =
+            let x = given-2 _ s model .0 (listed-no s model tapeLong _ .0 q) in
+            absurd (omega (arith, x .1, ltb-false 65535 (length s) f))
 
     -- 3 to 7: the load's, with 512 block and 2,048 tone rows
-    pub listing-load : (k : ℕ) → tapeBad ≤ k → k ≤ lastBits → (answerTo (listingOf s model) out ≡ k) ↔ (Admitted 65535 s model × (answerOf (loadedOf s model) ≡ Refused k))
-    listing-load k l m =
-        (λ e. of (number k m .0 e), λ h. number k m .1 (by-rest (lt-leb _ _ (h .0 .known)) (le-ltb _ _ (h .0 .short)) (listed-no s model k _ .1 (h .1))))
+    pub listing-load : (k : ℕ) → tapeBad ≤ k → k ≤ lastBits
+        → (answerTo (listingOf s model) out ≡ k) ↔ (Admitted 65535 s model × (answerOf (loadedOf s model) ≡ Refused k))
+    listing-load k l m = (
+      λ e. of (number k m .0 e),
+      λ h. number k m .1 (by-rest (lt-leb _ _ (h .0 .known)) (le-ltb _ _ (h .0 .short)) (listed-no s model k _ .1 (h .1))),
+    )
       where
         of : Checks k → Admitted 65535 s model × (answerOf (loadedOf s model) ≡ Refused k)
         of (by-model e q) = absurd (omega arith)
@@ -91,5 +109,6 @@ module _ (s : List ℕ) (model : ℕ) where
         of (by-rest e f q) = (record { known = leb-false _ _ e; short = ltb-false _ _ f }, listed-no s model k _ .0 q)
 
     -- 10: output buffer shorter than the text
-    pub listing-10 : (answerTo (listingOf s model) out ≡ noRoom) ↔ ((t : List ℕ) × (listingOf s model ≡ text t) × (length out < length t))
+    pub listing-10 : (answerTo (listingOf s model) out ≡ noRoom)
+        ↔ ((t : List ℕ) × (listingOf s model ≡ text t) × (length out < length t))
     listing-10 = sized-10 out (listing-sized s model)

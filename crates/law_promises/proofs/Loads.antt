@@ -15,7 +15,8 @@ use Rattle.cut_grammar.specs.declared.Heading.{Heading}
 use Rattle.cut_grammar.specs.declared.Heading.the-variants as heading
 use Rattle.cut_grammar.specs.Cut.{headAt}
 use Rattle.load_blocks.specs.Adds.{Lent}
-use Rattle.load_source.specs.Source.{Verdict, done, failed, refused, foldFrom, tooManyBits, bitsJudged, tzxSee, headed, readTzx, readTap, Load, tzx, tapped, no, orTap, orElse, loadOf}
+use Rattle.load_source.specs.Source.{Verdict, done, failed, refused, foldFrom, tooManyBits, bitsJudged, tzxSee, headed, readTzx, readTap}
+use Rattle.load_source.specs.Source.{Load, tzx, tapped, no, orTap, orElse, loadOf}
 use Rattle.load_tape.specs.declared.Loaded.the-variants.{Refused}
 use Rattle.load_tape.specs.Load.{namedLoad, loadNamed, answerOf}
 use Rattle.law_every_load.proofs.Refusals.{Between, Tells, whole, fails, tells, pieces-tell, tzx-tells, tap-tells}
@@ -30,8 +31,10 @@ refused-between k (tells {k = j} b) e = let z : j ≡ k = cc in rw z at b
 -- an answer is a refusal exactly where the load is
 pub answers-no : (s : List ℕ) (k : ℕ) (l : Load) → (answerOf (namedLoad s l) ≡ Refused k) ↔ (l ≡ no k)
 unfolding answerOf namedLoad
-answers-no s k (tzx t) = (λ e. let z : _≡_ {A = ℕ} 0 1 = cc in absurd (omega arith), λ e. let z : _≡_ {A = ℕ} 0 1 = cc in absurd (omega arith))
-answers-no s k (tapped t) = (λ e. let z : _≡_ {A = ℕ} 0 1 = cc in absurd (omega arith), λ e. let z : _≡_ {A = ℕ} 0 1 = cc in absurd (omega arith))
+answers-no s k (tzx t) =
+    (λ e. let z : _≡_ {A = ℕ} 0 1 = cc in absurd (omega arith), λ e. let z : _≡_ {A = ℕ} 0 1 = cc in absurd (omega arith))
+answers-no s k (tapped t) =
+    (λ e. let z : _≡_ {A = ℕ} 0 1 = cc in absurd (omega arith), λ e. let z : _≡_ {A = ℕ} 0 1 = cc in absurd (omega arith))
 answers-no s k (no j) = (λ e. let z : j ≡ k = cc in ap no z, λ e. let z : j ≡ k = cc in ap Refused z)
 
 -- the two checks, in order
@@ -78,12 +81,14 @@ module _ (lent : Lent) (s : List ℕ) (model : ℕ) where
     size-no : model < 3 → 1048576 < length s → k ≡ tapeLong → LoadRefused k
     both-no : Admitted 1048576 s model → Errs (readTzx lent s model) → Errs (readTap lent s) → k ≡ tapeBad → LoadRefused k
     tzx-no : Admitted 1048576 s model → readTzx lent s model ≡ refused k → Between generalised lastBits k → LoadRefused k
-    tap-no : Admitted 1048576 s model → Errs (readTzx lent s model) → readTap lent s ≡ refused k → Between tonesFull blocksFull k → LoadRefused k
+    tap-no : Admitted 1048576 s model → Errs (readTzx lent s model) → readTap lent s ≡ refused k → Between tonesFull blocksFull k
+        → LoadRefused k
 
   apart-no : (i j : ℕ) → no i ≡ no j → i ≡ j
   apart-no i j e = cc
 
-  given-of : (k : ℕ) → Ways no (leb 3 model) (ltb 1048576 (length s)) (orElse (readTzx lent s model) (readTap lent s)) k → LoadRefused k
+  given-of : (k : ℕ) → Ways no (leb 3 model) (ltb 1048576 (length s)) (orElse (readTzx lent s model) (readTap lent s)) k
+      → LoadRefused k
   given-of k (by-model e q) = model-no (leb-true _ _ e) q
   given-of k (by-size e f q) = size-no (leb-false _ _ e) (ltb-true _ _ f) q
   given-of k (by-rest e f q) = of-both (record { known = leb-false _ _ e; short = ltb-false _ _ f }) (both _ _ k q)
@@ -93,7 +98,8 @@ module _ (lent : Lent) (s : List ℕ) (model : ℕ) where
       of-both a (other x y) = tap-no a x y (refused-between k (tap-tells lent s) y)
       of-both a (none x y z) = both-no a x y z
 
-  ways-of : {k : ℕ} → LoadRefused k → Ways no (leb 3 model) (ltb 1048576 (length s)) (orElse (readTzx lent s model) (readTap lent s)) k
+  ways-of : {k : ℕ} → LoadRefused k
+      → Ways no (leb 3 model) (ltb 1048576 (length s)) (orElse (readTzx lent s model) (readTap lent s)) k
   ways-of (model-no h q) = by-model (le-leb _ _ h) q
   ways-of (size-no h l q) = by-size (lt-leb _ _ h) (lt-ltb _ _ l) q
   ways-of (both-no a x y z) = by-rest (lt-leb _ _ (a .known)) (le-ltb _ _ (a .short)) (both-back (none x y z))
@@ -151,9 +157,11 @@ module _ (lent : Lent) (s : List ℕ) (model : ℕ) where
       of (last t e b z) = absurd (omega arith)
 
   -- 7: of the whole
-  pub tzx-last : (readTzx lent s model ≡ refused lastBits) ↔ (Headed s × ((t : Parsed) × (pieces ≡ done t) × (tooManyBits (t .blocks) ≡ true)))
+  pub tzx-last : (readTzx lent s model ≡ refused lastBits)
+      ↔ (Headed s × ((t : Parsed) × (pieces ≡ done t) × (tooManyBits (t .blocks) ≡ true)))
   unfolding bitsJudged
-  tzx-last = (λ e. let x = tzx-judges lastBits e in (x .0, of (x .1)), λ x. tzx-headed (x .0) ∙ ap bitsJudged (x .1 .1) ∙ rw (x .1 .2))
+  tzx-last =
+      (λ e. let x = tzx-judges lastBits e in (x .0, of (x .1)), λ x. tzx-headed (x .0) ∙ ap bitsJudged (x .1 .1) ∙ rw (x .1 .2))
     where
       of : Judges lastBits pieces → (t : Parsed) × (pieces ≡ done t) × (tooManyBits (t .blocks) ≡ true)
       of (piece e) = let b = refused-between lastBits (pieces-tell lent s model) e in absurd (omega (arith, b .high))

@@ -45,8 +45,12 @@ module _ (lent : Lent) (s : List ℕ) (model : ℕ) where
       of (tap-no a x y b) = absurd (omega (arith, b .low))
 
   -- 3: TZX and TAP reading both err
-  pub given-3 : (answerOf (loadNamed lent s model) ≡ Refused tapeBad) ↔ (Admitted 1048576 s model × (Errs (readTzx lent s model) × Errs (readTap lent s)))
-  given-3 = (λ e. of (refused-when lent s model tapeBad .0 e), λ h. refused-when lent s model tapeBad .1 (both-no (h .0) (h .1 .0) (h .1 .1) refl))
+  pub given-3 : (answerOf (loadNamed lent s model) ≡ Refused tapeBad)
+      ↔ (Admitted 1048576 s model × (Errs (readTzx lent s model) × Errs (readTap lent s)))
+  given-3 = (
+    λ e. of (refused-when lent s model tapeBad .0 e),
+    λ h. refused-when lent s model tapeBad .1 (both-no (h .0) (h .1 .0) (h .1 .1) refl),
+  )
     where
       of : LoadRefused lent s model tapeBad → Admitted 1048576 s model × (Errs (readTzx lent s model) × Errs (readTap lent s))
       of (model-no h q) = absurd (omega arith)
@@ -73,10 +77,14 @@ module _ (lent : Lent) (s : List ℕ) (model : ℕ) where
   tzx-ends : (readTzx lent s model ≡ refused lastBits) ↔ ByTzx lent s model (OverlongAt lent s model)
   tzx-ends =
       let x = tzx-last lent s model in
-      let w = end-due lent s model 10 empty in
-      (λ e. let z = x .0 e in (z .0, w .0 (z .1 .0, z .1 .2, run (z .1 .0) .0 (z .1 .1))), λ c. let z = w .1 (c .1) in x .1 (c .0, (z .0, run (z .0) .1 (z .2), z .1)))
+      let w = end-due lent s model 10 empty in (
+        λ e. let z = x .0 e in (z .0, w .0 (z .1 .0, z .1 .2, run (z .1 .0) .0 (z .1 .1))),
+        λ c. let z = w .1 (c .1) in x .1 (c .0, (z .0, run (z .0) .1 (z .2), z .1)),
+      )
     where
-      run : (u : Parsed) → (foldFrom (tzxSee lent s model) (length s) 10 empty ≡ done u) ↔ Comes (tzxSee lent s model) (Due (tzxSee lent s model) (done u)) 10 empty
+      run : (u : Parsed)
+          → (foldFrom (tzxSee lent s model) (length s) 10 empty ≡ done u)
+          ↔ Comes (tzxSee lent s model) (Due (tzxSee lent s model) (done u)) 10 empty
       run u = run-due (tzx-bounded lent s model) (length s) 10 empty (done u) (omega arith)
 
   tap-comes : (k : ℕ) → tonesFull ≤ k → (readTap lent s ≡ refused k) ↔ ByTap lent s (NeedsBlock lent s k)
@@ -106,7 +114,8 @@ module _ (lent : Lent) (s : List ℕ) (model : ℕ) where
       of (tap-no a x y b) = absurd (omega (arith, b .low))
 
   -- 5, 6: by the TZX's pieces, or, where TZX errs, by the TAP's blocks
-  lacking : (k : ℕ) → tonesFull ≤ k → k ≤ blocksFull → (answerOf (loadNamed lent s model) ≡ Refused k) ↔ (Admitted 1048576 s model × Lacking lent s model k)
+  lacking : (k : ℕ) → tonesFull ≤ k → k ≤ blocksFull
+      → (answerOf (loadNamed lent s model) ≡ Refused k) ↔ (Admitted 1048576 s model × Lacking lent s model k)
   lacking k l m = (
     λ e. of (refused-when lent s model k .0 e),
     λ h. ⊎-elim
@@ -134,7 +143,8 @@ module _ (lent : Lent) (s : List ℕ) (model : ℕ) where
   given-6 = lacking blocksFull (omega arith) (omega arith)
 
   -- 7: TZX was read whole, but a block with data has last bits above 8
-  pub given-7 : (answerOf (loadNamed lent s model) ≡ Refused lastBits) ↔ (Admitted 1048576 s model × ByTzx lent s model (OverlongAt lent s model))
+  pub given-7 : (answerOf (loadNamed lent s model) ≡ Refused lastBits)
+      ↔ (Admitted 1048576 s model × ByTzx lent s model (OverlongAt lent s model))
   given-7 = (
     λ e. of (refused-when lent s model lastBits .0 e),
     λ h. refused-when lent s model lastBits .1 (tzx-no (h .0) (tzx-ends .1 (h .1)) (record { low = omega arith; high = omega arith })),

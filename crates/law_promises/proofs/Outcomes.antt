@@ -65,8 +65,10 @@ use Rattle.play_walk.specs.declared.Reached.{Reached}
 use Rattle.play_deck.specs.declared.Head.{Head}
 
 -- the load: its answer, and every word of both tables
-pub load-determined : Determined {W = (List ℕ) × (List ℕ)} 3 load-kinds.ps load-kinds.r load.Post (λ κs e. (now (e .1 .1 .0), now (e .1 .1 .1 .0)))
-load-determined κs a z z′ e e′ p q = (p .answer ∙ sym (q .answer), ap₂ (λ (x y : List ℕ). (x, y)) (p .blocks ∙ sym (q .blocks)) (p .tones ∙ sym (q .tones)))
+pub load-determined : Determined {W = (List ℕ) × (List ℕ)} 3 load-kinds.ps load-kinds.r load.Post
+    (λ κs e. (now (e .1 .1 .0), now (e .1 .1 .1 .0)))
+load-determined κs a z z′ e e′ p q =
+    (p .answer ∙ sym (q .answer), ap₂ (λ (x y : List ℕ). (x, y)) (p .blocks ∙ sym (q .blocks)) (p .tones ∙ sym (q .tones)))
 
 pub len-determined : Answered 1 len-kinds.ps len-kinds.r len.Post
 len-determined κs a z z′ e e′ p q = p [] [] ∙ sym (q [] [])
@@ -117,7 +119,8 @@ pub play-local-determined : Answered 3 play-local-kinds.ps play-local-kinds.r pl
 play-local-determined κs a z z′ e e′ p q = p ∙ sym q
 
 -- and lent
-pub play-head-determined : (w : Tape) (h : Head) (n : ℕ) {r r′ : Reached} {x x′ : Head} → HeadAnswered w h n r x → HeadAnswered w h n r′ x′
+pub play-head-determined : (w : Tape) (h : Head) (n : ℕ) {r r′ : Reached} {x x′ : Head} → HeadAnswered w h n r x
+    → HeadAnswered w h n r′ x′
     → (r ≡ r′) × (x ≡ x′)
 play-head-determined w h n p q = (p .0 ∙ sym (q .0), p .1 ∙ sym (q .1))
 
@@ -137,13 +140,15 @@ len-once κs a z z′ e e′ p q = (p .0 [] [] ∙ sym (q .0 [] []), p .1 [] [] 
 pub block-name-once-out : Determined 5 c-block-name-kinds.ps c-block-name-kinds.r c-block-name.Post (λ κs e. now (e .1 .1 .1 .1 .1 .0))
 block-name-once-out κs a z z′ e e′ p q = (p .0 ∙ sym (q .0), p .1 .0 ∙ sym (q .1 .0))
 
-pub block-name-once-answer : Determined 5 c-block-name-kinds.ps c-block-name-kinds.r c-block-name.Post (λ κs e. now (e .1 .1 .1 .1 .1 .1 .0))
+pub block-name-once-answer : Determined 5 c-block-name-kinds.ps c-block-name-kinds.r c-block-name.Post
+    (λ κs e. now (e .1 .1 .1 .1 .1 .1 .0))
 block-name-once-answer κs a z z′ e e′ p q = (p .0 ∙ sym (q .0), p .1 .1 ∙ sym (q .1 .1))
 
 pub block-size-once : Determined 4 c-block-size-kinds.ps c-block-size-kinds.r c-block-size.Post (λ κs e. now (e .1 .1 .1 .1 .1 .0))
 block-size-once κs a z z′ e e′ p q = (p .0 ∙ sym (q .0), p .1 ∙ sym (q .1))
 
-pub block-selectable-once : Determined 4 c-block-selectable-kinds.ps c-block-selectable-kinds.r c-block-selectable.Post (λ κs e. now (e .1 .1 .1 .1 .1 .0))
+pub block-selectable-once : Determined 4 c-block-selectable-kinds.ps c-block-selectable-kinds.r c-block-selectable.Post
+    (λ κs e. now (e .1 .1 .1 .1 .1 .0))
 block-selectable-once κs a z z′ e e′ p q = (p .0 ∙ sym (q .0), p .1 ∙ sym (q .1))
 
 pub block-time-once : Determined 4 c-block-time-kinds.ps c-block-time-kinds.r c-block-time.Post (λ κs e. now (e .1 .1 .1 .1 .1 .0))
@@ -155,13 +160,15 @@ loading-time-once κs a z z′ e e′ p q = (p .0 ∙ sym (q .0), p .1 ∙ sym (
 pub new-at-block-once : Determined 1 c-new-at-block-kinds.ps c-new-at-block-kinds.r c-new-at-block.Post (λ κs e. now (e .1 .0))
 new-at-block-once κs a z z′ e e′ p q = (p .0 ∙ sym (q .0), p .1 ∙ sym (q .1))
 
-pub position-block-once : Determined 5 c-position-block-kinds.ps c-position-block-kinds.r c-position-block.Post (λ κs e. now (e .1 .1 .1 .1 .1 .0))
+pub position-block-once : Determined 5 c-position-block-kinds.ps c-position-block-kinds.r c-position-block.Post
+    (λ κs e. now (e .1 .1 .1 .1 .1 .0))
 position-block-once κs a z z′ e e′ p q = (p .0 ∙ sym (q .0), p .1 ∙ sym (q .1))
 
 pub play-once : Determined 5 c-play-kinds.ps c-play-kinds.r c-play.Post (λ κs e. now (e .1 .1 .1 .1 .1 .1 .0))
 play-once κs a z z′ e e′ p q = (p .0 ∙ sym (q .0), p .1 ∙ sym (q .1))
 
-pub play-measured-once : Determined 5 c-play-measured-kinds.ps c-play-measured-kinds.r c-play-measured.Post (λ κs e. now (e .1 .1 .1 .1 .1 .1 .0))
+pub play-measured-once : Determined 5 c-play-measured-kinds.ps c-play-measured-kinds.r c-play-measured.Post
+    (λ κs e. now (e .1 .1 .1 .1 .1 .1 .0))
 play-measured-once κs a z z′ e e′ p q = (p .0 ∙ sym (q .0), p .1 ∙ sym (q .1))
 
 -- the listing: its number, and every output byte

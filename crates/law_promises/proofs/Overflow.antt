@@ -27,8 +27,10 @@ use Rattle.cut_grammar.specs.declared.Piece.the-variants as piece
 use Rattle.cut_grammar.specs.declared.Body.{Body}
 use Rattle.cut_grammar.specs.declared.Body.the-variants.{Whole, Unknown, Short, Overflow}
 use Rattle.cut_grammar.specs.declared.Taken.the-variants as taken
-use Rattle.cut_grammar.specs.Grammar.{Layout, number, counted, here, pass, within, fitting, whole, unknown, fields, groups, countedAt, passAt, wholeAt, sealed, enclosed, fittingAt, readAt, binaryDigits, bitsOf, orFull, heldIf}
-use Rattle.cut_grammar.specs.Kinds.{kind10, kind11, kind12, kind13, kind14, stream19, kind19, kind20, kind21, kind22, kind24, kind25, kind2A, kind30, kind31, info32, kind32, kind33, kind35, kind5A, unread, kinds, kindOf}
+use Rattle.cut_grammar.specs.Grammar.{Layout, number, counted, here, pass, within, fitting, whole, unknown, fields, groups, countedAt}
+use Rattle.cut_grammar.specs.Grammar.{passAt, wholeAt, sealed, enclosed, fittingAt, readAt, binaryDigits, bitsOf, orFull, heldIf}
+use Rattle.cut_grammar.specs.Kinds.{kind10, kind11, kind12, kind13, kind14, stream19, kind19, kind20, kind21, kind22, kind24, kind25}
+use Rattle.cut_grammar.specs.Kinds.{kind2A, kind30, kind31, info32, kind32, kind33, kind35, kind5A, unread, kinds, kindOf}
 use Rattle.cut_grammar.specs.Cut.{takenAs, cutAt}
 use Rattle.cut_grammar.specs.Steps.{head19}
 use Rattle.cut_grammar.specs.Ends.{stands, Ends, ends, none, short, wide}
@@ -358,7 +360,8 @@ module _ (s : List ℕ) (at : ℕ) where
       by-kind (eqb (getD s at 0) 0x19) refl (u .0) (u .1)
     where
       by-kind : (t : Bool) → eqb (getD s at 0) 0x19 ≡ t → getD s at 0 ≡ kind
-          → readAt (kindOf full (getD s at 0)) s (At (at + 1)) ≡ Overflow p → Overflows s at × ((kind ≡ 0x19) × (p ≡ dataAt s at))
+          → readAt (kindOf full (getD s at 0)) s (At (at + 1)) ≡ Overflow p
+          → Overflows s at × ((kind ≡ 0x19) × (p ≡ dataAt s at))
       by-kind true i k q =
           let is = eqb-true (getD s at 0) 0x19 i in
           let x = general-over s at p (ap (λ (l : Layout). readAt l s (At (at + 1))) (sym (general-kind (getD s at 0) is)) ∙ q) in
@@ -379,7 +382,8 @@ module _ (s : List ℕ) (at : ℕ) where
       ∙ ap (λ (k : ℕ). taken.Overflow k (dataAt s at)) (o .kind)
 
   -- THE OVERFLOW, EXACTLY: a 19's, at the place of its data bytes
-  pub overflow-exactly : (kind p : ℕ) → (cutAt s at full ≡ taken.Overflow kind p) ↔ (Overflows s at × ((kind ≡ 0x19) × (p ≡ dataAt s at)))
+  pub overflow-exactly : (kind p : ℕ)
+      → (cutAt s at full ≡ taken.Overflow kind p) ↔ (Overflows s at × ((kind ≡ 0x19) × (p ≡ dataAt s at)))
   overflow-exactly kind p = (λ e. over-cut e, λ x. cut-over (x .0) ∙ rw (x .1 .0, x .1 .1))
 
 -- NB IS THE NUMBER OF BINARY DIGITS: the fewest that n is written with, for an n of no more than f digits
@@ -406,7 +410,8 @@ digits-fewest (suc f) n (suc d) h = by-zero (eqb n 0) (digits-fewest f (n / 2) d
 
 -- there is such a 19: asd 3, so nb is 2, and totd 80000000
 abbrev wide19 : List ℕ
-wide19 = 0x19 ∷ 0 ∷ 0 ∷ 0 ∷ 0 ∷ 0 ∷ 0 ∷ 0 ∷ 0 ∷ 0 ∷ 0 ∷ 0 ∷ 0 ∷ 0 ∷ 0 ∷ 0 ∷ 0x80 ∷ 0 ∷ 3 ∷ 0 ∷ 0 ∷ 0 ∷ []
+wide19 = 0x19 ∷ 0 ∷ 0 ∷ 0 ∷ 0 ∷ 0 ∷ 0 ∷ 0 ∷ 0 ∷ 0 ∷ 0 ∷ 0 ∷ 0 ∷ 0 ∷ 0 ∷ 0 ∷ 0x80 ∷ 0 ∷ 3 ∷
+    0 ∷ 0 ∷ 0 ∷ []
 
 pub overflows-there : Overflows wide19 0
 unfolding leAt binaryDigits orFull heldIf

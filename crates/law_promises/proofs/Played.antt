@@ -23,15 +23,18 @@ use Rattle.load_blocks.specs.Does.{lentOf}
 use Rattle.load_blocks.specs.Adds.{addRows}
 use Rattle.load_blocks.specs.Deeds.{does}
 use Rattle.load_source.specs.Meaning.{deedOf}
-use Rattle.load_source.specs.Source.{act, readOn, seeing, foldFrom, tooManyBits, bitsJudged, tzxOf, tzxSee, headed, readTzx, orElse, loadOf}
+use Rattle.load_source.specs.Source.{act, readOn, seeing, foldFrom, tooManyBits, bitsJudged, tzxOf, tzxSee, headed, readTzx}
+use Rattle.load_source.specs.Source.{orElse, loadOf}
 use Rattle.text_name.specs.Names.{isHeader, unselected, nameOne, nameAll}
 use Rattle.load_tape.specs.declared.Format.the-variants.{Tzx}
 use Rattle.load_tape.specs.declared.Loaded.the-variants as loaded
 use Rattle.load_tape.specs.Load.{namedTape, namedLoad, loadNamed, answerOf, blockTable, toneTable, Leaves}
 use Rattle.play_entries.specs.declared.Phase.the-variants.{Start, Tones, Pause}
 use Rattle.play_entries.specs.declared.Duration.the-variants.{T}
-use Rattle.play_entries.specs.Entries.{labelAt, entryOf, cyclesOf, isSingle, startLevel, cycleLevel, bitLevel, edged, pauseLevel, toneOf, tonesOf, dataOf, pauseOf, soundOf, entriesOf}
-use Rattle.play_entries.specs.Places.{Tape, listFrom, levelAt, fromPause, fromEdge, fromByte, fromTone, fromCycle, fromSecond, leftAt, hasEntry, lengthAt, remains, valid, headOf, leftOf}
+use Rattle.play_entries.specs.Entries.{labelAt, entryOf, cyclesOf, isSingle, startLevel, cycleLevel, bitLevel, edged, pauseLevel, toneOf}
+use Rattle.play_entries.specs.Entries.{tonesOf, dataOf, pauseOf, soundOf, entriesOf}
+use Rattle.play_entries.specs.Places.{Tape, listFrom, levelAt, fromPause, fromEdge, fromByte, fromTone, fromCycle, fromSecond, leftAt}
+use Rattle.play_entries.specs.Places.{hasEntry, lengthAt, remains, valid, headOf, leftOf}
 use Rattle.play_entries.specs.Mounted.{wellRow, firstBad, formed, tapeOf}
 use Rattle.play_entries.proofs.Valid.{start-valid}
 use Rattle.play_walk.specs.declared.Reached.the-variants.{At, Ended, NotFormed}
@@ -47,7 +50,8 @@ use Rattle.law_promises.proofs.Readings.{blockWords, toneWords, mounted
 pub sole-loaded :
     Leaves blockWords toneWords (loadNamed (lentOf blockWords toneWords) soleBytes 0) (loaded.Tape Tzx 1 1) (sole .blocks) (sole .tones)
 unfolding
-    loadNamed namedLoad namedTape loadOf orElse readTzx headed headAt startsAt bitsJudged tooManyBits foldFrom seeing readOn tzxSee tzxOf cutAt
+    loadNamed namedLoad namedTape loadOf orElse readTzx headed headAt startsAt bitsJudged tooManyBits foldFrom seeing readOn tzxSee tzxOf
+    cutAt
     takenAs kindOf kinds kind12 readAt wholeAt fieldAt numberAt leAt placeOf
     rowOf addSound addSounds does deedOf act addRows addTones addBlock _⟫_ empty pureToneTones
     nameAll nameOne unselected isHeader answerOf
@@ -70,7 +74,8 @@ pub sole-played :
     × (playMeasured sole (placed 0 (Tones 0 0 false) (T 1)) 99 ≡ At (stand (placed 0 (Tones 0 0 true) (T 2)) 1 high))
     × (playSource sole (placed 0 (Tones 0 0 false) (T 1)) 99 ≡ At (stand (placed 0 (Tones 0 0 true) (T 2)) 1 high))
 unfolding
-    loadNamed namedLoad namedTape loadOf orElse readTzx headed headAt startsAt bitsJudged tooManyBits foldFrom seeing readOn tzxSee tzxOf cutAt
+    loadNamed namedLoad namedTape loadOf orElse readTzx headed headAt startsAt bitsJudged tooManyBits foldFrom seeing readOn tzxSee tzxOf
+    cutAt
     takenAs kindOf kinds kind12 readAt wholeAt fieldAt numberAt leAt placeOf
     rowOf addSound addSounds does deedOf act addRows addTones addBlock _⟫_ empty pureToneTones
     nameAll nameOne unselected isHeader blockTable toneTable tableOver
@@ -130,7 +135,8 @@ pub rest-played :
     × (map (λ n. playMeasured pauses (startAt 0) n) (3500 ∷ 3501 ∷ [])
     ≡ At (stand (startAt 1) 2 low) ∷ At (stand (placed 1 Pause (T 6999)) 3 low) ∷ [])
 unfolding
-    loadNamed namedLoad namedTape loadOf orElse readTzx headed headAt startsAt bitsJudged tooManyBits foldFrom seeing readOn tzxSee tzxOf cutAt
+    loadNamed namedLoad namedTape loadOf orElse readTzx headed headAt startsAt bitsJudged tooManyBits foldFrom seeing readOn tzxSee tzxOf
+    cutAt
     takenAs kindOf kinds kind20 readAt wholeAt fieldAt numberAt leAt placeOf
     rowOf addSound addSounds does deedOf act addRows addTones addBlock _⟫_ empty pauseSound
     nameAll nameOne unselected isHeader blockTable toneTable tableOver

@@ -27,7 +27,8 @@ use Rattle.play_deck.specs.declared.Check.{Check}
 use Rattle.play_deck.specs.declared.Check.the-variants.{Fine, NotValid, NotFormed}
 use Rattle.play_deck.specs.declared.Head.{Head}
 use Rattle.play_deck.specs.declared.Selected.the-variants.{Block, BadRow}
-use Rattle.play_deck.specs.Deck.{atStart, ruledOut, illFormed, validAt, judged, unless, stays, playMeasured, sourceAnswer, sourceFrom, playSource, backTo, numberFor, blockOf, blockAt, headAfter, playMounted}
+use Rattle.play_deck.specs.Deck.{atStart, ruledOut, illFormed, validAt, judged, unless, stays, playMeasured, sourceAnswer, sourceFrom}
+use Rattle.play_deck.specs.Deck.{playSource, backTo, numberFor, blockOf, blockAt, headAfter, playMounted}
 use Rattle.law_promises.specs.Numbers.{Unformed, Invalid, Reaches, called, andDropped, Unplayable, BadBack, this, back}
 use Rattle.law_promises.proofs.Reaching.{Runs, runs-reach, ended-spent, row-cuts}
 use Rattle.law_promises.proofs.Asks.{ended-is}
@@ -56,18 +57,23 @@ module _ (w : Tape) (q : Position) where
   row-bad : (illFormed w q ≡ true) ↔ ((q .block < w .count) × (wellRow w (q .block) ≡ false))
   unfolding illFormed
   row-bad = (
-    λ e. (ltb-true _ _ (first (ltb (q .block) (w .count)) (not (wellRow w (q .block))) e), not-true _ (second (ltb (q .block) (w .count)) (not (wellRow w (q .block))) e)),
+    λ e. (
+      ltb-true _ _ (first (ltb (q .block) (w .count)) (not (wellRow w (q .block))) e),
+      not-true _ (second (ltb (q .block) (w .count)) (not (wellRow w (q .block))) e),
+    ),
     λ h. rw (lt-ltb (q .block) (w .count) (h .0), h .1),
   )
 
   row-well : (illFormed w q ≡ false) ↔ (q .block < w .count → wellRow w (q .block) ≡ true)
   unfolding illFormed
   row-well = (
-    λ e h. let x : (true && not (wellRow w (q .block))) ≡ false = rw (lt-ltb (q .block) (w .count) h) at e in not-false (wellRow w (q .block)) x,
+    λ e h. let x : (true && not (wellRow w (q .block))) ≡ false = rw (lt-ltb (q .block) (w .count) h) at e in
+        not-false (wellRow w (q .block)) x,
     λ f. of (ltb (q .block) (w .count)) refl f,
   )
     where
-      of : (b : Bool) → ltb (q .block) (w .count) ≡ b → (q .block < w .count → wellRow w (q .block) ≡ true) → (b && not (wellRow w (q .block))) ≡ false
+      of : (b : Bool) → ltb (q .block) (w .count) ≡ b → (q .block < w .count → wellRow w (q .block) ≡ true)
+          → (b && not (wellRow w (q .block))) ≡ false
       of true e f = rw (f (ltb-true _ _ e))
       of false e f = refl
 
@@ -92,7 +98,9 @@ module _ (w : Tape) (q : Position) where
       of e (wrong a b c d) = record { few = a; well = row-well .0 c; bad = d }
       of e (fine a b c d) = let z : _≡_ {A = ℕ} 0 1 = cc in absurd (omega arith)
 
-      back-to : (b : Bool) → Invalid w q → (overfull w ⇒ NotFormed ∣ b ⇒ NotValid ∣ illFormed w q ⇒ NotFormed ∣ not (validAt w q) ⇒ NotValid ∣ Fine) ≡ NotValid
+      back-to : (b : Bool) → Invalid w q
+          → (overfull w ⇒ NotFormed ∣ b ⇒ NotValid ∣ illFormed w q ⇒ NotFormed ∣ not (validAt w q) ⇒ NotValid ∣ Fine)
+          ≡ NotValid
       back-to true h = rw (h .few)
       back-to false h = rw (h .few, row-well .1 (h .well), h .bad)
 
@@ -107,7 +115,10 @@ module _ (w : Tape) (q : Position) where
       of e (wrong a b c d) = let z : _≡_ {A = ℕ} 0 1 = cc in absurd (omega arith)
       of e (fine a b c d) = let z : _≡_ {A = ℕ} 0 1 = cc in absurd (omega arith)
 
-      back-to : (a : Bool) → (q .block < w .count) × (wellRow w (q .block) ≡ false) → (a ⇒ NotFormed ∣ (leb (w .count) (q .block) && not (atStart q)) ⇒ NotValid ∣ illFormed w q ⇒ NotFormed ∣ not (validAt w q) ⇒ NotValid ∣ Fine) ≡ NotFormed
+      back-to : (a : Bool) → (q .block < w .count) × (wellRow w (q .block) ≡ false)
+          → (a ⇒ NotFormed ∣ (leb (w .count) (q .block) && not (atStart q)) ⇒ NotValid ∣ illFormed w q ⇒ NotFormed
+          ∣ not (validAt w q) ⇒ NotValid ∣ Fine)
+          ≡ NotFormed
       back-to true x = refl
       back-to false x = rw (lt-leb (w .count) (q .block) (x .0), row-bad .1 x)
 
@@ -118,16 +129,22 @@ told-none standing s = refl
 told-none stopped s = refl
 told-none ended s = refl
 
-pub checked-9 : (c : Check) (r : Reached) → (reachedNo r ≡ noPosition → ⊥) → (reachedNo (unless c r) ≡ noPosition) ↔ (c ≡ NotValid)
+pub checked-9 : (c : Check) (r : Reached) → (reachedNo r ≡ noPosition → ⊥)
+    → (reachedNo (unless c r) ≡ noPosition) ↔ (c ≡ NotValid)
 unfolding reachedNo unless
 checked-9 Fine r d = (λ e. absurd (d e), λ e. let z : _≡_ {A = ℕ} 0 1 = cc in absurd (omega arith))
 checked-9 NotValid r d = (λ e. refl, λ e. refl)
 checked-9 NotFormed r d = (λ e. absurd (omega arith), λ e. let z : _≡_ {A = ℕ} 0 1 = cc in absurd (omega arith))
 
-pub checked-11 : (c : Check) (r : Reached) → (reachedNo (unless c r) ≡ badRow) ↔ ((c ≡ NotFormed) ⊎ ((c ≡ Fine) × (reachedNo r ≡ badRow)))
+pub checked-11 : (c : Check) (r : Reached)
+    → (reachedNo (unless c r) ≡ badRow) ↔ ((c ≡ NotFormed) ⊎ ((c ≡ Fine) × (reachedNo r ≡ badRow)))
 unfolding reachedNo unless
 checked-11 Fine r = (λ e. inr (refl, e), λ h. ⊎-elim (λ e. let z : _≡_ {A = ℕ} 0 1 = cc in absurd (omega arith)) (λ x. x .1) h)
-checked-11 NotValid r = (λ e. absurd (omega arith), λ h. ⊎-elim (λ e. let z : _≡_ {A = ℕ} 0 1 = cc in absurd (omega arith)) (λ x. let e = x .0 in let z : _≡_ {A = ℕ} 0 1 = cc in absurd (omega arith)) h)
+checked-11 NotValid r = (
+  λ e. absurd (omega arith),
+  λ h. ⊎-elim (λ e. let z : _≡_ {A = ℕ} 0 1 = cc in absurd (omega arith))
+      (λ x. let e = x .0 in let z : _≡_ {A = ℕ} 0 1 = cc in absurd (omega arith)) h,
+)
 checked-11 NotFormed r = (λ e. inl refl, λ h. refl)
 
 -- a walk from block b of n T-states, as both players make it
@@ -148,20 +165,31 @@ module _ (w : Tape) (q : Position) (n : ℕ) (a : Answer Label) where
 
   walk-11 : (reachedNo walks ≡ badRow) ↔ ((0 < n) × Runs w (q .block) (a .tells))
   unfolding walked reachedNo
-  walk-11 = (λ e. of (eqb n 0) reaches refl refl e, λ h. rw (ne-eqb n 0 (λ z. omega (arith, h .0, z)), h .1 .over, lt-ltb (formed w (q .block) .count) (w .count) (h .1 .cut)))
+  walk-11 = (
+    λ e. of (eqb n 0) reaches refl refl e,
+    λ h. rw (ne-eqb n 0 (λ z. omega (arith, h .0, z)), h .1 .over, lt-ltb (formed w (q .block) .count) (w .count) (h .1 .cut)),
+  )
     where
-      of : (z b : Bool) → eqb n 0 ≡ z → reaches ≡ b → reachedNo (z ⇒ stays w q ∣ b ⇒ reached.NotFormed ∣ toldReached w (formed w (q .block)) a) ≡ badRow → (0 < n) × Runs w (q .block) (a .tells)
+      of : (z b : Bool) → eqb n 0 ≡ z → reaches ≡ b
+          → reachedNo (z ⇒ stays w q ∣ b ⇒ reached.NotFormed ∣ toldReached w (formed w (q .block)) a) ≡ badRow
+          → (0 < n) × Runs w (q .block) (a .tells)
       of true b y f e = absurd (omega (arith, stays-none, e))
       of false true y f e =
-          let p : (n ≡ 0 → ⊥) = eqb-false n 0 y in
-          (omega (arith, p), record { over = ended-is (a .tells) (first (isEnded (a .tells)) (ltb (formed w (q .block) .count) (w .count)) f); cut = ltb-true _ _ (second (isEnded (a .tells)) (ltb (formed w (q .block) .count) (w .count)) f) })
+          let p : (n ≡ 0 → ⊥) = eqb-false n 0 y in (
+            omega (arith, p),
+            record {
+              over = ended-is (a .tells) (first (isEnded (a .tells)) (ltb (formed w (q .block) .count) (w .count)) f);
+              cut = ltb-true _ _ (second (isEnded (a .tells)) (ltb (formed w (q .block) .count) (w .count)) f);
+            },
+          )
       of false false y f e = absurd (omega (arith, told-a, e))
 
   walk-9 : reachedNo walks ≡ noPosition → ⊥
   unfolding walked reachedNo
   walk-9 e = of (eqb n 0) reaches e
     where
-      of : (z b : Bool) → reachedNo (z ⇒ stays w q ∣ b ⇒ reached.NotFormed ∣ toldReached w (formed w (q .block)) a) ≡ noPosition → ⊥
+      of : (z b : Bool)
+          → reachedNo (z ⇒ stays w q ∣ b ⇒ reached.NotFormed ∣ toldReached w (formed w (q .block)) a) ≡ noPosition → ⊥
       of true b f = absurd (omega (arith, stays-none, f))
       of false true f = absurd (omega arith)
       of false false f = absurd (omega (arith, told-a, f))
@@ -170,7 +198,8 @@ module _ (w : Tape) (q : Position) (n : ℕ) (a : Answer Label) where
   player-9 : (reachedNo (unless (judged w q) walks) ≡ noPosition) ↔ Invalid w q
   player-9 = Iff·trans (checked-9 (judged w q) walks walk-9) (judged-9 w q)
 
-  player-11 : (reachedNo (unless (judged w q) walks) ≡ badRow) ↔ (Unformed w (q .block) ⊎ ((judged w q ≡ Fine) × ((0 < n) × Runs w (q .block) (a .tells))))
+  player-11 : (reachedNo (unless (judged w q) walks) ≡ badRow)
+      ↔ (Unformed w (q .block) ⊎ ((judged w q ≡ Fine) × ((0 < n) × Runs w (q .block) (a .tells))))
   player-11 =
       let x = checked-11 (judged w q) walks in (
         λ e. ⊎-elim (λ f. inl (judged-11 w q .0 f)) (λ f. inr (f .0, walk-11 .0 (f .1))) (x .0 e),
@@ -229,7 +258,8 @@ module _ (w : Tape) (q : Position) where
         λ h. y .1 (⊎-elim (λ u. inl u) (λ f. back-to (f .1) (valid-fine (f .0))) h),
       )
     where
-      reach : (q .block < w .count → wellRow w (q .block) ≡ true) → Runs w (q .block) (a .tells) ↔ ((k : ℕ) × Reaches w q spends k)
+      reach : (q .block < w .count → wellRow w (q .block) ≡ true)
+          → Runs w (q .block) (a .tells) ↔ ((k : ℕ) × Reaches w q spends k)
       reach well = runs-reach w q spends (row-cuts w q well) (a .tells) x
 
       back-to : (k : ℕ) × Reaches w q spends k → Unformed w (q .block) ⊎ (judged w q ≡ Fine)
@@ -261,7 +291,9 @@ back-bad w zero e = of (wellRow w 0) refl e
     of false q f = this q
 back-bad w (suc b) e = of (wellRow w (suc b)) (eqb (blockIn w (suc b) .selectable) 1) refl refl e (λ f. back-bad w b f)
   where
-    of : (t m : Bool) → wellRow w (suc b) ≡ t → eqb (blockIn w (suc b) .selectable) 1 ≡ m → numberFor (not t ⇒ BadRow ∣ m ⇒ Block (suc b) ∣ backTo w b) ≡ badRow → (numberFor (backTo w b) ≡ badRow → BadBack w b) → BadBack w (suc b)
+    of : (t m : Bool) → wellRow w (suc b) ≡ t → eqb (blockIn w (suc b) .selectable) 1 ≡ m
+        → numberFor (not t ⇒ BadRow ∣ m ⇒ Block (suc b) ∣ backTo w b) ≡ badRow
+        → (numberFor (backTo w b) ≡ badRow → BadBack w b) → BadBack w (suc b)
     of false m q s f more = this q
     of true true q s f more = absurd (omega arith)
     of true false q s f more = back q s (more f)
@@ -284,7 +316,8 @@ back-valid w zero e = of (wellRow w 0) e
     of false f = absurd (omega arith)
 back-valid w (suc b) e = of (wellRow w (suc b)) (eqb (blockIn w (suc b) .selectable) 1) e (λ f. back-valid w b f)
   where
-    of : (t m : Bool) → numberFor (not t ⇒ BadRow ∣ m ⇒ Block (suc b) ∣ backTo w b) ≡ noPosition → (numberFor (backTo w b) ≡ noPosition → ⊥) → ⊥
+    of : (t m : Bool) → numberFor (not t ⇒ BadRow ∣ m ⇒ Block (suc b) ∣ backTo w b) ≡ noPosition
+        → (numberFor (backTo w b) ≡ noPosition → ⊥) → ⊥
     of false m f more = absurd (omega arith)
     of true true f more = absurd (omega arith)
     of true false f more = more f
@@ -295,7 +328,8 @@ module _ (w : Tape) (q : Position) where
   unfolding numberFor blockOf
   fine-11 = (λ e. of (leb (w .count) (q .block)) refl e, λ h. rw (lt-leb (w .count) (q .block) (h .0)) (bad-back w (h .1)))
     where
-      of : (t : Bool) → leb (w .count) (q .block) ≡ t → numberFor (t ⇒ Block 4294967295 ∣ backTo w (q .block)) ≡ badRow → (q .block < w .count) × BadBack w (q .block)
+      of : (t : Bool) → leb (w .count) (q .block) ≡ t → numberFor (t ⇒ Block 4294967295 ∣ backTo w (q .block)) ≡ badRow
+          → (q .block < w .count) × BadBack w (q .block)
       of true f e = absurd (omega arith)
       of false f e = (leb-false _ _ f, back-bad w (q .block) e)
 
@@ -313,10 +347,19 @@ module _ (w : Tape) (q : Position) where
   block-9 NotValid = (λ e. refl, λ e. refl)
   block-9 NotFormed = (λ e. absurd (omega arith), λ e. let z : _≡_ {A = ℕ} 0 1 = cc in absurd (omega arith))
 
-  block-11 : (c : Check) → (numberFor (blockOf w q c) ≡ badRow) ↔ ((c ≡ NotFormed) ⊎ ((c ≡ Fine) × ((q .block < w .count) × BadBack w (q .block))))
+  block-11 : (c : Check)
+      → (numberFor (blockOf w q c) ≡ badRow)
+      ↔ ((c ≡ NotFormed) ⊎ ((c ≡ Fine) × ((q .block < w .count) × BadBack w (q .block))))
   unfolding numberFor blockOf
-  block-11 Fine = (λ e. inr (refl, fine-11 .0 e), λ h. ⊎-elim (λ e. let z : _≡_ {A = ℕ} 0 1 = cc in absurd (omega arith)) (λ x. fine-11 .1 (x .1)) h)
-  block-11 NotValid = (λ e. absurd (omega arith), λ h. ⊎-elim (λ e. let z : _≡_ {A = ℕ} 0 1 = cc in absurd (omega arith)) (λ x. let e = x .0 in let z : _≡_ {A = ℕ} 0 1 = cc in absurd (omega arith)) h)
+  block-11 Fine = (
+    λ e. inr (refl, fine-11 .0 e),
+    λ h. ⊎-elim (λ e. let z : _≡_ {A = ℕ} 0 1 = cc in absurd (omega arith)) (λ x. fine-11 .1 (x .1)) h,
+  )
+  block-11 NotValid = (
+    λ e. absurd (omega arith),
+    λ h. ⊎-elim (λ e. let z : _≡_ {A = ℕ} 0 1 = cc in absurd (omega arith))
+        (λ x. let e = x .0 in let z : _≡_ {A = ℕ} 0 1 = cc in absurd (omega arith)) h,
+  )
   block-11 NotFormed = (λ e. inl refl, λ h. refl)
 
   pub given-9-block : (numberFor (blockAt w q) ≡ noPosition) ↔ Invalid w q
@@ -328,7 +371,8 @@ module _ (w : Tape) (q : Position) where
       let x = block-11 (judged w q) in
       let formed : Unformed w (q .block) → judged w q ≡ NotFormed = judged-11 w q .1 in (
         λ e. ⊎-elim (λ f. inl (judged-11 w q .0 f)) (λ f. inr (fine-valid w q (f .0) .0, f .1)) (x .0 e),
-        λ h. x .1 (⊎-elim (λ u. inl (formed u)) (λ f. ⊎-elim (λ u. inl (formed u)) (λ e. inr (e, f .1)) (valid-fine w q (f .0))) h),
+        λ h.
+            x .1 (⊎-elim (λ u. inl (formed u)) (λ f. ⊎-elim (λ u. inl (formed u)) (λ e. inr (e, f .1)) (valid-fine w q (f .0))) h),
       )
 
 -- on a refusal the mounted head is as it was

@@ -70,7 +70,8 @@ module _ {A : Type 0} where
       ap₂ (λ (a : Entry A) (es : List (Entry A)). a ∷ es) p (cancel xs ys zs q)
 
 -- a row below the count that is not well formed, behind rows that are: the first
-first-bad : (w : Tape) (b k : ℕ) → b ≤ k → k < w .count → ((i : ℕ) → b ≤ i → i < k → wellRow w i ≡ true) → wellRow w k ≡ false
+first-bad : (w : Tape) (b k : ℕ) → b ≤ k → k < w .count → ((i : ℕ) → b ≤ i → i < k → wellRow w i ≡ true)
+    → wellRow w k ≡ false
     → firstBad w b (w .count - b) ≡ k
 first-bad w b k l h well bad =
     let x = needed w b (omega arith) in
@@ -102,7 +103,8 @@ module _ (w : Tape) (q : Position) (spends : List (Entry Label) → ℕ) (cuts :
   Spent es = Finite es × (time es < spends es)
 
   -- THE EQUIVALENCE, of a walk that has ended exactly where its T-states are more than all entries last
-  pub runs-reach : (end : Status) → (end ≡ ended) ↔ Spent formedAhead → Runs w (q .block) end ↔ ((k : ℕ) × Reaches w q spends k)
+  pub runs-reach : (end : Status) → (end ≡ ended) ↔ Spent formedAhead
+      → Runs w (q .block) end ↔ ((k : ℕ) × Reaches w q spends k)
   unfolding formed
   runs-reach end x = (forth, back)
     where
@@ -127,7 +129,8 @@ module _ (w : Tape) (q : Position) (spends : List (Entry Label) → ℕ) (cuts :
       back : (k : ℕ) × Reaches w q spends k → Runs w (q .block) end
       back (k, h) =
           let e = first-bad w (q .block) k (h .there .0) (h .there .1) (h .well) (h .bad) in
-          let s = cancel (h .before) (ahead (cutTo w k) q) (listFrom w k) (sym (h .split) ∙ cuts k (h .there .0) (h .there .1) (h .bad)) in
+          let s = cancel (h .before) (ahead (cutTo w k) q) (listFrom w k)
+          (sym (h .split) ∙ cuts k (h .there .0) (h .there .1) (h .bad)) in
           let y : h .before ≡ formedAhead = s ∙ ap (λ (j : ℕ). ahead (cutTo w j) q) (sym e) in
           record { over = x .1 (subst Spent y (h .finite, omega (arith, h .left))); cut = omega (arith, h .there .1, e) }
 

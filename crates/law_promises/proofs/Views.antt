@@ -1,4 +1,5 @@
--- DEMAND 2 ON VIEWS: the blocks in the tables that a load leaves are the tape's block list, whatever was lent. Assumes nothing but that bytes are below 256.
+-- DEMAND 2 ON VIEWS: the blocks in the tables that a load leaves are the tape's block list, whatever was lent.
+-- Assumes nothing but that bytes are below 256.
 use Prim.Native.Nat.{ℕ, zero, suc, _+_, _≤_, _<_}
 use native.Mathlib.Numerals.{add-one}
 use native.Mathlib.Omega.{arith}
@@ -52,19 +53,22 @@ tones-read ts N from (suc n) h =
 abbrev Has : List Tone → Block → Type 0
 Has ts r = r .tone + r .tones ≤ length ts
 
-list-read : (s : List ℕ) (ts : List Tone) (N : ℕ) {rs : List Block} → All (Has ts) rs → rowViews s (tableOf tone ts N) rs ≡ blockList s ts rs
+list-read : (s : List ℕ) (ts : List Tone) (N : ℕ) {rs : List Block} → All (Has ts) rs
+    → rowViews s (tableOf tone ts N) rs ≡ blockList s ts rs
 unfolding rowViews blockList
 list-read s ts N nil = refl
 list-read s ts N (cons {x = r} h hs) =
     ap₂ (λ (a : List Tone) (l : List View). viewOf s a r ∷ l) (tones-read ts N (r .tone) (r .tones) h) (list-read s ts N hs)
 
 -- what a named load lists
-list-named : (s : List ℕ) {a : Load} {t : _} → Reads a t → listOf s (namedLoad s a) ≡ blockList s (t .tones) (nameAll s false (t .blocks))
+list-named : (s : List ℕ) {a : Load} {t : _} → Reads a t
+    → listOf s (namedLoad s a) ≡ blockList s (t .tones) (nameAll s false (t .blocks))
 unfolding listOf namedLoad namedTape
 list-named s as-tzx = refl
 list-named s as-tap = refl
 
-module _ (B N : ℕ) (s : List ℕ) (model : ℕ) {f : Format} {n k : ℕ} {bt tt : List ℕ} (b : Bytes s) (l : Leaves B N (loadNamed (lentOf B N) s model) (loaded.Tape f n k) bt tt) where
+module _ (B N : ℕ) (s : List ℕ) (model : ℕ) {f : Format} {n k : ℕ} {bt tt : List ℕ} (b : Bytes s)
+    (l : Leaves B N (loadNamed (lentOf B N) s model) (loaded.Tape f n k) bt tt) where
   -- as the load with these tables has them
   as-loaded : viewsIn (tapeOf s tt bt n) ≡ listOf s (loadNamed (lentOf B N) s model)
   unfolding loadNamed
@@ -73,7 +77,8 @@ module _ (B N : ℕ) (s : List ℕ) (model : ℕ) {f : Format} {n k : ℕ} {bt t
       let t = q .tape in
       let rs = nameAll s false (t .blocks) in
       ap₂ (λ (x y : List ℕ). rowViews s x (rowsOf block y n)) (q .tones) (q .blocks)
-      ∙ ap (rowViews s (tableOf tone (t .tones) N)) (rows-over block rs (zeros B) n (name-all-length s false (t .blocks) ∙ sym (q .count)))
+      ∙ ap (rowViews s (tableOf tone (t .tones) N))
+      (rows-over block rs (zeros B) n (name-all-length s false (t .blocks) ∙ sym (q .count)))
       ∙ list-read s (t .tones) N (rows-within (lentOf B N) s model b (q .reads))
       ∙ sym (list-named s (q .reads))
 

@@ -39,7 +39,8 @@ use Rattle.play_deck.specs.declared.Check.the-variants.{NotValid}
 use Rattle.play_deck.specs.declared.Head.{Head}
 use Rattle.play_deck.specs.declared.Played.{Played}
 use Rattle.play_deck.specs.declared.Selected.the-variants.{Block}
-use Rattle.play_deck.specs.Deck.{validAt, judged, unless, stays, playMeasured, sourceAnswer, playSource, backTo, numberFor, blockOf, blockAt, headAfter, playMounted}
+use Rattle.play_deck.specs.Deck.{validAt, judged, unless, stays, playMeasured, sourceAnswer, playSource, backTo, numberFor, blockOf}
+use Rattle.play_deck.specs.Deck.{blockAt, headAfter, playMounted}
 use Rattle.play_deck.specs.Calls.{positionIn, passedIn, counting, endedIn, runCalls, runSources, outcomeIn}
 use Rattle.play_deck.proofs.Answers.{told-position}
 use Rattle.play_deck.proofs.Checks.{fine-start, fine-none}
@@ -201,7 +202,8 @@ module _ (w : Tape) (whole : WholeTape w) where
       (lt-or-ge (q .block) (w .count))
 
   -- the list's answer, of a call of 0 too
-  zero-told : (q : Position) → validAt w q ≡ true → positionOf w (ahead w q) ≡ q → playMeasured w q 0 ≡ toldReached w w (answer (ahead w q) 0)
+  zero-told : (q : Position) → validAt w q ≡ true → positionOf w (ahead w q) ≡ q
+      → playMeasured w q 0 ≡ toldReached w w (answer (ahead w q) 0)
   unfolding playMeasured unless stays toldReached
   zero-told q v own =
       let es = ahead w q in
@@ -218,7 +220,8 @@ module _ (w : Tape) (whole : WholeTape w) where
       (λ p. play-told w whole q n v p)
       (eq-zero-or-pos n)
 
-  mounted-told : (h : Head) (n : ℕ) → validAt w (h .position) ≡ true → (positionOf w (ahead w (h .position)) ≡ h .position) ⊎ (0 < n)
+  mounted-told : (h : Head) (n : ℕ) → validAt w (h .position) ≡ true
+      → (positionOf w (ahead w (h .position)) ≡ h .position) ⊎ (0 < n)
       → playMounted w h n ≡ toldHead w (ahead w (h .position)) n
   unfolding playMounted toldReached
   mounted-told h n v o =
@@ -233,7 +236,8 @@ module _ (w : Tape) (whole : WholeTape w) where
   abbrev Ready : Head → List ℕ → Type 0
   Ready h ns = (positionOf w (ahead w (h .position)) ≡ h .position) ⊎ Positive ns
 
-  ready-one : (h : Head) (n : ℕ) (ns : List ℕ) → Ready h (n ∷ ns) → (positionOf w (ahead w (h .position)) ≡ h .position) ⊎ (0 < n)
+  ready-one : (h : Head) (n : ℕ) (ns : List ℕ) → Ready h (n ∷ ns)
+      → (positionOf w (ahead w (h .position)) ≡ h .position) ⊎ (0 < n)
   unfolding Positive
   ready-one h n ns (inl o) = inl o
   ready-one h n ns (inr p) = inr (p .0)

@@ -28,7 +28,8 @@ use Rattle.load_blocks.specs.Blocks.{standardHeader, standardSound, standardPau
 use Rattle.load_blocks.specs.Deeds.{Deed, adding, groups, texts, groupEnds, opens, closes, panics, errs}
 use Rattle.load_source.specs.declared.Failure.the-variants as failure
 use Rattle.load_source.specs.Meaning.{deedOf}
-use Rattle.load_source.specs.Source.{See, theEnd, bad, refuses, thing, Verdict, failed, foldFrom, bitsJudged, tapKind, full, Load, no, orElse}
+use Rattle.load_source.specs.Source.{See, theEnd, bad, refuses, thing, Verdict, failed, foldFrom, bitsJudged, tapKind, full, Load}
+use Rattle.load_source.specs.Source.{no, orElse}
 use Rattle.load_tape.specs.Load.{namedLoad}
 
 -- a block: its tone rows behind those that were read, its row behind the blocks
@@ -91,7 +92,8 @@ module _ (s : List ℕ) where
   -- 1, 2, then TZX and, where that errs, TAP; then the naming pass
   unfoldable pub boundlessLoad : ℕ → Load
   boundlessLoad model =
-      namedLoad s (leb 3 model ⇒ no badModel ∣ ltb 1048576 (length s) ⇒ no tapeLong ∣ orElse (boundlessTzx model (headAt s)) boundlessTap)
+      namedLoad s
+      (leb 3 model ⇒ no badModel ∣ ltb 1048576 (length s) ⇒ no tapeLong ∣ orElse (boundlessTzx model (headAt s)) boundlessTap)
 
 -- no fewer rows of either sort
 pub record Larger (l m : Lent) : Type 0 where

@@ -38,8 +38,8 @@ module _ (s : List ℕ) (at : ℕ) where
   abbrev pub nbAt : ℕ
   nbAt = bitsOf (asdAt - 1)
 
-  -- where the data alphabet ends: past the pilot's, asp symbols of a flag byte and npp pulses, if totp is above 0; past totp entries; and past
-  -- asd symbols of a flag byte and npd pulses, if totd is above 0
+  -- where the data alphabet ends: past the pilot's, asp symbols of a flag byte and npp pulses, if totp is above 0; past totp entries; and
+  -- past asd symbols of a flag byte and npd pulses, if totd is above 0
   abbrev pub dataAt : ℕ
   dataAt = at + 19 + heldIf totpAt aspAt * (1 + nppAt * 2) + totpAt * 3 + heldIf totdAt asdAt * (1 + npdAt * 2)
 
@@ -73,7 +73,8 @@ module _ (s : List ℕ) (g : GeneralizedData) where
     no-bits : g .nb ≡ 0 → g .npd ≡ 2 → BadData
     no-bits-paired : g .nb ≡ 0 → g .npd ≡ 1 → 1 < g .totd → BadData
     single : {i : ℕ} → g .npd ≡ 2 → i < g .totd → g .asd ≤ symbolNumber s g (i * g .nb) 0 → BadData
-    pair : {i : ℕ} → g .npd ≡ 1 → i < g .totd / 2 → (g .asd ≤ symbolNumber s g (2 * i * g .nb) 0) ⊎ (g .asd ≤ symbolNumber s g (2 * i * g .nb) 1) → BadData
+    pair : {i : ℕ} → g .npd ≡ 1 → i < g .totd / 2
+        → (g .asd ≤ symbolNumber s g (2 * i * g .nb) 0) ⊎ (g .asd ≤ symbolNumber s g (2 * i * g .nb) 1) → BadData
 
   abbrev pub BadParts : Type 0
   BadParts = BadPilot ⊎ (NoStop × BadData)
@@ -81,4 +82,5 @@ module _ (s : List ℕ) (g : GeneralizedData) where
 -- REFUSAL 4, at a place
 pub data Four (s : List ℕ) (at : ℕ) : Type 0 where
   before : Overflows s at → Four s at
-  within : {kind from next : ℕ} {g : GeneralizedData} → cutAt s at full ≡ Whole kind from next (Generalized g) → BadParts s g → Four s at
+  within : {kind from next : ℕ} {g : GeneralizedData} → cutAt s at full ≡ Whole kind from next (Generalized g)
+      → BadParts s g → Four s at

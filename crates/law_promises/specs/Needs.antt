@@ -67,4 +67,5 @@ pub data NeedsBlock (lent : Lent) (s : List ℕ) (k at : ℕ) (t : Parsed) : Typ
 
 -- .. to which the TZX reading comes or, where it errs, the TAP reading
 abbrev pub Lacking : Lent → List ℕ → ℕ → ℕ → Type 0
-Lacking lent s model k = ByTzx lent s model (NeedsPiece lent s model k) ⊎ (Errs (readTzx lent s model) × ByTap lent s (NeedsBlock lent s k))
+Lacking lent s model k =
+    ByTzx lent s model (NeedsPiece lent s model k) ⊎ (Errs (readTzx lent s model) × ByTap lent s (NeedsBlock lent s k))

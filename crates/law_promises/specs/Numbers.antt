@@ -37,17 +37,20 @@ Errs r = (f : Failure) × (r ≡ failed f)
 abbrev pub Headed : List ℕ → Type 0
 Headed s = (major : ℕ) × (minor : ℕ) × (headAt s ≡ Version major minor)
 
--- A READING COMES to a place and a tape read so far of which P holds: it stands there, or what stands here is done and from past it the reading comes there
+-- A READING COMES to a place and a tape read so far of which P holds:
+-- it stands there, or what stands here is done and from past it the reading comes there
 pub data Comes (see : ℕ → See) (P : ℕ → Parsed → Type 0) : ℕ → Parsed → Type 0 where
   here : {at : ℕ} {t : Parsed} → P at t → Comes see P at t
-  past : {at next : ℕ} {does : Parsed → Out} {t u : Parsed} → see at ≡ thing next does → does t ≡ on u → Comes see P next u → Comes see P at t
+  past : {at next : ℕ} {does : Parsed → Out} {t u : Parsed} → see at ≡ thing next does → does t ≡ on u → Comes see P next u
+      → Comes see P at t
 
 -- a reading's answer is due at a place: the end; an error or a refusal, by what stands there or by what it does
 pub data Due (see : ℕ → See) : Verdict → ℕ → Parsed → Type 0 where
   ends : {at : ℕ} {t : Parsed} → see at ≡ theEnd → Due see (done t) at t
   errs : {at : ℕ} {t : Parsed} {f : Failure} → see at ≡ bad f → Due see (failed f) at t
   stands : {at k : ℕ} {t : Parsed} → see at ≡ refuses k → Due see (refused k) at t
-  answers : {at next : ℕ} {k : Halt} {does : Parsed → Out} {t : Parsed} → see at ≡ thing next does → does t ≡ no k → Due see (halted k) at t
+  answers : {at next : ℕ} {k : Halt} {does : Parsed → Out} {t : Parsed} → see at ≡ thing next does → does t ≡ no k
+      → Due see (halted k) at t
 
 -- a TZX is read from 10 on, a TAP from 0 on, both with nothing read so far
 abbrev pub ByTzx : Lent → List ℕ → ℕ → (ℕ → Parsed → Type 0) → Type 0

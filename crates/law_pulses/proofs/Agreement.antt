@@ -1,4 +1,5 @@
--- THE GENERAL LAW: the source's play agrees with the measured player on the count and the sum dropped; demand 3's clause is its case of sum 0. Assumes nothing.
+-- THE GENERAL LAW: the source's play agrees with the measured player on the count and the sum dropped;
+-- demand 3's clause is its case of sum 0. Assumes nothing.
 use mathlib.Core.Path.{_≡_, refl, sym, ap, ap₂, subst, _∙_}
 use mathlib.Core.Bool.{Bool, false}
 use mathlib.Core.Logic.{inl, ⊎-elim}
@@ -12,7 +13,8 @@ use borrow.Author.Tests.{lt-ltb, le-ltb}
 use Rattle.law_base.proofs.Numbers.{lt-or-ge}
 use Rattle.law_pulses.specs.Play.{Entry, pulse, endless, rest, over, statusHere, status, answer, countedOn, calls}
 use Rattle.law_pulses.proofs.Steps.{rest-nil, rest-stop, rest-ways}
-use Rattle.law_pulses.specs.Source.{Outcome, isEnded, sourced, reached, sumDropped, source, dropped, sources, withDropped, heard, lastingEntries, Below, Behind, ShortCalls, Agrees}
+use Rattle.law_pulses.specs.Source.{Outcome, isEnded, sourced, reached, sumDropped, source, dropped, sources, withDropped, heard}
+use Rattle.law_pulses.specs.Source.{lastingEntries, Below, Behind, ShortCalls, Agrees}
 use Rattle.law_pulses.proofs.Ahead.{drops, drops-here, drops-past, runsAhead, ahead-here, ahead-past, source-turns}
 
 short-none : {t d : ℕ} → (0 < t → d < t) → t ≤ d → t ≡ 0
@@ -137,7 +139,8 @@ module _ {A : Type 0} where
       ap₂ (λ (x : ℕ) (xs : List ℕ). x ∷ xs) (omega arith) (whole-short (source es n .place) ns (short-source es n ns (s .1)))
 
   -- THE CLAUSE: where each count is below every finite duration but 0, the players agree on the same calls
-  pub agrees-short : (es : List (Entry A)) (n : ℕ) (ns : List ℕ) → ShortCalls es (n ∷ ns) → Agrees (sources es n ns) (heard (calls es n ns))
+  pub agrees-short : (es : List (Entry A)) (n : ℕ) (ns : List ℕ) → ShortCalls es (n ∷ ns)
+      → Agrees (sources es n ns) (heard (calls es n ns))
   unfolding ShortCalls
   agrees-short es n ns s =
       let z = none-dropped es n (s .0) in

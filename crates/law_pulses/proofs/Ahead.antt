@@ -38,7 +38,8 @@ module _ {A : Type 0} where
   unfolding drops
   drops-here a v u es d l = rw (lt-ltb d u l)
 
-  pub drops-past : (a : A) (v : Level) (u : ℕ) (es : List (Entry A)) (d : ℕ) → u ≤ d → drops (pulse a v u ∷ es) d ≡ u + drops es d
+  pub drops-past : (a : A) (v : Level) (u : ℕ) (es : List (Entry A)) (d : ℕ) → u ≤ d
+      → drops (pulse a v u ∷ es) d ≡ u + drops es d
   unfolding drops
   drops-past a v u es d g = rw (le-ltb d u g)
 
@@ -46,7 +47,8 @@ module _ {A : Type 0} where
   unfolding runsAhead
   ahead-here a v t es n l = rw (lt-ltb n t l)
 
-  pub ahead-past : (a : A) (v : Level) (t : ℕ) (es : List (Entry A)) (n : ℕ) → t ≤ n → runsAhead (pulse a v t ∷ es) n ≡ drops es (n - t)
+  pub ahead-past : (a : A) (v : Level) (t : ℕ) (es : List (Entry A)) (n : ℕ) → t ≤ n
+      → runsAhead (pulse a v t ∷ es) n ≡ drops es (n - t)
   unfolding runsAhead
   ahead-past a v t es n g = rw (le-ltb n t g)
 
@@ -68,19 +70,23 @@ module _ {A : Type 0} where
   unfolding rest over
   stood-nil m s = refl
 
-  stood-stop : (a : A) (v : Level) (es : List (Entry A)) (m s : ℕ) → stood (endless a v ∷ es) m s ≡ turnedTo (endless a v ∷ es) 0 s
+  stood-stop : (a : A) (v : Level) (es : List (Entry A)) (m s : ℕ)
+      → stood (endless a v ∷ es) m s ≡ turnedTo (endless a v ∷ es) 0 s
   unfolding rest over
   stood-stop a v es m s = refl
 
   stood-zero : (es : List (Entry A)) (s : ℕ) → stood es 0 s ≡ turnedTo es 0 s
   stood-zero es s = ap₂ (λ (x : List (Entry A)) (k : ℕ). turnedTo x k s) (rest-zero es) (over-zero es)
 
-  stood-here : (a : A) (v : Level) (t : ℕ) (es : List (Entry A)) (m s : ℕ) → m < t → stood (pulse a v t ∷ es) m s ≡ turnedTo (pulse a v (t - m) ∷ es) 0 s
+  stood-here : (a : A) (v : Level) (t : ℕ) (es : List (Entry A)) (m s : ℕ) → m < t
+      → stood (pulse a v t ∷ es) m s ≡ turnedTo (pulse a v (t - m) ∷ es) 0 s
   stood-here a v t es m s l =
       let z : m - t ≡ 0 = omega arith in
-      ap₂ (λ (x : List (Entry A)) (k : ℕ). turnedTo x k s) (rest-here a v t es m l) (over-pulse a v t es m ∙ ap (over es) z ∙ over-zero es)
+      ap₂ (λ (x : List (Entry A)) (k : ℕ). turnedTo x k s) (rest-here a v t es m l)
+      (over-pulse a v t es m ∙ ap (over es) z ∙ over-zero es)
 
-  stood-past : (a : A) (v : Level) (t : ℕ) (es : List (Entry A)) (m s : ℕ) → 0 < m → t ≤ m → stood (pulse a v t ∷ es) m s ≡ stood es (m - t) s
+  stood-past : (a : A) (v : Level) (t : ℕ) (es : List (Entry A)) (m s : ℕ) → 0 < m → t ≤ m
+      → stood (pulse a v t ∷ es) m s ≡ stood es (m - t) s
   stood-past a v t es m s p h = ap₂ (λ (x : List (Entry A)) (k : ℕ). turnedTo x k s) (rest-past a v t es m p h) (over-pulse a v t es m)
 
   turns-zero : (f : ℕ) (es : List (Entry A)) (s : ℕ) → turns f (turnedTo es 0 s) ≡ turnedTo es 0 s
@@ -100,27 +106,33 @@ module _ {A : Type 0} where
   nil-turns : (f d s : ℕ) → turns f (turnedTo [] d s) ≡ stood [] (d + 0) (s + 0)
   nil-turns f d s = turns-nil f d s ∙ sym (stood-nil d s) ∙ stood-as [] d s _ _ (omega arith) (omega arith)
 
-  stop-turns : (a : A) (v : Level) (es : List (Entry A)) (f m s : ℕ) → turns f (turnedTo (endless a v ∷ es) 0 s) ≡ stood (endless a v ∷ es) m (s + 0)
+  stop-turns : (a : A) (v : Level) (es : List (Entry A)) (f m s : ℕ)
+      → turns f (turnedTo (endless a v ∷ es) 0 s) ≡ stood (endless a v ∷ es) m (s + 0)
   stop-turns a v es f m s = turns-zero f _ s ∙ sym (stood-stop a v es m s) ∙ stood-as _ m s _ _ refl (omega arith)
 
-  turn-in : (a : A) (v : Level) (t : ℕ) (es : List (Entry A)) (d s : ℕ) → d < t → turn (pulse a v t ∷ es) d s ≡ turnedTo (pulse a v (t - d) ∷ es) 0 s
+  turn-in : (a : A) (v : Level) (t : ℕ) (es : List (Entry A)) (d s : ℕ) → d < t
+      → turn (pulse a v t ∷ es) d s ≡ turnedTo (pulse a v (t - d) ∷ es) 0 s
   unfolding turn
   turn-in a v t es d s l = rw (lt-ltb d t l)
 
-  turn-out : (a : A) (v : Level) (t : ℕ) (es : List (Entry A)) (d s : ℕ) → t ≤ d → turn (pulse a v t ∷ es) d s ≡ after es (d - t) s
+  turn-out : (a : A) (v : Level) (t : ℕ) (es : List (Entry A)) (d s : ℕ) → t ≤ d
+      → turn (pulse a v t ∷ es) d s ≡ after es (d - t) s
   unfolding turn
   turn-out a v t es d s g = rw (le-ltb d t g)
 
-  after-in : (a : A) (v : Level) (u : ℕ) (es : List (Entry A)) (d s : ℕ) → d < u → after (pulse a v u ∷ es) d s ≡ turnedTo (pulse a v (u - d) ∷ es) 0 s
+  after-in : (a : A) (v : Level) (u : ℕ) (es : List (Entry A)) (d s : ℕ) → d < u
+      → after (pulse a v u ∷ es) d s ≡ turnedTo (pulse a v (u - d) ∷ es) 0 s
   unfolding after
   after-in a v u es d s l = rw (lt-ltb d u l)
 
-  after-out : (a : A) (v : Level) (u : ℕ) (es : List (Entry A)) (d s : ℕ) → u ≤ d → after (pulse a v u ∷ es) d s ≡ turnedTo (pulse a v 0 ∷ es) d (s + u)
+  after-out : (a : A) (v : Level) (u : ℕ) (es : List (Entry A)) (d s : ℕ) → u ≤ d
+      → after (pulse a v u ∷ es) d s ≡ turnedTo (pulse a v 0 ∷ es) d (s + u)
   unfolding after
   after-out a v u es d s g = rw (le-ltb d u g)
 
   -- from an entry finished with d left
-  after-turns : (es : List (Entry A)) (f d s : ℕ) → length es ≤ f → turns f (after es d s) ≡ stood es (d + drops es d) (s + drops es d)
+  after-turns : (es : List (Entry A)) (f d s : ℕ) → length es ≤ f
+      → turns f (after es d s) ≡ stood es (d + drops es d) (s + drops es d)
   unfolding after drops
   after-turns [] f d s h = nil-turns f d s
   after-turns (endless a v ∷ es) f d s h = stop-turns a v es f _ s
@@ -155,7 +167,8 @@ module _ {A : Type 0} where
       (eq-zero-or-pos d))
       (lt-or-ge d u)
 
-  first-turns : (es : List (Entry A)) (f n s : ℕ) → 0 < n → length es ≤ f → turns f (turn es n s) ≡ stood es (n + runsAhead es n) (s + runsAhead es n)
+  first-turns : (es : List (Entry A)) (f n s : ℕ) → 0 < n → length es ≤ f
+      → turns f (turn es n s) ≡ stood es (n + runsAhead es n) (s + runsAhead es n)
   unfolding turn runsAhead
   first-turns [] f n s p h = nil-turns f n s
   first-turns (endless a v ∷ es) f n s p h = stop-turns a v es f _ s
@@ -172,11 +185,13 @@ module _ {A : Type 0} where
       ap (turns f) (turn-out a v t es n s g)
       ∙ after-turns es f (n - t) s (omega arith)
       ∙ stood-as es _ _ _ _ (omega arith) (omega arith)
-      ∙ sym (stood-past a v t es (n + runsAhead (pulse a v t ∷ es) n) (s + runsAhead (pulse a v t ∷ es) n) (omega arith) (omega arith)))
+      ∙ sym
+      (stood-past a v t es (n + runsAhead (pulse a v t ∷ es) n) (s + runsAhead (pulse a v t ∷ es) n) (omega arith) (omega arith)))
       (lt-or-ge n t)
 
   -- THE LOOP: its turns end, at the measured player's place for the count and the sum dropped
-  pub source-turns : (es : List (Entry A)) (f n s : ℕ) → length es < f → turns f (turnedTo es n s) ≡ stood es (n + runsAhead es n) (s + runsAhead es n)
+  pub source-turns : (es : List (Entry A)) (f n s : ℕ) → length es < f
+      → turns f (turnedTo es n s) ≡ stood es (n + runsAhead es n) (s + runsAhead es n)
   source-turns es zero n s h = absurd (omega arith)
   source-turns es (suc f) n s h =
       ⊎-elim

@@ -8,8 +8,11 @@ use native.Mathlib.Omega.{arith}
 use lib.ListN.{length}
 use borrow.Author.Tests.{lt-ltb, le-ltb}
 use Rattle.law_base.proofs.Numbers.{lt-or-ge}
-use Rattle.law_pulses.specs.Play.{Entry, pulse, endless, Status, standing, ended, Answer, made, rest, over, statusHere, status, answer, countedOn, calls, time, final, comesTo, Finite, sum, Positive, Spent, AtSum, Demanded, Meets}
-use Rattle.law_pulses.proofs.Steps.{rest-nil, rest-stop, rest-zero, rest-here, rest-past, rest-ways, over-zero, over-rest, time-pulse, length-rest, rest-cut, over-cut}
+use Rattle.law_pulses.specs.Play.{Entry, pulse, endless, Status, standing, ended, Answer, made, rest, over, statusHere, status}
+use Rattle.law_pulses.specs.Play.{answer, countedOn, calls, time, final, comesTo, Finite, sum, Positive, Spent, AtSum}
+use Rattle.law_pulses.specs.Play.{Demanded, Meets}
+use Rattle.law_pulses.proofs.Steps.{rest-nil, rest-stop, rest-zero, rest-here, rest-past, rest-ways, over-zero, over-rest}
+use Rattle.law_pulses.proofs.Steps.{time-pulse, length-rest, rest-cut, over-cut}
 use Rattle.law_pulses.proofs.Joined.{time-append, rest-after}
 
 module _ {A : Type 0} where
@@ -60,7 +63,8 @@ module _ {A : Type 0} where
             finite = s .finite;
             before = omega arith;
             within = omega arith;
-            some-left = λ k. e ∙ s .some-left (omega arith) ∙ ap (λ (j : ℕ). pulse (s .label) (s .level) j ∷ s .next) (omega arith);
+            some-left = λ k. e ∙ s .some-left (omega arith)
+                ∙ ap (λ (j : ℕ). pulse (s .label) (s .level) j ∷ s .next) (omega arith);
             none-left = λ k. e ∙ s .none-left (omega arith);
           }
 
@@ -167,7 +171,8 @@ module _ {A : Type 0} where
       status-over _ _ (omega arith) ∙ sym (status-over _ _ (omega arith)))
       (eq-zero-or-pos (over es m))
 
-  answer-cut : (es : List (Entry A)) (m n : ℕ) → 0 < n → countedOn (answer es m .passed) (answer (answer es m .place) n) ≡ answer es (m + n)
+  answer-cut : (es : List (Entry A)) (m n : ℕ) → 0 < n
+      → countedOn (answer es m .passed) (answer (answer es m .place) n) ≡ answer es (m + n)
   unfolding answer countedOn
   answer-cut es m n p =
       let e = rest-cut es m n in
@@ -199,7 +204,8 @@ module _ {A : Type 0} where
       ap (λ (x : List (Entry A)). made x (r .tells) (r .passed)) placed ∙ ap₂ (made (rest es N)) told k
     where
       placed : r .place ≡ rest es N
-      placed = ⊎-elim (λ l. d .above l .0 ∙ sym (above-place es N l)) (λ g. spent-one es N (r .place) (d .where-said g)) (lt-or-ge (time es) N)
+      placed = ⊎-elim (λ l. d .above l .0 ∙ sym (above-place es N l)) (λ g. spent-one es N (r .place) (d .where-said g))
+          (lt-or-ge (time es) N)
 
       told : r .tells ≡ status (rest es N) (over es N)
       told =

@@ -27,7 +27,8 @@ module _ {A : Type 0} where
   within-append (endless a v ∷ xs) ys d f g = absurd f
   within-append (pulse a v t ∷ xs) ys d f g = (f .0, within-append xs ys d (f .1) g)
 
-  pub run-within : (item : ℕ → List (Entry A)) (d p m : ℕ) → ((i : ℕ) → p ≤ i → i < p + m → Within (item i) d) → Within (run item p m) d
+  pub run-within : (item : ℕ → List (Entry A)) (d p m : ℕ) → ((i : ℕ) → p ≤ i → i < p + m → Within (item i) d)
+      → Within (run item p m) d
   unfolding Within run
   run-within item d p zero h = tt
   run-within item d p (suc m) h =

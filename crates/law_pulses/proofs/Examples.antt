@@ -6,9 +6,11 @@ use mathlib.Core.List.{List, [], _∷_}
 use Prim.Native.Nat.{ℕ, _%_}
 use native.Mathlib.Omega.{arith}
 use lib.Dec.{eqb}
-use Rattle.law_pulses.specs.Play.{Entry, pulse, endless, low, high, standing, stopped, ended, made, rest, over, statusHere, status, answer, countedOn, calls, time}
+use Rattle.law_pulses.specs.Play.{Entry, pulse, endless, low, high, standing, stopped, ended, made, rest, over, statusHere, status}
+use Rattle.law_pulses.specs.Play.{answer, countedOn, calls, time}
 use Rattle.law_pulses.specs.Runs.{run}
-use Rattle.law_pulses.specs.Source.{after, turn, turns, sourced, reached, sumDropped, source, dropped, sources, withDropped, heard, lastingEntries, Agrees}
+use Rattle.law_pulses.specs.Source.{after, turn, turns, sourced, reached, sumDropped, source, dropped, sources, withDropped, heard}
+use Rattle.law_pulses.specs.Source.{lastingEntries, Agrees}
 
 -- a sole 12 of 100 and 4: its start, two cycles, no pause
 abbrev halves : List (Entry ℕ)
@@ -78,7 +80,8 @@ next-ends = refl
 abbrev stop : List (Entry ℕ)
 stop = endless 3 low ∷ pulse 4 low 9 ∷ []
 
-before-stop : answer (pulse 0 high 5 ∷ pulse 1 low 0 ∷ pulse 2 low 0 ∷ stop) 5 ≡ made (pulse 1 low 0 ∷ pulse 2 low 0 ∷ stop) standing 1
+before-stop : answer (pulse 0 high 5 ∷ pulse 1 low 0 ∷ pulse 2 low 0 ∷ stop) 5
+    ≡ made (pulse 1 low 0 ∷ pulse 2 low 0 ∷ stop) standing 1
 unfolding answer rest over status statusHere
 before-stop = refl
 

@@ -23,10 +23,14 @@ module _ {A : Type 0} (a : A) (run : List (Entry A) → ℕ → List ℕ → Ans
       let es = pulse a low 2 ∷ [] in
       let one = meets-one run meets es 1 [] (omega arith) tt in
       let two = meets-one run meets es 1 (1 ∷ []) (omega arith) (omega arith, tt) in
-      omega (arith, ap length (ap (λ (r : Answer A). r .place) (sym two) ∙ first es 1 (1 ∷ []) ∙ ap (λ (r : Answer A). r .place) one))
+      omega (
+        arith,
+        ap length (ap (λ (r : Answer A). r .place) (sym two) ∙ first es 1 (1 ∷ []) ∙ ap (λ (r : Answer A). r .place) one),
+      )
 
   -- an invented entry count, one that does not come from the list
-  pub no-invented : (count : ℕ → List ℕ → ℕ) → ((es : List (Entry A)) (n : ℕ) (ns : List ℕ) → run es n ns .passed ≡ count n ns) → ⊥
+  pub no-invented : (count : ℕ → List ℕ → ℕ)
+      → ((es : List (Entry A)) (n : ℕ) (ns : List ℕ) → run es n ns .passed ≡ count n ns) → ⊥
   unfolding calls answer rest Positive
   no-invented count counts =
       let es = pulse a low 1 ∷ [] in

@@ -25,12 +25,14 @@ module _ {A : Type 0} where
   rest-zero (endless a v ∷ es) = refl
   rest-zero (pulse a v t ∷ es) = refl
 
-  pub rest-here : (a : A) (v : Level) (t : ℕ) (es : List (Entry A)) (n : ℕ) → n < t → rest (pulse a v t ∷ es) n ≡ pulse a v (t - n) ∷ es
+  pub rest-here : (a : A) (v : Level) (t : ℕ) (es : List (Entry A)) (n : ℕ) → n < t
+      → rest (pulse a v t ∷ es) n ≡ pulse a v (t - n) ∷ es
   unfolding rest
   rest-here a v t es zero h = ap (λ (k : ℕ). pulse a v k ∷ es) (sym (sub-zero t))
   rest-here a v t es (suc n) h = rw (ne-eqb (suc n) 0 (omega arith), lt-ltb (suc n) t h)
 
-  pub rest-past : (a : A) (v : Level) (t : ℕ) (es : List (Entry A)) (n : ℕ) → 0 < n → t ≤ n → rest (pulse a v t ∷ es) n ≡ rest es (n - t)
+  pub rest-past : (a : A) (v : Level) (t : ℕ) (es : List (Entry A)) (n : ℕ) → 0 < n → t ≤ n
+      → rest (pulse a v t ∷ es) n ≡ rest es (n - t)
   unfolding rest
   rest-past a v t es n p h = rw (ne-eqb n 0 (omega arith), le-ltb n t h)
 

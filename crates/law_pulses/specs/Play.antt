@@ -26,7 +26,8 @@ pub data Status : Type 0 where
   stopped : Status
   ended : Status
 
--- a call's answer. The head is the list that is left to play: its own entry with what is left of it, then those behind; [] is the count's start
+-- a call's answer. The head is the list that is left to play: its own entry with what is left of it, then those behind;
+-- [] is the count's start
 pub record Answer (A : Type 0) : Type 0 where
   pub place : List (Entry A)
   pub tells : Status

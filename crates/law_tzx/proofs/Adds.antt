@@ -30,10 +30,17 @@ use Rattle.law_tzx.specs.Kept.{lengthOf, lengths, entriesFrom, Plays}
 use Rattle.law_tzx.proofs.Lengths.{lasting-append, blockLengths, block-lengths}
 
 -- nothing is added
-pub plays-none : {s : List ℕ} {ls : List PulseLength} {t u : Parsed} → u .blocks ≡ t .blocks → u .tones ≡ t .tones → lasting ls ≡ [] → Plays s ls t u
+pub plays-none : {s : List ℕ} {ls : List PulseLength} {t u : Parsed} → u .blocks ≡ t .blocks → u .tones ≡ t .tones
+    → lasting ls ≡ [] → Plays s ls t u
 unfolding entriesFrom lasting
 plays-none {t = t} p q e =
-    record { blocks = []; tones = []; added = p ∙ sym (append-nil (t .blocks)); under = q ∙ sym (append-nil (t .tones)); plays = λ more N b. sym e }
+    record {
+      blocks = [];
+      tones = [];
+      added = p ∙ sym (append-nil (t .blocks));
+      under = q ∙ sym (append-nil (t .tones));
+      plays = λ more N b. sym e;
+    }
 
 -- the entries of more blocks
 pub list-append : (s tt : List ℕ) (b : ℕ) (xs ys : List Block)
@@ -42,7 +49,8 @@ unfolding entriesFrom
 list-append s tt b [] ys = let z : b + 0 ≡ b = omega arith in ap (λ (k : ℕ). entriesFrom s tt k ys) (sym z)
 list-append s tt b (x ∷ xs) ys =
     let z : b + 1 + length xs ≡ b + length (x ∷ xs) = omega arith in
-    ap (λ l. entriesOf s tt b x ++ l) (list-append s tt (b + 1) xs ys ∙ ap (λ (k : ℕ). entriesFrom s tt (b + 1) xs ++ entriesFrom s tt k ys) z)
+    ap (λ l. entriesOf s tt b x ++ l)
+    (list-append s tt (b + 1) xs ys ∙ ap (λ (k : ℕ). entriesFrom s tt (b + 1) xs ++ entriesFrom s tt k ys) z)
     ∙ sym (append-assoc (entriesOf s tt b x) (entriesFrom s tt (b + 1) xs) (entriesFrom s tt (b + length (x ∷ xs)) ys))
 
 -- one step, then another
@@ -55,10 +63,13 @@ plays-then {s} {ls} {ms} {t} {u} {v} p q =
       under = q .under ∙ ap (λ (l : List Tone). l ++ q .tones) (p .under) ∙ append-assoc (t .tones) (p .tones) (q .tones);
       plays = λ more N b.
           let tt = tableOf tone (v .tones ++ more) N in
-          let same : v .tones ++ more ≡ u .tones ++ (q .tones ++ more) = ap (λ (l : List Tone). l ++ more) (q .under) ∙ append-assoc (u .tones) (q .tones) more in
+          let same : v .tones ++ more ≡ u .tones ++ (q .tones ++ more) =
+          ap (λ (l : List Tone). l ++ more) (q .under) ∙ append-assoc (u .tones) (q .tones) more in
           let first : lasting (lengths (entriesFrom s tt b (p .blocks))) ≡ lasting ls =
-          ap (λ (l : List Tone). lasting (lengths (entriesFrom s (tableOf tone l N) b (p .blocks)))) same ∙ p .plays (q .tones ++ more) N b in
-          let second : lasting (lengths (entriesFrom s tt (b + length (p .blocks)) (q .blocks))) ≡ lasting ms = q .plays more N (b + length (p .blocks)) in
+          ap (λ (l : List Tone). lasting (lengths (entriesFrom s (tableOf tone l N) b (p .blocks)))) same
+          ∙ p .plays (q .tones ++ more) N b in
+          let second : lasting (lengths (entriesFrom s tt (b + length (p .blocks)) (q .blocks))) ≡ lasting ms =
+          q .plays more N (b + length (p .blocks)) in
           ap (λ l. lasting (lengths l)) (list-append s tt b (p .blocks) (q .blocks))
           ∙ ap lasting (map-append lengthOf (entriesFrom s tt b (p .blocks)) (entriesFrom s tt (b + length (p .blocks)) (q .blocks)))
           ∙ lasting-append (lengths (entriesFrom s tt b (p .blocks))) (lengths (entriesFrom s tt (b + length (p .blocks)) (q .blocks)))
@@ -68,7 +79,8 @@ plays-then {s} {ls} {ms} {t} {u} {v} p q =
 
 -- lengths that sound the same
 pub plays-as : {s : List ℕ} {ls ms : List PulseLength} {t u : Parsed} → lasting ls ≡ lasting ms → Plays s ls t u → Plays s ms t u
-plays-as e p = record { blocks = p .blocks; tones = p .tones; added = p .added; under = p .under; plays = λ more N b. p .plays more N b ∙ e }
+plays-as e p =
+    record { blocks = p .blocks; tones = p .tones; added = p .added; under = p .under; plays = λ more N b. p .plays more N b ∙ e }
 
 -- a source row's name is not heard
 source-named : (s tt : List ℕ) (b : ℕ) (p : Pending) (r : Block) → sourceEntries s tt b (named p r) ≡ sourceEntries s tt b r
@@ -84,14 +96,19 @@ sort-named (First text chars) r e = e
 sort-named (Later text chars) r e = e
 sort-named (Text text chars) r e = e
 
-named-same : (s tt : List ℕ) (b : ℕ) (p : Pending) (r : Block) → isSource r ≡ true → entriesOf s tt b (named p r) ≡ entriesOf s tt b r
-named-same s tt b p r e = source-entries tt b (named p r) (sort-named p r e) s ∙ source-named s tt b p r ∙ sym (source-entries tt b r e s)
+named-same : (s tt : List ℕ) (b : ℕ) (p : Pending) (r : Block) → isSource r ≡ true
+    → entriesOf s tt b (named p r) ≡ entriesOf s tt b r
+named-same s tt b p r e =
+    source-entries tt b (named p r) (sort-named p r e) s ∙ source-named s tt b p r ∙ sym (source-entries tt b r e s)
 
 abbrev blank : Tone
 blank = decodeTone []
 
-module _ (s : List ℕ) (origin : Origin) (d : Sound) (ls : List PulseLength) (same : (n : ℕ) → blockLengths s (d .tones) (rowOf origin d n) ≡ lasting ls) where
-  own : (t : Parsed) (more : List Tone) (N i : ℕ) → i < length (d .tones) → get tone (tableOf tone ((t .tones ++ (d .tones)) ++ more) N) (rowOf origin d (length (t .tones)) .tone + i) ≡ getD (d .tones) i blank
+module _ (s : List ℕ) (origin : Origin) (d : Sound) (ls : List PulseLength)
+    (same : (n : ℕ) → blockLengths s (d .tones) (rowOf origin d n) ≡ lasting ls) where
+  own : (t : Parsed) (more : List Tone) (N i : ℕ) → i < length (d .tones)
+      → get tone (tableOf tone ((t .tones ++ (d .tones)) ++ more) N) (rowOf origin d (length (t .tones)) .tone + i)
+      ≡ getD (d .tones) i blank
   unfolding rowOf
   own t more N i k =
       let n = length (t .tones) in
@@ -124,10 +141,14 @@ module _ (s : List ℕ) (origin : Origin) (d : Sound) (ls : List PulseLength) (s
   unfolding addSound addRows addTones addBlock _⟫_
   sound-plays lent t = by-tones (leb (length (t .tones) + length (d .tones)) (lent .tones))
     where
-      by-blocks : (c : Bool) → Sure (Plays s ls t) (c ⇒ on (withBlock (rowOf origin d (length (t .tones))) (withTones (d .tones) t)) ∣ no (Refusal blocksFull))
+      by-blocks : (c : Bool)
+          → Sure (Plays s ls t)
+          (c ⇒ on (withBlock (rowOf origin d (length (t .tones))) (withTones (d .tones) t)) ∣ no (Refusal blocksFull))
       by-blocks true = sure (row-plays t)
       by-blocks false = none
 
-      by-tones : (c : Bool) → Sure (Plays s ls t) ((c ⇒ on (withTones (d .tones) t) ∣ no (Refusal tonesFull)) ⟫ addBlock (lent .blocks) (rowOf origin d (length (t .tones))))
+      by-tones : (c : Bool)
+          → Sure (Plays s ls t)
+          ((c ⇒ on (withTones (d .tones) t) ∣ no (Refusal tonesFull)) ⟫ addBlock (lent .blocks) (rowOf origin d (length (t .tones))))
       by-tones true = by-blocks (ltb (length (t .blocks)) (lent .blocks))
       by-tones false = none

@@ -1,4 +1,5 @@
--- 19's data of one bit a symbol: bits byte by byte are bits one after the other, and the source reading's numbers are the format's. Assumes nothing.
+-- 19's data of one bit a symbol: bits byte by byte are bits one after the other, and the source reading's numbers are the format's.
+-- Assumes nothing.
 use Prim.Native.Nat.{ℕ, zero, suc, _+_, _*_, _-_, _/_, _%_, _^_, _≤_, _<_, max}
 use native.Mathlib.Omega.{arith}
 use mathlib.Core.Path.{_≡_, refl, sym, ap, ap₂, _∙_}
@@ -60,11 +61,13 @@ module _ (h : ℕ → ℕ → List ℕ) where
       let e : suc m * 8 ≡ 8 + m * 8 = omega arith in
       let q : (p + 1) * 8 ≡ p * 8 + 8 = omega arith in
       one-more (λ pos. each (h pos) 0 8) p m
-      ∙ ap₂ (λ (x y : List ℕ). x ++ y) (byte-bits p 8 (omega arith)) (bytes-bits (p + 1) m ∙ ap (λ (k : ℕ). each all k (m * 8)) q)
+      ∙ ap₂ (λ (x y : List ℕ). x ++ y) (byte-bits p 8 (omega arith))
+      (bytes-bits (p + 1) m ∙ ap (λ (k : ℕ). each all k (m * 8)) q)
       ∙ sym (ap (each all (p * 8)) e ∙ each-split all (p * 8) 8 (m * 8))
 
   -- m whole bytes, and a last one of `used` bits
-  last-bits : (m used : ℕ) → used ≤ 8 → each (λ pos. each (h pos) 0 (bitsIn used (suc m) pos)) 0 (suc m) ≡ each all 0 (m * 8 + used)
+  last-bits : (m used : ℕ) → used ≤ 8
+      → each (λ pos. each (h pos) 0 (bitsIn used (suc m) pos)) 0 (suc m) ≡ each all 0 (m * 8 + used)
   unfolding bitsIn
   last-bits m used l =
       let f : ℕ → List ℕ = λ pos. each (h pos) 0 (bitsIn used (suc m) pos) in
@@ -87,12 +90,14 @@ last-few : (n : ℕ) → 0 < n → (max 1 (usedBits n) ≤ 8) × (((n + 7) / 8 -
 unfolding usedBits
 last-few n h = by-cases (eqb (n % 8) 0) refl
   where
-    by-cases : (b : Bool) → eqb (n % 8) 0 ≡ b → (max 1 (b ⇒ 8 ∣ n % 8) ≤ 8) × (((n + 7) / 8 - 1) * 8 + max 1 (b ⇒ 8 ∣ n % 8) ≡ n)
+    by-cases : (b : Bool) → eqb (n % 8) 0 ≡ b
+        → (max 1 (b ⇒ 8 ∣ n % 8) ≤ 8) × (((n + 7) / 8 - 1) * 8 + max 1 (b ⇒ 8 ∣ n % 8) ≡ n)
     by-cases true q = let z : n % 8 ≡ 0 = eqb-true (n % 8) 0 q in (omega arith, omega arith)
     by-cases false q = let z = eqb-false (n % 8) 0 q in (omega arith, omega arith)
 
 -- ORDINARY DATA of n bits: the bytes that hold them, the last one's bits as many as are over
-pub data-flat : (s : List ℕ) (off one from n : ℕ) → 0 < n → dataPulses s off one (max 1 (usedBits n)) from ((n + 7) / 8) ≡ each (λ i. bitPulses off one (bitAt s from i)) 0 n
+pub data-flat : (s : List ℕ) (off one from n : ℕ) → 0 < n
+    → dataPulses s off one (max 1 (usedBits n)) from ((n + 7) / 8) ≡ each (λ i. bitPulses off one (bitAt s from i)) 0 n
 unfolding dataPulses bytePulses bitAt
 data-flat s off one from n h =
     let h′ : ℕ → ℕ → List ℕ = λ pos k. bitPulses off one (bitOf (getD s (from + pos) 0) k) in
@@ -147,4 +152,5 @@ each-pairs f p (suc n) =
     one-more (λ i. f (2 * i) ++ f (2 * i + 1)) p n
     ∙ append-assoc (f (2 * p)) (f (2 * p + 1)) (each (λ i. f (2 * i) ++ f (2 * i + 1)) (p + 1) n)
     ∙ ap (λ (r : List ℕ). f (2 * p) ++ (f (2 * p + 1) ++ r)) (each-pairs f (p + 1) n ∙ ap (λ (k : ℕ). each f k (n * 2)) a)
-    ∙ sym (ap (each f (2 * p)) b ∙ one-more f (2 * p) (suc (n * 2)) ∙ ap (λ (r : List ℕ). f (2 * p) ++ r) (one-more f (2 * p + 1) (n * 2)))
+    ∙ sym
+    (ap (each f (2 * p)) b ∙ one-more f (2 * p) (suc (n * 2)) ∙ ap (λ (r : List ℕ). f (2 * p) ++ r) (one-more f (2 * p + 1) (n * 2)))

@@ -91,11 +91,15 @@ whole-any : (z : Piece) {d : Cursor} {next : ℕ} → d ≡ At next → wholeAt 
 unfolding wholeAt
 whole-any z e = ap (wholeAt z) e
 
-pub fitted : (x y : Piece) (bits : ℕ) (c d : Cursor) (next : ℕ) → fittingAt bits c (wholeAt x d) ≡ body.Whole y next → FittedPiece x y bits c d next
+pub fitted : (x y : Piece) (bits : ℕ) (c d : Cursor) (next : ℕ) → fittingAt bits c (wholeAt x d) ≡ body.Whole y next
+    → FittedPiece x y bits c d next
 unfolding fittingAt
 fitted x y bits (At p) d next e = by-cases (leb bits 4294967295) refl e
   where
-    by-cases : (t : Bool) → leb bits 4294967295 ≡ t → (t ⇒ wholeAt x d ∣ body.Overflow p) ≡ body.Whole y next → FittedPiece x y bits (At p) d next
+    by-cases : (t : Bool) → leb bits 4294967295 ≡ t → (t ⇒ wholeAt x d ∣ body.Overflow p) ≡ body.Whole y next
+        → FittedPiece x y bits (At p) d next
     by-cases true b q = let r = whole-fitted x d q in record { same = r .0; stood = r .1; any = λ z. rw b (whole-any z (r .1)) }
     by-cases false b q = absurd (let z : _≡_ {A = ℕ} 0 1 = cc in omega arith)
-fitted x y bits (cursor.Short p w) d next e = let r = whole-fitted x d e in record { same = r .0; stood = r .1; any = λ z. whole-any z (r .1) }
+fitted x y bits (cursor.Short p w) d next e =
+    let r = whole-fitted x d e in
+    record { same = r .0; stood = r .1; any = λ z. whole-any z (r .1) }

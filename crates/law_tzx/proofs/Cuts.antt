@@ -34,7 +34,8 @@ use Rattle.load_state.specs.Kept.{Sure}
 use Rattle.load_blocks.specs.declared.Origin.{Origin}
 use Rattle.load_blocks.specs.Adds.{Lent}
 use Rattle.load_source.specs.Source.{act}
-use Rattle.law_tzx.specs.Format.{Said, unsaid, saidPulses, pauseMs, each, pilotSymbol, repetitions, pilotPulses, dataNumber, symbolPulses, every, symbolsSaid, format19, formatOf, formatFull}
+use Rattle.law_tzx.specs.Format.{Said, unsaid, saidPulses, pauseMs, each, pilotSymbol, repetitions, pilotPulses, dataNumber}
+use Rattle.law_tzx.specs.Format.{symbolPulses, every, symbolsSaid, format19, formatOf, formatFull}
 use Rattle.law_tzx.specs.Cut.{layout19, layoutOf, formatCut}
 use Rattle.law_tzx.specs.Kept.{keptPilot, keptData, lengthRight, kept19, kept, Keeps, Tables, FormatCut, KeptAt}
 use Rattle.law_tzx.proofs.Waves.{differ}
@@ -106,7 +107,8 @@ module _ (s : List ℕ) (h : GeneralHead) (asd : ℕ) where
       let m2 = d2 .moved in
       record { began = d2 .began; onward = omega arith; ended = omega arith }
 
-  is-piece : (asp n : ℕ) {next : ℕ} {piece : Piece} → bodyWith asp n ≡ body.Whole piece next → Generalized (generalWith asp n) ≡ piece
+  is-piece : (asp n : ℕ) {next : ℕ} {piece : Piece} → bodyWith asp n ≡ body.Whole piece next
+      → Generalized (generalWith asp n) ≡ piece
   unfolding bodyWith
   is-piece asp n {next} {piece} e =
       fitted (Generalized (generalWith asp n)) piece (bitsIn * h .totd) (bytesAt n) (eachAt s (bytesAt n) sizeIn 1) next e .same
@@ -119,8 +121,10 @@ module _ (s : List ℕ) (h : GeneralHead) (asd : ℕ) where
       .any (Generalized (generalWith b n))
 
 -- a 19 is its head and its tables
-general-body : (formatFull : ℕ) (s : List ℕ) (c : Cursor) → (let h = head19 s c in
-    readAt (kind19 formatFull) s c ≡ bodyWith s h (orFull formatFull (h .asd)) (orFull formatFull (h .asp)) (heldIf (h .totp) (orFull formatFull (h .asp))))
+general-body : (formatFull : ℕ) (s : List ℕ) (c : Cursor)
+    → (let h = head19 s c in
+    readAt (kind19 formatFull) s c
+    ≡ bodyWith s h (orFull formatFull (h .asd)) (orFull formatFull (h .asp)) (heldIf (h .totp) (orFull formatFull (h .asp))))
 unfolding readAt kind19 stream19 passAt head19 bodyWith
 general-body full s c = refl
 
@@ -207,7 +211,8 @@ module _ (s : List ℕ) (p : ℕ) {piece : Piece} {next : ℕ} (inside : next �
   asd-same = full-same (h .asd) (full-none (h .asd) (kept-asd s (generalWith s h asd255 asp255 (heldBy 255)) kept255))
 
   read256 : readAt (kind19 formatFull) s (At p) ≡ bodyWith s h asd255 (orFull formatFull (h .asp)) (heldBy formatFull)
-  read256 = general-body formatFull s (At p) ∙ ap (λ (x : ℕ). bodyWith s h x (orFull formatFull (h .asp)) (heldBy formatFull)) (sym asd-same)
+  read256 =
+      general-body formatFull s (At p) ∙ ap (λ (x : ℕ). bodyWith s h x (orFull formatFull (h .asp)) (heldBy formatFull)) (sym asd-same)
 
   abbrev asp256 : ℕ
   asp256 = orFull formatFull (h .asp)
@@ -216,7 +221,8 @@ module _ (s : List ℕ) (p : ℕ) {piece : Piece} {next : ℕ} (inside : next �
   whole256 : bodyWith s h asd255 asp256 (heldBy 255) ≡ body.Whole (Generalized (generalWith s h asd255 asp256 (heldBy 255))) next
   whole256 = any-asp s h asd255 asp255 (heldBy 255) asp256 read255
 
-  said256 : h .totp ≡ 0 → (on48 : Bool) → formatOf on48 s (Generalized (generalWith s h asd255 asp256 (heldBy 255))) ≡ formatOf on48 s piece
+  said256 : h .totp ≡ 0 → (on48 : Bool)
+      → formatOf on48 s (Generalized (generalWith s h asd255 asp256 (heldBy 255))) ≡ formatOf on48 s piece
   unfolding formatOf
   said256 t on48 = asp-unsaid s h asd255 asp255 asp256 (heldBy 255) t ∙ ap (formatOf on48 s) piece255
 
@@ -272,7 +278,8 @@ unfolding kindOf kinds
 kinds-general full kind e = rw e
 
 body-same : (s : List ℕ) (kind p : ℕ) {piece : Piece} {next : ℕ} → next ≤ length s
-    → readAt (kindOf 255 kind) s (At p) ≡ body.Whole piece next → kept s piece ≡ true → Same s (readAt (layoutOf kind) s (At p)) piece next
+    → readAt (kindOf 255 kind) s (At p) ≡ body.Whole piece next → kept s piece ≡ true
+    → Same s (readAt (layoutOf kind) s (At p)) piece next
 body-same s kind p {piece} {next} i e k = by-cases (eqb kind 0x19) refl
   where
     by-cases : (b : Bool) → eqb kind 0x19 ≡ b → Same s (readAt (b ⇒ layout19 ∣ kindOf formatFull kind) s (At p)) piece next
@@ -287,7 +294,8 @@ format-there : (s : List ℕ) (at : ℕ) → at < length s
 format-there s at h = rw (lt-leb (length s) at h)
 
 -- THE FORMAT'S OWN CUT of a kept piece
-pub kept-cut : (s : List ℕ) (at : ℕ) {k a next : ℕ} {piece : Piece} → cutAt s at 255 ≡ taken.Whole k a next piece → kept s piece ≡ true → FormatCut s at next piece
+pub kept-cut : (s : List ℕ) (at : ℕ) {k a next : ℕ} {piece : Piece} → cutAt s at 255 ≡ taken.Whole k a next piece
+    → kept s piece ≡ true → FormatCut s at next piece
 unfolding takenAs
 kept-cut s at e kept =
     let h = cut-inside s at 255 e in
@@ -296,12 +304,14 @@ kept-cut s at e kept =
     record { other = r .other; cut = format-there s at h ∙ ap (takenAs (getD s at 0) at) (r .whole); said = r .said }
 
 -- KEEPS, for a piece of a tape
-pub cut-keeps : (lent : Lent) (origin : Origin) (s : List ℕ) (model at : ℕ) (t : Parsed) {k a next : ℕ} {piece : Piece} → cutAt s at 255 ≡ taken.Whole k a next piece → kept s piece ≡ true → KeptAt lent origin s model at next piece t
+pub cut-keeps : (lent : Lent) (origin : Origin) (s : List ℕ) (model at : ℕ) (t : Parsed) {k a next : ℕ} {piece : Piece}
+    → cutAt s at 255 ≡ taken.Whole k a next piece → kept s piece ≡ true → KeptAt lent origin s model at next piece t
 cut-keeps lent origin s model at t {k} {a} {next} {piece} cut e =
     let c = kept-cut s at cut e in
     let tables : Tables s piece = λ g q. cut-places s at 255 (cut ∙ ap (λ (x : Piece). taken.Whole k a next x) q) .places in
     record {
       other = c .other;
       cut = c .cut;
-      plays = subst (λ (x : Said). Sure (λ u. Keeps s t u x) (act lent s model origin piece t)) (sym (c .said (eqb model 0))) (keeps lent origin s model piece t tables e);
+      plays = subst (λ (x : Said). Sure (λ u. Keeps s t u x) (act lent s model origin piece t)) (sym (c .said (eqb model 0)))
+          (keeps lent origin s model piece t tables e);
     }

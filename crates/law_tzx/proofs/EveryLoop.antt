@@ -13,7 +13,9 @@ use Rattle.rows.specs.declared.Block.{Block}
 use Rattle.rows.specs.declared.Tone.{Tone}
 use Rattle.cut_grammar.specs.declared.GeneralizedData.{GeneralizedData}
 use Rattle.cut_grammar.specs.declared.Piece.{Piece}
-use Rattle.cut_grammar.specs.declared.Piece.the-variants.{Standard, Turbo, Tone as PureTone, Pulses, Pure, Generalized, Pause, GroupStart, GroupEnd, LoopStart, LoopEnd, Stop48, Text, Message, Archive, Hardware, Custom, Glue}
+use Rattle.cut_grammar.specs.declared.Piece.the-variants.{Standard, Turbo, Tone as PureTone, Pulses, Pure, Generalized, Pause, GroupStart}
+use Rattle.cut_grammar.specs.declared.Piece.the-variants.{GroupEnd, LoopStart, LoopEnd, Stop48, Text, Message, Archive, Hardware}
+use Rattle.cut_grammar.specs.declared.Piece.the-variants.{Custom, Glue}
 use Rattle.cut_grammar.specs.declared.Taken.{Taken}
 use Rattle.cut_grammar.specs.declared.Taken.the-variants as taken
 use Rattle.cut_grammar.specs.Cut.{cutAt}
@@ -21,7 +23,8 @@ use Rattle.load_general.specs.General.{Given, refused4, stop, plain, toned, gen
 use Rattle.load_state.specs.declared.Halt.the-variants.{Refusal}
 use Rattle.load_state.specs.declared.Loop.{Loop}
 use Rattle.load_state.specs.declared.Loop.the-variants.{Closed, Open}
-use Rattle.load_state.specs.Parser.{Parsed, Out, on, no, _⟫_, withTones, withBlock, withBody, opened, addTones, addBlock, pend, endGroup, openLoop}
+use Rattle.load_state.specs.Parser.{Parsed, Out, on, no, _⟫_, withTones, withBlock, withBody, opened, addTones, addBlock, pend}
+use Rattle.load_state.specs.Parser.{endGroup, openLoop}
 use Rattle.load_state.specs.Kept.{Sure, sure, none}
 use Rattle.load_state.proofs.Kept.{sure-of, sure-then, sure-also}
 use Rattle.load_blocks.specs.declared.Origin.{Origin}
@@ -113,12 +116,14 @@ piece-stays lent origin s model start n Glue t o h = sure refl
 module _ (lent : Lent) (s : List ℕ) (model start n : ℕ) where
   -- what stands at a place, no 25
   seen-stays : (at : ℕ) {next : ℕ} {d : Parsed → Out} {t u : Parsed} (x : Taken) → tzxOf lent s model at x ≡ thing next d
-      → ((kind from past : ℕ) → x ≡ taken.Whole kind from past LoopEnd → ⊥) → t .body ≡ Open start n → d t ≡ on u → u .body ≡ Open start n
+      → ((kind from past : ℕ) → x ≡ taken.Whole kind from past LoopEnd → ⊥) → t .body ≡ Open start n → d t ≡ on u
+      → u .body ≡ Open start n
   unfolding tzxOf
   seen-stays at taken.End e h o q = absurd (let z : _≡_ {A = ℕ} 0 1 = cc in omega arith)
   seen-stays at {d = d} {t} {u} (taken.Whole kind from past piece) e h o q =
       let i : act lent s model (originAt kind from) piece ≡ d = cc in
-      let c = piece-stays lent (originAt kind from) s model start n piece t o (λ k. h kind from past (ap (taken.Whole kind from past) k)) in
+      let c = piece-stays lent (originAt kind from) s model start n piece t o
+      (λ k. h kind from past (ap (taken.Whole kind from past) k)) in
       sure-of c (ap (λ (f : Parsed → Out). f t) i ∙ q) ∙ o
   seen-stays at {d = d} {t} {u} (taken.Unknown kind described) e h o q =
       let i : on ≡ d = cc in
@@ -128,7 +133,8 @@ module _ (lent : Lent) (s : List ℕ) (model start n : ℕ) where
   seen-stays at (taken.Short kind p w) e h o q = absurd (let z : _≡_ {A = ℕ} 0 1 = cc in omega arith)
   seen-stays at (taken.Overflow kind p) e h o q = absurd (let z : _≡_ {A = ℕ} 0 1 = cc in omega arith)
 
-  between-stays : {at end : ℕ} {t u : Parsed} → Between lent s model at t end u → t .body ≡ Open start n → u .body ≡ Open start n
+  between-stays : {at end : ℕ} {t u : Parsed} → Between lent s model at t end u → t .body ≡ Open start n
+      → u .body ≡ Open start n
   unfolding tzxSee
   between-stays nothing-more o = o
   between-stays (one-more {at = at} e h q rest) o = between-stays rest (seen-stays at (cutAt s at full) e h o q)
@@ -139,7 +145,8 @@ opens {start} {n} e = ap (opened start n) e
 
 -- THE THEOREM: a 24 of n where no loop is open, then pieces but no 25, then a 25: what they played is played n + 1 times
 pub every-loop : (lent : Lent) (s : List ℕ) (model n next end : ℕ) (first last : Origin) (ls : List PulseLength) (t t₀ u : Parsed)
-    → t .body ≡ Closed → act lent s model first (LoopStart n) t ≡ on t₀ → Between lent s model next t₀ end u → Plays s ls t₀ u
+    → t .body ≡ Closed → act lent s model first (LoopStart n) t ≡ on t₀ → Between lent s model next t₀ end u
+    → Plays s ls t₀ u
     → Sure (Plays s (repeated (sourceTimes n) ls) t₀) (act lent s model last LoopEnd u)
 unfolding act deedOf does openLoop
 every-loop lent s model n next end first last ls t t₀ u c e b p =

@@ -1,5 +1,5 @@
--- EXACT: a piece that is not kept is not played as the format says, or nothing is said of it; for every kind but 19, and 22 and 25, which add no block of
--- their own. Assumes nothing.
+-- EXACT: a piece that is not kept is not played as the format says, or nothing is said of it; for every kind but 19, and 22 and 25, which
+-- add no block of their own. Assumes nothing.
 use Prim.Native.Nat.{ℕ, zero, suc, _+_, _*_, _-_, _/_, _%_, _≤_, _<_, max}
 use native.Mathlib.Omega.{arith}
 use mathlib.Core.Path.{_≡_, refl, sym, ap, ap₂, _∙_}
@@ -17,20 +17,25 @@ use Rattle.rows.specs.Rows.{tone}
 use Rattle.rows.specs.declared.Block.{Block}
 use Rattle.cut_grammar.specs.declared.TurboData.{TurboData}
 use Rattle.cut_grammar.specs.declared.Piece.{Piece}
-use Rattle.cut_grammar.specs.declared.Piece.the-variants.{Standard, Turbo, Tone as PureTone, Pulses, Pure, Generalized, Pause, GroupStart, GroupEnd, LoopStart, LoopEnd, Stop48, Text, Message, Archive, Hardware, Custom, Glue}
+use Rattle.cut_grammar.specs.declared.Piece.the-variants.{Standard, Turbo, Tone as PureTone, Pulses, Pure, Generalized, Pause, GroupStart}
+use Rattle.cut_grammar.specs.declared.Piece.the-variants.{GroupEnd, LoopStart, LoopEnd, Stop48, Text, Message, Archive, Hardware}
+use Rattle.cut_grammar.specs.declared.Piece.the-variants.{Custom, Glue}
 use Rattle.load_state.specs.Parser.{Parsed, Out, on, no}
 use Rattle.load_state.proofs.Kept.{sure-also}
 use Rattle.load_state.specs.Kept.{Sure, sure, none}
 use Rattle.load_blocks.specs.declared.Origin.{Origin}
 use Rattle.load_general.specs.General.{plainTone}
 use Rattle.load_blocks.specs.Sounds.{ms, Sound, rowOf, addSounds}
-use Rattle.load_blocks.specs.Blocks.{standardHeader, standardCycles, standardTones, turboTones, pureToneTones, standardSound, turboSound, toneSound, pairSounds}
+use Rattle.load_blocks.specs.Blocks.{standardHeader, standardCycles, standardTones, turboTones, pureToneTones, standardSound, turboSound}
+use Rattle.load_blocks.specs.Blocks.{toneSound, pairSounds}
 use Rattle.load_blocks.specs.Adds.{Lent}
 use Rattle.load_blocks.specs.Deeds.{does}
 use Rattle.load_blocks.proofs.Laws.{one-sound}
 use Rattle.load_source.specs.Meaning.{deedOf}
 use Rattle.load_source.specs.Source.{act}
-use Rattle.law_tzx.specs.Format.{PulseLength, lasts, PulseTrain, Said, sounds, unsaid, pauseMs, each, again, dataPulses, bitsSaid, pilotCount, format10, format11, format12, format13, format14, format2A, formatOf, lengthsOf, lasting}
+use Rattle.law_tzx.specs.Format.{PulseLength, lasts, PulseTrain, Said, sounds, unsaid, pauseMs, each, again, dataPulses, bitsSaid}
+use Rattle.law_tzx.specs.Format.{pilotCount, format10, format11, format12, format13, format14, format2A, formatOf}
+use Rattle.law_tzx.specs.Format.{lengthsOf, lasting}
 use Rattle.law_tzx.specs.Kept.{evenCount, kept11, kept12, kept13, kept, exactKind, lengths, entriesFrom, Plays, Keeps, as-said}
 use Rattle.law_tzx.proofs.Lengths.{long, long-append, lasting-append, wavesOf, dataIn, pauseIn, blockLengths}
 use Rattle.law_tzx.proofs.Adds.{sound-plays}
@@ -51,7 +56,8 @@ plays-once {s} {ls} {ms} {t} {u} p q =
 pub said-of : {x y : PulseTrain} → sounds x ≡ sounds y → x ≡ y
 said-of e = cc
 
-keeps-once : {s : List ℕ} {ls : List PulseLength} {t u : Parsed} {said : Said} (x : PulseTrain) → said ≡ sounds x → Plays s ls t u → Keeps s t u said → lasting ls ≡ lasting (lengthsOf x)
+keeps-once : {s : List ℕ} {ls : List PulseLength} {t u : Parsed} {said : Said} (x : PulseTrain) → said ≡ sounds x → Plays s ls t u
+    → Keeps s t u said → lasting ls ≡ lasting (lengthsOf x)
 keeps-once x e p (as-said {x = y} q) = plays-once p q ∙ ap (λ (z : PulseTrain). lasting (lengthsOf z)) (said-of e)
 
 -- how many are heard
@@ -85,7 +91,8 @@ unsaid-differs : {s : List ℕ} {t : Parsed} {said : Said} → said ≡ unsaid �
 unsaid-differs e o = sure-any (λ u. said-none e) o
 
 -- two lists of lengths before one pause, of different numbers
-counts-apart : (xs ys : List ℕ) (p : PulseLength) → (count xs ≡ count ys → ⊥) → lasting (lengthsOf (record { pulses = xs; pause = p })) ≡ lasting (lengthsOf (record { pulses = ys; pause = p })) → ⊥
+counts-apart : (xs ys : List ℕ) (p : PulseLength) → (count xs ≡ count ys → ⊥)
+    → lasting (lengthsOf (record { pulses = xs; pause = p })) ≡ lasting (lengthsOf (record { pulses = ys; pause = p })) → ⊥
 unfolding lengthsOf
 counts-apart xs ys p h e =
     let a : length (long xs) + length (lasting (p ∷ [])) ≡ length (long ys) + length (lasting (p ∷ [])) =
@@ -95,20 +102,26 @@ counts-apart xs ys p h e =
     h (omega arith)
 
 -- a block that plays another number of lengths
-add-differs : (lent : Lent) (origin : Origin) (s : List ℕ) (t : Parsed) (d : Sound) (bits : List ℕ) (p : PulseLength) (ys : List ℕ) {said : Said} → said ≡ sounds (record { pulses = ys; pause = p })
-    → ((n : ℕ) → dataIn s (rowOf origin d n) ≡ bits) → ((n : ℕ) → pauseIn (rowOf origin d n) ≡ p) → (count (wavesOf (d .tones) ++ bits) ≡ count ys → ⊥) → Sure (λ u. Keeps s t u said → ⊥) (addSounds lent origin (d ∷ []) t)
+add-differs : (lent : Lent) (origin : Origin) (s : List ℕ) (t : Parsed) (d : Sound) (bits : List ℕ) (p : PulseLength) (ys : List ℕ)
+    {said : Said}
+    → said ≡ sounds (record { pulses = ys; pause = p })
+    → ((n : ℕ) → dataIn s (rowOf origin d n) ≡ bits) → ((n : ℕ) → pauseIn (rowOf origin d n) ≡ p)
+    → (count (wavesOf (d .tones) ++ bits) ≡ count ys → ⊥)
+    → Sure (λ u. Keeps s t u said → ⊥) (addSounds lent origin (d ∷ []) t)
 unfolding lengthsOf blockLengths
 add-differs lent origin s t d bits p ys said b q h =
     let xs = wavesOf (d .tones) ++ bits in
     rw (one-sound lent origin d t) (sure-also (λ u k m. counts-apart xs ys p h (keeps-once (record { pulses = ys; pause = p }) said k m))
     (sound-plays s origin d (map lasts xs ++ p ∷ [])
     (λ n.
-    ap₂ (λ (a c : List PulseLength). a ++ c) (sym (long-append (wavesOf (d .tones)) (dataIn s (rowOf origin d n))) ∙ ap (λ (l : List ℕ). long (wavesOf (d .tones) ++ l)) (b n)) (ap (λ (l : PulseLength). lasting (l ∷ [])) (q n))
+    ap₂ (λ (a c : List PulseLength). a ++ c) (sym (long-append (wavesOf (d .tones)) (dataIn s (rowOf origin d n)))
+    ∙ ap (λ (l : List ℕ). long (wavesOf (d .tones) ++ l)) (b n)) (ap (λ (l : PulseLength). lasting (l ∷ [])) (q n))
     ∙ sym (lasting-append (map lasts xs) (p ∷ [])))
     lent t))
 
 -- 12: pulses with length, none or one of them
-tone-count : (x count′ : ℕ) → count′ ≤ 1 → count (wavesOf (pureToneTones (suc x) count′) ++ []) ≡ count (again count′ (suc x ∷ [])) → ⊥
+tone-count : (x count′ : ℕ) → count′ ≤ 1
+    → count (wavesOf (pureToneTones (suc x) count′) ++ []) ≡ count (again count′ (suc x ∷ [])) → ⊥
 unfolding pureToneTones wavesOf each lasting
 tone-count x zero l e = omega arith
 tone-count x (suc zero) l e = omega arith
@@ -135,10 +148,12 @@ pub two-rows : (num x a b : ℕ) (bits : List ℕ)
     → wavesOf (plainTone num x x ∷ plainTone 1 a b ∷ []) ++ bits ≡ again (max 1 num) (x ∷ x ∷ []) ++ a ∷ b ∷ bits
 unfolding wavesOf
 two-rows num x a b bits =
-    ap (λ (l : List ℕ). (again (max 1 num) (x ∷ x ∷ []) ++ (l ++ [])) ++ bits) (once (a ∷ b ∷ [])) ∙ append-assoc (again (max 1 num) (x ∷ x ∷ [])) (a ∷ b ∷ []) bits
+    ap (λ (l : List ℕ). (again (max 1 num) (x ∷ x ∷ []) ++ (l ++ [])) ++ bits) (once (a ∷ b ∷ []))
+    ∙ append-assoc (again (max 1 num) (x ∷ x ∷ [])) (a ∷ b ∷ []) bits
 
 -- 11: a pilot with length, none or odd in number
-odd-count : (x n : ℕ) → evenCount n ≡ false → count (again (max 1 ((n + 1) / 2)) (suc x ∷ suc x ∷ [])) ≡ count (again n (suc x ∷ [])) → ⊥
+odd-count : (x n : ℕ) → evenCount n ≡ false
+    → count (again (max 1 ((n + 1) / 2)) (suc x ∷ suc x ∷ [])) ≡ count (again n (suc x ∷ [])) → ⊥
 unfolding evenCount
 odd-count x n e q =
     let h : max 1 ((n + 1) / 2) * 2 ≡ n = sym (count-cycles x (max 1 ((n + 1) / 2))) ∙ q ∙ count-again x n in
@@ -150,7 +165,8 @@ turbo-count : (x : ℕ) (d : TurboData) (bits : List ℕ) → d .pilot ≡ suc x
     → count (wavesOf (turboTones d) ++ bits) ≡ count (again (d .pilots) (d .pilot ∷ []) ++ d .sync1 ∷ d .sync2 ∷ bits) → ⊥
 unfolding turboTones
 turbo-count x d bits p e q =
-    pilot-apart (again (max 1 ((d .pilots + 1) / 2)) (d .pilot ∷ d .pilot ∷ [])) (again (d .pilots) (d .pilot ∷ [])) (d .sync1 ∷ d .sync2 ∷ bits)
+    pilot-apart (again (max 1 ((d .pilots + 1) / 2)) (d .pilot ∷ d .pilot ∷ [])) (again (d .pilots) (d .pilot ∷ []))
+    (d .sync1 ∷ d .sync2 ∷ bits)
     (rw p (odd-count x (d .pilots) e)) (ap count (sym (two-rows ((d .pilots + 1) / 2) (d .pilot) (d .sync1) (d .sync2) bits)) ∙ q)
 
 odd-of : (a b c : Bool) → ((a || b) && c) ≡ false → c ≡ true → a ≡ false → b ≡ false
@@ -158,11 +174,13 @@ odd-of true b c e q z = cc
 odd-of false true c e q z = sym q ∙ e
 odd-of false false c e q z = refl
 
-turbo-bits : (origin : Origin) (s : List ℕ) (d : TurboData) (n : ℕ) → bitsSaid (d .last) (d .size) ≡ true → dataIn s (rowOf origin (turboSound d) n) ≡ dataPulses s (d .zero) (d .one) (d .last) (d .from) (d .size)
+turbo-bits : (origin : Origin) (s : List ℕ) (d : TurboData) (n : ℕ) → bitsSaid (d .last) (d .size) ≡ true
+    → dataIn s (rowOf origin (turboSound d) n) ≡ dataPulses s (d .zero) (d .one) (d .last) (d .from) (d .size)
 unfolding turboSound rowOf
 turbo-bits origin s d n b = data-same s (d .zero) (d .one) (d .last) (d .from) (d .size) b
 
-differs11 : (lent : Lent) (origin : Origin) (s : List ℕ) (t : Parsed) (d : TurboData) → kept11 d ≡ false → Sure (λ u. Keeps s t u (format11 s d) → ⊥) (addSounds lent origin (turboSound d ∷ []) t)
+differs11 : (lent : Lent) (origin : Origin) (s : List ℕ) (t : Parsed) (d : TurboData) → kept11 d ≡ false
+    → Sure (λ u. Keeps s t u (format11 s d) → ⊥) (addSounds lent origin (turboSound d ∷ []) t)
 unfolding kept11 format11 turboSound
 differs11 lent origin s t d e = by-bits (bitsSaid (d .last) (d .size)) refl
   where
@@ -170,38 +188,49 @@ differs11 lent origin s t d e = by-bits (bitsSaid (d .last) (d .size)) refl
     bits = dataPulses s (d .zero) (d .one) (d .last) (d .from) (d .size)
 
     by-pilot : (x : ℕ) → d .pilot ≡ x → bitsSaid (d .last) (d .size) ≡ true
-        → Sure (λ u. Keeps s t u (sounds (record { pulses = again (d .pilots) (d .pilot ∷ []) ++ d .sync1 ∷ d .sync2 ∷ bits; pause = pauseMs (d .pause) })) → ⊥) (addSounds lent origin (turboSound d ∷ []) t)
+        → Sure (λ u. Keeps s t u
+        (sounds (record { pulses = again (d .pilots) (d .pilot ∷ []) ++ d .sync1 ∷ d .sync2 ∷ bits; pause = pauseMs (d .pause) }))
+        → ⊥) (addSounds lent origin (turboSound d ∷ []) t)
     by-pilot zero p b = absurd (differ (sym (rw (b, eq-eqb (d .pilot) 0 p)) ∙ e))
     by-pilot (suc x) p b =
         let z : eqb (d .pilot) 0 ≡ false = ne-eqb (d .pilot) 0 (omega arith) in
         let c : evenCount (d .pilots) ≡ false = odd-of (eqb (d .pilot) 0) (evenCount (d .pilots)) (bitsSaid (d .last) (d .size)) e b z in
-        add-differs lent origin s t (turboSound d) bits (pauseMs (d .pause)) (again (d .pilots) (d .pilot ∷ []) ++ d .sync1 ∷ d .sync2 ∷ bits) refl
+        add-differs lent origin s t (turboSound d) bits (pauseMs (d .pause))
+        (again (d .pilots) (d .pilot ∷ []) ++ d .sync1 ∷ d .sync2 ∷ bits) refl
         (λ n. turbo-bits origin s d n b) (turbo-pause origin d) (turbo-count x d bits p c)
 
     by-bits : (b : Bool) → bitsSaid (d .last) (d .size) ≡ b
-        → Sure (λ u. Keeps s t u (b ⇒ sounds (record { pulses = again (d .pilots) (d .pilot ∷ []) ++ d .sync1 ∷ d .sync2 ∷ bits; pause = pauseMs (d .pause) }) ∣ unsaid) → ⊥) (addSounds lent origin (turboSound d ∷ []) t)
+        → Sure (λ u. Keeps s t u (b ⇒ sounds (record {
+          pulses = again (d .pilots) (d .pilot ∷ []) ++ d .sync1 ∷ d .sync2 ∷ bits;
+          pause = pauseMs (d .pause);
+        }) ∣ unsaid) → ⊥) (addSounds lent origin (turboSound d ∷ []) t)
     by-bits true b = by-pilot (d .pilot) refl b
     by-bits false b = unsaid-differs refl _
 
 -- 14: nothing is said
-differs14 : (s : List ℕ) (t : Parsed) (off one last pause from size : ℕ) → bitsSaid last size ≡ false → (o : Out) → Sure (λ u. Keeps s t u (format14 s off one last pause from size) → ⊥) o
+differs14 : (s : List ℕ) (t : Parsed) (off one last pause from size : ℕ) → bitsSaid last size ≡ false → (o : Out)
+    → Sure (λ u. Keeps s t u (format14 s off one last pause from size) → ⊥) o
 unfolding format14
 differs14 s t off one last pause from size e o = unsaid-differs (rw e) o
 
 -- 2A: nothing is said
-differs2A : (s : List ℕ) (t : Parsed) (on48 : Bool) (length : ℕ) → eqb length 0 ≡ false → (o : Out) → Sure (λ u. Keeps s t u (format2A on48 length) → ⊥) o
+differs2A : (s : List ℕ) (t : Parsed) (on48 : Bool) (length : ℕ) → eqb length 0 ≡ false → (o : Out)
+    → Sure (λ u. Keeps s t u (format2A on48 length) → ⊥) o
 unfolding format2A
 differs2A s t on48 length e o = unsaid-differs (rw e) o
 
 -- 10: one pilot pulse more, whatever the flag
-standard-count : (b : Bool) (bits : List ℕ) → count (wavesOf (standardTones b) ++ bits) ≡ count (again (b ⇒ 8063 ∣ 3223) (2168 ∷ []) ++ 667 ∷ 735 ∷ bits) → ⊥
+standard-count : (b : Bool) (bits : List ℕ)
+    → count (wavesOf (standardTones b) ++ bits) ≡ count (again (b ⇒ 8063 ∣ 3223) (2168 ∷ []) ++ 667 ∷ 735 ∷ bits) → ⊥
 unfolding standardTones standardCycles
 standard-count true bits q =
     pilot-apart (again 4032 (2168 ∷ 2168 ∷ [])) (again 8063 (2168 ∷ [])) (667 ∷ 735 ∷ bits)
-    (λ e. let a = count-cycles 2167 4032 in let b = count-again 2167 8063 in omega arith) (ap count (sym (two-rows 4032 2168 667 735 bits)) ∙ q)
+    (λ e. let a = count-cycles 2167 4032 in let b = count-again 2167 8063 in omega arith)
+    (ap count (sym (two-rows 4032 2168 667 735 bits)) ∙ q)
 standard-count false bits q =
     pilot-apart (again 1612 (2168 ∷ 2168 ∷ [])) (again 3223 (2168 ∷ [])) (667 ∷ 735 ∷ bits)
-    (λ e. let a = count-cycles 2167 1612 in let b = count-again 2167 3223 in omega arith) (ap count (sym (two-rows 1612 2168 667 735 bits)) ∙ q)
+    (λ e. let a = count-cycles 2167 1612 in let b = count-again 2167 3223 in omega arith)
+    (ap count (sym (two-rows 1612 2168 667 735 bits)) ∙ q)
 
 pub standard-bits : (origin : Origin) (s : List ℕ) (b : Bool) (from size pause n : ℕ)
     → dataIn s (rowOf origin (standardSound b from size pause) n) ≡ dataPulses s 855 1710 8 from size
@@ -213,7 +242,9 @@ pub standard-pause : (origin : Origin) (b : Bool) (from size pause n : ℕ)
 unfolding standardSound rowOf pauseIn
 standard-pause origin b from size pause n = refl
 
-differs10 : (lent : Lent) (origin : Origin) (s : List ℕ) (t : Parsed) (pause from size : ℕ) → Sure (λ u. Keeps s t u (format10 s pause from size) → ⊥) (addSounds lent origin (standardSound (standardHeader s from size) from size (ms pause) ∷ []) t)
+differs10 : (lent : Lent) (origin : Origin) (s : List ℕ) (t : Parsed) (pause from size : ℕ)
+    → Sure (λ u. Keeps s t u (format10 s pause from size) → ⊥)
+    (addSounds lent origin (standardSound (standardHeader s from size) from size (ms pause) ∷ []) t)
 unfolding standardSound format10 standardHeader pilotCount
 differs10 lent origin s t pause from size = by-size (eqb size 0)
   where
@@ -224,10 +255,14 @@ differs10 lent origin s t pause from size = by-size (eqb size 0)
     flag = ltb (getD s from 0) 128
 
     by-size : (b : Bool)
-        → Sure (λ u. Keeps s t u (b ⇒ unsaid ∣ sounds (record { pulses = again (flag ⇒ 8063 ∣ 3223) (2168 ∷ []) ++ 667 ∷ 735 ∷ bits; pause = pauseMs pause })) → ⊥) (addSounds lent origin (standardSound (b || flag) from size (ms pause) ∷ []) t)
+        → Sure (λ u. Keeps s t u (b ⇒ unsaid ∣ sounds (record {
+          pulses = again (flag ⇒ 8063 ∣ 3223) (2168 ∷ []) ++ 667 ∷ 735 ∷ bits;
+          pause = pauseMs pause;
+        })) → ⊥) (addSounds lent origin (standardSound (b || flag) from size (ms pause) ∷ []) t)
     by-size true = unsaid-differs refl _
     by-size false =
-        add-differs lent origin s t (standardSound flag from size (ms pause)) bits (pauseMs pause) (again (flag ⇒ 8063 ∣ 3223) (2168 ∷ []) ++ 667 ∷ 735 ∷ bits) refl
+        add-differs lent origin s t (standardSound flag from size (ms pause)) bits (pauseMs pause)
+        (again (flag ⇒ 8063 ∣ 3223) (2168 ∷ []) ++ 667 ∷ 735 ∷ bits) refl
         (standard-bits origin s flag from size (ms pause)) (standard-pause origin flag from size (ms pause)) (standard-count flag bits)
 
 one-heard : (v : ℕ) → (v ≡ 0 → ⊥) → count (v ∷ []) ≡ 1
@@ -236,7 +271,8 @@ one-heard zero h = absurd (h refl)
 one-heard (suc v) h = refl
 
 -- 13: an odd last pulse with length
-odd-last : (s : List ℕ) (count′ from : ℕ) → kept13 s count′ from ≡ false → long (each (pulseIn s from) 0 (count′ / 2 * 2)) ≡ long (each (pulseIn s from) 0 count′) → ⊥
+odd-last : (s : List ℕ) (count′ from : ℕ) → kept13 s count′ from ≡ false
+    → long (each (pulseIn s from) 0 (count′ / 2 * 2)) ≡ long (each (pulseIn s from) 0 count′) → ⊥
 unfolding kept13
 odd-last s count′ from e q =
     let f = pulseIn s from in
@@ -254,14 +290,18 @@ odd-last s count′ from e q =
     let n : count (each f 0 m) ≡ count (each f 0 count′) = ap length q in
     omega arith
 
-differs13 : (lent : Lent) (origin : Origin) (s : List ℕ) (t : Parsed) (count′ from : ℕ) → kept13 s count′ from ≡ false → Sure (λ u. Keeps s t u (format13 s count′ from) → ⊥) (addSounds lent origin (pairSounds s from 0 (count′ / 2)) t)
+differs13 : (lent : Lent) (origin : Origin) (s : List ℕ) (t : Parsed) (count′ from : ℕ) → kept13 s count′ from ≡ false
+    → Sure (λ u. Keeps s t u (format13 s count′ from) → ⊥) (addSounds lent origin (pairSounds s from 0 (count′ / 2)) t)
 unfolding format13
 differs13 lent origin s t count′ from e =
-    sure-also (λ u p k. odd-last s count′ from e (keeps-once (record { pulses = each (pulseIn s from) 0 count′; pause = lasts 0 }) refl p k ∙ no-pause (each (pulseIn s from) 0 count′)))
+    sure-also
+    (λ u p k. odd-last s count′ from e (keeps-once (record { pulses = each (pulseIn s from) 0 count′; pause = lasts 0 }) refl p k
+    ∙ no-pause (each (pulseIn s from) 0 count′)))
     (pairs-play lent origin s from 0 (count′ / 2) t)
 
 -- THE CONVERSE: where `kept` is false, no block list that the piece adds plays what the format says
-pub unkept-differs : (lent : Lent) (origin : Origin) (s : List ℕ) (model : ℕ) (piece : Piece) (t : Parsed) → exactKind piece ≡ true → kept s piece ≡ false
+pub unkept-differs : (lent : Lent) (origin : Origin) (s : List ℕ) (model : ℕ) (piece : Piece) (t : Parsed) → exactKind piece ≡ true
+    → kept s piece ≡ false
     → Sure (λ u. Keeps s t u (formatOf (eqb model 0) s piece) → ⊥) (act lent s model origin piece t)
 unfolding exactKind kept formatOf act deedOf does
 unkept-differs lent origin s model (Standard pause from size) t k e = differs10 lent origin s t pause from size

@@ -17,11 +17,13 @@ use Rattle.load_state.specs.Kept.{Sure, sure}
 use Rattle.load_blocks.specs.declared.Origin.{Origin}
 use Rattle.load_general.specs.General.{plainTone}
 use Rattle.load_blocks.specs.Sounds.{ms, Sound, dataBits, rowOf, addSounds}
-use Rattle.load_blocks.specs.Blocks.{turboTones, pureTones, pureToneTones, turboSound, toneSound, pureSound, stopSound, silentSound, pauseSound}
+use Rattle.load_blocks.specs.Blocks.{turboTones, pureTones, pureToneTones, turboSound, toneSound, pureSound, stopSound}
+use Rattle.load_blocks.specs.Blocks.{silentSound, pauseSound}
 use Rattle.load_blocks.specs.Adds.{Lent}
 use Rattle.load_blocks.specs.Deeds.{stop48Deed, does}
 use Rattle.load_blocks.proofs.Laws.{one-sound}
-use Rattle.law_tzx.specs.Format.{PulseLength, lasts, forever, PulseTrain, sounds, pauseMs, each, again, dataPulses, bitsSaid, format11, format12, format14, format20, format2A, lengthsOf, lasting}
+use Rattle.law_tzx.specs.Format.{PulseLength, lasts, forever, PulseTrain, sounds, pauseMs, each, again, dataPulses, bitsSaid}
+use Rattle.law_tzx.specs.Format.{format11, format12, format14, format20, format2A, lengthsOf, lasting}
 use Rattle.law_tzx.specs.Kept.{evenCount, kept11, kept12, Keeps, as-said}
 use Rattle.law_tzx.proofs.Lengths.{long, long-append, lasting-append, wavesOf, dataIn, pauseIn, blockLengths}
 use Rattle.law_tzx.proofs.Adds.{plays-none, sound-plays}
@@ -32,21 +34,25 @@ soundWith pulses pause = record { pulses = pulses; pause = pause }
 
 -- a block which sounds as the format says
 pub keep-one : (lent : Lent) (origin : Origin) (s : List ℕ) (t : Parsed) (d : Sound) (x : PulseTrain)
-    → ((n : ℕ) → long (wavesOf (d .tones) ++ dataIn s (rowOf origin d n)) ≡ long (x .pulses)) → ((n : ℕ) → pauseIn (rowOf origin d n) ≡ x .pause)
+    → ((n : ℕ) → long (wavesOf (d .tones) ++ dataIn s (rowOf origin d n)) ≡ long (x .pulses))
+    → ((n : ℕ) → pauseIn (rowOf origin d n) ≡ x .pause)
     → Sure (λ u. Keeps s t u (sounds x)) (addSounds lent origin (d ∷ []) t)
 unfolding lengthsOf blockLengths
 keep-one lent origin s t d x p q =
     rw (one-sound lent origin d t) (sure-also (λ u h. as-said h)
     (sound-plays s origin d (lengthsOf x)
     (λ n.
-    ap₂ (λ (a b : List PulseLength). a ++ b) (sym (long-append (wavesOf (d .tones)) (dataIn s (rowOf origin d n))) ∙ p n) (ap (λ (l : PulseLength). lasting (l ∷ [])) (q n))
+    ap₂ (λ (a b : List PulseLength). a ++ b) (sym (long-append (wavesOf (d .tones)) (dataIn s (rowOf origin d n))) ∙ p n)
+    (ap (λ (l : PulseLength). lasting (l ∷ [])) (q n))
     ∙ sym (lasting-append (map lasts (x .pulses)) (x .pause ∷ [])))
     lent t))
 
 -- 11
-turbo-same : (origin : Origin) (s : List ℕ) (d : TurboData) (n : ℕ) → (eqb (d .pilot) 0 || evenCount (d .pilots)) ≡ true → bitsSaid (d .last) (d .size) ≡ true
+turbo-same : (origin : Origin) (s : List ℕ) (d : TurboData) (n : ℕ) → (eqb (d .pilot) 0 || evenCount (d .pilots)) ≡ true
+    → bitsSaid (d .last) (d .size) ≡ true
     → long (wavesOf (turboTones d) ++ dataIn s (rowOf origin (turboSound d) n))
-    ≡ long (again (d .pilots) (d .pilot ∷ []) ++ d .sync1 ∷ d .sync2 ∷ dataPulses s (d .zero) (d .one) (d .last) (d .from) (d .size))
+    ≡ long (again (d .pilots) (d .pilot ∷ [])
+    ++ d .sync1 ∷ d .sync2 ∷ dataPulses s (d .zero) (d .one) (d .last) (d .from) (d .size))
 unfolding turboTones turboSound rowOf wavesOf
 turbo-same origin s d n p q =
     let wave = again (max 1 ((d .pilots + 1) / 2)) (d .pilot ∷ d .pilot ∷ []) in
@@ -67,17 +73,20 @@ pub turbo-pause : (origin : Origin) (d : TurboData) (n : ℕ) → pauseIn (rowOf
 unfolding turboSound rowOf pauseIn
 turbo-pause origin d n = refl
 
-pub keep11 : (lent : Lent) (origin : Origin) (s : List ℕ) (t : Parsed) (d : TurboData) → kept11 d ≡ true → Sure (λ u. Keeps s t u (format11 s d)) (addSounds lent origin (turboSound d ∷ []) t)
+pub keep11 : (lent : Lent) (origin : Origin) (s : List ℕ) (t : Parsed) (d : TurboData) → kept11 d ≡ true
+    → Sure (λ u. Keeps s t u (format11 s d)) (addSounds lent origin (turboSound d ∷ []) t)
 unfolding kept11 format11 turboSound
 keep11 lent origin s t d e =
     let p = first (eqb (d .pilot) 0 || evenCount (d .pilots)) (bitsSaid (d .last) (d .size)) e in
     let q = second (eqb (d .pilot) 0 || evenCount (d .pilots)) (bitsSaid (d .last) (d .size)) e in
     rw q (keep-one lent origin s t (turboSound d)
-    (soundWith (again (d .pilots) (d .pilot ∷ []) ++ d .sync1 ∷ d .sync2 ∷ dataPulses s (d .zero) (d .one) (d .last) (d .from) (d .size)) (pauseMs (d .pause)))
+    (soundWith (again (d .pilots) (d .pilot ∷ [])
+    ++ d .sync1 ∷ d .sync2 ∷ dataPulses s (d .zero) (d .one) (d .last) (d .from) (d .size)) (pauseMs (d .pause)))
     (λ n. turbo-same origin s d n p q) (λ n. turbo-pause origin d n))
 
 -- 12: pulses of 0, or more than one
-cycles-same : (half count : ℕ) → kept12 half count ≡ true → count % 2 ≡ 0 → long (again (max 1 (count / 2)) (half ∷ half ∷ [])) ≡ long (again count (half ∷ []))
+cycles-same : (half count : ℕ) → kept12 half count ≡ true → count % 2 ≡ 0
+    → long (again (max 1 (count / 2)) (half ∷ half ∷ [])) ≡ long (again count (half ∷ []))
 unfolding kept12
 cycles-same zero count e q = zeros-none (max 1 (count / 2)) ∙ sym (zero-none count)
 cycles-same (suc x) count e q =
@@ -86,7 +95,8 @@ cycles-same (suc x) count e q =
     ap long (cycles-pulses (suc x) (max 1 (count / 2)) ∙ ap (λ (k : ℕ). again k (suc x ∷ [])) m)
 
 -- the odd pulse first
-odd-same : (half count : ℕ) → kept12 half count ≡ true → (count % 2 ≡ 0 → ⊥) → long (0 ∷ half ∷ again (max 1 (count / 2)) (half ∷ half ∷ [])) ≡ long (again count (half ∷ []))
+odd-same : (half count : ℕ) → kept12 half count ≡ true → (count % 2 ≡ 0 → ⊥)
+    → long (0 ∷ half ∷ again (max 1 (count / 2)) (half ∷ half ∷ [])) ≡ long (again count (half ∷ []))
 unfolding kept12 lasting
 odd-same zero count e q = zeros-none (max 1 (count / 2)) ∙ sym (zero-none count)
 odd-same (suc x) count e q =
@@ -96,7 +106,8 @@ odd-same (suc x) count e q =
     ∙ ap long (sym (again-more (suc x ∷ []) (max 1 (count / 2) * 2)) ∙ ap (λ (k : ℕ). again k (suc x ∷ [])) m)
 
 tone-same : (origin : Origin) (s : List ℕ) (half count n : ℕ) → kept12 half count ≡ true
-    → long (wavesOf (pureToneTones half count) ++ dataIn s (rowOf origin (toneSound (pureToneTones half count)) n)) ≡ long (again count (half ∷ []))
+    → long (wavesOf (pureToneTones half count) ++ dataIn s (rowOf origin (toneSound (pureToneTones half count)) n))
+    ≡ long (again count (half ∷ []))
 unfolding pureToneTones wavesOf rowOf dataPulses each
 tone-same origin s half count n e = by-cases (eqb (count % 2) 0) refl
   where
@@ -104,9 +115,12 @@ tone-same origin s half count n e = by-cases (eqb (count % 2) 0) refl
     wave = again (max 1 (count / 2)) (half ∷ half ∷ [])
 
     by-cases : (b : Bool) → eqb (count % 2) 0 ≡ b
-        → long (wavesOf (b ⇒ plainTone (count / 2) half half ∷ [] ∣ plainTone 1 0 half ∷ plainTone (count / 2) half half ∷ []) ++ []) ≡ long (again count (half ∷ []))
+        → long (wavesOf (b ⇒ plainTone (count / 2) half half ∷ [] ∣ plainTone 1 0 half ∷ plainTone (count / 2) half half ∷ [])
+        ++ [])
+        ≡ long (again count (half ∷ []))
     by-cases true q = ap long (append-nil (wave ++ []) ∙ append-nil wave) ∙ cycles-same half count e (eqb-true (count % 2) 0 q)
-    by-cases false q = ap (λ (r : List ℕ). long (0 ∷ half ∷ r)) (append-nil (wave ++ []) ∙ append-nil wave) ∙ odd-same half count e (eqb-false (count % 2) 0 q)
+    by-cases false q = ap (λ (r : List ℕ). long (0 ∷ half ∷ r)) (append-nil (wave ++ []) ∙ append-nil wave)
+        ∙ odd-same half count e (eqb-false (count % 2) 0 q)
 
 tone-pause : (origin : Origin) (ts : List Tone) (n : ℕ) → pauseIn (rowOf origin (toneSound ts) n) ≡ lasts 0
 unfolding rowOf pauseIn
@@ -121,19 +135,24 @@ keep12 lent origin s t half count e =
 
 -- 14
 pure-same : (origin : Origin) (s : List ℕ) (off one last pause from size n : ℕ) → bitsSaid last size ≡ true
-    → long (wavesOf pureTones ++ dataIn s (rowOf origin (pureSound (dataBits from size off one last) (ms pause)) n)) ≡ long (dataPulses s off one last from size)
+    → long (wavesOf pureTones ++ dataIn s (rowOf origin (pureSound (dataBits from size off one last) (ms pause)) n))
+    ≡ long (dataPulses s off one last from size)
 unfolding pureTones wavesOf each pureSound rowOf lasting
 pure-same origin s off one last pause from size n e = ap long (data-same s off one last from size e)
 
-pure-pause : (origin : Origin) (off one last pause from size n : ℕ) → pauseIn (rowOf origin (pureSound (dataBits from size off one last) (ms pause)) n) ≡ pauseMs pause
+pure-pause : (origin : Origin) (off one last pause from size n : ℕ)
+    → pauseIn (rowOf origin (pureSound (dataBits from size off one last) (ms pause)) n) ≡ pauseMs pause
 unfolding pureSound rowOf pauseIn
 pure-pause origin off one last pause from size n = refl
 
-pub keep14 : (lent : Lent) (origin : Origin) (s : List ℕ) (t : Parsed) (off one last pause from size : ℕ) → bitsSaid last size ≡ true
-    → Sure (λ u. Keeps s t u (format14 s off one last pause from size)) (addSounds lent origin (pureSound (dataBits from size off one last) (ms pause) ∷ []) t)
+pub keep14 : (lent : Lent) (origin : Origin) (s : List ℕ) (t : Parsed) (off one last pause from size : ℕ)
+    → bitsSaid last size ≡ true
+    → Sure (λ u. Keeps s t u (format14 s off one last pause from size))
+    (addSounds lent origin (pureSound (dataBits from size off one last) (ms pause) ∷ []) t)
 unfolding format14 pureSound
 keep14 lent origin s t off one last pause from size e =
-    rw e (keep-one lent origin s t (pureSound (dataBits from size off one last) (ms pause)) (soundWith (dataPulses s off one last from size) (pauseMs pause))
+    rw e (keep-one lent origin s t (pureSound (dataBits from size off one last) (ms pause))
+    (soundWith (dataPulses s off one last from size) (pauseMs pause))
     (λ n. pure-same origin s off one last pause from size n e) (λ n. pure-pause origin off one last pause from size n))
 
 -- 20, 2A: a pause alone, or a stop
@@ -145,7 +164,8 @@ stop-pause : (origin : Origin) (n : ℕ) → pauseIn (rowOf origin stopSound n) 
 unfolding rowOf pauseIn
 stop-pause origin n = refl
 
-keep-stop : (lent : Lent) (origin : Origin) (s : List ℕ) (t : Parsed) → Sure (λ u. Keeps s t u (sounds (soundWith [] forever))) (addSounds lent origin (stopSound ∷ []) t)
+keep-stop : (lent : Lent) (origin : Origin) (s : List ℕ) (t : Parsed)
+    → Sure (λ u. Keeps s t u (sounds (soundWith [] forever))) (addSounds lent origin (stopSound ∷ []) t)
 keep-stop lent origin s t = keep-one lent origin s t stopSound (soundWith [] forever) (stop-same origin s) (stop-pause origin)
 
 silence-same : (origin : Origin) (s : List ℕ) (p n : ℕ) → long (wavesOf [] ++ dataIn s (rowOf origin (silentSound p) n)) ≡ long []
@@ -156,24 +176,31 @@ silence-pause : (origin : Origin) (p n : ℕ) → pauseIn (rowOf origin (silentS
 unfolding rowOf pauseIn
 silence-pause origin p n = refl
 
-pub keep20 : (lent : Lent) (origin : Origin) (s : List ℕ) (t : Parsed) (n : ℕ) → Sure (λ u. Keeps s t u (format20 n)) (addSounds lent origin (pauseSound n ∷ []) t)
+pub keep20 : (lent : Lent) (origin : Origin) (s : List ℕ) (t : Parsed) (n : ℕ)
+    → Sure (λ u. Keeps s t u (format20 n)) (addSounds lent origin (pauseSound n ∷ []) t)
 unfolding format20 pauseSound
 keep20 lent origin s t n = by-cases (eqb n 0)
   where
     by-cases : (b : Bool)
-        → Sure (λ u. Keeps s t u (b ⇒ sounds (soundWith [] forever) ∣ sounds (soundWith [] (pauseMs n)))) (addSounds lent origin ((b ⇒ stopSound ∣ silentSound (ms n)) ∷ []) t)
+        → Sure (λ u. Keeps s t u (b ⇒ sounds (soundWith [] forever) ∣ sounds (soundWith [] (pauseMs n))))
+        (addSounds lent origin ((b ⇒ stopSound ∣ silentSound (ms n)) ∷ []) t)
     by-cases true = keep-stop lent origin s t
-    by-cases false = keep-one lent origin s t (silentSound (ms n)) (soundWith [] (pauseMs n)) (silence-same origin s (ms n)) (silence-pause origin (ms n))
+    by-cases false = keep-one lent origin s t (silentSound (ms n)) (soundWith [] (pauseMs n)) (silence-same origin s (ms n))
+        (silence-pause origin (ms n))
 
 -- no sound of its own
-pub keep-none : {s : List ℕ} {t u : Parsed} → u .blocks ≡ t .blocks → u .tones ≡ t .tones → Keeps s t u (sounds (soundWith [] (lasts 0)))
+pub keep-none : {s : List ℕ} {t u : Parsed} → u .blocks ≡ t .blocks → u .tones ≡ t .tones
+    → Keeps s t u (sounds (soundWith [] (lasts 0)))
 unfolding lengthsOf lasting
 keep-none p q = as-said (plays-none p q refl)
 
-pub keep2A : (lent : Lent) (origin : Origin) (s : List ℕ) (t : Parsed) (model length : ℕ) → eqb length 0 ≡ true → Sure (λ u. Keeps s t u (format2A (eqb model 0) length)) (does lent model origin (stop48Deed length) t)
+pub keep2A : (lent : Lent) (origin : Origin) (s : List ℕ) (t : Parsed) (model length : ℕ) → eqb length 0 ≡ true
+    → Sure (λ u. Keeps s t u (format2A (eqb model 0) length)) (does lent model origin (stop48Deed length) t)
 unfolding format2A does stop48Deed
 keep2A lent origin s t model length e = rw e (by-cases (eqb model 0))
   where
-    by-cases : (b : Bool) → Sure (λ u. Keeps s t u (b ⇒ sounds (soundWith [] forever) ∣ sounds (soundWith [] (lasts 0)))) (not b ⇒ on t ∣ addSounds lent origin (stopSound ∷ []) t)
+    by-cases : (b : Bool)
+        → Sure (λ u. Keeps s t u (b ⇒ sounds (soundWith [] forever) ∣ sounds (soundWith [] (lasts 0))))
+        (not b ⇒ on t ∣ addSounds lent origin (stopSound ∷ []) t)
     by-cases true = keep-stop lent origin s t
     by-cases false = sure (keep-none refl refl)

@@ -1,4 +1,5 @@
--- KEEPS: the source reading plays a kept piece as the format says, in lengths. Assumes nothing but, of a 19, that its tables are where its numbers say.
+-- KEEPS: the source reading plays a kept piece as the format says, in lengths.
+-- Assumes nothing but, of a 19, that its tables are where its numbers say.
 use Prim.Native.Nat.{ℕ}
 use mathlib.Core.Path.{_≡_, refl, sym}
 use mathlib.Core.Bool.{true}
@@ -6,7 +7,9 @@ use mathlib.Core.List.{List}
 use lib.ListN.{length}
 use lib.Dec.{eqb}
 use Rattle.cut_grammar.specs.declared.Piece.{Piece}
-use Rattle.cut_grammar.specs.declared.Piece.the-variants.{Standard, Turbo, Tone as PureTone, Pulses, Pure, Generalized, Pause, GroupStart, GroupEnd, LoopStart, LoopEnd, Stop48, Text, Message, Archive, Hardware, Custom, Glue}
+use Rattle.cut_grammar.specs.declared.Piece.the-variants.{Standard, Turbo, Tone as PureTone, Pulses, Pure, Generalized, Pause, GroupStart}
+use Rattle.cut_grammar.specs.declared.Piece.the-variants.{GroupEnd, LoopStart, LoopEnd, Stop48, Text, Message, Archive, Hardware}
+use Rattle.cut_grammar.specs.declared.Piece.the-variants.{Custom, Glue}
 use Rattle.load_source.specs.Meaning.{deedOf}
 use Rattle.load_source.specs.Source.{act}
 use Rattle.load_state.specs.Parser.{Parsed, pend, openLoop}
@@ -23,7 +26,8 @@ use Rattle.law_tzx.proofs.KeepPulses.{keep13}
 use Rattle.law_tzx.proofs.KeepGeneral.{keep19}
 
 -- THE THEOREM: the blocks that a kept piece adds play the lengths above 0 that the format gives it, in order
-pub keeps : (lent : Lent) (origin : Origin) (s : List ℕ) (model : ℕ) (piece : Piece) (t : Parsed) → Tables s piece → kept s piece ≡ true → Sure (λ u. Keeps s t u (formatOf (eqb model 0) s piece)) (act lent s model origin piece t)
+pub keeps : (lent : Lent) (origin : Origin) (s : List ℕ) (model : ℕ) (piece : Piece) (t : Parsed) → Tables s piece
+    → kept s piece ≡ true → Sure (λ u. Keeps s t u (formatOf (eqb model 0) s piece)) (act lent s model origin piece t)
 unfolding kept formatOf act deedOf does addSounds pend openLoop
 keeps lent origin s model (Standard pause from size) t places e = absurd (differ (sym e))
 keeps lent origin s model (Turbo d) t places e = keep11 lent origin s t d e

@@ -36,7 +36,8 @@ pub long-append : (xs ys : List ℕ) → long (xs ++ ys) ≡ long xs ++ long ys
 long-append xs ys = ap lasting (map-append lasts xs ys) ∙ lasting-append (map lasts xs) (map lasts ys)
 
 -- a run of entries and the items' lengths
-pub run-each : {A : Type 0} (item : ℕ → List (Entry A)) (f : ℕ → List ℕ) → ((i : ℕ) → lengths (item i) ≡ map lasts (f i)) → (p n : ℕ) → lengths (run item p n) ≡ map lasts (each f p n)
+pub run-each : {A : Type 0} (item : ℕ → List (Entry A)) (f : ℕ → List ℕ) → ((i : ℕ) → lengths (item i) ≡ map lasts (f i))
+    → (p n : ℕ) → lengths (run item p n) ≡ map lasts (each f p n)
 unfolding run each
 run-each item f h p zero = refl
 run-each item f h p (suc n) =
@@ -50,14 +51,17 @@ waveIn t = again (max 1 (t .num)) (t .len1 ∷ t .len2 ∷ [])
 
 tone-lengths : (tt : List ℕ) (b : ℕ) (r : Block) (i : ℕ) → lengths (sourceTone tt b r i) ≡ map lasts (waveIn (toneAt tt r i))
 unfolding sourceTone lengthOf
-tone-lengths tt b r i = let t = toneAt tt r i in run-each (sourceCycle b i t) (λ p. t .len1 ∷ t .len2 ∷ []) (λ p. refl) 0 (max 1 (t .num))
+tone-lengths tt b r i =
+    let t = toneAt tt r i in
+    run-each (sourceCycle b i t) (λ p. t .len1 ∷ t .len2 ∷ []) (λ p. refl) 0 (max 1 (t .num))
 
 -- the waves of tone rows
 unfoldable pub wavesOf : List Tone → List ℕ
 wavesOf [] = []
 wavesOf (t ∷ ts) = waveIn t ++ wavesOf ts
 
-each-tone : (g : ℕ → Tone) (d : Tone) (ts : List Tone) (p : ℕ) → ((i : ℕ) → i < length ts → g (p + i) ≡ getD ts i d) → each (λ i. waveIn (g i)) p (length ts) ≡ wavesOf ts
+each-tone : (g : ℕ → Tone) (d : Tone) (ts : List Tone) (p : ℕ) → ((i : ℕ) → i < length ts → g (p + i) ≡ getD ts i d)
+    → each (λ i. waveIn (g i)) p (length ts) ≡ wavesOf ts
 unfolding each wavesOf
 each-tone g d [] p h = refl
 each-tone g d (t ∷ ts) p h =
@@ -66,11 +70,14 @@ each-tone g d (t ∷ ts) p h =
     ap₂ (λ (x y : List ℕ). x ++ y) (ap waveIn e)
     (each-tone g d ts (p + 1) (λ i k. let q : p + 1 + i ≡ p + suc i = omega arith in ap g q ∙ h (suc i) (omega arith)))
 
-bit-lengths : (b : ℕ) (r : Block) (pos v k : ℕ) → lengths (sourceBit b r pos v k) ≡ map lasts (bitPulses (r .zero) (r .one) (bitOf v k))
+bit-lengths : (b : ℕ) (r : Block) (pos v k : ℕ)
+    → lengths (sourceBit b r pos v k) ≡ map lasts (bitPulses (r .zero) (r .one) (bitOf v k))
 unfolding halfOf bitPulses lengthOf
 bit-lengths b r pos v k = by-cases (eqb (bitOf v k) 0)
   where
-    by-cases : (t : Bool) → lasts (t ⇒ r .zero ∣ r .one) ∷ lasts (t ⇒ r .zero ∣ r .one) ∷ [] ≡ map lasts (t ⇒ r .zero ∷ r .zero ∷ [] ∣ r .one ∷ r .one ∷ [])
+    by-cases : (t : Bool)
+        → lasts (t ⇒ r .zero ∣ r .one) ∷ lasts (t ⇒ r .zero ∣ r .one) ∷ []
+        ≡ map lasts (t ⇒ r .zero ∷ r .zero ∷ [] ∣ r .one ∷ r .one ∷ [])
     by-cases true = refl
     by-cases false = refl
 
@@ -78,7 +85,9 @@ bit-lengths b r pos v k = by-cases (eqb (bitOf v k) 0)
 abbrev pub dataIn : List ℕ → Block → List ℕ
 dataIn s r = dataPulses s (r .zero) (r .one) (max 1 (r .last)) (r .start) (r .size)
 
-byte-lengths : (s : List ℕ) (b : ℕ) (r : Block) (pos : ℕ) → lengths (sourceByte s b r pos) ≡ map lasts (bytePulses (r .zero) (r .one) (byteAt s r pos) (bitsIn (max 1 (r .last)) (r .size) pos))
+byte-lengths : (s : List ℕ) (b : ℕ) (r : Block) (pos : ℕ)
+    → lengths (sourceByte s b r pos)
+    ≡ map lasts (bytePulses (r .zero) (r .one) (byteAt s r pos) (bitsIn (max 1 (r .last)) (r .size) pos))
 unfolding sourceByte bytePulses bitsAt bitsIn
 byte-lengths s b r pos =
     let v = byteAt s r pos in
@@ -94,7 +103,8 @@ tonesOf tt b r = run (sourceTone tt b r) 0 (r .tones)
 data-lengths : (s : List ℕ) (b : ℕ) (r : Block) → lengths (bytesOf s b r) ≡ map lasts (dataIn s r)
 unfolding dataPulses
 data-lengths s b r =
-    run-each (sourceByte s b r) (λ pos. bytePulses (r .zero) (r .one) (byteAt s r pos) (bitsIn (max 1 (r .last)) (r .size) pos)) (byte-lengths s b r) 0 (r .size)
+    run-each (sourceByte s b r) (λ pos. bytePulses (r .zero) (r .one) (byteAt s r pos) (bitsIn (max 1 (r .last)) (r .size) pos))
+    (byte-lengths s b r) 0 (r .size)
 
 -- its pause
 unfoldable pub pauseIn : Block → PulseLength
@@ -111,7 +121,8 @@ pause-lengths : (b : ℕ) (r : Block) → lengths (pauseEntry b r ∷ []) ≡ pa
 unfolding wholePause entryOf pauseIn lengthOf
 pause-lengths b r = by-cases (eqb (r .endless) 1)
   where
-    by-cases : (t : Bool) → lengthOf (entryOf (labelAt b Pause) low (t ⇒ Endless ∣ T (r .pause))) ∷ [] ≡ (t ⇒ forever ∣ lasts (r .pause)) ∷ []
+    by-cases : (t : Bool)
+        → lengthOf (entryOf (labelAt b Pause) low (t ⇒ Endless ∣ T (r .pause))) ∷ [] ≡ (t ⇒ forever ∣ lasts (r .pause)) ∷ []
     by-cases true = refl
     by-cases false = refl
 
@@ -123,7 +134,8 @@ start-none : (b : ℕ) (es : List (Entry Label)) → lasting (lengths (startOf b
 unfolding lasting lengthOf
 start-none b es = refl
 
-module _ (s tt : List ℕ) (b : ℕ) (r : Block) (source : isSource r ≡ true) (ts : List Tone) (d : Tone) (n : r .tones ≡ length ts) (own : (i : ℕ) → i < length ts → get tone tt (r .tone + i) ≡ getD ts i d) where
+module _ (s tt : List ℕ) (b : ℕ) (r : Block) (source : isSource r ≡ true) (ts : List Tone) (d : Tone) (n : r .tones ≡ length ts)
+    (own : (i : ℕ) → i < length ts → get tone tt (r .tone + i) ≡ getD ts i d) where
   tones-lengths : lengths (tonesOf tt b r) ≡ map lasts (wavesOf ts)
   tones-lengths =
       run-each (sourceTone tt b r) (λ i. waveIn (toneAt tt r i)) (tone-lengths tt b r) 0 (r .tones)
@@ -133,7 +145,8 @@ module _ (s tt : List ℕ) (b : ℕ) (r : Block) (source : isSource r ≡ true) 
   sound-lengths : lasting (lengths (startOf b ∷ tonesOf tt b r ++ bytesOf s b r)) ≡ long (wavesOf ts) ++ long (dataIn s r)
   sound-lengths =
       start-none b (tonesOf tt b r ++ bytesOf s b r)
-      ∙ ap lasting (map-append lengthOf (tonesOf tt b r) (bytesOf s b r) ∙ ap₂ (λ (x y : List PulseLength). x ++ y) tones-lengths (data-lengths s b r))
+      ∙ ap lasting (map-append lengthOf (tonesOf tt b r) (bytesOf s b r)
+      ∙ ap₂ (λ (x y : List PulseLength). x ++ y) tones-lengths (data-lengths s b r))
       ∙ lasting-append (map lasts (wavesOf ts)) (map lasts (dataIn s r))
 
   pub block-lengths : lasting (lengths (entriesOf s tt b r)) ≡ blockLengths s ts r

@@ -32,7 +32,8 @@ use Rattle.law_tzx.proofs.Unheard.{marked-same}
 use Rattle.law_tzx.proofs.Tapes.{tape-keeps}
 
 -- the rows of a table, from row b on
-list-rows : (s tt bt : List ℕ) (d : Block) (rs : List Block) (b : ℕ) → ((i : ℕ) → i < length rs → get block bt (b + i) ≡ getD rs i d)
+list-rows : (s tt bt : List ℕ) (d : Block) (rs : List Block) (b : ℕ)
+    → ((i : ℕ) → i < length rs → get block bt (b + i) ≡ getD rs i d)
     → run (λ i. entriesOf s tt i (get block bt i)) b (length rs) ≡ entriesFrom s tt b rs
 unfolding run entriesFrom
 list-rows s tt bt d [] b h = refl
@@ -40,7 +41,8 @@ list-rows s tt bt d (r ∷ rs) b h =
     let z : b + 0 ≡ b = omega arith in
     let e : get block bt b ≡ r = ap (get block bt) (sym z) ∙ h 0 (omega arith) in
     ap₂ (λ (x y : List (Entry Label)). x ++ y) (ap (entriesOf s tt b) e)
-    (list-rows s tt bt d rs (b + 1) (λ i k. let q : b + 1 + i ≡ b + suc i = omega arith in ap (get block bt) q ∙ h (suc i) (omega arith)))
+    (list-rows s tt bt d rs (b + 1)
+    (λ i k. let q : b + 1 + i ≡ b + suc i = omega arith in ap (get block bt) q ∙ h (suc i) (omega arith)))
 
 -- the naming pass is not heard
 list-named : (s tt : List ℕ) (b : ℕ) (p : Bool) (rs : List Block) → entriesFrom s tt b (nameAll s p rs) ≡ entriesFrom s tt b rs

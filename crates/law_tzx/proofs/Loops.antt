@@ -19,7 +19,8 @@ use Rattle.cut_grammar.specs.declared.Piece.the-variants.{LoopEnd}
 use Rattle.load_state.specs.declared.Halt.the-variants.{Refusal}
 use Rattle.load_state.specs.declared.Loop.{Loop}
 use Rattle.load_state.specs.declared.Loop.the-variants.{Closed, Open}
-use Rattle.load_state.specs.Parser.{Parsed, Out, on, no, named, nameless, withBlock, withBody, addBlock, copyRows, copies, closed, closeLoop}
+use Rattle.load_state.specs.Parser.{Parsed, Out, on, no, named, nameless, withBlock, withBody, addBlock, copyRows, copies}
+use Rattle.load_state.specs.Parser.{closed, closeLoop}
 use Rattle.load_state.specs.Kept.{Sure, sure, none}
 use Rattle.load_state.proofs.Kept.{sure-then, sure-also}
 use Rattle.load_blocks.specs.declared.Origin.{Origin}
@@ -105,7 +106,8 @@ module _ (s : List ℕ) (ls : List PulseLength) (rs : List Block) where
       sure-also (λ v q. plays-then (copied-plays h p) q) (copies-play most n u (subst Heard (sym (p .under)) h)))
 
 -- WHAT A LOOP'S END ADDS: n further copies of the body, which stands from block `start` on
-pub end-plays : (lent : Lent) (origin : Origin) (s : List ℕ) (model start n : ℕ) (ls : List PulseLength) (u : Parsed) → u .body ≡ Open start n
+pub end-plays : (lent : Lent) (origin : Origin) (s : List ℕ) (model start n : ℕ) (ls : List PulseLength) (u : Parsed)
+    → u .body ≡ Open start n
     → Heard s ls (drop start (u .blocks)) (u .tones) → Sure (Plays s (repeated n ls) u) (act lent s model origin LoopEnd u)
 unfolding act deedOf does closeLoop closed
 end-plays lent origin s model start n ls u e h =
@@ -123,4 +125,5 @@ loop-plays lent origin s model n ls t u e p =
     ap (drop (length (t .blocks))) (p .added) ∙ drop-at (t .blocks) (p .blocks) (length (t .blocks)) refl in
     let m : sourceTimes n ≡ suc n = omega arith in
     sure-also (λ v q. plays-as (ap (λ (k : ℕ). lasting (repeated k ls)) (sym m)) (plays-then p q))
-    (end-plays lent origin s model (length (t .blocks)) n ls u e (subst (λ (rs : List Block). Heard s ls rs (u .tones)) (sym d) (p .plays)))
+    (end-plays lent origin s model (length (t .blocks)) n ls u e
+    (subst (λ (rs : List Block). Heard s ls rs (u .tones)) (sym d) (p .plays)))

@@ -18,7 +18,8 @@ use Rattle.load_blocks.specs.Adds.{Lent}
 use Rattle.load_blocks.specs.Deeds.{does}
 use Rattle.load_source.specs.Meaning.{deedOf}
 use Rattle.load_source.specs.Source.{act}
-use Rattle.law_tzx.specs.Format.{PulseTrain, sounds, unsaid, pauseMs, each, again, dataPulses, pilotCount, format10, formatOf, lengthsOf}
+use Rattle.law_tzx.specs.Format.{PulseTrain, sounds, unsaid, pauseMs, each, again, dataPulses, pilotCount, format10}
+use Rattle.law_tzx.specs.Format.{formatOf, lengthsOf}
 use Rattle.law_tzx.specs.Kept.{Plays, Keeps, as-said}
 use Rattle.law_tzx.specs.Departs.{pulseMore}
 use Rattle.law_tzx.proofs.Lengths.{long, wavesOf, dataIn}
@@ -45,7 +46,8 @@ standard-wave v bits =
     let n = standardCycles (ltb v 128) in
     two-rows n 2168 667 735 bits
     ∙ ap (λ (l : List ℕ). l ++ 667 ∷ 735 ∷ bits)
-    (cycles-pulses 2168 (max 1 n) ∙ ap (λ (k : ℕ). again k (2168 ∷ [])) (one-more v .pulses) ∙ again-more (2168 ∷ []) (pilotCount v))
+    (cycles-pulses 2168 (max 1 n) ∙ ap (λ (k : ℕ). again k (2168 ∷ [])) (one-more v .pulses)
+    ∙ again-more (2168 ∷ []) (pilotCount v))
 
 no-bits : (s : List ℕ) (from : ℕ) → dataPulses s 855 1710 8 from 0 ≡ []
 unfolding dataPulses each

@@ -15,7 +15,9 @@ use Rattle.rows.specs.declared.Block.{Block}
 use Rattle.rows.specs.declared.Tone.{Tone}
 use Rattle.cut_grammar.specs.declared.GeneralizedData.{GeneralizedData}
 use Rattle.cut_grammar.specs.declared.Piece.{Piece}
-use Rattle.cut_grammar.specs.declared.Piece.the-variants.{Standard, Turbo, Tone as PureTone, Pulses, Pure, Generalized, Pause, GroupStart, GroupEnd, LoopStart, LoopEnd, Stop48, Text, Message, Archive, Hardware, Custom, Glue}
+use Rattle.cut_grammar.specs.declared.Piece.the-variants.{Standard, Turbo, Tone as PureTone, Pulses, Pure, Generalized, Pause, GroupStart}
+use Rattle.cut_grammar.specs.declared.Piece.the-variants.{GroupEnd, LoopStart, LoopEnd, Stop48, Text, Message, Archive, Hardware}
+use Rattle.cut_grammar.specs.declared.Piece.the-variants.{Custom, Glue}
 use Rattle.cut_grammar.specs.declared.Taken.{Taken}
 use Rattle.cut_grammar.specs.declared.Taken.the-variants as taken
 use Rattle.cut_grammar.specs.declared.Heading.{Heading}
@@ -32,7 +34,8 @@ use Rattle.load_blocks.specs.Sounds.{originAt, Sound, addSound, addSounds}
 use Rattle.load_blocks.specs.Blocks.{pairSounds, stopSound}
 use Rattle.load_blocks.specs.Deeds.{generalDeed, stop48Deed, does}
 use Rattle.load_source.specs.Meaning.{deedOf}
-use Rattle.load_source.specs.Source.{act, Verdict, done, failed, refused, readOn, halted, seeing, foldFrom, tzxOf, tzxSee, tooManyBits, bitsJudged, headed, readTzx, readTap, orElse, loadOf}
+use Rattle.load_source.specs.Source.{act, Verdict, done, failed, refused, readOn, halted, seeing, foldFrom, tzxOf, tzxSee, tooManyBits}
+use Rattle.load_source.specs.Source.{bitsJudged, headed, readTzx, readTap, orElse, loadOf}
 use Rattle.load_source.specs.Source as source
 use Rattle.law_tzx.specs.Kept.{keptPilot, keptData, lengthRight, kept19, kept, Tables, Answers, goes, no-tones, no-blocks}
 use Rattle.law_tzx.specs.Tapes.{Open, noneOpen, opened, nests, keptThen, keptFrom, keptTape}
@@ -152,7 +155,8 @@ module _ (lent : Lent) (s : List ℕ) (model : ℕ) where
   piece-ends n at o t (taken.Whole kind from next piece) q e later =
       let p = opened kind o in
       let k = first (kept s piece && not (nests kind o)) (keptFrom s n next p) e in
-      let tables : Tables s piece = λ g i. cut-places s at source.full (q ∙ ap (λ (x : Piece). taken.Whole kind from next x) i) .places in
+      let tables : Tables s piece =
+      λ g i. cut-places s at source.full (q ∙ ap (λ (x : Piece). taken.Whole kind from next x) i) .places in
       ends-after (foldFrom (tzxSee lent s model) n next)
       (kept-answers lent (originAt kind from) s model piece t tables (first (kept s piece) (not (nests kind o)) k))
       (λ v. later next p v (second (kept s piece && not (nests kind o)) (keptFrom s n next p) e))
@@ -176,12 +180,15 @@ module _ (lent : Lent) (s : List ℕ) (model : ℕ) where
   judged-not-4 few-blocks e = let z : blocksFull ≡ generalised = cc in omega arith
 
   -- NOR IS A TZX OF KEPT PIECES refused 4
-  pub tape-not-4 : {major minor : ℕ} → headAt s ≡ Version major minor → keptTape s ≡ true → loadOf lent s model ≡ source.no generalised → ⊥
+  pub tape-not-4 : {major minor : ℕ} → headAt s ≡ Version major minor → keptTape s ≡ true
+      → loadOf lent s model ≡ source.no generalised → ⊥
   unfolding keptTape loadOf readTzx headed
   tape-not-4 h k e = by-model (leb 3 model) (ltb 1048576 (length s)) e
     where
-      by-model : (b c : Bool) → (b ⇒ source.no badModel ∣ c ⇒ source.no tapeLong ∣ orElse (headed lent s model (headAt s)) (readTap lent s))
-          ≡ source.no generalised → ⊥
+      by-model : (b c : Bool)
+          → (b ⇒ source.no badModel ∣ c ⇒ source.no tapeLong ∣ orElse (headed lent s model (headAt s)) (readTap lent s))
+          ≡ source.no generalised
+          → ⊥
       by-model true c q = let z : badModel ≡ generalised = cc in omega arith
       by-model false true q = let z : tapeLong ≡ generalised = cc in omega arith
       by-model false false q =

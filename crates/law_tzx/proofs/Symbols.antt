@@ -46,7 +46,8 @@ pub record Parts (part : Part) (w : List ℕ) : Type 0 where
   pub heard : long (wavesOf rows) ≡ long w
 
 -- ROWS ONE AFTER THE OTHER
-pub rows-wave : (row : ℕ → Row) (f : ℕ → List ℕ) (p n : ℕ) → ((i : ℕ) → p ≤ i → i < p + n → Waves (row i) (f i)) → Parts (rowsFrom row p n) (each f p n)
+pub rows-wave : (row : ℕ → Row) (f : ℕ → List ℕ) (p n : ℕ) → ((i : ℕ) → p ≤ i → i < p + n → Waves (row i) (f i))
+    → Parts (rowsFrom row p n) (each f p n)
 unfolding rowsFrom before each wavesOf
 rows-wave row f p zero h = record { rows = []; given = refl; heard = refl }
 rows-wave row f p (suc n) h =
@@ -55,7 +56,8 @@ rows-wave row f p (suc n) h =
     record {
       rows = x .tone ∷ y .rows;
       given = ap₂ before (x .given) (y .given);
-      heard = long-append (waveIn (x .tone)) (wavesOf (y .rows)) ∙ ap₂ (λ (a b : List PulseLength). a ++ b) (x .heard) (y .heard) ∙ sym (long-append (f p) (each f (p + 1) n));
+      heard = long-append (waveIn (x .tone)) (wavesOf (y .rows)) ∙ ap₂ (λ (a b : List PulseLength). a ++ b) (x .heard) (y .heard)
+          ∙ sym (long-append (f p) (each f (p + 1) n));
     }
 
 -- the wave of a symbol of up to two pulses
@@ -65,7 +67,9 @@ two a b = eqb a 0 ⇒ [] ∣ a ∷ (eqb b 0 ⇒ [] ∣ b ∷ [])
 -- the source reading's symbol is the format's
 pub first-same : (s : List ℕ) (place n i : ℕ) → symbolAt s place n i .first ≡ firstPulse s place n i
 unfolding symbolAt firstPulse symbolPulse
-first-same s place n i = let e : place + i * (1 + n * 2) + 1 ≡ place + i * (1 + n * 2) + 1 + 0 = omega arith in ap (λ (k : ℕ). leAt s k 2) e
+first-same s place n i =
+    let e : place + i * (1 + n * 2) + 1 ≡ place + i * (1 + n * 2) + 1 + 0 = omega arith in
+    ap (λ (k : ℕ). leAt s k 2) e
 
 pub second-same : (s : List ℕ) (place n i : ℕ) → symbolAt s place n i .second ≡ secondPulse s place n i
 unfolding symbolAt secondPulse symbolPulse
@@ -109,7 +113,8 @@ times-wave (suc a) zero n e =
     let z : eqb (suc a) 0 ≡ false = ne-eqb (suc a) 0 (omega arith) in
     let c : evenCount n ≡ true = rw z at e in
     let h = even-of n c in
-    let q : eqb n 65535 ≡ false = ne-eqb n 65535 (λ k. let z : 65535 % 2 ≡ 0 = ap (λ (x : ℕ). x % 2) (sym k) ∙ h .even in absurd (omega arith)) in
+    let q : eqb n 65535 ≡ false =
+    ne-eqb n 65535 (λ k. let z : 65535 % 2 ≡ 0 = ap (λ (x : ℕ). x % 2) (sym k) ∙ h .even in absurd (omega arith)) in
     record { tone = plainTone ((n + 1) / 2) (suc a) (suc a); given = rw q; heard = pilot-same (suc a) n (rw (z, c)) ∙ rw z }
 times-wave (suc a) (suc b) n e =
     let z : eqb (suc a) 0 ≡ false = ne-eqb (suc a) 0 (omega arith) in

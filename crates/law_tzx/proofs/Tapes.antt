@@ -24,13 +24,15 @@ use Rattle.load_state.specs.Parser.{Parsed, Out, empty}
 use Rattle.load_state.specs.Kept.{Sure, sure, none}
 use Rattle.load_blocks.specs.Adds.{Lent}
 use Rattle.load_blocks.specs.Sounds.{originAt}
-use Rattle.load_source.specs.Source.{Verdict, done, failed, refused, readOn, seeing, foldFrom, halted, tooManyBits, bitsJudged, tzxOf, tzxSee, headed, readTzx, readTap, tzx, no, orTap, orElse, loadOf}
+use Rattle.load_source.specs.Source.{Verdict, done, failed, refused, readOn, seeing, foldFrom, halted, tooManyBits, bitsJudged, tzxOf}
+use Rattle.load_source.specs.Source.{tzxSee, headed, readTzx, readTap, tzx, no, orTap, orElse, loadOf}
 use Rattle.load_source.specs.Source as source
 use Rattle.load_source.specs.declared.Failure.the-variants as failure
 use Rattle.law_tzx.specs.Format.{Said, formatOf, lasting}
 use Rattle.law_tzx.specs.Cut.{layoutOf, formatCut}
 use Rattle.law_tzx.specs.Kept.{kept, Plays, Keeps, as-said}
-use Rattle.law_tzx.specs.Tapes.{Open, noneOpen, opened, nests, keptThen, keptFrom, keptTape, saidOf, saidThen, formatFrom, formatTape}
+use Rattle.law_tzx.specs.Tapes.{Open, noneOpen, opened, nests, keptThen, keptFrom, keptTape, saidOf, saidThen}
+use Rattle.law_tzx.specs.Tapes.{formatFrom, formatTape}
 use Rattle.law_tzx.proofs.Adds.{plays-none, plays-then}
 use Rattle.law_tzx.proofs.Cuts.{cut-keeps}
 
@@ -75,14 +77,16 @@ end-same : (s : List ℕ) (at : ℕ) → cutAt s at source.full ≡ taken.End �
 unfolding cutAt
 end-same s at e = by-cases (leb (length s) at) e
   where
-    by-cases : (b : Bool) → (b ⇒ taken.End ∣ takenAs (getD s at 0) at (readAt (kindOf source.full (getD s at 0)) s (At (at + 1)))) ≡ taken.End
+    by-cases : (b : Bool)
+        → (b ⇒ taken.End ∣ takenAs (getD s at 0) at (readAt (kindOf source.full (getD s at 0)) s (At (at + 1)))) ≡ taken.End
         → (b ⇒ taken.End ∣ takenAs (getD s at 0) at (readAt (layoutOf (getD s at 0)) s (At (at + 1)))) ≡ taken.End
     by-cases true q = refl
     by-cases false q = absurd (named-on (getD s at 0) at (readAt (kindOf source.full (getD s at 0)) s (At (at + 1))) q)
 
 module _ (lent : Lent) (s : List ℕ) (model : ℕ) where
   -- one piece, then the others
-  piece-then : (n at : ℕ) (o : Open) (t u : Parsed) (x : Taken) → cutAt s at source.full ≡ x → keptThen s o x (keptFrom s n) ≡ true
+  piece-then : (n at : ℕ) (o : Open) (t u : Parsed) (x : Taken) → cutAt s at source.full ≡ x
+      → keptThen s o x (keptFrom s n) ≡ true
       → seeing (tzxOf lent s model at x) t (foldFrom (tzxSee lent s model) n) ≡ done u
       → ((next : ℕ) (p : Open) (v : Parsed) → keptFrom s n next p ≡ true → foldFrom (tzxSee lent s model) n next v ≡ done u
       → Plays s (formatFrom (eqb model 0) s n next) v u)
@@ -139,7 +143,8 @@ module _ (lent : Lent) (s : List ℕ) (model : ℕ) where
       by-head heading.BadSignature q = absurd (let z : _≡_ {A = ℕ} 0 1 = cc in omega arith)
       by-head (heading.Short p w) q = absurd (let z : _≡_ {A = ℕ} 0 1 = cc in omega arith)
 
-      by-model : (b c : Bool) → (b ⇒ no badModel ∣ c ⇒ no tapeLong ∣ orElse (readTzx lent s model) (readTap lent s)) ≡ tzx u → foldFrom (tzxSee lent s model) (length s) 10 empty ≡ done u
+      by-model : (b c : Bool) → (b ⇒ no badModel ∣ c ⇒ no tapeLong ∣ orElse (readTzx lent s model) (readTap lent s)) ≡ tzx u
+          → foldFrom (tzxSee lent s model) (length s) 10 empty ≡ done u
       by-model true c q = absurd (let z : _≡_ {A = ℕ} 0 1 = cc in omega arith)
       by-model false true q = absurd (let z : _≡_ {A = ℕ} 0 1 = cc in omega arith)
       by-model false false q = by-head (headAt s) (by-read (readTzx lent s model) q)

@@ -13,7 +13,8 @@ use Rattle.play_levels.specs.declared.Line.{Line}
 use Rattle.play_levels.specs.Closed.{firstLevel, lineAfter}
 use Rattle.play_levels.proofs.Voices.{run-same}
 use Rattle.play_entries.specs.declared.Phase.the-variants.{Tones, Edge, Pause}
-use Rattle.play_entries.specs.Entries.{Label, labelAt, entryOf, toneAt, isSource, cyclesOf, isSingle, lineAt, startLevel, cycleLevel, bitLevel}
+use Rattle.play_entries.specs.Entries.{Label, labelAt, entryOf, toneAt, isSource, cyclesOf, isSingle, lineAt, startLevel}
+use Rattle.play_entries.specs.Entries.{cycleLevel, bitLevel}
 use Rattle.play_entries.specs.Entries.{edged, startOf, secondOf, toneOf, rowEntries, tonesOf, bitsAt, halfOf, byteOf, dataOf, edgeTime}
 use Rattle.play_entries.specs.Entries.{pauseOf, pauseLevel, soundOf, entriesOf}
 use Rattle.load_state.specs.declared.Pending.{Pending}
@@ -41,7 +42,8 @@ module _ (s tt : List ℕ) (b mark case text chars : ℕ) (r : Block) where
   unfolding toneOf cyclesOf isSingle
   row-same i =
       let t = toneAt tt r i in
-      run-same _ _ (λ p. ap (λ (v : Level). pulse (labelAt b (Tones i p false)) v (t .len1) ∷ secondOf b i r t v p) (level-same i p)) 0 _
+      run-same _ _
+      (λ p. ap (λ (v : Level). pulse (labelAt b (Tones i p false)) v (t .len1) ∷ secondOf b i r t v p) (level-same i p)) 0 _
 
   -- a row's entries, by its tones' entries and the level behind them
   abbrev entriesBy : List (Entry Label) → Level → List (Entry Label)

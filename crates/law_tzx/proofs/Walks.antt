@@ -47,7 +47,8 @@ walked s =
 -- a 19 of this length, which is to be 21, and a pause
 abbrev pub lengthy : ℕ → List ℕ
 lengthy n =
-    0x19 ∷ n ∷ 0x00 ∷ 0x00 ∷ 0x00 ∷ 0x00 ∷ 0x00 ∷ 0x00 ∷ 0x00 ∷ 0x00 ∷ 0x00 ∷ 0x00 ∷ 0x00 ∷ 0x04 ∷ 0x00 ∷ 0x00 ∷ 0x00 ∷ 0x01 ∷ 0x02 ∷
+    0x19 ∷ n ∷ 0x00 ∷ 0x00 ∷ 0x00 ∷ 0x00 ∷ 0x00 ∷ 0x00 ∷ 0x00 ∷ 0x00 ∷ 0x00 ∷ 0x00 ∷ 0x00 ∷ 0x04 ∷ 0x00 ∷
+    0x00 ∷ 0x00 ∷ 0x01 ∷ 0x02 ∷
     0x00 ∷ 0x01 ∷ 0x00 ∷ 0x00 ∷ 0x02 ∷ 0x00 ∷ 0xA0 ∷ 0x20 ∷ 0x01 ∷ 0x00 ∷ []
 
 unfoldable pub walks : List Walk
@@ -55,14 +56,16 @@ walks =
     walk (lengthy 21) true (lasts 2 ∷ lasts 1 ∷ lasts 2 ∷ lasts 1 ∷ lasts 3500 ∷ [])
     (lasts 2 ∷ lasts 1 ∷ lasts 2 ∷ lasts 1 ∷ lasts 3500 ∷ []) ∷
     -- the length takes in the pause: it is part of the 19, or a piece
-    walk (lengthy 24) false (lasts 2 ∷ lasts 1 ∷ lasts 2 ∷ lasts 1 ∷ []) (lasts 2 ∷ lasts 1 ∷ lasts 2 ∷ lasts 1 ∷ lasts 3500 ∷ []) ∷
+    walk (lengthy 24) false (lasts 2 ∷ lasts 1 ∷ lasts 2 ∷ lasts 1 ∷ [])
+    (lasts 2 ∷ lasts 1 ∷ lasts 2 ∷ lasts 1 ∷ lasts 3500 ∷ []) ∷
     -- the length leaves out the last byte: not said, or unused
     walk (lengthy 20) false [] (lasts 2 ∷ lasts 1 ∷ lasts 2 ∷ lasts 1 ∷ lasts 3500 ∷ []) ∷ []
 
 pub walks-walked : map (λ e. walked (e .tape)) walks ≡ walks
 unfolding leAt numberAt fieldAt placeOf times eachAt groupsAt run tableOver entryOf cyclesOf isSingle startLevel cycleLevel bitLevel edged
     pauseLevel toneOf tonesOf bitsAt halfOf byteOf dataOf pauseOf soundOf entriesOf countedAt passAt wholeAt sealed enclosed fittingAt
-    readAt binaryDigits orFull heldIf stream19 kind19 kind20 kinds kindOf takenAs cutAt symbolAt before rowsFrom pilotOf equalHalves ordinary
+    readAt binaryDigits orFull heldIf stream19 kind19 kind20 kinds kindOf takenAs cutAt symbolAt before rowsFrom pilotOf equalHalves
+    ordinary
     symbolNumber pairRow pairsOf dataPart withPilot withData generalOf empty _⟫_ addTones addBlock rowOf addSound addSounds pauseSound
     addRows generalDeed does deedOf act readOn seeing foldFrom tzxOf tzxSee each waveFrom symbolPulse waveOf pilotSymbol bitAt groupAt
     dataNumber symbolPulses every symbolsSaid format19 format20 formatOf lengthsOf lasting firstPulse keptPilot keptPairs keptData
@@ -72,7 +75,8 @@ walks-walked = refl
 -- no tape of kept pieces: a group in a group, a loop in a loop, a loop without its end, a loop of one; and one with a group alone
 pub opens-kept :
     map (λ s. keptFrom s (length s) 0 noneOpen)
-    ((0x21 ∷ 0x00 ∷ 0x20 ∷ 0x01 ∷ 0x00 ∷ 0x21 ∷ 0x00 ∷ []) ∷ (0x24 ∷ 0x02 ∷ 0x00 ∷ 0x24 ∷ 0x02 ∷ 0x00 ∷ []) ∷ (0x24 ∷ 0x02 ∷ 0x00 ∷ []) ∷
+    ((0x21 ∷ 0x00 ∷ 0x20 ∷ 0x01 ∷ 0x00 ∷ 0x21 ∷ 0x00 ∷ []) ∷ (0x24 ∷ 0x02 ∷ 0x00 ∷ 0x24 ∷ 0x02 ∷ 0x00 ∷ []) ∷
+    (0x24 ∷ 0x02 ∷ 0x00 ∷ []) ∷
     (0x24 ∷ 0x01 ∷ 0x00 ∷ 0x25 ∷ []) ∷ (0x21 ∷ 0x00 ∷ 0x20 ∷ 0x01 ∷ 0x00 ∷ []) ∷ [])
     ≡ false ∷ false ∷ false ∷ false ∷ true ∷ []
 unfolding leAt numberAt fieldAt placeOf countedAt passAt wholeAt readAt kind20 kind21 kind24 kind25 kinds kindOf takenAs cutAt kept

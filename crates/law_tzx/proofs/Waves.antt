@@ -31,12 +31,14 @@ each-split f p (suc k) m =
     ∙ sym (append-assoc (f p) (each f (p + 1) k) (each f (p + suc k) m))
 
 -- items that sound the same
-pub each-same : (f g : ℕ → List ℕ) (p n : ℕ) → ((i : ℕ) → p ≤ i → i < p + n → long (f i) ≡ long (g i)) → long (each f p n) ≡ long (each g p n)
+pub each-same : (f g : ℕ → List ℕ) (p n : ℕ) → ((i : ℕ) → p ≤ i → i < p + n → long (f i) ≡ long (g i))
+    → long (each f p n) ≡ long (each g p n)
 unfolding each
 each-same f g p zero h = refl
 each-same f g p (suc n) h =
     long-append (f p) (each f (p + 1) n)
-    ∙ ap₂ (λ (x y : List PulseLength). x ++ y) (h p (omega arith) (omega arith)) (each-same f g (p + 1) n (λ i k l. h i (omega arith) (omega arith)))
+    ∙ ap₂ (λ (x y : List PulseLength). x ++ y) (h p (omega arith) (omega arith))
+    (each-same f g (p + 1) n (λ i k l. h i (omega arith) (omega arith)))
     ∙ sym (long-append (g p) (each g (p + 1) n))
 
 -- items that are not heard
@@ -95,7 +97,8 @@ unfolding lasting
 zeros-none k = each-none (λ i. 0 ∷ 0 ∷ []) 0 k (λ i. refl)
 
 -- A PILOT in cycles, half its pulses rounded up, one at the least: the same where the pulses are 0, or even in number and some
-pub pilot-same : (x n : ℕ) → (eqb x 0 || evenCount n) ≡ true → long (again (max 1 ((n + 1) / 2)) (x ∷ x ∷ [])) ≡ long (again n (x ∷ []))
+pub pilot-same : (x n : ℕ) → (eqb x 0 || evenCount n) ≡ true
+    → long (again (max 1 ((n + 1) / 2)) (x ∷ x ∷ [])) ≡ long (again n (x ∷ []))
 pilot-same zero n e = zeros-none (max 1 ((n + 1) / 2)) ∙ sym (zero-none n)
 pilot-same (suc x) n e =
     let h = even-of n (other (eqb (suc x) 0) (evenCount n) e (ne-eqb (suc x) 0 (omega arith))) in
@@ -103,7 +106,8 @@ pilot-same (suc x) n e =
     ap long (cycles-pulses (suc x) (max 1 ((n + 1) / 2)) ∙ ap (λ (k : ℕ). again k (suc x ∷ [])) q)
 
 -- where 1 to 8 bits of the last byte are said, one at the least is what is said
-pub data-same : (s : List ℕ) (off one last from size : ℕ) → bitsSaid last size ≡ true → dataPulses s off one (max 1 last) from size ≡ dataPulses s off one last from size
+pub data-same : (s : List ℕ) (off one last from size : ℕ) → bitsSaid last size ≡ true
+    → dataPulses s off one (max 1 last) from size ≡ dataPulses s off one last from size
 unfolding bitsSaid dataPulses each
 data-same s off one last from zero e = refl
 data-same s off one last from (suc n) e =

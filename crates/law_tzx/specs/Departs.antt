@@ -27,5 +27,6 @@ sourceTimes n = n + 1
 pub data Between (lent : Lent) (s : List ℕ) (model : ℕ) : ℕ → Parsed → ℕ → Parsed → Type 0 where
   nothing-more : {at : ℕ} {t : Parsed} → Between lent s model at t at t
   one-more : {at next end : ℕ} {does : Parsed → Out} {t u v : Parsed} → tzxSee lent s model at ≡ thing next does
-      → ((kind from past : ℕ) → cutAt s at full ≡ Whole kind from past LoopEnd → ⊥) → does t ≡ on u → Between lent s model next u end v
+      → ((kind from past : ℕ) → cutAt s at full ≡ Whole kind from past LoopEnd → ⊥) → does t ≡ on u
+      → Between lent s model next u end v
       → Between lent s model at t end v

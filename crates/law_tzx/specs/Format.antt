@@ -1,5 +1,5 @@
--- What TZX 1.20 gives one piece: the lengths of its pulses in T-states, in order, and the pause behind them. Written from docs/FORMAT.md alone,
--- in its order and words; which bit of a byte is which is `bitOf`'s, as everywhere. Lengths only: no levels, so a pause's first
+-- What TZX 1.20 gives one piece: the lengths of its pulses in T-states, in order, and the pause behind them. Written from docs/FORMAT.md
+-- alone, in its order and words; which bit of a byte is which is `bitOf`'s, as everywhere. Lengths only: no levels, so a pause's first
 -- millisecond is not told apart. Assumes nothing.
 use Prim.Native.Nat.{ℕ, zero, suc, _+_, _*_, _/_, _%_, _^_}
 use mathlib.Core.Bool.{Bool, true, _&&_, _||_}
@@ -12,7 +12,8 @@ use Rattle.cut_fields.specs.Field.{leAt}
 use Rattle.cut_grammar.specs.declared.GeneralizedData.{GeneralizedData}
 use Rattle.cut_grammar.specs.declared.TurboData.{TurboData}
 use Rattle.cut_grammar.specs.declared.Piece.{Piece}
-use Rattle.cut_grammar.specs.declared.Piece.the-variants.{Standard, Turbo, Tone, Pulses, Pure, Generalized, Pause, GroupStart, GroupEnd, LoopStart, LoopEnd, Stop48, Text, Message, Archive, Hardware, Custom, Glue}
+use Rattle.cut_grammar.specs.declared.Piece.the-variants.{Standard, Turbo, Tone, Pulses, Pure, Generalized, Pause, GroupStart, GroupEnd}
+use Rattle.cut_grammar.specs.declared.Piece.the-variants.{LoopStart, LoopEnd, Stop48, Text, Message, Archive, Hardware, Custom, Glue}
 use Rattle.play_entries.specs.Entries.{bitOf}
 
 -- T-states, or none that ends it
@@ -68,7 +69,8 @@ dataPulses s nil one used from size = each (λ pos. bytePulses nil one (getD s (
 unfoldable pub bitsSaid : ℕ → ℕ → Bool
 bitsSaid used size = eqb size 0 || between 1 8 used
 
--- 10: pilot pulses of 2,168, 8,063 of them where the first data byte (the flag) is below 128, else 3,223; sync 667, 735; bits of 855 and 1,710
+-- 10: pilot pulses of 2,168, 8,063 of them where the first data byte (the flag) is below 128, else 3,223; sync 667, 735;
+-- bits of 855 and 1,710
 unfoldable pub pilotCount : ℕ → ℕ
 pilotCount flag = ltb flag 128 ⇒ 8063 ∣ 3223
 
@@ -80,8 +82,10 @@ format10 s pause from size =
 -- 11: as 10 with its own numbers
 unfoldable pub format11 : List ℕ → TurboData → Said
 format11 s d =
-    bitsSaid (d .last) (d .size) ⇒
-    saidPulses (again (d .pilots) (d .pilot ∷ []) ++ d .sync1 ∷ d .sync2 ∷ dataPulses s (d .zero) (d .one) (d .last) (d .from) (d .size)) (pauseMs (d .pause))
+    bitsSaid (d .last) (d .size)
+    ⇒
+    saidPulses (again (d .pilots) (d .pilot ∷ [])
+    ++ d .sync1 ∷ d .sync2 ∷ dataPulses s (d .zero) (d .one) (d .last) (d .from) (d .size)) (pauseMs (d .pause))
     ∣ unsaid
 
 -- 12: that many pulses of one length

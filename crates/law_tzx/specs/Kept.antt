@@ -20,11 +20,13 @@ use Rattle.cut_grammar.specs.declared.GeneralizedData.{GeneralizedData}
 use Rattle.cut_grammar.specs.Places.{Places}
 use Rattle.cut_grammar.specs.declared.TurboData.{TurboData}
 use Rattle.cut_grammar.specs.declared.Piece.{Piece}
-use Rattle.cut_grammar.specs.declared.Piece.the-variants.{Standard, Turbo, Tone, Pulses, Pure, Generalized, Pause, GroupStart, GroupEnd, LoopStart, LoopEnd, Stop48, Text, Message, Archive, Hardware, Custom, Glue}
+use Rattle.cut_grammar.specs.declared.Piece.the-variants.{Standard, Turbo, Tone, Pulses, Pure, Generalized, Pause, GroupStart, GroupEnd}
+use Rattle.cut_grammar.specs.declared.Piece.the-variants.{LoopStart, LoopEnd, Stop48, Text, Message, Archive, Hardware, Custom, Glue}
 use Rattle.load_blocks.specs.declared.Origin.{Origin}
 use Rattle.load_blocks.specs.Adds.{Lent}
 use Rattle.load_source.specs.Source.{act}
-use Rattle.law_tzx.specs.Format.{PulseLength, lasts, forever, PulseTrain, Said, sounds, lengthsOf, lasting, bitsSaid, every, symbolPulse, pilotSymbol, repetitions, dataNumber, formatOf}
+use Rattle.law_tzx.specs.Format.{PulseLength, lasts, forever, PulseTrain, Said, sounds, lengthsOf, lasting, bitsSaid, every}
+use Rattle.law_tzx.specs.Format.{symbolPulse, pilotSymbol, repetitions, dataNumber, formatOf}
 use Rattle.law_tzx.specs.Cut.{formatCut}
 use Rattle.cut_grammar.specs.declared.Taken.the-variants as taken
 use lib.ListN.{length}
@@ -163,7 +165,8 @@ pub record Plays (s : List ℕ) (ls : List PulseLength) (t t′ : Parsed) : Type
   pub tones : List ToneRow
   pub added : t′ .blocks ≡ t .blocks ++ blocks
   pub under : t′ .tones ≡ t .tones ++ tones
-  pub plays : (more : List ToneRow) (N b : ℕ) → lasting (lengths (entriesFrom s (tableOf tone (t′ .tones ++ more) N) b blocks)) ≡ lasting ls
+  pub plays : (more : List ToneRow) (N b : ℕ)
+      → lasting (lengths (entriesFrom s (tableOf tone (t′ .tones ++ more) N) b blocks)) ≡ lasting ls
 
 -- so of what the format says of a piece
 pub data Keeps (s : List ℕ) (t t′ : Parsed) : Said → Type 0 where

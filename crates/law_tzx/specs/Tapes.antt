@@ -1,4 +1,5 @@
--- A tape of kept pieces alone, and what the format plays of such a tape: its pieces one after the other. Definitions alone; assumes nothing.
+-- A tape of kept pieces alone, and what the format plays of such a tape: its pieces one after the other.
+-- Definitions alone; assumes nothing.
 use Prim.Native.Nat.{ℕ, zero, suc}
 use mathlib.Core.Bool.{Bool, true, false, _&&_, _||_, not}
 use mathlib.Core.List.{List, [], _++_}

@@ -31,10 +31,12 @@ heard-tape (b ∷ tape) h = refl
 abbrev pub Answers : List ℕ → ℕ → List ℕ → Type 0
 Answers input r out = Counts r out × (take r out ≡ printedOf (listingHeard input))
 
-answers : {t : List ℕ} {r : ℕ} {out : List ℕ} (input : List ℕ) → t ≡ printedOf (listingHeard input) → Says t r out → Answers input r out
+answers : {t : List ℕ} {r : ℕ} {out : List ℕ} (input : List ℕ) → t ≡ printedOf (listingHeard input) → Says t r out
+    → Answers input r out
 answers {r = r} {out} input e s = ((s .count, sym (length-take-le r out (s .count))), s .front ∙ e)
 
-pub says-none : {r : ℕ} {out : List ℕ} (input : List ℕ) → length input ≤ 0 → Says (printedNo badModel) r out → Answers input r out
+pub says-none : {r : ℕ} {out : List ℕ} (input : List ℕ) → length input ≤ 0 → Says (printedNo badModel) r out
+    → Answers input r out
 unfolding printedOf
 says-none input h s = answers input (sym (ap printedOf (heard-none input h))) s
 

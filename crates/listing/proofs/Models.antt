@@ -1,4 +1,5 @@
--- WHAT THE MODEL CHANGES OF A LISTING: between 1 and 2, and between all three where no 2A is reached, nothing but its name and what the name's length causes.
+-- WHAT THE MODEL CHANGES OF A LISTING: between 1 and 2, and between all three where no 2A is reached,
+-- nothing but its name and what the name's length causes.
 -- Assumes nothing.
 use Prim.Native.Nat.{ℕ, zero, suc, _+_, _≤_, _<_}
 use native.Mathlib.Omega.{arith}
@@ -29,12 +30,15 @@ listed-alike s m m′ (tapped t) = texts _
 listed-alike s m m′ (no k) = refusals
 
 module _ (s : List ℕ) where
-  loads-alike : (m m′ : ℕ) → m < 3 → m′ < 3 → loadedOf s m ≡ loadedOf s m′ → Alike m m′ (listingOf s m) (listingOf s m′)
+  loads-alike : (m m′ : ℕ) → m < 3 → m′ < 3 → loadedOf s m ≡ loadedOf s m′
+      → Alike m m′ (listingOf s m) (listingOf s m′)
   unfolding listingOf
   loads-alike m m′ h h′ e =
-      rw (lt-leb 3 m h, lt-leb 3 m′ h′) (by-length (ltb 65535 (length s)) (subst (λ (l : Load). Alike m m′ (listed s m (loadedOf s m)) (listed s m′ l)) e (listed-alike s m m′ (loadedOf s m))))
+      rw (lt-leb 3 m h, lt-leb 3 m′ h′) (by-length (ltb 65535 (length s))
+      (subst (λ (l : Load). Alike m m′ (listed s m (loadedOf s m)) (listed s m′ l)) e (listed-alike s m m′ (loadedOf s m))))
     where
-      by-length : (b : Bool) {x y : Listing} → Alike m m′ x y → Alike m m′ (b ⇒ refused tapeLong ∣ x) (b ⇒ refused tapeLong ∣ y)
+      by-length : (b : Bool) {x y : Listing} → Alike m m′ x y
+          → Alike m m′ (b ⇒ refused tapeLong ∣ x) (b ⇒ refused tapeLong ∣ y)
       by-length true a = refusals
       by-length false a = a
 
@@ -56,21 +60,26 @@ module _ (s : List ℕ) where
   pub models-12 : Alike 1 2 (listingOf s 1) (listingOf s 2)
   models-12 = loads-alike 1 2 (omega arith) (omega arith) equal
 
-  pub models-all : reaches2A listingLent s ≡ false → (m m′ : ℕ) → m < 3 → m′ < 3 → Alike m m′ (listingOf s m) (listingOf s m′)
+  pub models-all : reaches2A listingLent s ≡ false → (m m′ : ℕ) → m < 3 → m′ < 3
+      → Alike m m′ (listingOf s m) (listingOf s m′)
   models-all e m m′ h h′ = loads-alike m m′ h h′ (as-128 e m h ∙ sym (as-128 e m′ h′))
 
 -- WHAT THE NAME'S LENGTH CAUSES: the texts' lengths differ by it, and bytes that are longer by it have room alike: 10 is given alike
-apart : (m m′ : ℕ) (rest : List ℕ) → length (modelWord ++ modelText m ++ rest) + length (modelText m′) ≡ length (modelWord ++ modelText m′ ++ rest) + length (modelText m)
+apart : (m m′ : ℕ) (rest : List ℕ)
+    → length (modelWord ++ modelText m ++ rest) + length (modelText m′)
+    ≡ length (modelWord ++ modelText m′ ++ rest) + length (modelText m)
 apart m m′ rest = simp length-append (omega arith)
 
-pub lengths-apart : {m m′ : ℕ} {l l′ : Listing} {t t′ : List ℕ} → Alike m m′ l l′ → l ≡ text t → l′ ≡ text t′ → length t + length (modelText m′) ≡ length t′ + length (modelText m)
+pub lengths-apart : {m m′ : ℕ} {l l′ : Listing} {t t′ : List ℕ} → Alike m m′ l l′ → l ≡ text t → l′ ≡ text t′
+    → length t + length (modelText m′) ≡ length t′ + length (modelText m)
 lengths-apart {t = t} refusals e f = absurd (let z : _≡_ {A = ℕ} 0 1 = cc in omega arith)
 lengths-apart {m} {m′} {t = t} {t′} (texts rest) e f =
     let a : modelWord ++ modelText m ++ rest ≡ t = cc in
     let b : modelWord ++ modelText m′ ++ rest ≡ t′ = cc in
     omega (arith, ap length a, ap length b, apart m m′ rest)
 
-pub room-alike : {m m′ : ℕ} {l l′ : Listing} {t t′ : List ℕ} → Alike m m′ l l′ → l ≡ text t → l′ ≡ text t′ → (out out′ : List ℕ) → length out + length (modelText m′) ≡ length out′ + length (modelText m)
+pub room-alike : {m m′ : ℕ} {l l′ : Listing} {t t′ : List ℕ} → Alike m m′ l l′ → l ≡ text t → l′ ≡ text t′
+    → (out out′ : List ℕ) → length out + length (modelText m′) ≡ length out′ + length (modelText m)
     → fits t out ≡ fits t′ out′
 room-alike {t = t} {t′} a e f out out′ d =
     let z = lengths-apart a e f in

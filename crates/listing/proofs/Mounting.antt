@@ -30,10 +30,13 @@ use Rattle.law_every_load.proofs.Names.{loaded-names}
 use Rattle.load_tape.specs.declared.Loaded.the-variants as loaded
 use Rattle.text_lines.specs.Inner.{Ready}
 use Rattle.text_page.specs.Page.{listingText}
-use Rattle.listing.specs.Listing.{blockWords, toneWords, loadedOf, text, refused, mounted as mountedOf, listed, Listing, listingOf, answerTo, bytesAfter}
+use Rattle.listing.specs.Listing.{blockWords, toneWords, loadedOf, text, refused, mounted as mountedOf, listed, Listing, listingOf}
+use Rattle.listing.specs.Listing.{answerTo, bytesAfter}
 
 -- the load in the words that are lent
-pub lent-words : {a : Loaded} {bt tt : List ℕ} (s : List ℕ) (model : ℕ) → Leaves blockWords toneWords (loadNamed (lentOf blockWords toneWords) s model) a bt tt → Leaves blockWords toneWords (loadedOf s model) a bt tt
+pub lent-words : {a : Loaded} {bt tt : List ℕ} (s : List ℕ) (model : ℕ)
+    → Leaves blockWords toneWords (loadNamed (lentOf blockWords toneWords) s model) a bt tt
+    → Leaves blockWords toneWords (loadedOf s model) a bt tt
 unfolding loadedOf
 lent-words s model l = l
 
@@ -44,36 +47,48 @@ module _ (s : List ℕ) (model : ℕ) (b : Bytes s) {t : Parsed} (r : Reads (loa
   rows-ready =
       let w = load-within (lentOf blockWords toneWords) s model b r in
       let l = name-all-length s false (t .blocks) in
-      let e : length (tableOf block (nameAll s false (t .blocks)) blockWords) ≡ blockWords = table-length block (nameAll s false (t .blocks)) blockWords (omega (arith, w .blocks)) in
+      let e : length (tableOf block (nameAll s false (t .blocks)) blockWords) ≡ blockWords =
+      table-length block (nameAll s false (t .blocks)) blockWords (omega (arith, w .blocks)) in
       record {
         few = omega (arith, w .blocks);
-        rows = λ i h. record { lent = omega (arith, w .blocks); well = loaded-well blockWords toneWords s model b r i h; short = loaded-names blockWords toneWords s model b r i h };
+        rows = λ i h. record {
+          lent = omega (arith, w .blocks);
+          well = loaded-well blockWords toneWords s model b r i h;
+          short = loaded-names blockWords toneWords s model b r i h;
+        };
       }
 
 -- tables that are equal
-same-ready : {s tt tt₀ bt bt₀ : List ℕ} {n n₀ : ℕ} → tt ≡ tt₀ → bt ≡ bt₀ → n ≡ n₀ → Ready s tt₀ bt₀ n₀ → Ready s tt bt n
+same-ready : {s tt tt₀ bt bt₀ : List ℕ} {n n₀ : ℕ} → tt ≡ tt₀ → bt ≡ bt₀ → n ≡ n₀ → Ready s tt₀ bt₀ n₀
+    → Ready s tt bt n
 same-ready {s} {tt} {tt₀} {bt} {bt₀} {n} {n₀} p q e r =
-    subst (λ (x : ℕ). Ready s tt bt x) (sym e) (subst (λ (x : List ℕ). Ready s tt x n₀) (sym q) (subst (λ (x : List ℕ). Ready s x bt₀ n₀) (sym p) r))
+    subst (λ (x : ℕ). Ready s tt bt x) (sym e)
+    (subst (λ (x : List ℕ). Ready s tt x n₀) (sym q) (subst (λ (x : List ℕ). Ready s x bt₀ n₀) (sym p) r))
 
 -- EVERY LOAD'S TABLES ARE READY
-pub load-ready : (s : List ℕ) (model : ℕ) {f : Format} {n k : ℕ} {bt tt : List ℕ} → Bytes s → Leaves blockWords toneWords (loadedOf s model) (loaded.Tape f n k) bt tt → Ready s tt bt n
+pub load-ready : (s : List ℕ) (model : ℕ) {f : Format} {n k : ℕ} {bt tt : List ℕ} → Bytes s
+    → Leaves blockWords toneWords (loadedOf s model) (loaded.Tape f n k) bt tt → Ready s tt bt n
 unfolding loadedOf loadNamed namedLoad namedTape answerOf blockTable toneTable
 load-ready s model {f} {n} {k} {bt} {tt} b l = by-cases (loadOf (lentOf blockWords toneWords) s model) refl l
   where
-    by-cases : (x : Load) → loadOf (lentOf blockWords toneWords) s model ≡ x → Leaves blockWords toneWords (namedLoad s x) (loaded.Tape f n k) bt tt → Ready s tt bt n
+    by-cases : (x : Load) → loadOf (lentOf blockWords toneWords) s model ≡ x
+        → Leaves blockWords toneWords (namedLoad s x) (loaded.Tape f n k) bt tt → Ready s tt bt n
     by-cases (tzx t) e y =
         let a = y .answer in
         let m : n ≡ length (nameAll s false (t .blocks)) = cc in
-        same-ready (y .tones) (y .blocks) (m ∙ name-all-length s false (t .blocks)) (rows-ready s model b (subst (λ (z : Load). Reads z t) (sym e) as-tzx))
+        same-ready (y .tones) (y .blocks) (m ∙ name-all-length s false (t .blocks))
+        (rows-ready s model b (subst (λ (z : Load). Reads z t) (sym e) as-tzx))
     by-cases (tapped t) e y =
         let a = y .answer in
         let m : n ≡ length (nameAll s false (t .blocks)) = cc in
-        same-ready (y .tones) (y .blocks) (m ∙ name-all-length s false (t .blocks)) (rows-ready s model b (subst (λ (z : Load). Reads z t) (sym e) as-tap))
+        same-ready (y .tones) (y .blocks) (m ∙ name-all-length s false (t .blocks))
+        (rows-ready s model b (subst (λ (z : Load). Reads z t) (sym e) as-tap))
     by-cases (no j) e y = let a = y .answer in absurd (let z : _≡_ {A = ℕ} 0 1 = cc in omega arith)
 
 -- WHAT IS LISTED OF A LOAD, by its answer
 module _ (s : List ℕ) (model : ℕ) {bt tt : List ℕ} where
-  listed-text : {f : Format} {n k : ℕ} (x : Load) → Leaves blockWords toneWords x (loaded.Tape f n k) bt tt → listed s model x ≡ text (listingText model f (tapeOf s tt bt n))
+  listed-text : {f : Format} {n k : ℕ} (x : Load) → Leaves blockWords toneWords x (loaded.Tape f n k) bt tt
+      → listed s model x ≡ text (listingText model f (tapeOf s tt bt n))
   unfolding listed mountedOf answerOf
   listed-text {f} {n} (tzx t) l =
       let a = l .answer in
@@ -111,16 +126,21 @@ module _ (s : List ℕ) (model : ℕ) where
     unfolding listingOf
     loads = rw (lt-leb 3 model h, le-ltb 65535 (length s) k)
 
-    pub load-refused : {bt tt : List ℕ} (out : List ℕ) {j : ℕ} → Leaves blockWords toneWords (loadedOf s model) (loaded.Refused j) bt tt → ListingAnswered s model out j out
+    pub load-refused : {bt tt : List ℕ} (out : List ℕ) {j : ℕ}
+        → Leaves blockWords toneWords (loadedOf s model) (loaded.Refused j) bt tt → ListingAnswered s model out j out
     unfolding answerTo bytesAfter
     load-refused out l = let e = loads ∙ listed-no s model (loadedOf s model) l in (rw e, rw e)
 
-    pub load-told : {bt tt out′ : List ℕ} {f : Format} {n m r : ℕ} (out : List ℕ) → Leaves blockWords toneWords (loadedOf s model) (loaded.Tape f n m) bt tt
-        → (r ≡ answerTo (text (listingText model f (tapeOf s tt bt n))) out) × (out′ ≡ bytesAfter (text (listingText model f (tapeOf s tt bt n))) out) → ListingAnswered s model out r out′
+    pub load-told : {bt tt out′ : List ℕ} {f : Format} {n m r : ℕ} (out : List ℕ)
+        → Leaves blockWords toneWords (loadedOf s model) (loaded.Tape f n m) bt tt
+        → (r ≡ answerTo (text (listingText model f (tapeOf s tt bt n))) out)
+        × (out′ ≡ bytesAfter (text (listingText model f (tapeOf s tt bt n))) out)
+        → ListingAnswered s model out r out′
     load-told out l p =
         let e = loads ∙ listed-text s model (loadedOf s model) l in
         (p .0 ∙ sym (ap (λ (x : Listing). answerTo x out) e), p .1 ∙ sym (ap (λ (x : Listing). bytesAfter x out) e))
 
 -- an answer that is told to be this one
-pub leaves-told : {B N : ℕ} {x : Load} {a a′ : Loaded} {bt tt : List ℕ} → Leaves B N x a bt tt → a ≡ a′ → Leaves B N x a′ bt tt
+pub leaves-told : {B N : ℕ} {x : Load} {a a′ : Loaded} {bt tt : List ℕ} → Leaves B N x a bt tt → a ≡ a′
+    → Leaves B N x a′ bt tt
 leaves-told {B} {N} {x} {bt = bt} {tt} l e = subst (λ (y : Loaded). Leaves B N x y bt tt) e l

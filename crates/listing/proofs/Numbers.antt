@@ -1,4 +1,5 @@
--- ONE NUMBER IS ENOUGH for the C host: no text is shorter than 37 bytes, and no refusal's number is above 10; what the number says of the bytes. Assumes nothing.
+-- ONE NUMBER IS ENOUGH for the C host: no text is shorter than 37 bytes, and no refusal's number is above 10;
+-- what the number says of the bytes. Assumes nothing.
 use Prim.Native.Nat.{ℕ, _≤_, _<_}
 use native.Mathlib.Omega.{arith}
 use mathlib.Core.Path.{_≡_, refl, sym}
@@ -51,7 +52,8 @@ text-length s model {t} e = of (listing-sized s model) e
 pub data Tells (l : Listing) (out : List ℕ) : ℕ → List ℕ → Type 0 where
   refusal : {k : ℕ} → l ≡ refused k → badModel ≤ k → k ≤ lastBits → Tells l out k out
   no-room : {t : List ℕ} → l ≡ text t → length out < length t → Tells l out noRoom out
-  listing : {t : List ℕ} → l ≡ text t → 37 ≤ length t → length t ≤ length out → Tells l out (length t) (t ++ drop (length t) out)
+  listing : {t : List ℕ} → l ≡ text t → 37 ≤ length t → length t ≤ length out
+      → Tells l out (length t) (t ++ drop (length t) out)
 
 pub tells-number : (l : Listing) (out : List ℕ) → TextOrNo l → Tells l out (answerTo l out) (bytesAfter l out)
 unfolding answerTo bytesAfter told
@@ -74,6 +76,8 @@ above (no-room e k) h = absurd (omega arith)
 above (listing e k m) h = spoken e refl refl
 
 pub number-tells : (s : List ℕ) (model : ℕ) (out : List ℕ)
-    → (answerTo (listingOf s model) out < 32 → (answerTo (listingOf s model) out ≤ noRoom) × (bytesAfter (listingOf s model) out ≡ out))
-    × (32 ≤ answerTo (listingOf s model) out → Spoken (listingOf s model) out (answerTo (listingOf s model) out) (bytesAfter (listingOf s model) out))
+    → (answerTo (listingOf s model) out < 32
+    → (answerTo (listingOf s model) out ≤ noRoom) × (bytesAfter (listingOf s model) out ≡ out))
+    × (32 ≤ answerTo (listingOf s model) out
+    → Spoken (listingOf s model) out (answerTo (listingOf s model) out) (bytesAfter (listingOf s model) out))
 number-tells s model out = let x = tells-number (listingOf s model) out (listing-sized s model) in (below x, above x)

@@ -1,4 +1,5 @@
--- WHAT A PROGRAM PRINTS: every text fits 300,000 bytes, so that a number below 32 is the load's refusal. Assumes nothing but that bytes are below 256.
+-- WHAT A PROGRAM PRINTS: every text fits 300,000 bytes, so that a number below 32 is the load's refusal.
+-- Assumes nothing but that bytes are below 256.
 use Prim.Native.Nat.{ℕ, _≤_, _<_}
 use native.Mathlib.Omega.{arith}
 use mathlib.Core.Path.{_≡_, refl, sym, subst, _∙_}
@@ -15,7 +16,8 @@ use Rattle.load_source.specs.Source.{Load, tzx, tapped, no}
 use Rattle.load_tape.specs.declared.Format.the-variants.{Tap, Tzx}
 use Rattle.load_tape.specs.Load.{answerOf, blockTable, toneTable, Leaves}
 use Rattle.law_every_load.specs.Sizes.{Bytes}
-use Rattle.listing.specs.Listing.{blockWords, toneWords, loadedOf, Listing, text, refused, mounted, listed, listingOf, answerTo, bytesAfter}
+use Rattle.listing.specs.Listing.{blockWords, toneWords, loadedOf, Listing, text, refused, mounted, listed, listingOf}
+use Rattle.listing.specs.Listing.{answerTo, bytesAfter}
 use Rattle.listing.specs.Printed.{printedNo, printedOf, Says}
 use Rattle.text_shown.proofs.Shown.{name-part}
 use Rattle.text_lines.proofs.Texts.{decimal-long}
@@ -32,11 +34,15 @@ module _ (s : List ℕ) (model : ℕ) (b : Bytes s) where
   listed-fits : (l : Load) → loadedOf s model ≡ l → Fits (listed s model l)
   unfolding listed mounted answerOf
   listed-fits (tzx t) e =
-      let y : Leaves blockWords toneWords (tzx t) (answerOf (tzx t)) (blockTable blockWords (tzx t)) (toneTable toneWords (tzx t)) = record { answer = refl; blocks = refl; tones = refl } in
-      fit (text-most model Tzx (load-ready s model b (subst (λ (x : Load). Leaves blockWords toneWords x (answerOf (tzx t)) (blockTable blockWords (tzx t)) (toneTable toneWords (tzx t))) (sym e) y)))
+      let y : Leaves blockWords toneWords (tzx t) (answerOf (tzx t)) (blockTable blockWords (tzx t)) (toneTable toneWords (tzx t)) =
+      record { answer = refl; blocks = refl; tones = refl } in
+      fit (text-most model Tzx (load-ready s model b (subst (λ (x : Load).
+      Leaves blockWords toneWords x (answerOf (tzx t)) (blockTable blockWords (tzx t)) (toneTable toneWords (tzx t))) (sym e) y)))
   listed-fits (tapped t) e =
-      let y : Leaves blockWords toneWords (tapped t) (answerOf (tapped t)) (blockTable blockWords (tapped t)) (toneTable toneWords (tapped t)) = record { answer = refl; blocks = refl; tones = refl } in
-      fit (text-most model Tap (load-ready s model b (subst (λ (x : Load). Leaves blockWords toneWords x (answerOf (tapped t)) (blockTable blockWords (tapped t)) (toneTable toneWords (tapped t))) (sym e) y)))
+      let y : Leaves blockWords toneWords (tapped t) (answerOf (tapped t)) (blockTable blockWords (tapped t))
+      (toneTable toneWords (tapped t)) = record { answer = refl; blocks = refl; tones = refl } in
+      fit (text-most model Tap (load-ready s model b (subst (λ (x : Load).
+      Leaves blockWords toneWords x (answerOf (tapped t)) (blockTable blockWords (tapped t)) (toneTable toneWords (tapped t))) (sym e) y)))
   listed-fits (no k) e = none
 
   -- EVERY TEXT FITS
@@ -74,18 +80,25 @@ unfolding printedOf
 text-told (refusal e a b) h = absurd (omega arith)
 text-told (no-room e k) h = absurd (omega arith)
 text-told {out = out} (listing {t = t} e k m) h =
-    rw e (record { count = simp length-append (omega arith); front = take-append-le (length t) t (drop (length t) out) (omega arith) ∙ take-length t })
+    rw e (record {
+      count = simp length-append (omega arith);
+      front = take-append-le (length t) t (drop (length t) out) (omega arith) ∙ take-length t;
+    })
 
-module _ (s out : List ℕ) (model : ℕ) {r : ℕ} {out′ : List ℕ} (b : Bytes s) (room : 300000 ≤ length out) (e : r ≡ answerTo (listingOf s model) out) (f : out′ ≡ bytesAfter (listingOf s model) out) where
+module _ (s out : List ℕ) (model : ℕ) {r : ℕ} {out′ : List ℕ} (b : Bytes s) (room : 300000 ≤ length out)
+    (e : r ≡ answerTo (listingOf s model) out) (f : out′ ≡ bytesAfter (listingOf s model) out) where
   told : Tells (listingOf s model) out r out′
   told =
-      subst (λ (x : ℕ). Tells (listingOf s model) out x out′) (sym e) (subst (λ (x : List ℕ). Tells (listingOf s model) out (answerTo (listingOf s model) out) x) (sym f) (tells-number (listingOf s model) out (listing-sized s model)))
+      subst (λ (x : ℕ). Tells (listingOf s model) out x out′) (sym e)
+      (subst (λ (x : List ℕ). Tells (listingOf s model) out (answerTo (listingOf s model) out) x) (sym f)
+      (tells-number (listingOf s model) out (listing-sized s model)))
 
   roomy : Roomy (listingOf s model) out
   roomy t q = omega (arith, text-fits s model b q)
 
   -- below 32: the load's refusal, which is then printed; else the text
-  pub say-refusal : {n : ℕ} {out″ : List ℕ} → r < 32 → Says (printedNo r) n out″ → Says (printedOf (listingOf s model)) n out″
+  pub say-refusal : {n : ℕ} {out″ : List ℕ} → r < 32 → Says (printedNo r) n out″
+      → Says (printedOf (listingOf s model)) n out″
   unfolding printedOf
   say-refusal h p = rw (refusal-told roomy told h) p
 

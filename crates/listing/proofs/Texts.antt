@@ -14,6 +14,7 @@ pub tells-short : (t out : List ℕ) → length out < length t → (noRoom ≡ a
 unfolding answerTo bytesAfter told
 tells-short t out h = let e = lt-leb (length t) (length out) h in (rw e, rw e)
 
-pub tells : {out out′ t : List ℕ} {n : ℕ} → length t ≤ length out → Wrote out 0 t out′ n → (n ≡ answerTo (text t) out) × (out′ ≡ bytesAfter (text t) out)
+pub tells : {out out′ t : List ℕ} {n : ℕ} → length t ≤ length out → Wrote out 0 t out′ n
+    → (n ≡ answerTo (text t) out) × (out′ ≡ bytesAfter (text t) out)
 unfolding answerTo bytesAfter told
 tells {out} {t = t} h p = let e = le-leb (length t) (length out) h in (rw e (wrote-counted p), rw e (wrote-whole p h))

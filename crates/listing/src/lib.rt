@@ -30,8 +30,10 @@ fn enough(
     n: u64,
 ) -> usize
     requires { ⌜ Ready (now tape) (now tones) (now blocks) n ⌝ }
-    ensures { λ k. ⌜ length (listingText model format (tapeOf (now (tape .entry)) (now (tones .entry)) (now (blocks .entry)) n)) ≤ k ⌝ }
-    ensures { λ k. ⌜ (len < k → k ≡ length (listingText model format (tapeOf (now (tape .entry)) (now (tones .entry)) (now (blocks .entry)) n))) ⌝ }
+    ensures { λ k.
+        ⌜ length (listingText model format (tapeOf (now (tape .entry)) (now (tones .entry)) (now (blocks .entry)) n)) ≤ k ⌝ }
+    ensures { λ k. ⌜ (len < k
+        → k ≡ length (listingText model format (tapeOf (now (tape .entry)) (now (tones .entry)) (now (blocks .entry)) n))) ⌝ }
 {
     let most = 77 + 576 * n as usize;
     if most <= len {
@@ -52,8 +54,12 @@ fn tell(
     n: u64,
 ) -> u32
     requires { ⌜ Ready (now tape) (now tones) (now blocks) n ⌝ }
-    ensures { λ r. ⌜ r ≡ answerTo (text (listingText model format (tapeOf (now (tape .entry)) (now (tones .entry)) (now (blocks .entry)) n))) (now (out .entry)) ⌝ }
-    ensures { λ _. ⌜ now (out .exit) ≡ bytesAfter (text (listingText model format (tapeOf (now (tape .entry)) (now (tones .entry)) (now (blocks .entry)) n))) (now (out .entry)) ⌝ }
+    ensures { λ r. ⌜ r
+        ≡ answerTo (text (listingText model format (tapeOf (now (tape .entry)) (now (tones .entry)) (now (blocks .entry)) n)))
+        (now (out .entry)) ⌝ }
+    ensures { λ _. ⌜ now (out .exit)
+        ≡ bytesAfter (text (listingText model format (tapeOf (now (tape .entry)) (now (tones .entry)) (now (blocks .entry)) n)))
+        (now (out .entry)) ⌝ }
 {
     let k = enough(out.len(), model, format, tape, tones, blocks, n);
     if out.len() < k {

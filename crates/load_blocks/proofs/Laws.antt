@@ -20,21 +20,24 @@ use Rattle.load_blocks.specs.Deeds.{adds, does}
 use Rattle.load_blocks.specs.Does.{lentOf, Does}
 
 -- no tone rows: the block alone
-pub rows-none : {B N : ℕ} {s : State} {bt tt : List ℕ} (r : Block) (t : Parsed) → Holds B N s bt tt t → addRows (lentOf B N) [] r t ≡ addBlock (blockRoom B) r t
+pub rows-none : {B N : ℕ} {s : State} {bt tt : List ℕ} (r : Block) (t : Parsed) → Holds B N s bt tt t
+    → addRows (lentOf B N) [] r t ≡ addBlock (blockRoom B) r t
 unfolding addRows addTones _⟫_
 rows-none {N = N} r t h =
     let k : length (t .tones) + 0 ≤ toneRoom N = omega (arith, h .roomT) in
     rw (le-leb (length (t .tones) + 0) (toneRoom N) k, append-nil (t .tones))
 
 -- one tone row, then the others
-pub rows-more : (lent : Lent) (a : Tone) (ts : List Tone) (r : Block) (t : Parsed) → addRows lent (a ∷ ts) r t ≡ addTones (lent .tones) (a ∷ []) t ⟫ addRows lent ts r
+pub rows-more : (lent : Lent) (a : Tone) (ts : List Tone) (r : Block) (t : Parsed)
+    → addRows lent (a ∷ ts) r t ≡ addTones (lent .tones) (a ∷ []) t ⟫ addRows lent ts r
 unfolding addRows
 rows-more lent a ts r t =
     ap (λ (o : Out). o ⟫ addBlock (lent .blocks) r) (tones-append (lent .tones) (a ∷ []) ts t)
     ∙ chain-assoc (addTones (lent .tones) (a ∷ []) t) (addTones (lent .tones) ts) (addBlock (lent .blocks) r)
 
 -- a row made of the state's count of tones is the row over the tape's tones
-pub does-sound : {s : State} {x : Step} {bt tt bt′ tt′ : List ℕ} {r : Block} (origin : Origin) (d : Sound) → r ≡ rowOf origin d (s .tones)
+pub does-sound : {s : State} {x : Step} {bt tt bt′ tt′ : List ℕ} {r : Block} (origin : Origin) (d : Sound)
+    → r ≡ rowOf origin d (s .tones)
     → Does (λ lent. addRows lent (d .tones) r) s x bt tt bt′ tt′ → Does (λ lent. addSound lent origin d) s x bt tt bt′ tt′
 unfolding addSound
 does-sound origin d e f B N t h = rw (← h .nt, ← e) (f B N t h)
@@ -52,7 +55,8 @@ one-sound lent origin d t = then-nothing (addSound lent origin d t)
 
 -- a deed of one block
 pub does-one : (model : ℕ) (origin : Origin) (d : Sound) {s : State} {x : Step} {bt tt bt′ tt′ : List ℕ}
-    → Does (λ lent. addSound lent origin d) s x bt tt bt′ tt′ → Does (λ lent. does lent model origin (adds (d ∷ []))) s x bt tt bt′ tt′
+    → Does (λ lent. addSound lent origin d) s x bt tt bt′ tt′
+    → Does (λ lent. does lent model origin (adds (d ∷ []))) s x bt tt bt′ tt′
 unfolding does
 does-one model origin d f B N t h = rw (one-sound (lentOf B N) origin d t) (f B N t h)
 
@@ -62,7 +66,8 @@ Any t = Unit {0}
 
 -- one pair, then the others
 pub pairs-more : (lent : Lent) (origin : Origin) (s : List ℕ) (from i n : ℕ) (t : Parsed) → 0 < n
-    → addSounds lent origin (pairSounds s from i n) t ≡ addSound lent origin (pairSound s from i) t ⟫ addSounds lent origin (pairSounds s from (i + 2) (n - 1))
+    → addSounds lent origin (pairSounds s from i n) t
+    ≡ addSound lent origin (pairSound s from i) t ⟫ addSounds lent origin (pairSounds s from (i + 2) (n - 1))
 unfolding addSounds pairSounds
 pairs-more lent origin s from i zero t h = absurd (omega arith)
 pairs-more lent origin s from i (suc n) t h = let e : suc n - 1 ≡ n = omega arith in rw e

@@ -8,7 +8,8 @@ use Rattle.load_blocks.specs.declared.Origin.{Origin}
 use Rattle.load_blocks.specs.Adds.{Lent}
 use Rattle.load_blocks.specs.Deeds.{Deed, adding, groups, texts, groupEnds, opens, closes, panics, errs, does, asks48}
 
-pub does-model : (lent : Lent) (m m′ : ℕ) (origin : Origin) (d : Deed) (t : Parsed) → (asks48 d ≡ true → eqb m 0 ≡ eqb m′ 0) → does lent m origin d t ≡ does lent m′ origin d t
+pub does-model : (lent : Lent) (m m′ : ℕ) (origin : Origin) (d : Deed) (t : Parsed) → (asks48 d ≡ true → eqb m 0 ≡ eqb m′ 0)
+    → does lent m origin d t ≡ does lent m′ origin d t
 unfolding does asks48
 does-model lent m m′ origin (adding true ds) t e = rw (e refl)
 does-model lent m m′ origin (adding false ds) t e = refl

@@ -1,4 +1,5 @@
-// A block's row at its birth, and what adding one does: of any reading. The source reading's standard block. The reading and the crates of the other blocks alone call it.
+// A block's row at its birth, and what adding one does: of any reading. The source reading's standard block.
+// The reading and the crates of the other blocks alone call it.
 use load_state::State;
 use load_state::Step;
 use load_state::add_block;
@@ -13,7 +14,8 @@ ghost use Rattle.load_blocks.specs.Sounds.{noBits, endsAfter, endsInStop
 ghost use Rattle.load_blocks.specs.Blocks.{standardHeader, standardCycles, standardPause, standardSound};
 ghost use Rattle.load_blocks.specs.Does.{Does};
 
-// Where a block comes from: its piece's kind, and where that piece stands in the tape. What a row takes from outside its sound is a field here; no word has any of it yet.
+// Where a block comes from: its piece's kind, and where that piece stands in the tape.
+// What a row takes from outside its sound is a field here; no word has any of it yet.
 pub struct Origin {
     pub kind: u8,
     pub place: u64,
@@ -110,7 +112,8 @@ pub fn stop_row(origin: Origin, tone: u64) -> Block
 
 // One tone row and a block.
 pub fn one_tone(s: State, blocks: &mut [u64], tones: &mut [u64], a: Tone, r: Block) -> Step
-    ensures { λ x. ⌜ Does (λ lent. addRows lent (a ∷ []) r) s x (now (blocks .entry)) (now (tones .entry)) (now (blocks .exit)) (now (tones .exit)) ⌝ }
+    ensures { λ x. ⌜ Does (λ lent. addRows lent (a ∷ []) r) s x (now (blocks .entry)) (now (tones .entry)) (now (blocks .exit))
+        (now (tones .exit)) ⌝ }
 {
     match add_tone(s, tones, a) {
         Step::On(next) => add_block(next, blocks, r),
@@ -127,7 +130,8 @@ pub fn two_tones(
     b: Tone,
     r: Block,
 ) -> Step
-    ensures { λ x. ⌜ Does (λ lent. addRows lent (a ∷ b ∷ []) r) s x (now (blocks .entry)) (now (tones .entry)) (now (blocks .exit)) (now (tones .exit)) ⌝ }
+    ensures { λ x. ⌜ Does (λ lent. addRows lent (a ∷ b ∷ []) r) s x (now (blocks .entry)) (now (tones .entry)) (now (blocks .exit))
+        (now (tones .exit)) ⌝ }
 {
     match add_tone(s, tones, a) {
         Step::On(next) => one_tone(next, blocks, tones, b, r),
@@ -167,7 +171,8 @@ pub fn standard_data_block(
     size: u32,
     pause: u64,
 ) -> Step
-    ensures { λ x. ⌜ Does (λ lent. addSound lent origin (standardSound header start size pause)) s x (now (blocks .entry)) (now (tones .entry)) (now (blocks .exit)) (now (tones .exit)) ⌝ }
+    ensures { λ x. ⌜ Does (λ lent. addSound lent origin (standardSound header start size pause)) s x (now (blocks .entry))
+        (now (tones .entry)) (now (blocks .exit)) (now (tones .exit)) ⌝ }
 {
     let pilot = Tone {
         num: standard_cycles(header),

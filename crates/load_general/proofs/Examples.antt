@@ -7,7 +7,9 @@ use Rattle.cut_fields.specs.Field.{leAt}
 use Rattle.rows.specs.Table.{putAll}
 use Rattle.cut_grammar.specs.Grammar.{binaryDigits, bitsOf}
 use Rattle.load_general.specs.declared.Made.the-variants.{Refused, Full, Stop, Data, Tones}
-use Rattle.load_general.specs.General.{symbolAt, plainTone, before, rowsFrom, cycles, entrySymbol, entryRepeat, entryRow, pilotOf, equalHalves, ordinary, usedBits, symbolNumber, singleRow, pairRow, singlesOf, pairsOf, dataPart, Given, refused4, stop, plain, toned, withData, withPilot, generalOf}
+use Rattle.load_general.specs.General.{symbolAt, plainTone, before, rowsFrom, cycles, entrySymbol, entryRepeat, entryRow, pilotOf}
+use Rattle.load_general.specs.General.{equalHalves, ordinary, usedBits, symbolNumber, singleRow, pairRow, singlesOf, pairsOf}
+use Rattle.load_general.specs.General.{dataPart, Given, refused4, stop, plain, toned, withData, withPilot, generalOf}
 use Rattle.load_general.specs.Made.{madeOf, leaves}
 
 -- a part: how many entries or symbols use it, the pulses and the number of its symbols, its alphabet, its entries or bytes
@@ -87,12 +89,14 @@ examples =
     row no-pilot (bits 9 (0xA5 ∷ 0x80 ∷ [])) (plain [] 10 20 1) ∷
     row no-pilot (bits 7 (0xA5 ∷ [])) (plain [] 10 20 7) ∷
     -- npp 1: (repeat + 1)/2 cycles
-    row (part 2 1 2 (y1 100 ++ y1 50) (times 3 0 ++ times 4 1)) (bits 8 (0 ∷ [])) (plain (plainTone 2 100 100 ∷ plainTone 2 50 50 ∷ []) 10 20 8) ∷
+    row (part 2 1 2 (y1 100 ++ y1 50) (times 3 0 ++ times 4 1)) (bits 8 (0 ∷ []))
+    (plain (plainTone 2 100 100 ∷ plainTone 2 50 50 ∷ []) 10 20 8) ∷
     row (part 1 1 1 (y1 100) (times 0 0)) (bits 8 (0 ∷ [])) (plain (plainTone 0 100 100 ∷ []) 10 20 8) ∷
     row (part 1 1 1 (y1 100) (times65534 0)) (bits 8 (0 ∷ [])) (plain (plainTone 32767 100 100 ∷ []) 10 20 8) ∷
     row (part 1 1 1 (y1 100) (times65535 0)) (bits 8 (0 ∷ [])) refused4 ∷
     -- npp 2: a second pulse of 0 is none; otherwise repeat cycles
-    row (part 2 2 2 (y2 100 0 ++ y2 100 30) (times 5 0 ++ times 5 1)) (bits 8 (0 ∷ [])) (plain (plainTone 3 100 100 ∷ plainTone 5 100 30 ∷ []) 10 20 8) ∷
+    row (part 2 2 2 (y2 100 0 ++ y2 100 30) (times 5 0 ++ times 5 1)) (bits 8 (0 ∷ []))
+    (plain (plainTone 3 100 100 ∷ plainTone 5 100 30 ∷ []) 10 20 8) ∷
     row (part 1 2 1 (y2 100 0) (times65535 0)) (bits 8 (0 ∷ [])) refused4 ∷
     row (part 1 2 1 (y2 100 30) (times65535 0)) (bits 8 (0 ∷ [])) (plain (plainTone 65535 100 30 ∷ []) 10 20 8) ∷
     -- a symbol not below asp, at the first and at a later entry
@@ -108,12 +112,15 @@ examples =
     row no-pilot (part 0 2 2 [] []) refused4 ∷
     row no-pilot (part 0 3 1 [] []) refused4 ∷
     -- npd 2, halves not equal: a tone for each symbol
-    row no-pilot (part 3 2 2 (y2 10 11 ++ y2 20 20) (0xA0 ∷ [])) (toned (plainTone 1 20 20 ∷ plainTone 1 10 11 ∷ plainTone 1 20 20 ∷ [])) ∷
-    row (part 1 1 1 (y1 100) (times 3 0)) (part 1 2 2 (y2 10 10 ++ y2 20 21) (0x80 ∷ [])) (toned (plainTone 2 100 100 ∷ plainTone 1 20 21 ∷ [])) ∷
+    row no-pilot (part 3 2 2 (y2 10 11 ++ y2 20 20) (0xA0 ∷ []))
+    (toned (plainTone 1 20 20 ∷ plainTone 1 10 11 ∷ plainTone 1 20 20 ∷ [])) ∷
+    row (part 1 1 1 (y1 100) (times 3 0)) (part 1 2 2 (y2 10 10 ++ y2 20 21) (0x80 ∷ []))
+    (toned (plainTone 2 100 100 ∷ plainTone 1 20 21 ∷ [])) ∷
     -- npd 2, nb 2: the first symbol has one bit of its byte alone
     row no-pilot (part 2 2 4 (y2 1 2 ++ y2 3 4 ++ y2 5 6 ++ y2 7 8) (0xE0 ∷ [])) (toned (plainTone 1 3 4 ∷ plainTone 1 7 8 ∷ [])) ∷
     -- npd 2, nb 3: a symbol across two bytes has the first one's bits alone
-    row no-pilot (part 3 2 5 (y2 1 1 ++ y2 2 2 ++ y2 3 3 ++ y2 4 4 ++ y2 5 5) (0x03 ∷ 0x80 ∷ [])) (toned (plainTone 1 1 1 ∷ plainTone 1 1 1 ∷ plainTone 1 2 2 ∷ [])) ∷
+    row no-pilot (part 3 2 5 (y2 1 1 ++ y2 2 2 ++ y2 3 3 ++ y2 4 4 ++ y2 5 5) (0x03 ∷ 0x80 ∷ []))
+    (toned (plainTone 1 1 1 ∷ plainTone 1 1 1 ∷ plainTone 1 2 2 ∷ [])) ∷
     -- npd 1: pairs, an odd last symbol dropped
     row no-pilot (part 4 1 2 (y1 10 ++ y1 20) (0xB0 ∷ [])) (toned (plainTone 1 20 10 ∷ plainTone 1 20 20 ∷ [])) ∷
     row no-pilot (part 3 1 2 (y1 10 ++ y1 20) (0xB0 ∷ [])) (toned (plainTone 1 20 10 ∷ [])) ∷
@@ -139,14 +146,16 @@ examples =
     row no-pilot (part 1 3 2 (y3 1 1 1 ++ y3 2 2 2) (0 ∷ [])) stop ∷ []
 
 pub worked : map (λ e. gives (e .pilot) (e .data′)) examples ≡ map (λ e. e .wants) examples
-unfolding examples gives binaryDigits leAt symbolAt before rowsFrom cycles entrySymbol entryRepeat entryRow pilotOf equalHalves ordinary usedBits symbolNumber singleRow pairRow singlesOf pairsOf dataPart withData withPilot generalOf
+unfolding examples gives binaryDigits leAt symbolAt before rowsFrom cycles entrySymbol entryRepeat entryRow pilotOf equalHalves ordinary
+    usedBits symbolNumber singleRow pairRow singlesOf pairsOf dataPart withData withPilot generalOf
 worked = refl
 
 -- 4 and a stop need no room; two rows need two
 abbrev two : Given
 two = toned (plainTone 1 2 3 ∷ plainTone 4 5 6 ∷ [])
 
-pub answered : (madeOf 0 refused4 ∷ madeOf 0 stop ∷ madeOf 0 (plain [] 10 20 8) ∷ madeOf 1 two ∷ madeOf 2 two ∷ madeOf 3 two ∷ [])
+pub answered : (madeOf 0 refused4 ∷ madeOf 0 stop ∷ madeOf 0 (plain [] 10 20 8) ∷ madeOf 1 two ∷ madeOf 2 two ∷ madeOf 3 two ∷
+    [])
     ≡ (Refused ∷ Stop ∷ Data 0 10 20 8 ∷ Full ∷ Tones 2 ∷ Tones 2 ∷ [])
 unfolding madeOf
 answered = refl

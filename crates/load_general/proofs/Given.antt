@@ -39,7 +39,9 @@ module _ (s : List ℕ) (g : GeneralizedData) where
   unfolding singleRow isGiven
   single-given i = rule (g .asd) (symbolNumber s g (i * g .nb) 0) _ ∙ last _
 
-  pub pair-given : (i : ℕ) → isGiven (pairRow s g i) ≡ (ltb (symbolNumber s g (2 * i * g .nb) 0) (g .asd) && ltb (symbolNumber s g (2 * i * g .nb) 1) (g .asd))
+  pub pair-given : (i : ℕ)
+      → isGiven (pairRow s g i)
+      ≡ (ltb (symbolNumber s g (2 * i * g .nb) 0) (g .asd) && ltb (symbolNumber s g (2 * i * g .nb) 1) (g .asd))
   unfolding pairRow isGiven
   pair-given i = rule (g .asd) (symbolNumber s g (2 * i * g .nb) 0) _ ∙ rw (rule (g .asd) (symbolNumber s g (2 * i * g .nb) 1), last)
 
@@ -52,18 +54,26 @@ module _ (s : List ℕ) (g : GeneralizedData) where
   every-single h = all-given (singleRow s g) (λ i. single-given i ∙ number-below h (i * g .nb) 0) 0 (g .totd)
 
   pub every-pair : leb (2 ^ g .nb) (g .asd) ≡ true → isTones (rowsFrom (pairRow s g) 0 (g .totd / 2)) ≡ true
-  every-pair h = all-given (pairRow s g) (λ i. pair-given i ∙ rw (number-below h (2 * i * g .nb) 0, number-below h (2 * i * g .nb) 1)) 0 (g .totd / 2)
+  every-pair h = all-given (pairRow s g)
+      (λ i. pair-given i ∙ rw (number-below h (2 * i * g .nb) 0, number-below h (2 * i * g .nb) 1)) 0 (g .totd / 2)
 
   -- the numbers of what is given, and the tone, from the array that holds the alphabet
   module _ (i : ℕ) (e : isGiven (singleRow s g i) ≡ true) where
     pub single-below : symbolNumber s g (i * g .nb) 0 < g .asd
     single-below = ltb-true _ _ (sym (single-given i) ∙ e)
 
-    pub single-tone : (a : List (List ℕ)) → Kept s (g .symbols) (g .npd) (g .asd) a → (b : ℕ) → b ≡ symbolNumber s g (i * g .nb) 0 → singleRow s g i ≡ Gives (plainTone 1 (getD (getD a b []) 0 0) (getD (getD a b []) 1 0))
+    pub single-tone : (a : List (List ℕ)) → Kept s (g .symbols) (g .npd) (g .asd) a → (b : ℕ)
+        → b ≡ symbolNumber s g (i * g .nb) 0
+        → singleRow s g i ≡ Gives (plainTone 1 (getD (getD a b []) 0 0) (getD (getD a b []) 1 0))
     unfolding singleRow
     single-tone a k b q =
         let h = single-below in
-        rw (q, kept-first s (g .symbols) (g .npd) (g .asd) a k (symbolNumber s g (i * g .nb) 0) h, kept-second s (g .symbols) (g .npd) (g .asd) a k (symbolNumber s g (i * g .nb) 0) h, lt-leb (g .asd) (symbolNumber s g (i * g .nb) 0) h)
+        rw (
+          q,
+          kept-first s (g .symbols) (g .npd) (g .asd) a k (symbolNumber s g (i * g .nb) 0) h,
+          kept-second s (g .symbols) (g .npd) (g .asd) a k (symbolNumber s g (i * g .nb) 0) h,
+          lt-leb (g .asd) (symbolNumber s g (i * g .nb) 0) h,
+        )
 
   module _ (i : ℕ) (e : isGiven (pairRow s g i) ≡ true) where
     pub pair-below : symbolNumber s g (2 * i * g .nb) 0 < g .asd
@@ -72,7 +82,16 @@ module _ (s : List ℕ) (g : GeneralizedData) where
     pub pair-below-2 : symbolNumber s g (2 * i * g .nb) 1 < g .asd
     pair-below-2 = ltb-true _ _ (second (ltb (symbolNumber s g (2 * i * g .nb) 0) (g .asd)) _ (sym (pair-given i) ∙ e))
 
-    pub pair-tone : (a : List (List ℕ)) → Kept s (g .symbols) (g .npd) (g .asd) a → (b d : ℕ) → b ≡ symbolNumber s g (2 * i * g .nb) 0 → d ≡ symbolNumber s g (2 * i * g .nb) 1 → pairRow s g i ≡ Gives (plainTone 1 (getD (getD a b []) 0 0) (getD (getD a d []) 0 0))
+    pub pair-tone : (a : List (List ℕ)) → Kept s (g .symbols) (g .npd) (g .asd) a → (b d : ℕ)
+        → b ≡ symbolNumber s g (2 * i * g .nb) 0 → d ≡ symbolNumber s g (2 * i * g .nb) 1
+        → pairRow s g i ≡ Gives (plainTone 1 (getD (getD a b []) 0 0) (getD (getD a d []) 0 0))
     unfolding pairRow
     pair-tone a k b d q r =
-        rw (q, r, kept-first s (g .symbols) (g .npd) (g .asd) a k (symbolNumber s g (2 * i * g .nb) 0) pair-below, kept-first s (g .symbols) (g .npd) (g .asd) a k (symbolNumber s g (2 * i * g .nb) 1) pair-below-2, lt-leb (g .asd) (symbolNumber s g (2 * i * g .nb) 0) pair-below, lt-leb (g .asd) (symbolNumber s g (2 * i * g .nb) 1) pair-below-2)
+        rw (
+          q,
+          r,
+          kept-first s (g .symbols) (g .npd) (g .asd) a k (symbolNumber s g (2 * i * g .nb) 0) pair-below,
+          kept-first s (g .symbols) (g .npd) (g .asd) a k (symbolNumber s g (2 * i * g .nb) 1) pair-below-2,
+          lt-leb (g .asd) (symbolNumber s g (2 * i * g .nb) 0) pair-below,
+          lt-leb (g .asd) (symbolNumber s g (2 * i * g .nb) 1) pair-below-2,
+        )

@@ -11,7 +11,8 @@ use Rattle.cut_grammar.specs.Cut.{cutAt}
 use Rattle.cut_grammar.proofs.Places.{cut-places}
 use Rattle.load_general.specs.Held.{Held}
 
-pub cut-held : (s : List ℕ) (at : ℕ) {k a next : ℕ} {g : GeneralizedData} → ((i : ℕ) → getD s i 0 < 256) → cutAt s at 255 ≡ Whole k a next (Generalized g) → Held s g
+pub cut-held : (s : List ℕ) (at : ℕ) {k a next : ℕ} {g : GeneralizedData} → ((i : ℕ) → getD s i 0 < 256)
+    → cutAt s at 255 ≡ Whole k a next (Generalized g) → Held s g
 cut-held s at b e =
     let f = cut-places s at 255 e in
     let z = f .sizes b 255 (le-refl 255) (le-refl 255) in

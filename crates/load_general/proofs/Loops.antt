@@ -43,16 +43,20 @@ module _ (row : ℕ → Row) (n used : ℕ) (t₀ : List ℕ) where
   writing-starts e =
       let z : n - 0 ≡ n = omega arith in let u : used + 0 ≡ used = omega arith in (omega arith, refl, rw z e, rw (z, u) refl)
 
-  pub writing-over : (t : List ℕ) (i : ℕ) → n ≤ i → Writing row n used t₀ t i → t ≡ putAll tone t₀ used (partTones (rowsFrom row 0 n))
+  pub writing-over : (t : List ℕ) (i : ℕ) → n ≤ i → Writing row n used t₀ t i
+      → t ≡ putAll tone t₀ used (partTones (rowsFrom row 0 n))
   writing-over t i h v = let e : i ≡ n = omega arith in sym (end-put row n (used + n) t) ∙ (rw e at (v .3))
 
   module _ (t : List ℕ) (i : ℕ) (h : i < n) (v : Writing row n used t₀ t i) where
     pub writing-given : isGiven (row i) ≡ true
     writing-given = turn-row row i n h (v .2)
 
-    pub writing-on : (t′ : List ℕ) → length t′ ≡ length t → t′ ≡ putGiven t (used + i) (row i) → Writing row n used t₀ t′ (i + 1)
-    writing-on t′ l p = (omega arith, l ∙ v .1, turn-put row i n h (v .2) .rest, rw p (sym (turn-puts row i n h (v .2) t used) ∙ v .3))
+    pub writing-on : (t′ : List ℕ) → length t′ ≡ length t → t′ ≡ putGiven t (used + i) (row i)
+        → Writing row n used t₀ t′ (i + 1)
+    writing-on t′ l p =
+        (omega arith, l ∙ v .1, turn-put row i n h (v .2) .rest, rw p (sym (turn-puts row i n h (v .2) t used) ∙ v .3))
 
-    pub writing-tone : (t′ : List ℕ) (r : Tone) → length t′ ≡ length t → row i ≡ Gives r → t′ ≡ put tone t (used + i) r → Writing row n used t₀ t′ (i + 1)
+    pub writing-tone : (t′ : List ℕ) (r : Tone) → length t′ ≡ length t → row i ≡ Gives r → t′ ≡ put tone t (used + i) r
+        → Writing row n used t₀ t′ (i + 1)
     unfolding putGiven
     writing-tone t′ r l e p = writing-on t′ l (rw e p)

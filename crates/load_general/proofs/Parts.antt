@@ -15,7 +15,8 @@ use Rattle.rows.specs.declared.Tone.{Tone}
 use Rattle.load_general.specs.declared.Row.{Row}
 use Rattle.load_general.specs.declared.Row.the-variants.{Refused, Gives}
 use Rattle.load_general.specs.declared.Judged.the-variants as judged
-use Rattle.load_general.specs.General.{Part, refused, stops, tones, before, rowsFrom, entrySymbol, entryRow, singleRow, pairRow, pilotOf, singlesOf, pairsOf, dataPart}
+use Rattle.load_general.specs.General.{Part, refused, stops, tones, before, rowsFrom, entrySymbol, entryRow, singleRow, pairRow}
+use Rattle.load_general.specs.General.{pilotOf, singlesOf, pairsOf, dataPart}
 use Rattle.load_general.specs.Made.{isGiven, putGiven, judgedOf, isTones, partTones}
 
 -- two truths
@@ -96,10 +97,12 @@ module _ (row : ℕ → Row) (i n : ℕ) (h : i < n) where
   turn-put e = before-put (row i) (rowsFrom row (i + 1) (n - (i + 1))) (rw turn at e)
 
   pub turn-puts : isTones (rowsFrom row i (n - i)) ≡ true → (t : List ℕ) (used : ℕ)
-      → putAll tone t (used + i) (partTones (rowsFrom row i (n - i))) ≡ putAll tone (putGiven t (used + i) (row i)) (used + (i + 1)) (partTones (rowsFrom row (i + 1) (n - (i + 1))))
+      → putAll tone t (used + i) (partTones (rowsFrom row i (n - i)))
+      ≡ putAll tone (putGiven t (used + i) (row i)) (used + (i + 1)) (partTones (rowsFrom row (i + 1) (n - (i + 1))))
   turn-puts e t used =
       let k : used + i + 1 ≡ used + (i + 1) = omega arith in
-      rw turn (turn-put e .puts t (used + i) ∙ ap (λ (m : ℕ). putAll tone (putGiven t (used + i) (row i)) m (partTones (rowsFrom row (i + 1) (n - (i + 1))))) k)
+      rw turn (turn-put e .puts t (used + i)
+      ∙ ap (λ (m : ℕ). putAll tone (putGiven t (used + i) (row i)) m (partTones (rowsFrom row (i + 1) (n - (i + 1))))) k)
 
 -- rows that are all given
 pub all-given : (row : ℕ → Row) → ((j : ℕ) → isGiven (row j) ≡ true) → (i n : ℕ) → isTones (rowsFrom row i n) ≡ true
@@ -175,7 +178,8 @@ module _ (s : List ℕ) (g : GeneralizedData) where
   unfolding pilotOf
   pilot-sorted h e =
       let z = ne-eqb (g .totp) 0 (λ q. omega arith) in
-      let p = holds (eqb (g .npp) 1 || eqb (g .npp) 2) (rowsFrom (entryRow s g) 0 (g .totp)) _ (no-tones (leb (g .asp) (entrySymbol s g 0))) (rw z at e) in
+      let p = holds (eqb (g .npp) 1 || eqb (g .npp) 2) (rowsFrom (entryRow s g) 0 (g .totp)) _ (no-tones (leb (g .asp) (entrySymbol s g 0)))
+      (rw z at e) in
       record { ready = some-pulses (g .npp) p; rows = rw (z, p) }
 
   -- where the data part is tones, there are symbols, of fewer than 8 bits
@@ -195,7 +199,8 @@ module _ (s : List ℕ) (g : GeneralizedData) where
     some : 0 < g .totd
     some = let z = eqb-false (g .totd) 0 used in omega arith
 
-    pub singles-sorted : g .npd ≡ 2 → Sorted ((0 < g .totd) × (0 < g .npd) × (0 < g .nb) × (g .nb < 8)) (singleRow s g) (g .totd) (dataPart s g)
+    pub singles-sorted : g .npd ≡ 2
+        → Sorted ((0 < g .totd) × (0 < g .npd) × (0 < g .nb) × (g .nb < 8)) (singleRow s g) (g .totd) (dataPart s g)
     unfolding dataPart singlesOf
     singles-sorted h =
         let p = eq-eqb (g .npd) 2 h in
@@ -203,7 +208,8 @@ module _ (s : List ℕ) (g : GeneralizedData) where
         let z = eqb-false (g .nb) 0 b in
         record { ready = (some, omega arith, omega arith, leb-false 8 (g .nb) narrow); rows = rw (used, narrow, p, b) }
 
-    pub pairs-sorted : (g .npd ≡ 2 → ⊥) → Sorted ((0 < g .totd) × (0 < g .npd) × (1 < g .totd → 0 < g .nb) × (g .nb < 8)) (pairRow s g) (g .totd / 2) (dataPart s g)
+    pub pairs-sorted : (g .npd ≡ 2 → ⊥)
+        → Sorted ((0 < g .totd) × (0 < g .npd) × (1 < g .totd → 0 < g .nb) × (g .nb < 8)) (pairRow s g) (g .totd / 2) (dataPart s g)
     unfolding dataPart pairsOf isTones
     pairs-sorted h =
         let p = ne-eqb (g .npd) 2 h in

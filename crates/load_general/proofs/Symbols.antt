@@ -23,7 +23,8 @@ held uses size h = rw (ne-eqb uses 0 (λ e. omega arith))
 pub pilot-inside : (s : List ℕ) (g : GeneralizedData) → Places s g → 0 < g .totp → g .pilot + g .asp * (1 + g .npp * 2) ≤ length s
 pilot-inside s g p h = omega (arith, rw (held (g .totp) (g .asp) h) at (p .entries), p .symbols, p .from, p .inside)
 
-pub data-inside : (s : List ℕ) (g : GeneralizedData) → Places s g → 0 < g .totd → g .symbols + g .asd * (1 + g .npd * 2) ≤ length s
+pub data-inside : (s : List ℕ) (g : GeneralizedData) → Places s g → 0 < g .totd
+    → g .symbols + g .asd * (1 + g .npd * 2) ≤ length s
 data-inside s g p h = omega (arith, rw (held (g .totd) (g .asd) h) at (p .from), p .inside)
 
 -- thing i of n
@@ -31,7 +32,8 @@ pub below : (i n w : ℕ) → i < n → i * w + w ≤ n * w
 below i n w h = omega (arith, mul-le-mul-right w h, suc-mul i w)
 
 -- one symbol more
-pub kept-more : (s : List ℕ) (place pulses i : ℕ) (a : List (List ℕ)) (row : List ℕ) → Kept s place pulses i a → i < length a → row ≡ symbolWords (symbolAt s place pulses i) → Kept s place pulses (i + 1) (set a i row)
+pub kept-more : (s : List ℕ) (place pulses i : ℕ) (a : List (List ℕ)) (row : List ℕ) → Kept s place pulses i a → i < length a
+    → row ≡ symbolWords (symbolAt s place pulses i) → Kept s place pulses (i + 1) (set a i row)
 kept-more s place pulses i a row k h e j l =
     ⊎-elim
     (λ (b : j < i). getD-set-other a i j row [] (λ q. omega arith) ∙ k j b)
@@ -50,7 +52,8 @@ pub pair-even : (i n : ℕ) → 2 * i * n % 8 + 1 ≤ 7
 pair-even i n = rw (mul-assoc 2 i n) (omega arith)
 
 -- two symbols of two pulses are there
-pub two-inside : (s : List ℕ) (g : GeneralizedData) → Places s g → 0 < g .totd → g .asd ≡ 2 → g .npd ≡ 2 → g .symbols + 10 ≤ length s
+pub two-inside : (s : List ℕ) (g : GeneralizedData) → Places s g → 0 < g .totd → g .asd ≡ 2 → g .npd ≡ 2
+    → g .symbols + 10 ≤ length s
 two-inside s g p h a n = rw (a, n) at (data-inside s g p h)
 
 -- a symbol as the code keeps it, and back again

@@ -137,7 +137,8 @@ unfoldable pub withPilot : List ℕ → GeneralizedData → Part → Given
 withPilot s g refused = refused4
 withPilot s g stops = stop
 withPilot s g (tones ps) =
-    (ltb 0 (g .totd) && ordinary s g) ⇒ plain ps (symbolAt s (g .symbols) 2 0 .first) (symbolAt s (g .symbols) 2 1 .first) (usedBits (g .totd))
+    (ltb 0 (g .totd) && ordinary s g)
+    ⇒ plain ps (symbolAt s (g .symbols) 2 0 .first) (symbolAt s (g .symbols) 2 1 .first) (usedBits (g .totd))
     ∣ withData ps (dataPart s g)
 
 unfoldable pub generalOf : List ℕ → GeneralizedData → Given

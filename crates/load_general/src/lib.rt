@@ -59,7 +59,8 @@ fn pulse(tape: &[u8], at: u64) -> u16
     low_first(tape, at, 2) as u16
 }
 
-// Symbol i of an alphabet, a flag byte, which the source ignores, and n pulses, of which two are kept; its callers know it to lie in the tape.
+// Symbol i of an alphabet, a flag byte, which the source ignores, and n pulses, of which two are kept;
+// its callers know it to lie in the tape.
 pub fn symbol(tape: &[u8], place: u64, n: u32, i: u32) -> [u16; 2]
     requires { ⌜ (0 < n) × (place + i * (1 + n * 2) + (1 + n * 2) ≤ length (now tape)) ⌝ }
     ensures { λ r. ⌜ r ≡ symbolWords (symbolAt (now (tape .entry)) place n i) ⌝ }
@@ -104,7 +105,8 @@ fn shift(bit: u32, more: u32) -> u32
     7 - bit % 8 - more
 }
 
-// The symbol number at a bit of the data bytes, or `more` bits further down its byte; its callers know the piece to be one of this tape, and the bits to lie in it.
+// The symbol number at a bit of the data bytes, or `more` bits further down its byte;
+// its callers know the piece to be one of this tape, and the bits to lie in it.
 pub fn number_at(tape: &[u8], g: GeneralizedData, bit: u32, more: u32) -> u32
     requires { ⌜ Held (now tape) g × (g .nb < 8) × (bit < g .nb * g .totd) × (bit % 8 + more ≤ 7) ⌝ }
     ensures { λ r. ⌜ r ≡ symbolNumber (now (tape .entry)) g bit more ⌝ }

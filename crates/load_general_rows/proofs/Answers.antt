@@ -12,7 +12,8 @@ use Rattle.rows.specs.declared.Tone.{Tone}
 use Rattle.rows.proofs.Tables.{put-all-append}
 use Rattle.cut_grammar.specs.declared.GeneralizedData.{GeneralizedData}
 use Rattle.load_general.specs.declared.Made.the-variants as made
-use Rattle.load_general.specs.General.{Part, refused, stops, tones, symbolAt, ordinary, usedBits, dataPart, pilotOf, refused4, stop, plain, toned, withData, withPilot, generalOf}
+use Rattle.load_general.specs.General.{Part, refused, stops, tones, symbolAt, ordinary, usedBits, dataPart, pilotOf, refused4, stop, plain}
+use Rattle.load_general.specs.General.{toned, withData, withPilot, generalOf}
 use Rattle.load_general.specs.Made.{madeOf, leaves, MadeDone}
 use Rattle.load_general.proofs.Parts.{differ}
 
@@ -33,7 +34,8 @@ module _ (used : ℕ) (t : List ℕ) where
 
   -- a data block of n pilot rows
   module _ (ps : List Tone) (nil one last n : ℕ) (e : length ps ≡ n) where
-    pub plain-fits : leb n (capacityOf tone toneMost t - used) ≡ true → MadeDone (plain ps nil one last) used t (putAll tone t used ps) (made.Data n nil one last)
+    pub plain-fits : leb n (capacityOf tone toneMost t - used) ≡ true
+        → MadeDone (plain ps nil one last) used t (putAll tone t used ps) (made.Data n nil one last)
     unfolding madeOf leaves
     plain-fits b = record { answer = rw (e, b); table = rw (e, b) }
 
@@ -46,10 +48,12 @@ module _ (used : ℕ) (t : List ℕ) where
     both : length (ps ++ ts) ≡ n + m
     both = rw (length-append, e, f)
 
-    pub toned-fits : leb (n + m) (capacityOf tone toneMost t - used) ≡ true → MadeDone (toned (ps ++ ts)) used t (putAll tone (putAll tone t used ps) (used + n) ts) (made.Tones (n + m))
+    pub toned-fits : leb (n + m) (capacityOf tone toneMost t - used) ≡ true
+        → MadeDone (toned (ps ++ ts)) used t (putAll tone (putAll tone t used ps) (used + n) ts) (made.Tones (n + m))
     unfolding madeOf leaves
     toned-fits b =
-        let j : putAll tone t used (ps ++ ts) ≡ putAll tone (putAll tone t used ps) (used + n) ts = rw (put-all-append tone t used ps ts, e) in
+        let j : putAll tone t used (ps ++ ts) ≡ putAll tone (putAll tone t used ps) (used + n) ts =
+        rw (put-all-append tone t used ps ts, e) in
         record { answer = rw (both, b); table = rw (both, b) (sym j) }
 
     pub toned-full : leb (n + m) (capacityOf tone toneMost t - used) ≡ false → MadeDone (toned (ps ++ ts)) used t t made.Full
@@ -79,7 +83,8 @@ module _ (s : List ℕ) (g : GeneralizedData) where
   pilot-stop e = rw e
 
   module _ {p : Part} (ps : List Tone) (e : p ≡ tones ps) where
-    pub pilot-plain : (ltb 0 (g .totd) && ordinary s g) ≡ true → withPilot s g p ≡ plain ps (symbolAt s (g .symbols) 2 0 .first) (symbolAt s (g .symbols) 2 1 .first) (usedBits (g .totd))
+    pub pilot-plain : (ltb 0 (g .totd) && ordinary s g) ≡ true
+        → withPilot s g p ≡ plain ps (symbolAt s (g .symbols) 2 0 .first) (symbolAt s (g .symbols) 2 1 .first) (usedBits (g .totd))
     unfolding withPilot
     pilot-plain b = rw (e, b)
 

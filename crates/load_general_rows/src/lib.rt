@@ -24,7 +24,8 @@ ghost use Rattle.rows.specs.Rows.{tone, toneMost};
 ghost use Rattle.load_general.specs.declared.Row.the-variants.{Gives};
 ghost use Rattle.load_general.specs.declared.Judged.the-variants.{Rows};
 ghost use Rattle.load_general.specs.declared.Made.the-variants.{Data};
-ghost use Rattle.load_general.specs.General.{plainTone, entryRow, singleRow, pairRow, rowsFrom, pilotOf, equalHalves, ordinary, usedBits, dataPart, withData, withPilot, generalOf};
+ghost use Rattle.load_general.specs.General.{plainTone, entryRow, singleRow, pairRow, rowsFrom, pilotOf, equalHalves, ordinary, usedBits};
+ghost use Rattle.load_general.specs.General.{dataPart, withData, withPilot, generalOf};
 ghost use Rattle.load_general.specs.Made.{judgedOf, isGiven, putGiven, isTones, partTones, MadeDone};
 ghost use Rattle.load_general.specs.Held.{Held, Kept, symbolOf};
 
@@ -68,8 +69,10 @@ fn put_row(tones: &mut [u64], i: usize, r: Row)
 
 // The pilot entries, all of which are given and fit, from row `used` on.
 fn put_entries(tape: &[u8], g: GeneralizedData, tones: &mut [u64], used: usize)
-    requires { ⌜ Held (now tape) g × (0 < g .totp) × (0 < g .npp) × (isTones (rowsFrom (entryRow (now tape) g) 0 (g .totp)) ≡ true) × (g .totp ≤ capacityOf tone toneMost (now tones) - used) ⌝ }
-    ensures { λ _. ⌜ now (tones .exit) ≡ putAll tone (now (tones .entry)) used (partTones (rowsFrom (entryRow (now (tape .entry)) g) 0 (g .totp))) ⌝ }
+    requires { ⌜ Held (now tape) g × (0 < g .totp) × (0 < g .npp) × (isTones (rowsFrom (entryRow (now tape) g) 0 (g .totp)) ≡ true)
+        × (g .totp ≤ capacityOf tone toneMost (now tones) - used) ⌝ }
+    ensures { λ _. ⌜ now (tones .exit)
+        ≡ putAll tone (now (tones .entry)) used (partTones (rowsFrom (entryRow (now (tape .entry)) g) 0 (g .totp))) ⌝ }
 {
     let a = alphabet(tape, g.pilot, g.asp, g.npp);
     let mut i = 0;
@@ -93,7 +96,8 @@ fn one_cycle(len1: u16, len2: u16) -> Tone
 
 // Data symbol i, which is given.
 fn single_tone(tape: &[u8], a: &[[u16; 2]; SYMBOLS], g: GeneralizedData, i: u32) -> Tone
-    requires { ⌜ Held (now tape) g × Kept (now tape) (g .symbols) (g .npd) (g .asd) (now a) × (0 < g .nb) × (g .nb < 8) × (i < g .totd) × (isGiven (singleRow (now tape) g i) ≡ true) ⌝ }
+    requires { ⌜ Held (now tape) g × Kept (now tape) (g .symbols) (g .npd) (g .asd) (now a) × (0 < g .nb) × (g .nb < 8)
+        × (i < g .totd) × (isGiven (singleRow (now tape) g i) ≡ true) ⌝ }
     ensures { λ r. ⌜ singleRow (now (tape .entry)) g i ≡ Gives r ⌝ }
 {
     let b = number_at(tape, g, i * g.nb, 0);
@@ -103,7 +107,8 @@ fn single_tone(tape: &[u8], a: &[[u16; 2]; SYMBOLS], g: GeneralizedData, i: u32)
 
 // Pair i of data symbols, one pulse each, which is given.
 fn pair_tone(tape: &[u8], a: &[[u16; 2]; SYMBOLS], g: GeneralizedData, i: u32) -> Tone
-    requires { ⌜ Held (now tape) g × Kept (now tape) (g .symbols) (g .npd) (g .asd) (now a) × (0 < g .nb) × (g .nb < 8) × (i < g .totd / 2) × (isGiven (pairRow (now tape) g i) ≡ true) ⌝ }
+    requires { ⌜ Held (now tape) g × Kept (now tape) (g .symbols) (g .npd) (g .asd) (now a) × (0 < g .nb) × (g .nb < 8)
+        × (i < g .totd / 2) × (isGiven (pairRow (now tape) g i) ≡ true) ⌝ }
     ensures { λ r. ⌜ pairRow (now (tape .entry)) g i ≡ Gives r ⌝ }
 {
     let bit = 2 * i * g.nb;
@@ -116,8 +121,11 @@ fn pair_tone(tape: &[u8], a: &[[u16; 2]; SYMBOLS], g: GeneralizedData, i: u32) -
 
 // The data symbols, all of which are given and fit, from row `used` on.
 fn put_singles(tape: &[u8], g: GeneralizedData, tones: &mut [u64], used: usize)
-    requires { ⌜ Held (now tape) g × (0 < g .totd) × (0 < g .npd) × (0 < g .nb) × (g .nb < 8) × (isTones (rowsFrom (singleRow (now tape) g) 0 (g .totd)) ≡ true) × (g .totd ≤ capacityOf tone toneMost (now tones) - used) ⌝ }
-    ensures { λ _. ⌜ now (tones .exit) ≡ putAll tone (now (tones .entry)) used (partTones (rowsFrom (singleRow (now (tape .entry)) g) 0 (g .totd))) ⌝ }
+    requires { ⌜ Held (now tape) g × (0 < g .totd) × (0 < g .npd) × (0 < g .nb) × (g .nb < 8)
+        × (isTones (rowsFrom (singleRow (now tape) g) 0 (g .totd)) ≡ true)
+        × (g .totd ≤ capacityOf tone toneMost (now tones) - used) ⌝ }
+    ensures { λ _. ⌜ now (tones .exit)
+        ≡ putAll tone (now (tones .entry)) used (partTones (rowsFrom (singleRow (now (tape .entry)) g) 0 (g .totd))) ⌝ }
 {
     let a = alphabet(tape, g.symbols, g.asd, g.npd);
     let mut i = 0;
@@ -129,8 +137,11 @@ fn put_singles(tape: &[u8], g: GeneralizedData, tones: &mut [u64], used: usize)
 
 // The pairs of data symbols, all of which are given and fit, from row `used` on.
 fn put_pairs(tape: &[u8], g: GeneralizedData, tones: &mut [u64], used: usize)
-    requires { ⌜ Held (now tape) g × (0 < g .totd) × (0 < g .npd) × (1 < g .totd → 0 < g .nb) × (g .nb < 8) × (isTones (rowsFrom (pairRow (now tape) g) 0 (g .totd / 2)) ≡ true) × (g .totd / 2 ≤ capacityOf tone toneMost (now tones) - used) ⌝ }
-    ensures { λ _. ⌜ now (tones .exit) ≡ putAll tone (now (tones .entry)) used (partTones (rowsFrom (pairRow (now (tape .entry)) g) 0 (g .totd / 2))) ⌝ }
+    requires { ⌜ Held (now tape) g × (0 < g .totd) × (0 < g .npd) × (1 < g .totd → 0 < g .nb) × (g .nb < 8)
+        × (isTones (rowsFrom (pairRow (now tape) g) 0 (g .totd / 2)) ≡ true)
+        × (g .totd / 2 ≤ capacityOf tone toneMost (now tones) - used) ⌝ }
+    ensures { λ _. ⌜ now (tones .exit)
+        ≡ putAll tone (now (tones .entry)) used (partTones (rowsFrom (pairRow (now (tape .entry)) g) 0 (g .totd / 2))) ⌝ }
 {
     let a = alphabet(tape, g.symbols, g.asd, g.npd);
     let n = pairs_of(g.totd);
@@ -155,7 +166,8 @@ fn room_for(tones: &[u64], used: usize, rows: u64) -> bool
 
 // The pilot's rows, which are tones and fit.
 fn put_pilot(tape: &[u8], g: GeneralizedData, tones: &mut [u64], used: usize)
-    requires { ⌜ Held (now tape) g × (isTones (pilotOf (now tape) g) ≡ true) × (length (partTones (pilotOf (now tape) g)) ≤ capacityOf tone toneMost (now tones) - used) ⌝ }
+    requires { ⌜ Held (now tape) g × (isTones (pilotOf (now tape) g) ≡ true)
+        × (length (partTones (pilotOf (now tape) g)) ≤ capacityOf tone toneMost (now tones) - used) ⌝ }
     ensures { λ _. ⌜ now (tones .exit) ≡ putAll tone (now (tones .entry)) used (partTones (pilotOf (now (tape .entry)) g)) ⌝ }
 {
     if 0 < g.totp {
@@ -165,7 +177,8 @@ fn put_pilot(tape: &[u8], g: GeneralizedData, tones: &mut [u64], used: usize)
 
 // The data's rows, which are tones and fit.
 fn put_data(tape: &[u8], g: GeneralizedData, tones: &mut [u64], used: usize)
-    requires { ⌜ Held (now tape) g × (isTones (dataPart (now tape) g) ≡ true) × (length (partTones (dataPart (now tape) g)) ≤ capacityOf tone toneMost (now tones) - used) ⌝ }
+    requires { ⌜ Held (now tape) g × (isTones (dataPart (now tape) g) ≡ true)
+        × (length (partTones (dataPart (now tape) g)) ≤ capacityOf tone toneMost (now tones) - used) ⌝ }
     ensures { λ _. ⌜ now (tones .exit) ≡ putAll tone (now (tones .entry)) used (partTones (dataPart (now (tape .entry)) g)) ⌝ }
 {
     if g.npd == 2 {
@@ -196,8 +209,10 @@ fn data_made(rows: u32, zero: u16, one: u16, last: u32) -> Made
 
 // The data block, after a pilot of n rows.
 fn data_block(tape: &[u8], g: GeneralizedData, tones: &mut [u64], used: usize, n: u32) -> Made
-    requires { ⌜ Held (now tape) g × (judgedOf (pilotOf (now tape) g) ≡ Rows n) × ((ltb 0 (g .totd) && ordinary (now tape) g) ≡ true) ⌝ }
-    ensures { λ r. ⌜ MadeDone (withPilot (now (tape .entry)) g (pilotOf (now (tape .entry)) g)) used (now (tones .entry)) (now (tones .exit)) r ⌝ }
+    requires { ⌜ Held (now tape) g × (judgedOf (pilotOf (now tape) g) ≡ Rows n)
+        × ((ltb 0 (g .totd) && ordinary (now tape) g) ≡ true) ⌝ }
+    ensures { λ r.
+        ⌜ MadeDone (withPilot (now (tape .entry)) g (pilotOf (now (tape .entry)) g)) used (now (tones .entry)) (now (tones .exit)) r ⌝ }
 {
     if room_for(tones, used, n as u64) {
         put_pilot(tape, g, tones, used);
@@ -219,7 +234,8 @@ fn tone_block(
     m: u32,
 ) -> Made
     requires { ⌜ Held (now tape) g × (judgedOf (pilotOf (now tape) g) ≡ Rows n) × (judgedOf (dataPart (now tape) g) ≡ Rows m) ⌝ }
-    ensures { λ r. ⌜ MadeDone (withData (partTones (pilotOf (now (tape .entry)) g)) (dataPart (now (tape .entry)) g)) used (now (tones .entry)) (now (tones .exit)) r ⌝ }
+    ensures { λ r. ⌜ MadeDone (withData (partTones (pilotOf (now (tape .entry)) g)) (dataPart (now (tape .entry)) g)) used
+        (now (tones .entry)) (now (tones .exit)) r ⌝ }
 {
     let rows = n as u64 + m as u64;
     if room_for(tones, used, rows) {
@@ -234,7 +250,8 @@ fn tone_block(
 // The block, after a pilot of n rows; the data part is judged before a row is written.
 fn with_pilot(tape: &[u8], g: GeneralizedData, tones: &mut [u64], used: usize, n: u32) -> Made
     requires { ⌜ Held (now tape) g × (judgedOf (pilotOf (now tape) g) ≡ Rows n) ⌝ }
-    ensures { λ r. ⌜ MadeDone (withPilot (now (tape .entry)) g (pilotOf (now (tape .entry)) g)) used (now (tones .entry)) (now (tones .exit)) r ⌝ }
+    ensures { λ r.
+        ⌜ MadeDone (withPilot (now (tape .entry)) g (pilotOf (now (tape .entry)) g)) used (now (tones .entry)) (now (tones .exit)) r ⌝ }
 {
     if ordinary(tape, g) {
         return data_block(tape, g, tones, used, n);

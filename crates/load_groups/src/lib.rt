@@ -41,7 +41,8 @@ fn in_group(p: Pending) -> bool
 
 // A group's start, or a text: its name is pending, but inside a group.
 pub fn pend(s: State, new: Pending) -> State
-    ensures { λ a. ⌜ ((B N : ℕ) (bt tt : List ℕ) (t : Parsed) → Holds B N s bt tt t → GivesOut B N (On a) bt tt (pend new t)) ⌝ }
+    ensures { λ a.
+        ⌜ ((B N : ℕ) (bt tt : List ℕ) (t : Parsed) → Holds B N s bt tt t → GivesOut B N (On a) bt tt (pend new t)) ⌝ }
 {
     let p = s.pending;
     if in_group(p) {
@@ -65,7 +66,9 @@ fn paused(r: Block) -> Block
 
 // The last of n blocks with its pause, if any.
 fn pause_last(blocks: &mut [u64], n: u64)
-    ensures { λ _. ⌜ ((B : ℕ) (rs : List Block) → length (now (blocks .entry)) ≡ B → n ≡ length rs → length rs ≤ blockRoom B → now (blocks .entry) ≡ tableOf block rs B → now (blocks .exit) ≡ tableOf block (lastPaused rs) B) ⌝ }
+    ensures { λ _.
+        ⌜ ((B : ℕ) (rs : List Block) → length (now (blocks .entry)) ≡ B → n ≡ length rs → length rs ≤ blockRoom B
+        → now (blocks .entry) ≡ tableOf block rs B → now (blocks .exit) ≡ tableOf block (lastPaused rs) B) ⌝ }
 {
     if n == 0 {
         return;
@@ -77,7 +80,8 @@ fn pause_last(blocks: &mut [u64], n: u64)
 }
 
 pub fn group_end(s: State, blocks: &mut [u64]) -> State
-    ensures { λ a. ⌜ ((B N : ℕ) (tt : List ℕ) (t : Parsed) → Holds B N s (now (blocks .entry)) tt t → GivesOut B N (On a) (now (blocks .exit)) tt (endGroup t)) ⌝ }
+    ensures { λ a. ⌜ ((B N : ℕ) (tt : List ℕ) (t : Parsed) → Holds B N s (now (blocks .entry)) tt t
+        → GivesOut B N (On a) (now (blocks .exit)) tt (endGroup t)) ⌝ }
 {
     pause_last(blocks, s.blocks);
     let p = s.pending;

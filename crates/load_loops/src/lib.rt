@@ -42,7 +42,8 @@ fn loop_opened(b: Loop, start: u64, times: u32) -> Loop
 }
 
 pub fn loop_start(s: State, times: u32) -> State
-    ensures { λ a. ⌜ ((B N : ℕ) (bt tt : List ℕ) (t : Parsed) → Holds B N s bt tt t → GivesOut B N (On a) bt tt (openLoop times t)) ⌝ }
+    ensures { λ a.
+        ⌜ ((B N : ℕ) (bt tt : List ℕ) (t : Parsed) → Holds B N s bt tt t → GivesOut B N (On a) bt tt (openLoop times t)) ⌝ }
 {
     let b = s.body;
     with_body(s, loop_opened(b, s.blocks, times))
@@ -51,7 +52,8 @@ pub fn loop_start(s: State, times: u32) -> State
 // One body more: the blocks from `start` up to `end`.
 fn copy_body(s0: State, blocks: &mut [u64], start: u64, end: u64) -> Step
     requires { ⌜ end ≤ capacityOf block blockMost (now blocks) ⌝ }
-    ensures { λ a. ⌜ ((B N : ℕ) (tt : List ℕ) (t : Parsed) → Holds B N s0 (now (blocks .entry)) tt t → end ≤ length (t .blocks) → GivesOut B N a (now (blocks .exit)) tt (copyRows (blockRoom B) (slice start end (t .blocks)) t)) ⌝ }
+    ensures { λ a. ⌜ ((B N : ℕ) (tt : List ℕ) (t : Parsed) → Holds B N s0 (now (blocks .entry)) tt t → end ≤ length (t .blocks)
+        → GivesOut B N a (now (blocks .exit)) tt (copyRows (blockRoom B) (slice start end (t .blocks)) t)) ⌝ }
 {
     let mut s = s0;
     let mut i = start;
@@ -68,7 +70,8 @@ fn copy_body(s0: State, blocks: &mut [u64], start: u64, end: u64) -> Step
 // So many bodies more; each adds a block or refuses, since `start` is below `end`.
 fn copy_bodies(s0: State, blocks: &mut [u64], start: u64, end: u64, times: u32) -> Step
     requires { ⌜ end ≤ capacityOf block blockMost (now blocks) ⌝ }
-    ensures { λ a. ⌜ ((B N : ℕ) (tt : List ℕ) (t : Parsed) → Holds B N s0 (now (blocks .entry)) tt t → end ≤ length (t .blocks) → GivesOut B N a (now (blocks .exit)) tt (copies (blockRoom B) times (slice start end (t .blocks)) t)) ⌝ }
+    ensures { λ a. ⌜ ((B N : ℕ) (tt : List ℕ) (t : Parsed) → Holds B N s0 (now (blocks .entry)) tt t → end ≤ length (t .blocks)
+        → GivesOut B N a (now (blocks .exit)) tt (copies (blockRoom B) times (slice start end (t .blocks)) t)) ⌝ }
 {
     let mut s = s0;
     let mut left = times;
@@ -84,7 +87,8 @@ fn copy_bodies(s0: State, blocks: &mut [u64], start: u64, end: u64, times: u32) 
 
 // The bodies that an open loop's end appends; an empty body costs nothing, however often it is repeated.
 fn repeat(s: State, blocks: &mut [u64], start: u64, times: u32) -> Step
-    ensures { λ a. ⌜ ((B N : ℕ) (tt : List ℕ) (t : Parsed) → Holds B N s (now (blocks .entry)) tt t → GivesOut B N a (now (blocks .exit)) tt (copies (blockRoom B) times (drop start (t .blocks)) t)) ⌝ }
+    ensures { λ a. ⌜ ((B N : ℕ) (tt : List ℕ) (t : Parsed) → Holds B N s (now (blocks .entry)) tt t
+        → GivesOut B N a (now (blocks .exit)) tt (copies (blockRoom B) times (drop start (t .blocks)) t)) ⌝ }
 {
     let end = s.blocks;
     if end <= start {
@@ -97,7 +101,8 @@ fn repeat(s: State, blocks: &mut [u64], start: u64, times: u32) -> Step
 }
 
 pub fn loop_end(s: State, blocks: &mut [u64]) -> Step
-    ensures { λ a. ⌜ ((B N : ℕ) (tt : List ℕ) (t : Parsed) → Holds B N s (now (blocks .entry)) tt t → GivesOut B N a (now (blocks .exit)) tt (closeLoop (blockRoom B) t)) ⌝ }
+    ensures { λ a. ⌜ ((B N : ℕ) (tt : List ℕ) (t : Parsed) → Holds B N s (now (blocks .entry)) tt t
+        → GivesOut B N a (now (blocks .exit)) tt (closeLoop (blockRoom B) t)) ⌝ }
 {
     let b = s.body;
     match b {

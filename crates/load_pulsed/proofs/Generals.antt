@@ -49,7 +49,8 @@ module _ (room : ℕ) where
   made-refused refused4 e = refl
   made-refused stop e = absurd (let z : _≡_ {A = ℕ} 0 1 = cc in omega arith)
   made-refused (plain ts nil one last) e =
-      let q : Refused ≡ Data (length ts) nil one last = left-of (leb (length ts) room) e (λ p. let z : _≡_ {A = ℕ} 0 1 = cc in omega arith) .1 in
+      let q : Refused ≡ Data (length ts) nil one last =
+      left-of (leb (length ts) room) e (λ p. let z : _≡_ {A = ℕ} 0 1 = cc in omega arith) .1 in
       absurd (let z : _≡_ {A = ℕ} 0 1 = cc in omega arith)
   made-refused (toned ts) e =
       let q : Refused ≡ Tones (length ts) = left-of (leb (length ts) room) e (λ p. let z : _≡_ {A = ℕ} 0 1 = cc in omega arith) .1 in
@@ -60,14 +61,16 @@ module _ (room : ℕ) where
   made-stop refused4 e = absurd (let z : _≡_ {A = ℕ} 0 1 = cc in omega arith)
   made-stop stop e = refl
   made-stop (plain ts nil one last) e =
-      let q : Stop ≡ Data (length ts) nil one last = left-of (leb (length ts) room) e (λ p. let z : _≡_ {A = ℕ} 0 1 = cc in omega arith) .1 in
+      let q : Stop ≡ Data (length ts) nil one last =
+      left-of (leb (length ts) room) e (λ p. let z : _≡_ {A = ℕ} 0 1 = cc in omega arith) .1 in
       absurd (let z : _≡_ {A = ℕ} 0 1 = cc in omega arith)
   made-stop (toned ts) e =
       let q : Stop ≡ Tones (length ts) = left-of (leb (length ts) room) e (λ p. let z : _≡_ {A = ℕ} 0 1 = cc in omega arith) .1 in
       absurd (let z : _≡_ {A = ℕ} 0 1 = cc in omega arith)
 
   -- so many rows, and they fit
-  made-data : (given : Given) {n nil one last : ℕ} → Data n nil one last ≡ madeOf room given → (ts : List Tone) × (given ≡ plain ts nil one last) × (n ≡ length ts) × (leb (length ts) room ≡ true)
+  made-data : (given : Given) {n nil one last : ℕ} → Data n nil one last ≡ madeOf room given
+      → (ts : List Tone) × (given ≡ plain ts nil one last) × (n ≡ length ts) × (leb (length ts) room ≡ true)
   unfolding madeOf
   made-data refused4 e = absurd (let z : _≡_ {A = ℕ} 0 1 = cc in omega arith)
   made-data stop e = absurd (let z : _≡_ {A = ℕ} 0 1 = cc in omega arith)
@@ -80,15 +83,18 @@ module _ (room : ℕ) where
       let m : n ≡ length ts = cc in
       (ts, rw (i, j, k), m, l .0)
   made-data (toned ts) {n} {nil} {one} {last} e =
-      let q : Data n nil one last ≡ Tones (length ts) = left-of (leb (length ts) room) e (λ p. let z : _≡_ {A = ℕ} 0 1 = cc in omega arith) .1 in
+      let q : Data n nil one last ≡ Tones (length ts) =
+      left-of (leb (length ts) room) e (λ p. let z : _≡_ {A = ℕ} 0 1 = cc in omega arith) .1 in
       absurd (let z : _≡_ {A = ℕ} 0 1 = cc in omega arith)
 
-  made-tones : (given : Given) {n : ℕ} → Tones n ≡ madeOf room given → (ts : List Tone) × (given ≡ toned ts) × (n ≡ length ts) × (leb (length ts) room ≡ true)
+  made-tones : (given : Given) {n : ℕ} → Tones n ≡ madeOf room given
+      → (ts : List Tone) × (given ≡ toned ts) × (n ≡ length ts) × (leb (length ts) room ≡ true)
   unfolding madeOf
   made-tones refused4 e = absurd (let z : _≡_ {A = ℕ} 0 1 = cc in omega arith)
   made-tones stop e = absurd (let z : _≡_ {A = ℕ} 0 1 = cc in omega arith)
   made-tones (plain ts a b d) {n} e =
-      let q : Tones n ≡ Data (length ts) a b d = left-of (leb (length ts) room) e (λ p. let z : _≡_ {A = ℕ} 0 1 = cc in omega arith) .1 in
+      let q : Tones n ≡ Data (length ts) a b d =
+      left-of (leb (length ts) room) e (λ p. let z : _≡_ {A = ℕ} 0 1 = cc in omega arith) .1 in
       absurd (let z : _≡_ {A = ℕ} 0 1 = cc in omega arith)
   made-tones (toned ts) {n} e =
       let l = left-of (leb (length ts) room) e (λ p. let z : _≡_ {A = ℕ} 0 1 = cc in omega arith) in
@@ -96,11 +102,14 @@ module _ (room : ℕ) where
       (ts, refl, cc, l .0)
 
 -- rows that do not fit
-no-room : (lent : Lent) (origin : Origin) (d : Sound) (t : Parsed) → lent .tones < length (t .tones) + length (d .tones) → addSound lent origin d t ≡ no (Refusal tonesFull)
+no-room : (lent : Lent) (origin : Origin) (d : Sound) (t : Parsed) → lent .tones < length (t .tones) + length (d .tones)
+    → addSound lent origin d t ≡ no (Refusal tonesFull)
 unfolding addSound addRows addTones _⟫_
 no-room lent origin d t h = rw (lt-leb (length (t .tones) + length (d .tones)) (lent .tones) h)
 
-made-full : (lent : Lent) (model : ℕ) (origin : Origin) (g : GeneralizedData) (t : Parsed) (given : Given) → Full ≡ madeOf (lent .tones - length (t .tones)) given → does lent model origin (generalDeed g given) t ≡ no (Refusal tonesFull)
+made-full : (lent : Lent) (model : ℕ) (origin : Origin) (g : GeneralizedData) (t : Parsed) (given : Given)
+    → Full ≡ madeOf (lent .tones - length (t .tones)) given
+    → does lent model origin (generalDeed g given) t ≡ no (Refusal tonesFull)
 unfolding madeOf does generalDeed
 made-full lent model origin g t refused4 e = absurd (let z : _≡_ {A = ℕ} 0 1 = cc in omega arith)
 made-full lent model origin g t stop e = absurd (let z : _≡_ {A = ℕ} 0 1 = cc in omega arith)
@@ -112,61 +121,96 @@ made-full lent model origin g t (toned ts) e =
     one-sound lent origin _ t ∙ no-room lent origin _ t (omega (arith, leb-false (length ts) (lent .tones - length (t .tones)) b))
 
 -- the rows of an answer fit after those in use
-pub data-fits : {given : Given} {used n nil one last : ℕ} {tt tt′ : List ℕ} {r : Made} → MadeDone given used tt tt′ r → r ≡ Data n nil one last → n ≤ capacityOf tone toneMost tt - used
-data-fits {given} {used} {tt = tt} d e = let m = made-data (capacityOf tone toneMost tt - used) given (sym e ∙ d .answer) in omega (arith, m .2, leb-true (length (m .0)) (capacityOf tone toneMost tt - used) (m .3))
+pub data-fits : {given : Given} {used n nil one last : ℕ} {tt tt′ : List ℕ} {r : Made} → MadeDone given used tt tt′ r
+    → r ≡ Data n nil one last → n ≤ capacityOf tone toneMost tt - used
+data-fits {given} {used} {tt = tt} d e =
+    let m = made-data (capacityOf tone toneMost tt - used) given (sym e ∙ d .answer) in
+    omega (arith, m .2, leb-true (length (m .0)) (capacityOf tone toneMost tt - used) (m .3))
 
-pub tones-fit : {given : Given} {used n : ℕ} {tt tt′ : List ℕ} {r : Made} → MadeDone given used tt tt′ r → r ≡ Tones n → n ≤ capacityOf tone toneMost tt - used
-tones-fit {given} {used} {tt = tt} d e = let m = made-tones (capacityOf tone toneMost tt - used) given (sym e ∙ d .answer) in omega (arith, m .2, leb-true (length (m .0)) (capacityOf tone toneMost tt - used) (m .3))
+pub tones-fit : {given : Given} {used n : ℕ} {tt tt′ : List ℕ} {r : Made} → MadeDone given used tt tt′ r → r ≡ Tones n
+    → n ≤ capacityOf tone toneMost tt - used
+tones-fit {given} {used} {tt = tt} d e =
+    let m = made-tones (capacityOf tone toneMost tt - used) given (sym e ∙ d .answer) in
+    omega (arith, m .2, leb-true (length (m .0)) (capacityOf tone toneMost tt - used) (m .3))
 
 module _ {B N : ℕ} {s : State} {bt tt : List ℕ} {t : Parsed} (h : Holds B N s bt tt t) where
   room-left : capacityOf tone toneMost tt - s .tones ≡ toneRoom N - length (t .tones)
   room-left = rw (h .lenT, h .nt)
 
   -- rows put after the tape's own, and the block over them
-  rows-then : {x : Step} {bt′ tt′ : List ℕ} {a : State} {b : Block} {n : ℕ} (origin : Origin) (d : Sound) → n ≡ length (d .tones) → length (d .tones) ≤ capacityOf tone toneMost tt - s .tones
-      → tt′ ≡ putAll tone tt (s .tones) (d .tones) → length tt′ ≡ length tt → a ≡ withUsed (s .tones + n) s → b ≡ rowOf origin d (s .tones)
-      → ((u : Parsed) → Holds B N a bt tt′ u → GivesOut B N x bt′ tt′ (addBlock (blockRoom B) b u)) → GivesOut B N x bt′ tt′ (addSound (lentOf B N) origin d t)
+  rows-then : {x : Step} {bt′ tt′ : List ℕ} {a : State} {b : Block} {n : ℕ} (origin : Origin) (d : Sound)
+      → n ≡ length (d .tones) → length (d .tones) ≤ capacityOf tone toneMost tt - s .tones
+      → tt′ ≡ putAll tone tt (s .tones) (d .tones) → length tt′ ≡ length tt → a ≡ withUsed (s .tones + n) s
+      → b ≡ rowOf origin d (s .tones)
+      → ((u : Parsed) → Holds B N a bt tt′ u → GivesOut B N x bt′ tt′ (addBlock (blockRoom B) b u))
+      → GivesOut B N x bt′ tt′ (addSound (lentOf B N) origin d t)
   unfolding addSound addRows addTones _⟫_
   rows-then {tt′ = tt′} {n = n} origin d i f p l a b k =
       let ts = d .tones in
       let m : length (t .tones) + length ts ≤ toneRoom N = omega (arith, room-left, f, h .roomT) in
       let now : Holds B N (withUsed (s .tones + n) s) bt tt′ (withTones ts t) =
-      record { nb = h .nb; nt = rw length-append (omega (arith, h .nt, i)); pends = h .pends; loops = h .loops; roomB = h .roomB; roomT = rw length-append m; lenB = h .lenB; lenT = l ∙ h .lenT; isB = h .isB; isT = p ∙ put-all-next tone toneMost (t .tones) ts N (s .tones) (h .isT) (h .nt) f } in
-      rw (le-leb (length (t .tones) + length ts) (toneRoom N) m, ← h .nt, ← b) (k (withTones ts t) (subst (λ (z : State). Holds B N z bt tt′ (withTones ts t)) (sym a) now))
+      record {
+        nb = h .nb;
+        nt = rw length-append (omega (arith, h .nt, i));
+        pends = h .pends;
+        loops = h .loops;
+        roomB = h .roomB;
+        roomT = rw length-append m;
+        lenB = h .lenB;
+        lenT = l ∙ h .lenT;
+        isB = h .isB;
+        isT = p ∙ put-all-next tone toneMost (t .tones) ts N (s .tones) (h .isT) (h .nt) f;
+      } in
+      rw (le-leb (length (t .tones) + length ts) (toneRoom N) m, ← h .nt, ← b)
+      (k (withTones ts t) (subst (λ (z : State). Holds B N z bt tt′ (withTones ts t)) (sym a) now))
 
-  module _ (g : GeneralizedData) (model : ℕ) (origin : Origin) {given : Given} {r : Made} {tt′ : List ℕ} (d : MadeDone given (s .tones) tt tt′ r) where
-    pub general-no4 : {bt′ tt″ : List ℕ} → r ≡ Refused → GivesOut B N (No (Refusal generalised)) bt′ tt″ (does (lentOf B N) model origin (generalDeed g given) t)
+  module _ (g : GeneralizedData) (model : ℕ) (origin : Origin) {given : Given} {r : Made} {tt′ : List ℕ}
+      (d : MadeDone given (s .tones) tt tt′ r) where
+    pub general-no4 : {bt′ tt″ : List ℕ} → r ≡ Refused
+        → GivesOut B N (No (Refusal generalised)) bt′ tt″ (does (lentOf B N) model origin (generalDeed g given) t)
     unfolding does generalDeed
     general-no4 e = rw (made-refused (capacityOf tone toneMost tt - s .tones) given (sym e ∙ d .answer)) refuses
 
-    pub general-no5 : {bt′ tt″ : List ℕ} → r ≡ Full → GivesOut B N (No (Refusal tonesFull)) bt′ tt″ (does (lentOf B N) model origin (generalDeed g given) t)
-    general-no5 e = rw (made-full (lentOf B N) model origin g t given (sym e ∙ d .answer ∙ ap (λ (n : ℕ). madeOf n given) room-left)) refuses
+    pub general-no5 : {bt′ tt″ : List ℕ} → r ≡ Full
+        → GivesOut B N (No (Refusal tonesFull)) bt′ tt″ (does (lentOf B N) model origin (generalDeed g given) t)
+    general-no5 e =
+        rw (made-full (lentOf B N) model origin g t given (sym e ∙ d .answer ∙ ap (λ (n : ℕ). madeOf n given) room-left)) refuses
 
-    pub general-stop : {x : Step} {bt′ : List ℕ} → r ≡ Stop → GivesOut B N x bt′ tt (addSound (lentOf B N) origin stopSound t) → GivesOut B N x bt′ tt′ (does (lentOf B N) model origin (generalDeed g given) t)
+    pub general-stop : {x : Step} {bt′ : List ℕ} → r ≡ Stop → GivesOut B N x bt′ tt (addSound (lentOf B N) origin stopSound t)
+        → GivesOut B N x bt′ tt′ (does (lentOf B N) model origin (generalDeed g given) t)
     unfolding does generalDeed leaves rowOf
     general-stop e k =
         let q = made-stop (capacityOf tone toneMost tt - s .tones) given (sym e ∙ d .answer) in
         let w : tt′ ≡ tt = rw q at (d .table) in
         rw (q, w, one-sound (lentOf B N) origin stopSound t) k
 
-    pub general-data : {x : Step} {bt′ : List ℕ} {n nil one last : ℕ} {a : State} {b : Block} → r ≡ Data n nil one last → length tt′ ≡ length tt → a ≡ withUsed (s .tones + n) s
+    pub general-data : {x : Step} {bt′ : List ℕ} {n nil one last : ℕ} {a : State} {b : Block} → r ≡ Data n nil one last
+        → length tt′ ≡ length tt → a ≡ withUsed (s .tones + n) s
         → b ≡ rowFor origin (s .tones) n (dataBits (g .from) (g .size) nil one last) (endsAfter (ms (g .pause))) 1
-        → ((u : Parsed) → Holds B N a bt tt′ u → GivesOut B N x bt′ tt′ (addBlock (blockRoom B) b u)) → GivesOut B N x bt′ tt′ (does (lentOf B N) model origin (generalDeed g given) t)
+        → ((u : Parsed) → Holds B N a bt tt′ u → GivesOut B N x bt′ tt′ (addBlock (blockRoom B) b u))
+        → GivesOut B N x bt′ tt′ (does (lentOf B N) model origin (generalDeed g given) t)
     unfolding does generalDeed leaves rowOf
     general-data {nil = nil} {one} {last} e l a b k =
         let m = made-data (capacityOf tone toneMost tt - s .tones) given (sym e ∙ d .answer) in
         let ts = m .0 in
         let w : tt′ ≡ putAll tone tt (s .tones) ts = rw (m .1, m .3) at (d .table) in
         let d = dataSound ts (dataBits (g .from) (g .size) nil one last) (ms (g .pause)) in
-        rw (m .1, one-sound (lentOf B N) origin d t) (rows-then origin d (m .2) (leb-true (length ts) (capacityOf tone toneMost tt - s .tones) (m .3)) w l a (b ∙ ap (λ (i : ℕ). rowFor origin (s .tones) i (dataBits (g .from) (g .size) nil one last) (endsAfter (ms (g .pause))) 1) (m .2)) k)
+        rw (m .1, one-sound (lentOf B N) origin d t)
+        (rows-then origin d (m .2) (leb-true (length ts) (capacityOf tone toneMost tt - s .tones) (m .3)) w l a (b
+        ∙ ap (λ (i : ℕ). rowFor origin (s .tones) i (dataBits (g .from) (g .size) nil one last) (endsAfter (ms (g .pause))) 1) (m .2))
+        k)
 
-    pub general-tones : {x : Step} {bt′ : List ℕ} {n : ℕ} {a : State} {b : Block} → r ≡ Tones n → length tt′ ≡ length tt → a ≡ withUsed (s .tones + n) s
+    pub general-tones : {x : Step} {bt′ : List ℕ} {n : ℕ} {a : State} {b : Block} → r ≡ Tones n → length tt′ ≡ length tt
+        → a ≡ withUsed (s .tones + n) s
         → b ≡ rowFor origin (s .tones) n noBits (endsAfter (ms (g .pause))) 1
-        → ((u : Parsed) → Holds B N a bt tt′ u → GivesOut B N x bt′ tt′ (addBlock (blockRoom B) b u)) → GivesOut B N x bt′ tt′ (does (lentOf B N) model origin (generalDeed g given) t)
+        → ((u : Parsed) → Holds B N a bt tt′ u → GivesOut B N x bt′ tt′ (addBlock (blockRoom B) b u))
+        → GivesOut B N x bt′ tt′ (does (lentOf B N) model origin (generalDeed g given) t)
     unfolding does generalDeed leaves rowOf
     general-tones e l a b k =
         let m = made-tones (capacityOf tone toneMost tt - s .tones) given (sym e ∙ d .answer) in
         let ts = m .0 in
         let w : tt′ ≡ putAll tone tt (s .tones) ts = rw (m .1, m .3) at (d .table) in
         let d = dataSound ts noBits (ms (g .pause)) in
-        rw (m .1, one-sound (lentOf B N) origin d t) (rows-then origin d (m .2) (leb-true (length ts) (capacityOf tone toneMost tt - s .tones) (m .3)) w l a (b ∙ ap (λ (i : ℕ). rowFor origin (s .tones) i noBits (endsAfter (ms (g .pause))) 1) (m .2)) k)
+        rw (m .1, one-sound (lentOf B N) origin d t)
+        (rows-then origin d (m .2) (leb-true (length ts) (capacityOf tone toneMost tt - s .tones) (m .3)) w l a
+        (b ∙ ap (λ (i : ℕ). rowFor origin (s .tones) i noBits (endsAfter (ms (g .pause))) 1) (m .2)) k)

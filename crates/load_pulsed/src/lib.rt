@@ -48,7 +48,8 @@ pub fn pulse_blocks(
     n: u64,
 ) -> Step
     requires { ⌜ from + n * 4 ≤ length (now tape) ⌝ }
-    ensures { λ x. ⌜ Does (λ lent. addSounds lent origin (pairSounds (now (tape .entry)) from 0 n)) s0 x (now (blocks .entry)) (now (tones .entry)) (now (blocks .exit)) (now (tones .exit)) ⌝ }
+    ensures { λ x. ⌜ Does (λ lent. addSounds lent origin (pairSounds (now (tape .entry)) from 0 n)) s0 x (now (blocks .entry))
+        (now (tones .entry)) (now (blocks .exit)) (now (tones .exit)) ⌝ }
 {
     let mut s = s0;
     let mut i = 0;
@@ -95,7 +96,9 @@ pub fn generalized_data_block(
     g: GeneralizedData,
 ) -> Step
     requires { ⌜ Held (now tape) g ⌝ }
-    ensures { λ x. ⌜ ((model : ℕ) → Does (λ lent. does lent model origin (generalDeed g (generalOf (now (tape .entry)) g))) s x (now (blocks .entry)) (now (tones .entry)) (now (blocks .exit)) (now (tones .exit))) ⌝ }
+    ensures { λ x. ⌜ ((model : ℕ)
+        → Does (λ lent. does lent model origin (generalDeed g (generalOf (now (tape .entry)) g))) s x (now (blocks .entry))
+        (now (tones .entry)) (now (blocks .exit)) (now (tones .exit))) ⌝ }
 {
     match general(tape, g, tones, s.tones as usize) {
         Made::Refused => Step::No(Halt::Refusal(GENERALISED)),

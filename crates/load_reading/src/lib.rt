@@ -44,7 +44,8 @@ fn too_many(r: Block) -> bool
 // Whether one of the first n blocks has.
 fn too_many_bits(blocks: &[u64], n: u64) -> bool
     requires { ⌜ n ≤ capacityOf block blockMost (now blocks) ⌝ }
-    ensures { λ b. ⌜ ((B : ℕ) (rs : List Block) → n ≡ length rs → now (blocks .entry) ≡ tableOf block rs B → b ≡ tooManyBits rs) ⌝ }
+    ensures { λ b.
+        ⌜ ((B : ℕ) (rs : List Block) → n ≡ length rs → now (blocks .entry) ≡ tableOf block rs B → b ≡ tooManyBits rs) ⌝ }
 {
     let mut i = 0;
     while i < n {
@@ -59,7 +60,8 @@ fn too_many_bits(blocks: &[u64], n: u64) -> bool
 // A TZX; our crates alone call it, over blank tables.
 pub fn read_tzx(tape: &[u8], model: u32, blocks: &mut [u64], tones: &mut [u64]) -> Reading
     requires { ⌜ Blank (now blocks) × Blank (now tones) ⌝ }
-    ensures { λ r. ⌜ Finds (length (now (blocks .entry))) (length (now (tones .entry))) r (now (blocks .exit)) (now (tones .exit)) (readTzx (lentOf (length (now (blocks .entry))) (length (now (tones .entry)))) (now (tape .entry)) model) ⌝ }
+    ensures { λ r. ⌜ Finds (length (now (blocks .entry))) (length (now (tones .entry))) r (now (blocks .exit)) (now (tones .exit))
+        (readTzx (lentOf (length (now (blocks .entry))) (length (now (tones .entry)))) (now (tape .entry)) model) ⌝ }
 {
     match head(tape) {
         Heading::Version { major: _, minor: _ } => {
@@ -83,7 +85,8 @@ pub fn read_tzx(tape: &[u8], model: u32, blocks: &mut [u64], tones: &mut [u64]) 
 // A TAP; our crates alone call it, over blank tables.
 pub fn read_tap(tape: &[u8], blocks: &mut [u64], tones: &mut [u64]) -> Reading
     requires { ⌜ Blank (now blocks) × Blank (now tones) ⌝ }
-    ensures { λ r. ⌜ Finds (length (now (blocks .entry))) (length (now (tones .entry))) r (now (blocks .exit)) (now (tones .exit)) (readTap (lentOf (length (now (blocks .entry))) (length (now (tones .entry)))) (now (tape .entry))) ⌝ }
+    ensures { λ r. ⌜ Finds (length (now (blocks .entry))) (length (now (tones .entry))) r (now (blocks .exit)) (now (tones .exit))
+        (readTap (lentOf (length (now (blocks .entry))) (length (now (tones .entry)))) (now (tape .entry))) ⌝ }
 {
     let mut s = new_state();
     let mut at = 0;

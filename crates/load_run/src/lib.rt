@@ -21,7 +21,9 @@ const FULL: u32 = 255;
 // The pieces of a TZX, from behind its head to the end; our crates alone call it, over blank tables.
 pub fn read_pieces(tape: &[u8], model: u32, blocks: &mut [u64], tones: &mut [u64]) -> Reading
     requires { ⌜ Blank (now blocks) × Blank (now tones) ⌝ }
-    ensures { λ r. ⌜ Finds (length (now (blocks .entry))) (length (now (tones .entry))) r (now (blocks .exit)) (now (tones .exit)) (foldFrom (tzxSee (lentOf (length (now (blocks .entry))) (length (now (tones .entry)))) (now (tape .entry)) model) (length (now (tape .entry))) 10 empty) ⌝ }
+    ensures { λ r. ⌜ Finds (length (now (blocks .entry))) (length (now (tones .entry))) r (now (blocks .exit)) (now (tones .exit))
+        (foldFrom (tzxSee (lentOf (length (now (blocks .entry))) (length (now (tones .entry)))) (now (tape .entry)) model)
+        (length (now (tape .entry))) 10 empty) ⌝ }
 {
     let mut s = new_state();
     let mut at = 10;

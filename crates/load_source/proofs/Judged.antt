@@ -24,14 +24,16 @@ use Rattle.load_blocks.specs.Adds.{Lent}
 use Rattle.load_source.specs.Source.{Verdict, done, failed, refused, tooManyBits, bitsJudged, headed, readTzx}
 use Rattle.load_source.specs.Does.{Finds, ends, fails, refuses}
 
-bits-more : (rs : List Block) (i : ℕ) (d : Block) → i < length rs → tooManyBits (drop i rs) ≡ ((ltb 0 (getD rs i d .size) && ltb 8 (getD rs i d .last)) ⇒ true ∣ tooManyBits (drop (i + 1) rs))
+bits-more : (rs : List Block) (i : ℕ) (d : Block) → i < length rs
+    → tooManyBits (drop i rs) ≡ ((ltb 0 (getD rs i d .size) && ltb 8 (getD rs i d .last)) ⇒ true ∣ tooManyBits (drop (i + 1) rs))
 unfolding tooManyBits
 bits-more [] i d h = absurd (omega arith)
 bits-more (r ∷ rs) zero d h = refl
 bits-more (r ∷ rs) (suc i) d h = let e : suc i + 1 ≡ suc (i + 1) = omega arith in rw e (bits-more rs i d (omega arith))
 
 -- one row, then the others
-pub bits-turn : (B : ℕ) (rs : List Block) (i : ℕ) {b : Bool} {bt : List ℕ} {r : Block} → bt ≡ tableOf block rs B → i < length rs → r ≡ get block bt i
+pub bits-turn : (B : ℕ) (rs : List Block) (i : ℕ) {b : Bool} {bt : List ℕ} {r : Block} → bt ≡ tableOf block rs B → i < length rs
+    → r ≡ get block bt i
     → b ≡ (ltb 0 (r .size) && ltb 8 (r .last)) → tooManyBits (drop i rs) ≡ (b ⇒ true ∣ tooManyBits (drop (i + 1) rs))
 bits-turn B rs i {r = r} e h q s =
     let g : r ≡ getD rs i r = q ∙ ap (λ (t : List ℕ). get block t i) e ∙ get-row block rs (zeros B) i r h in
@@ -51,7 +53,8 @@ module _ {B N : ℕ} {r : Reading} {bt tt : List ℕ} {o : Verdict} (f : Finds B
   pub found-done : {s : State} → r ≡ Done s → (t : Parsed) × (o ≡ done t) × Holds B N s bt tt t
   found-done = by-cases f
     where
-      by-cases : {r : Reading} {o : Verdict} {s : State} → Finds B N r bt tt o → r ≡ Done s → (t : Parsed) × (o ≡ done t) × Holds B N s bt tt t
+      by-cases : {r : Reading} {o : Verdict} {s : State} → Finds B N r bt tt o → r ≡ Done s
+          → (t : Parsed) × (o ≡ done t) × Holds B N s bt tt t
       by-cases {s = s} (ends {s = s₁} {t = t} h) e = let q : s₁ ≡ s = cc in (t, refl, rw q at h)
       by-cases (fails) e = let z : _≡_ {A = ℕ} 0 1 = cc in absurd (omega arith)
       by-cases (refuses) e = let z : _≡_ {A = ℕ} 0 1 = cc in absurd (omega arith)
@@ -76,7 +79,8 @@ module _ {B N : ℕ} {r : Reading} {bt tt : List ℕ} {o : Verdict} (f : Finds B
   pub done-room : {s : State} → r ≡ Done s → s .blocks ≤ capacityOf block blockMost bt
   done-room e = let h = found-done e .2 in rw (h .lenB) (omega (arith, h .nb, h .roomB))
 
-  module _ {s : State} (e : r ≡ Done s) {b : Bool} (k : (B : ℕ) (rs : List Block) → s .blocks ≡ length rs → bt ≡ tableOf block rs B → b ≡ tooManyBits rs) where
+  module _ {s : State} (e : r ≡ Done s) {b : Bool}
+      (k : (B : ℕ) (rs : List Block) → s .blocks ≡ length rs → bt ≡ tableOf block rs B → b ≡ tooManyBits rs) where
     pub judged-seven : b ≡ true → Finds B N (Refused lastBits) bt tt (bitsJudged o)
     unfolding bitsJudged
     judged-seven q =

@@ -21,19 +21,22 @@ use Rattle.load_blocks.specs.Sounds.{originAt}
 use Rattle.load_blocks.specs.Deeds.{asks48}
 use Rattle.load_blocks.proofs.Models.{does-model}
 use Rattle.load_source.specs.Meaning.{deedOf}
-use Rattle.load_source.specs.Source.{See, thing, Verdict, act, readOn, seeing, foldFrom, full, bitsJudged, tzxOf, tzxSee, headed, readTzx, readTap, orElse, no, loadOf}
+use Rattle.load_source.specs.Source.{See, thing, Verdict, act, readOn, seeing, foldFrom, full, bitsJudged, tzxOf, tzxSee, headed}
+use Rattle.load_source.specs.Source.{readTzx, readTap, orElse, no, loadOf}
 use Rattle.load_source.specs.Reached.{stopsAt, goingOn, passing, reachedFrom, reachedBehind, reachedBy, reaches2A}
 
 module _ (lent : Lent) (s : List ℕ) where
   -- only a 2A asks for the model, and only whether it is the 48K
-  act-model : (m m′ : ℕ) (origin : Origin) (p : Piece) (t : Parsed) → (asks48 (deedOf s p) ≡ true → eqb m 0 ≡ eqb m′ 0) → act lent s m origin p t ≡ act lent s m′ origin p t
+  act-model : (m m′ : ℕ) (origin : Origin) (p : Piece) (t : Parsed) → (asks48 (deedOf s p) ≡ true → eqb m 0 ≡ eqb m′ 0)
+      → act lent s m origin p t ≡ act lent s m′ origin p t
   unfolding act
   act-model m m′ origin p t e = does-model lent m m′ origin (deedOf s p) t e
 
   see-equal : (at : ℕ) (k : Taken) → tzxOf lent s 1 at k ≡ tzxOf lent s 2 at k
   unfolding tzxOf
   see-equal at taken.End = refl
-  see-equal at (taken.Whole kind from next piece) = ap (thing next) (fun-ext (λ (t : Parsed). act-model 1 2 (originAt kind from) piece t (λ _. refl)))
+  see-equal at (taken.Whole kind from next piece) =
+      ap (thing next) (fun-ext (λ (t : Parsed). act-model 1 2 (originAt kind from) piece t (λ _. refl)))
   see-equal at (taken.Unknown kind described) = refl
   see-equal at (taken.Short kind p w) = refl
   see-equal at (taken.Overflow kind p) = refl
@@ -50,31 +53,37 @@ module _ (lent : Lent) (s : List ℕ) where
   models-equal = rw (headed-equal (headAt s))
 
   -- a piece that is no 2A
-  other : (origin : Origin) (p : Piece) (t : Parsed) → asks48 (deedOf s p) ≡ false → act lent s 0 origin p t ≡ act lent s 1 origin p t
+  other : (origin : Origin) (p : Piece) (t : Parsed) → asks48 (deedOf s p) ≡ false
+      → act lent s 0 origin p t ≡ act lent s 1 origin p t
   other origin p t e = act-model 0 1 origin p t (λ i. absurd (false≢true (sym e ∙ i)))
 
   -- one thing of two runs: alike where it is no 2A of length 0 and what follows is alike
-  module _ (t : Parsed) (k k′ : ℕ → Parsed → Verdict) (r : ℕ → Parsed → Bool) (alike : (x : ℕ) (u : Parsed) → r x u ≡ false → k x u ≡ k′ x u) where
+  module _ (t : Parsed) (k k′ : ℕ → Parsed → Verdict) (r : ℕ → Parsed → Bool)
+      (alike : (x : ℕ) (u : Parsed) → r x u ≡ false → k x u ≡ k′ x u) where
     on-agree : (o : Out) (next : ℕ) → goingOn o (r next) ≡ false → readOn o (k next) ≡ readOn o (k′ next)
     unfolding readOn goingOn
     on-agree (on u) next e = alike next u e
     on-agree (halt j) next e = refl
 
-    taken-agree : (at : ℕ) (c : Taken) → stopsAt s c ≡ false → passing (tzxOf lent s 1 at c) t r ≡ false → seeing (tzxOf lent s 0 at c) t k ≡ seeing (tzxOf lent s 1 at c) t k′
+    taken-agree : (at : ℕ) (c : Taken) → stopsAt s c ≡ false → passing (tzxOf lent s 1 at c) t r ≡ false
+        → seeing (tzxOf lent s 0 at c) t k ≡ seeing (tzxOf lent s 1 at c) t k′
     unfolding tzxOf stopsAt seeing passing
     taken-agree at taken.End e g = refl
     taken-agree at (taken.Whole kind from next piece) e g =
-        ap (λ (o : Out). readOn o (k next)) (other (originAt kind from) piece t e) ∙ on-agree (act lent s 1 (originAt kind from) piece t) next g
+        ap (λ (o : Out). readOn o (k next)) (other (originAt kind from) piece t e)
+        ∙ on-agree (act lent s 1 (originAt kind from) piece t) next g
     taken-agree at (taken.Unknown kind described) e g = on-agree (on t) (at + 1) g
     taken-agree at (taken.Short kind p w) e g = refl
     taken-agree at (taken.Overflow kind p) e g = refl
 
-  run-agree : (n at : ℕ) (t : Parsed) → reachedFrom lent s 1 n at t ≡ false → foldFrom (tzxSee lent s 0) n at t ≡ foldFrom (tzxSee lent s 1) n at t
+  run-agree : (n at : ℕ) (t : Parsed) → reachedFrom lent s 1 n at t ≡ false
+      → foldFrom (tzxSee lent s 0) n at t ≡ foldFrom (tzxSee lent s 1) n at t
   unfolding foldFrom reachedFrom tzxSee
   run-agree zero at t e = refl
   run-agree (suc n) at t e =
       let f = neither (stopsAt s (cutAt s at full)) (passing (tzxOf lent s 1 at (cutAt s at full)) t (reachedFrom lent s 1 n)) e in
-      taken-agree t (foldFrom (tzxSee lent s 0) n) (foldFrom (tzxSee lent s 1) n) (reachedFrom lent s 1 n) (run-agree n) at (cutAt s at full) (f .0) (f .1)
+      taken-agree t (foldFrom (tzxSee lent s 0) n) (foldFrom (tzxSee lent s 1) n) (reachedFrom lent s 1 n) (run-agree n)
+      at (cutAt s at full) (f .0) (f .1)
 
   headed-agree : (h : Heading) → reachedBehind lent s 1 h ≡ false → headed lent s 0 h ≡ headed lent s 1 h
   unfolding headed reachedBehind
@@ -82,7 +91,9 @@ module _ (lent : Lent) (s : List ℕ) where
   headed-agree heading.BadSignature e = refl
   headed-agree (heading.Short p w) e = refl
 
-  load-agree : (long : Bool) → (long ⇒ false ∣ reachedBehind lent s 1 (headAt s)) ≡ false → (long ⇒ no tapeLong ∣ orElse (readTzx lent s 0) (readTap lent s)) ≡ (long ⇒ no tapeLong ∣ orElse (readTzx lent s 1) (readTap lent s))
+  load-agree : (long : Bool) → (long ⇒ false ∣ reachedBehind lent s 1 (headAt s)) ≡ false
+      → (long ⇒ no tapeLong ∣ orElse (readTzx lent s 0) (readTap lent s))
+      ≡ (long ⇒ no tapeLong ∣ orElse (readTzx lent s 1) (readTap lent s))
   unfolding readTzx
   load-agree true e = refl
   load-agree false e = ap (λ (r : Verdict). orElse r (readTap lent s)) (headed-agree (headAt s) e)
@@ -92,13 +103,15 @@ module _ (lent : Lent) (s : List ℕ) where
   models-agree e = load-agree (ltb 1048576 (length s)) e
 
   -- whether a 2A is reached is no matter of the model: up to the first one the runs are the same
-  whole-reached : (i : Bool) (origin : Origin) (p : Piece) (next : ℕ) (t : Parsed) (r : ℕ → Parsed → Bool) → asks48 (deedOf s p) ≡ i
+  whole-reached : (i : Bool) (origin : Origin) (p : Piece) (next : ℕ) (t : Parsed) (r : ℕ → Parsed → Bool)
+      → asks48 (deedOf s p) ≡ i
       → (i || passing (thing next (act lent s 0 origin p)) t r) ≡ (i || passing (thing next (act lent s 1 origin p)) t r)
   unfolding passing
   whole-reached true origin p next t r e = refl
   whole-reached false origin p next t r e = ap (λ (o : Out). goingOn o (r next)) (other origin p t e)
 
-  taken-reached : (at : ℕ) (c : Taken) (t : Parsed) (r : ℕ → Parsed → Bool) → (stopsAt s c || passing (tzxOf lent s 0 at c) t r) ≡ (stopsAt s c || passing (tzxOf lent s 1 at c) t r)
+  taken-reached : (at : ℕ) (c : Taken) (t : Parsed) (r : ℕ → Parsed → Bool)
+      → (stopsAt s c || passing (tzxOf lent s 0 at c) t r) ≡ (stopsAt s c || passing (tzxOf lent s 1 at c) t r)
   unfolding tzxOf stopsAt
   taken-reached at taken.End t r = refl
   taken-reached at (taken.Whole kind from next piece) t r = whole-reached (asks48 (deedOf s piece)) (originAt kind from) piece next t r refl
@@ -112,7 +125,8 @@ module _ (lent : Lent) (s : List ℕ) where
   reached-run (suc n) =
       fun-ext (λ (at : ℕ). fun-ext (λ (t : Parsed).
       taken-reached at (cutAt s at full) t (reachedFrom lent s 0 n)
-      ∙ ap (λ (r : ℕ → Parsed → Bool). stopsAt s (cutAt s at full) || passing (tzxOf lent s 1 at (cutAt s at full)) t r) (reached-run n)))
+      ∙ ap (λ (r : ℕ → Parsed → Bool). stopsAt s (cutAt s at full) || passing (tzxOf lent s 1 at (cutAt s at full)) t r)
+      (reached-run n)))
 
   reached-behind : (h : Heading) → reachedBehind lent s 0 h ≡ reachedBehind lent s 1 h
   unfolding reachedBehind

@@ -25,7 +25,8 @@ use Rattle.load_source.specs.declared.Reading.{Reading}
 use Rattle.load_source.specs.declared.Reading.the-variants.{Done, Failed, Refused}
 use Rattle.load_blocks.specs.Adds.{Lent}
 use Rattle.load_blocks.specs.Sounds.{originAt}
-use Rattle.load_source.specs.Source.{See, theEnd, bad, refuses as sees4, thing, Verdict, seeing, readOn, foldFrom, halted, full, act, tzxOf, tzxSee, tapOf, tapSee}
+use Rattle.load_source.specs.Source.{See, theEnd, bad, refuses as sees4, thing, Verdict, seeing, readOn, foldFrom, halted, full}
+use Rattle.load_source.specs.Source.{act, tzxOf, tzxSee, tapOf, tapSee}
 use Rattle.load_source.specs.Does.{Fit, Blank, Finds, ends, fails, refuses}
 
 -- a tape that the state holds, and fuel enough for the bytes left, with which the rest gives the goal
@@ -37,15 +38,18 @@ pub record Rest (size : ℕ) (see : ℕ → See) (B N at : ℕ) (s : State) (bt 
   pub stops : (p : ℕ) → size ≤ p → see p ≡ theEnd
   pub same : foldFrom see fuel at here ≡ goal
 
-turn : (n size : ℕ) (see : ℕ → See) (at : ℕ) (t : Parsed) → ((p : ℕ) → size ≤ p → see p ≡ theEnd) → size ≤ at + n → foldFrom see n at t ≡ seeing (see at) t (foldFrom see (n - 1))
+turn : (n size : ℕ) (see : ℕ → See) (at : ℕ) (t : Parsed) → ((p : ℕ) → size ≤ p → see p ≡ theEnd) → size ≤ at + n
+    → foldFrom see n at t ≡ seeing (see at) t (foldFrom see (n - 1))
 unfolding foldFrom seeing
 turn zero size see at t h e = rw (h at (omega arith))
 turn (suc n) size see at t h e = let m : suc n - 1 ≡ n = omega arith in rw m
 
-pub rest-begins : {size : ℕ} {see : ℕ → See} {B N : ℕ} (at : ℕ) {s : State} {bt tt : List ℕ} {t : Parsed} → ((p : ℕ) → size ≤ p → see p ≡ theEnd) → Holds B N s bt tt t → Rest size see B N at s bt tt (foldFrom see size at t)
+pub rest-begins : {size : ℕ} {see : ℕ → See} {B N : ℕ} (at : ℕ) {s : State} {bt tt : List ℕ} {t : Parsed}
+    → ((p : ℕ) → size ≤ p → see p ≡ theEnd) → Holds B N s bt tt t → Rest size see B N at s bt tt (foldFrom see size at t)
 rest-begins {size} at {t = t} stops h = record { here = t; holds = h; fuel = size; enough = omega arith; stops = stops; same = refl }
 
-module _ {size : ℕ} {see : ℕ → See} {B N at : ℕ} {s : State} {bt tt : List ℕ} {goal : Verdict} (rest : Rest size see B N at s bt tt goal) where
+module _ {size : ℕ} {see : ℕ → See} {B N at : ℕ} {s : State} {bt tt : List ℕ} {goal : Verdict}
+    (rest : Rest size see B N at s bt tt goal) where
   step : (x : See) → see at ≡ x → seeing x (rest .here) (foldFrom see (rest .fuel - 1)) ≡ goal
   step x q = rw q at (sym (turn (rest .fuel) size see at (rest .here) (rest .stops) (rest .enough)) ∙ rest .same)
 
@@ -61,7 +65,8 @@ module _ {size : ℕ} {see : ℕ → See} {B N at : ℕ} {s : State} {bt tt : Li
   unfolding seeing
   rest-refuses {k} q = subst (λ (r : Verdict). Finds B N (Refused k) bt tt r) (step (sees4 k) q) refuses
 
-  module _ {next : ℕ} {does : Parsed → Out} (q : see at ≡ thing next does) {x : Step} {bt′ tt′ : List ℕ} (e : GivesOut B N x bt′ tt′ (does (rest .here))) where
+  module _ {next : ℕ} {does : Parsed → Out} (q : see at ≡ thing next does) {x : Step} {bt′ tt′ : List ℕ}
+      (e : GivesOut B N x bt′ tt′ (does (rest .here))) where
     pub rest-no : {k : Halt} {r : Reading} → x ≡ No k → Finds B N r bt′ tt′ (halted k) → Finds B N r bt′ tt′ goal
     unfolding seeing readOn
     rest-no {k} {r} i f = subst (λ (g : Verdict). Finds B N r bt′ tt′ g) (rw (was-refused e i) at (step (thing next does) q)) f
@@ -70,7 +75,14 @@ module _ {size : ℕ} {see : ℕ → See} {B N at : ℕ} {s : State} {bt tt : Li
     unfolding seeing readOn
     rest-on i f =
         let w = went-on e i in
-        record { here = w .0; holds = w .2; fuel = rest .fuel - 1; enough = omega (arith, rest .enough, f); stops = rest .stops; same = rw (w .1) at (step (thing next does) q) }
+        record {
+          here = w .0;
+          holds = w .2;
+          fuel = rest .fuel - 1;
+          enough = omega (arith, rest .enough, f);
+          stops = rest .stops;
+          same = rw (w .1) at (step (thing next does) q);
+        }
 
 module _ (lent : Lent) (s : List ℕ) where
   pub tzx-stops : (model p : ℕ) → length s ≤ p → tzxSee lent s model p ≡ theEnd
@@ -81,7 +93,8 @@ module _ (lent : Lent) (s : List ℕ) where
   unfolding tzxSee
   tzx-sees model at q = rw q
 
-  pub sees-piece : (model at : ℕ) {k a next : ℕ} {piece : Piece} → Whole k a next piece ≡ cutAt s at full → tzxSee lent s model at ≡ thing next (act lent s model (originAt k a) piece)
+  pub sees-piece : (model at : ℕ) {k a next : ℕ} {piece : Piece} → Whole k a next piece ≡ cutAt s at full
+      → tzxSee lent s model at ≡ thing next (act lent s model (originAt k a) piece)
   unfolding tzxOf
   sees-piece model at q = tzx-sees model at q
 
@@ -94,13 +107,15 @@ module _ (lent : Lent) (s : List ℕ) where
   tap-sees at q = rw q
 
 -- blank tables hold a tape of which nothing is read
-pub blank-holds : {s : State} {bt tt : List ℕ} → Blank bt → Blank tt → Holds (length bt) (length tt) s (zeros (length bt)) (zeros (length tt)) empty → Holds (length bt) (length tt) s bt tt empty
+pub blank-holds : {s : State} {bt tt : List ℕ} → Blank bt → Blank tt
+    → Holds (length bt) (length tt) s (zeros (length bt)) (zeros (length tt)) empty → Holds (length bt) (length tt) s bt tt empty
 blank-holds {s} {bt} {tt} b t h =
     subst (λ (x : List ℕ). Holds (length bt) (length tt) s x tt empty) (sym b)
     (subst (λ (y : List ℕ). Holds (length bt) (length tt) s (zeros (length bt)) y empty) (sym t) h)
 
 -- what is cut from bytes is a piece as the code takes it
-pub cut-fit : (s : List ℕ) (at : ℕ) {k a next : ℕ} (piece : Piece) → ((i : ℕ) → getD s i 0 < 256) → cutAt s at full ≡ Whole k a next piece → Fit s piece
+pub cut-fit : (s : List ℕ) (at : ℕ) {k a next : ℕ} (piece : Piece) → ((i : ℕ) → getD s i 0 < 256)
+    → cutAt s at full ≡ Whole k a next piece → Fit s piece
 cut-fit s at {k} {a} {next} piece b e =
     record {
       pulses = λ count from q. cut-pulses s at full (e ∙ ap (λ (x : Piece). Whole k a next x) q);

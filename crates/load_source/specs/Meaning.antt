@@ -2,10 +2,13 @@
 use Prim.Native.Nat.{ℕ, _/_}
 use mathlib.Core.List.{List, [], _∷_}
 use Rattle.cut_grammar.specs.declared.Piece.{Piece}
-use Rattle.cut_grammar.specs.declared.Piece.the-variants.{Standard, Turbo, Tone as PureTone, Pulses, Pure, Generalized, Pause, GroupStart, GroupEnd, LoopStart, LoopEnd, Stop48, Text, Message, Archive, Hardware, Custom, Glue}
+use Rattle.cut_grammar.specs.declared.Piece.the-variants.{Standard, Turbo, Tone as PureTone, Pulses, Pure, Generalized, Pause, GroupStart}
+use Rattle.cut_grammar.specs.declared.Piece.the-variants.{GroupEnd, LoopStart, LoopEnd, Stop48, Text, Message, Archive, Hardware}
+use Rattle.cut_grammar.specs.declared.Piece.the-variants.{Custom, Glue}
 use Rattle.load_general.specs.General.{generalOf}
 use Rattle.load_blocks.specs.Sounds.{ms, dataBits}
-use Rattle.load_blocks.specs.Blocks.{standardHeader, standardSound, turboSound, pureToneTones, toneSound, pairSounds, pureSound, pauseSound}
+use Rattle.load_blocks.specs.Blocks.{standardHeader, standardSound, turboSound, pureToneTones, toneSound, pairSounds}
+use Rattle.load_blocks.specs.Blocks.{pureSound, pauseSound}
 use Rattle.load_blocks.specs.Deeds.{Deed, adds, groups, texts, groupEnds, opens, closes, noDeed, generalDeed, stop48Deed}
 
 -- in the tape s

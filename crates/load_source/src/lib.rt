@@ -62,7 +62,8 @@ pub fn act(
     piece: Piece,
 ) -> Step
     requires { ⌜ Fit (now tape) piece ⌝ }
-    ensures { λ x. ⌜ Does (λ lent. act lent (now (tape .entry)) model origin piece) s x (now (blocks .entry)) (now (tones .entry)) (now (blocks .exit)) (now (tones .exit)) ⌝ }
+    ensures { λ x. ⌜ Does (λ lent. act lent (now (tape .entry)) model origin piece) s x (now (blocks .entry)) (now (tones .entry))
+        (now (blocks .exit)) (now (tones .exit)) ⌝ }
 {
     match piece {
         Piece::Standard { pause, from, size } => {

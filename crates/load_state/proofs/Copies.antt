@@ -34,7 +34,10 @@ any (r ∷ rs) = cons tt (any rs)
 module _ (l : List Block) (m : ℕ) where
   longer : (r : Block) (t : Parsed) → length (t .blocks) < m → Any r → Begins l t → Begins l (withBlock r t)
   longer r t h p b =
-      record { more = b .more ++ named (t .pending) r ∷ []; is = ap (λ (x : List Block). x ++ named (t .pending) r ∷ []) (b .is) ∙ append-assoc l (b .more) (named (t .pending) r ∷ []) }
+      record {
+        more = b .more ++ named (t .pending) r ∷ [];
+        is = ap (λ (x : List Block). x ++ named (t .pending) r ∷ []) (b .is) ∙ append-assoc l (b .more) (named (t .pending) r ∷ []);
+      }
 
   pub begins-block : {t u : Parsed} (r : Block) → Begins l t → addBlock m r t ≡ on u → Begins l u
   begins-block {t} r b e = sure-of (block-keeps Any (Begins l) m longer r t tt b) e
@@ -43,7 +46,9 @@ module _ (l : List Block) (m : ℕ) where
   begins-rows {t} rs b e = sure-of (rows-keep Any (Begins l) m longer (any rs) t b) e
 
 -- a turn of the loop over a body's rows
-pub row-turn : {B N : ℕ} {s : State} {bt tt : List ℕ} {l : List Block} {t : Parsed} (m i end : ℕ) → Holds B N s bt tt t → Begins l t → i < end → end ≤ length l → copyRows m (slice i end l) t ≡ addBlock m (nameless (get block bt i)) t ⟫ copyRows m (slice (i + 1) end l)
+pub row-turn : {B N : ℕ} {s : State} {bt tt : List ℕ} {l : List Block} {t : Parsed} (m i end : ℕ) → Holds B N s bt tt t
+    → Begins l t → i < end → end ≤ length l
+    → copyRows m (slice i end l) t ≡ addBlock m (nameless (get block bt i)) t ⟫ copyRows m (slice (i + 1) end l)
 unfolding copyRows
 row-turn {B = B} {bt = bt} {l = l} {t = t} m i end h b k e =
     let d = get block bt i in
@@ -63,7 +68,8 @@ rows-end l m i end t h =
     ap (λ (x : List Block). copyRows m x t) (drop-of-length-le (take end l) k)
 
 -- a turn of the loop over the bodies
-pub body-turn : {l : List Block} {t : Parsed} (m left start end : ℕ) → Begins l t → 0 < left → end ≤ length l → copies m left (slice start end l) t ≡ copyRows m (slice start end (t .blocks)) t ⟫ copies m (left - 1) (slice start end l)
+pub body-turn : {l : List Block} {t : Parsed} (m left start end : ℕ) → Begins l t → 0 < left → end ≤ length l
+    → copies m left (slice start end l) t ≡ copyRows m (slice start end (t .blocks)) t ⟫ copies m (left - 1) (slice start end l)
 unfolding copies
 body-turn {l} {t} m zero start end b h e = absurd (omega arith)
 body-turn {l} {t} m (suc n) start end b h e =

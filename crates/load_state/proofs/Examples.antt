@@ -8,11 +8,13 @@ use Rattle.rows.specs.declared.Tone.{Tone}
 use Rattle.rows.specs.Rows.{decodeTone, decodeBlock}
 use Rattle.load_state.specs.declared.Pending.the-variants.{First, Text}
 use Rattle.load_state.specs.declared.Halt.the-variants.{Refusal, Length}
-use Rattle.load_state.specs.Parser.{Parsed, empty, Out, on, no, _⟫_, paused, lastPaused, addTones, addBlock, pend, endGroup, openLoop, copyRows, copies, closed, closeLoop}
+use Rattle.load_state.specs.Parser.{Parsed, empty, Out, on, no, _⟫_, paused, lastPaused, addTones, addBlock, pend, endGroup}
+use Rattle.load_state.specs.Parser.{openLoop, copyRows, copies, closed, closeLoop}
 
 -- a block as it is born, with tone rows from row n on, and these words: pause, endless, selectable, case of name
 abbrev born : ℕ → ℕ → ℕ → ℕ → ℕ → Parsed → Out
-born n pause endless selectable case = addBlock 6 (decodeBlock (n ∷ 2 ∷ 0 ∷ 0 ∷ 0 ∷ 0 ∷ 0 ∷ pause ∷ endless ∷ selectable ∷ case ∷ []))
+born n pause endless selectable case =
+    addBlock 6 (decodeBlock (n ∷ 2 ∷ 0 ∷ 0 ∷ 0 ∷ 0 ∷ 0 ∷ pause ∷ endless ∷ selectable ∷ case ∷ []))
 
 -- selectable, with a pause; not selectable, with pause 0; a stop
 abbrev a : Parsed → Out
@@ -84,14 +86,21 @@ table =
     (openLoop 0 ∷ a ∷ close ∷ [], 0, A ∷ []) ∷
     (a ∷ openLoop 100 ∷ close ∷ [], 0, A ∷ []) ∷
     -- a copy takes a pending text's name, and a group's
-    (openLoop 2 ∷ a ∷ text ∷ close ∷ [], 0, A ∷ (7 ∷ 2 ∷ 9 ∷ 0 ∷ 1 ∷ 2 ∷ 40 ∷ 3 ∷ []) ∷ A′ ∷ []) ∷
-    (openLoop 2 ∷ a ∷ group ∷ close ∷ [], 0, A ∷ (7 ∷ 2 ∷ 9 ∷ 0 ∷ 1 ∷ 3 ∷ 50 ∷ 4 ∷ []) ∷ (7 ∷ 2 ∷ 9 ∷ 0 ∷ 0 ∷ 4 ∷ 50 ∷ 4 ∷ []) ∷ []) ∷
+    (openLoop 2 ∷ a ∷ text ∷ close ∷ [], 0, A ∷ (7 ∷ 2 ∷ 9 ∷ 0 ∷ 1 ∷ 2 ∷ 40 ∷ 3 ∷ []) ∷ A′ ∷ []) ∷ (
+      openLoop 2 ∷ a ∷ group ∷ close ∷ [],
+      0,
+      A ∷ (7 ∷ 2 ∷ 9 ∷ 0 ∷ 1 ∷ 3 ∷ 50 ∷ 4 ∷ []) ∷ (7 ∷ 2 ∷ 9 ∷ 0 ∷ 0 ∷ 4 ∷ 50 ∷ 4 ∷ []) ∷ [],
+    ) ∷
     -- a nested start is ignored, and so is an end without a start
     (openLoop 1 ∷ a ∷ openLoop 9 ∷ b ∷ close ∷ [], 0, A ∷ B ∷ A′ ∷ B ∷ []) ∷
     (close ∷ a ∷ close ∷ [], 0, A ∷ []) ∷
     (openLoop 1 ∷ a ∷ close ∷ close ∷ [], 0, A ∷ A′ ∷ []) ∷
     -- a group's first block is selectable, a later one isn't, one after the group is as it is born
-    (group ∷ b ∷ a ∷ endGroup ∷ a ∷ [], 0, (8 ∷ 2 ∷ 0 ∷ 0 ∷ 1 ∷ 3 ∷ 50 ∷ 4 ∷ []) ∷ (7 ∷ 2 ∷ 9 ∷ 0 ∷ 0 ∷ 4 ∷ 50 ∷ 4 ∷ []) ∷ A ∷ []) ∷
+    (
+      group ∷ b ∷ a ∷ endGroup ∷ a ∷ [],
+      0,
+      (8 ∷ 2 ∷ 0 ∷ 0 ∷ 1 ∷ 3 ∷ 50 ∷ 4 ∷ []) ∷ (7 ∷ 2 ∷ 9 ∷ 0 ∷ 0 ∷ 4 ∷ 50 ∷ 4 ∷ []) ∷ A ∷ [],
+    ) ∷
     -- a text names one block
     (text ∷ b ∷ b ∷ [], 0, (8 ∷ 2 ∷ 0 ∷ 0 ∷ 1 ∷ 2 ∷ 40 ∷ 3 ∷ []) ∷ B ∷ []) ∷
     -- and replaces the name of a stop; a name may be empty
@@ -100,8 +109,11 @@ table =
     (text ∷ group ∷ a ∷ endGroup ∷ a ∷ [], 0, (7 ∷ 2 ∷ 9 ∷ 0 ∷ 1 ∷ 3 ∷ 50 ∷ 4 ∷ []) ∷ A ∷ []) ∷
     (pend (Text 60 5) ∷ text ∷ a ∷ a ∷ [], 0, (7 ∷ 2 ∷ 9 ∷ 0 ∷ 1 ∷ 2 ∷ 40 ∷ 3 ∷ []) ∷ A ∷ []) ∷
     -- text or start inside a group is ignored, before its first block and after
-    (group ∷ text ∷ pend (First 60 5) ∷ a ∷ [], 0, (7 ∷ 2 ∷ 9 ∷ 0 ∷ 1 ∷ 3 ∷ 50 ∷ 4 ∷ []) ∷ []) ∷
-    (group ∷ a ∷ text ∷ pend (First 60 5) ∷ a ∷ [], 0, (7 ∷ 2 ∷ 9 ∷ 0 ∷ 1 ∷ 3 ∷ 50 ∷ 4 ∷ []) ∷ (7 ∷ 2 ∷ 9 ∷ 0 ∷ 0 ∷ 4 ∷ 50 ∷ 4 ∷ []) ∷ []) ∷
+    (group ∷ text ∷ pend (First 60 5) ∷ a ∷ [], 0, (7 ∷ 2 ∷ 9 ∷ 0 ∷ 1 ∷ 3 ∷ 50 ∷ 4 ∷ []) ∷ []) ∷ (
+      group ∷ a ∷ text ∷ pend (First 60 5) ∷ a ∷ [],
+      0,
+      (7 ∷ 2 ∷ 9 ∷ 0 ∷ 1 ∷ 3 ∷ 50 ∷ 4 ∷ []) ∷ (7 ∷ 2 ∷ 9 ∷ 0 ∷ 0 ∷ 4 ∷ 50 ∷ 4 ∷ []) ∷ [],
+    ) ∷
     -- a group end keeps a pending text
     (text ∷ endGroup ∷ a ∷ [], 0, (7 ∷ 2 ∷ 9 ∷ 0 ∷ 1 ∷ 2 ∷ 40 ∷ 3 ∷ []) ∷ []) ∷
     -- and the last block's finite pause 0 becomes 3,500, group open or not; no other, and no endless one
@@ -110,7 +122,11 @@ table =
     (a ∷ endGroup ∷ stop ∷ endGroup ∷ [], 0, A ∷ Stop ∷ []) ∷
     (endGroup ∷ a ∷ [], 0, A ∷ []) ∷
     -- a copy has its original's new pause
-    (openLoop 1 ∷ b ∷ endGroup ∷ close ∷ [], 0, (8 ∷ 2 ∷ 3500 ∷ 0 ∷ 0 ∷ 0 ∷ 0 ∷ 0 ∷ []) ∷ (8 ∷ 2 ∷ 3500 ∷ 0 ∷ 0 ∷ 0 ∷ 0 ∷ 0 ∷ []) ∷ []) ∷
+    (
+      openLoop 1 ∷ b ∷ endGroup ∷ close ∷ [],
+      0,
+      (8 ∷ 2 ∷ 3500 ∷ 0 ∷ 0 ∷ 0 ∷ 0 ∷ 0 ∷ []) ∷ (8 ∷ 2 ∷ 3500 ∷ 0 ∷ 0 ∷ 0 ∷ 0 ∷ 0 ∷ []) ∷ [],
+    ) ∷
     -- refusal 6 from the seventh block on, a copy or not
     (three ∷ three ∷ [], 0, A ∷ A ∷ A ∷ A ∷ A ∷ A ∷ []) ∷
     (three ∷ three ∷ a ∷ [], 6, []) ∷

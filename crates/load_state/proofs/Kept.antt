@@ -16,14 +16,17 @@ use Rattle.load_state.specs.declared.Pending.the-variants.{Nothing}
 use Rattle.load_state.specs.declared.Loop.{Loop}
 use Rattle.load_state.specs.declared.Halt.the-variants.{Refusal}
 use Rattle.load_state.specs.declared.Loop.the-variants.{Closed, Open}
-use Rattle.load_state.specs.Parser.{Parsed, empty, withTones, withBlock, withPending, withBody, opened, Out, on, no, _⟫_, named, inGroup, lastPaused, nameless, addTones, addBlock, pend, endGroup, openLoop, copyRows, copies, closed, closeLoop}
+use Rattle.load_state.specs.Parser.{Parsed, empty, withTones, withBlock, withPending, withBody, opened, Out, on, no, _⟫_, named}
+use Rattle.load_state.specs.Parser.{inGroup, lastPaused, nameless, addTones, addBlock, pend, endGroup, openLoop, copyRows, copies}
+use Rattle.load_state.specs.Parser.{closed, closeLoop}
 use Rattle.load_state.specs.Kept.{Sure, sure, none, All, nil, cons, withBlocks, Steps, Lasting, KeptSoFar}
 
 pub sure-of : {K : Parsed → Type 0} {o : Out} {t : Parsed} → Sure K o → o ≡ on t → K t
 sure-of {t = t} (sure {t = u} k) e = let q : u ≡ t = cc in rw q at k
 sure-of (none) e = let z : _≡_ {A = ℕ} 0 1 = cc in absurd (omega arith)
 
-pub sure-then : {K L : Parsed → Type 0} {o : Out} (f : Parsed → Out) → Sure K o → ((t : Parsed) → K t → Sure L (f t)) → Sure L (o ⟫ f)
+pub sure-then : {K L : Parsed → Type 0} {o : Out} (f : Parsed → Out) → Sure K o → ((t : Parsed) → K t → Sure L (f t))
+    → Sure L (o ⟫ f)
 unfolding _⟫_
 sure-then f (sure {t = t} k) g = g t k
 sure-then f (none) g = none
@@ -65,7 +68,8 @@ members [] = nil
 members (x ∷ xs) = cons (List·Memᴰ·head refl) (all-also (λ y m. List·Memᴰ·tail m) (members xs))
 
 -- one more block, where it has room
-pub block-sure : {K : Parsed → Type 0} (m : ℕ) (r : Block) (t : Parsed) → (length (t .blocks) < m → K (withBlock r t)) → Sure K (addBlock m r t)
+pub block-sure : {K : Parsed → Type 0} (m : ℕ) (r : Block) (t : Parsed) → (length (t .blocks) < m → K (withBlock r t))
+    → Sure K (addBlock m r t)
 unfolding addBlock
 block-sure {K} m r t h = by-cases (ltb (length (t .blocks)) m) refl
   where
@@ -74,7 +78,8 @@ block-sure {K} m r t h = by-cases (ltb (length (t .blocks)) m) refl
     by-cases false e = none
 
 -- a property that one more block keeps, where it has room, is kept by copies
-module _ (P : Block → Type 0) (K : Parsed → Type 0) (m : ℕ) (keep : (r : Block) (t : Parsed) → length (t .blocks) < m → P r → K t → K (withBlock r t)) where
+module _ (P : Block → Type 0) (K : Parsed → Type 0) (m : ℕ)
+    (keep : (r : Block) (t : Parsed) → length (t .blocks) < m → P r → K t → K (withBlock r t)) where
   pub block-keeps : (r : Block) (t : Parsed) → P r → K t → Sure K (addBlock m r t)
   block-keeps r t p k = block-sure m r t (λ room. keep r t room p k)
 
@@ -124,15 +129,21 @@ module _ {m : ℕ} {Q : Pending → Type 0} {K : Parsed → Type 0} (k : Steps m
   unfolding closeLoop closed
   keeps-close {t} h = closing (t .body)
     where
-      more : (r : Block) (u : Parsed) → length (u .blocks) < m → Copy (t .blocks) r → Has K (t .blocks) u → Has K (t .blocks) (withBlock r u)
+      more : (r : Block) (u : Parsed) → length (u .blocks) < m → Copy (t .blocks) r → Has K (t .blocks) u
+          → Has K (t .blocks) (withBlock r u)
       more r u room (copy {q} i) o =
-          record { kept = k .copying q u (o .rows q i) room (o .kept); rows = λ p j. Memᴰ·append-left (named (u .pending) (nameless q) ∷ []) (o .rows p j) }
+          record {
+            kept = k .copying q u (o .rows q i) room (o .kept);
+            rows = λ p j. Memᴰ·append-left (named (u .pending) (nameless q) ∷ []) (o .rows p j);
+          }
 
       closing : (l : Loop) → Sure K (closed m l t)
       closing Closed = sure h
       closing (Open start times) =
           sure-also (λ u o. o .kept)
-          (copies-keep (Copy (t .blocks)) (Has K (t .blocks)) m more times (all-drop start (all-also (λ q i. copy i) (members (t .blocks)))) (withBody Closed t) (record { kept = k .looping Closed t h; rows = λ q i. i }))
+          (copies-keep (Copy (t .blocks)) (Has K (t .blocks)) m more times
+          (all-drop start (all-also (λ q i. copy i) (members (t .blocks)))) (withBody Closed t)
+          (record { kept = k .looping Closed t h; rows = λ q i. i }))
 
 module _ {P : Block → Type 0} {Q : Pending → Type 0} (k : Lasting P Q) where
   pub kept-empty : KeptSoFar P Q empty
@@ -146,7 +157,8 @@ module _ {P : Block → Type 0} {Q : Pending → Type 0} (k : Lasting P Q) where
   last-keeps (cons h (cons g p)) = cons h (last-keeps (cons g p))
 
   pub with-block : (r : Block) (t : Parsed) → P r → KeptSoFar P Q t → KeptSoFar P Q (withBlock r t)
-  with-block r t h s = record { rows = all-append (s .rows) (cons (k .naming (t .pending) r (s .name) h) nil); name = k .uses (t .pending) (s .name) }
+  with-block r t h s =
+      record { rows = all-append (s .rows) (cons (k .naming (t .pending) r (s .name) h) nil); name = k .uses (t .pending) (s .name) }
 
   pub kept-steps : (m : ℕ) → Steps m Q (KeptSoFar P Q)
   kept-steps m =

@@ -35,27 +35,53 @@ pub tones-append : (m : ℕ) (xs ys : List Tone) (t : Parsed) → addTones m (xs
 unfolding addTones _⟫_
 tones-append m xs ys t = by-cases (leb (length (t .tones) + length xs) m) refl
   where
-    by-cases : (b : Bool) → leb (length (t .tones) + length xs) m ≡ b → addTones m (xs ++ ys) t ≡ (b ⇒ on (withTones xs t) ∣ no (Refusal tonesFull)) ⟫ addTones m ys
+    by-cases : (b : Bool) → leb (length (t .tones) + length xs) m ≡ b
+        → addTones m (xs ++ ys) t ≡ (b ⇒ on (withTones xs t) ∣ no (Refusal tonesFull)) ⟫ addTones m ys
     by-cases true e =
-        let n : length (t .tones ++ xs) + length ys ≡ length (t .tones) + length (xs ++ ys) = rw (length-append, length-append) (omega arith) in
+        let n : length (t .tones ++ xs) + length ys ≡ length (t .tones) + length (xs ++ ys) =
+        rw (length-append, length-append) (omega arith) in
         rw (n, append-assoc)
     by-cases false e =
-        let n : m < length (t .tones) + length (xs ++ ys) = rw length-append (omega (arith, leb-false (length (t .tones) + length xs) m e)) in
+        let n : m < length (t .tones) + length (xs ++ ys) =
+        rw length-append (omega (arith, leb-false (length (t .tones) + length xs) m e)) in
         rw (lt-leb _ _ n)
 
 -- a held tape with another pending name, and with another loop
 module _ {B N : ℕ} {s : State} {bt tt : List ℕ} {t : Parsed} (h : Holds B N s bt tt t) where
   pub holds-name : {p q : Pending} → p ≡ q → Holds B N (nowPending p s) bt tt (withPending q t)
   holds-name e =
-      record { nb = h .nb; nt = h .nt; pends = e; loops = h .loops; roomB = h .roomB; roomT = h .roomT; lenB = h .lenB; lenT = h .lenT; isB = h .isB; isT = h .isT }
+      record {
+        nb = h .nb;
+        nt = h .nt;
+        pends = e;
+        loops = h .loops;
+        roomB = h .roomB;
+        roomT = h .roomT;
+        lenB = h .lenB;
+        lenT = h .lenT;
+        isB = h .isB;
+        isT = h .isT;
+      }
 
   pub holds-loop : {l m : Loop} → l ≡ m → Holds B N (withLoop l s) bt tt (withBody m t)
   holds-loop e =
-      record { nb = h .nb; nt = h .nt; pends = h .pends; loops = e; roomB = h .roomB; roomT = h .roomT; lenB = h .lenB; lenT = h .lenT; isB = h .isB; isT = h .isT }
+      record {
+        nb = h .nb;
+        nt = h .nt;
+        pends = h .pends;
+        loops = e;
+        roomB = h .roomB;
+        roomT = h .roomT;
+        lenB = h .lenB;
+        lenT = h .lenT;
+        isB = h .isB;
+        isT = h .isT;
+      }
 
 -- what an answer that went on, or that refused, says of the definition's
 module _ {B N : ℕ} {bt tt : List ℕ} where
-  pub went-on : {x : Step} {s : State} {o : Out} → GivesOut B N x bt tt o → x ≡ On s → (t : Parsed) × (o ≡ on t) × Holds B N s bt tt t
+  pub went-on : {x : Step} {s : State} {o : Out} → GivesOut B N x bt tt o → x ≡ On s
+      → (t : Parsed) × (o ≡ on t) × Holds B N s bt tt t
   went-on {s = s} (goes {s = s₁} {t = t} h) e = let q : s₁ ≡ s = cc in (t, refl, rw q at h)
   went-on (refuses) e = let z : _≡_ {A = ℕ} 0 1 = cc in absurd (omega arith)
 
@@ -64,11 +90,13 @@ module _ {B N : ℕ} {bt tt : List ℕ} where
   was-refused (refuses) e = cc
 
   -- two calls in turn: where the first went on, what the second gives from there is what both give; where it refused, so do both
-  pub then-on : {x y : Step} {s : State} {bt′ tt′ : List ℕ} {o : Out} {f : Parsed → Out} → GivesOut B N x bt tt o → x ≡ On s → ((t : Parsed) → Holds B N s bt tt t → GivesOut B N y bt′ tt′ (f t)) → GivesOut B N y bt′ tt′ (o ⟫ f)
+  pub then-on : {x y : Step} {s : State} {bt′ tt′ : List ℕ} {o : Out} {f : Parsed → Out} → GivesOut B N x bt tt o → x ≡ On s
+      → ((t : Parsed) → Holds B N s bt tt t → GivesOut B N y bt′ tt′ (f t)) → GivesOut B N y bt′ tt′ (o ⟫ f)
   unfolding _⟫_
   then-on e q k = let w = went-on e q in rw (w .1) (k (w .0) (w .2))
 
-  pub then-no : {x : Step} {k : Halt} {bt′ tt′ : List ℕ} {o : Out} (f : Parsed → Out) → GivesOut B N x bt tt o → x ≡ No k → GivesOut B N (No k) bt′ tt′ (o ⟫ f)
+  pub then-no : {x : Step} {k : Halt} {bt′ tt′ : List ℕ} {o : Out} (f : Parsed → Out) → GivesOut B N x bt tt o → x ≡ No k
+      → GivesOut B N (No k) bt′ tt′ (o ⟫ f)
   unfolding _⟫_
   then-no f e q = rw (was-refused e q) refuses
 
@@ -89,11 +117,13 @@ module _ {P : Parsed → Type 0} {B N : ℕ} {s : State} {bt tt : List ℕ} {res
     going-ends e = rw (← g .same, e) (goes (g .holds))
 
     -- one turn of the step f
-    module _ {x : Step} {bt′ tt′ : List ℕ} (f next : Parsed → Out) (split : rest (g .at) ≡ f (g .at) ⟫ next) (e : GivesOut B N x bt′ tt′ (f (g .at))) where
+    module _ {x : Step} {bt′ tt′ : List ℕ} (f next : Parsed → Out) (split : rest (g .at) ≡ f (g .at) ⟫ next)
+        (e : GivesOut B N x bt′ tt′ (f (g .at))) where
       pub going-no : {k : Halt} → x ≡ No k → GivesOut B N (No k) bt′ tt′ whole
       going-no q = rw (← g .same, split) (then-no next e q)
 
-      pub going-on : {s′ : State} → x ≡ On s′ → ((t : Parsed) → f (g .at) ≡ on t → P t) → Going P B N s′ bt′ tt′ next whole
+      pub going-on : {s′ : State} → x ≡ On s′ → ((t : Parsed) → f (g .at) ≡ on t → P t)
+          → Going P B N s′ bt′ tt′ next whole
       unfolding _⟫_
       going-on q keep =
           let w = went-on e q in
@@ -103,4 +133,15 @@ module _ {P : Parsed → Type 0} {B N : ℕ} {s : State} {bt tt : List ℕ} {res
 pub start-holds : (B N : ℕ) → Holds B N (record { blocks = 0; tones = 0; pending = Nothing; body = Closed }) (zeros B) (zeros N) empty
 unfolding empty
 start-holds B N =
-    record { nb = refl; nt = refl; pends = refl; loops = refl; roomB = omega arith; roomT = omega arith; lenB = length-replicate B 0; lenT = length-replicate N 0; isB = sym (over-none block (zeros B)); isT = sym (over-none tone (zeros N)) }
+    record {
+      nb = refl;
+      nt = refl;
+      pends = refl;
+      loops = refl;
+      roomB = omega arith;
+      roomT = omega arith;
+      lenB = length-replicate B 0;
+      lenT = length-replicate N 0;
+      isB = sym (over-none block (zeros B));
+      isT = sym (over-none tone (zeros N));
+    }

@@ -1,4 +1,5 @@
--- What theorems of a load say: a property that every step keeps, of tapes read so far and of their blocks. Definitions alone; assumes nothing.
+-- What theorems of a load say: a property that every step keeps, of tapes read so far and of their blocks.
+-- Definitions alone; assumes nothing.
 use Prim.Native.Nat.{ℕ, _<_, zero, suc}
 use mathlib.Core.List.{List, [], _∷_, List·Memᴰ, _++_}
 use lib.ListN.{length}
@@ -7,7 +8,8 @@ use Rattle.load_state.specs.declared.Pending.{Pending}
 use Rattle.load_state.specs.declared.Pending.the-variants.{Nothing}
 use Rattle.load_state.specs.declared.Loop.{Loop}
 use Rattle.load_state.specs.declared.Halt.{Halt}
-use Rattle.load_state.specs.Parser.{Parsed, parsedOf, withBlock, withPending, withBody, Out, on, no, named, used, paused, lastPaused, nameless}
+use Rattle.load_state.specs.Parser.{Parsed, parsedOf, withBlock, withPending, withBody, Out, on, no, named, used, paused}
+use Rattle.load_state.specs.Parser.{lastPaused, nameless}
 
 -- where an answer is a tape, it has the property K
 pub data Sure (K : Parsed → Type 0) : Out → Type 0 where

@@ -1,4 +1,5 @@
-// The parser's state: pending name, open loop, blocks and tones so far; a row added to either table. It knows no kinds and no places of pieces.
+// The parser's state: pending name, open loop, blocks and tones so far; a row added to either table.
+// It knows no kinds and no places of pieces.
 // Every promise is of each tape that the state and the tables hold; code is safe for any state, so it minds the capacity by itself.
 use refusals::BLOCKS_FULL;
 use refusals::TONES_FULL;
@@ -94,7 +95,8 @@ fn after_use(p: Pending) -> Pending
 
 // One tone row more.
 pub fn add_tone(s: State, tones: &mut [u64], r: Tone) -> Step
-    ensures { λ a. ⌜ ((B N : ℕ) (bt : List ℕ) (t : Parsed) → Holds B N s bt (now (tones .entry)) t → GivesOut B N a bt (now (tones .exit)) (addTones (toneRoom N) (r ∷ []) t)) ⌝ }
+    ensures { λ a. ⌜ ((B N : ℕ) (bt : List ℕ) (t : Parsed) → Holds B N s bt (now (tones .entry)) t
+        → GivesOut B N a bt (now (tones .exit)) (addTones (toneRoom N) (r ∷ []) t)) ⌝ }
 {
     let n = s.tones;
     if append_tone(tones, n as usize, r) {
@@ -113,7 +115,8 @@ pub fn add_tone(s: State, tones: &mut [u64], r: Tone) -> Step
 
 // One block more, with the pending name.
 pub fn add_block(s: State, blocks: &mut [u64], r: Block) -> Step
-    ensures { λ a. ⌜ ((B N : ℕ) (tt : List ℕ) (t : Parsed) → Holds B N s (now (blocks .entry)) tt t → GivesOut B N a (now (blocks .exit)) tt (addBlock (blockRoom B) r t)) ⌝ }
+    ensures { λ a. ⌜ ((B N : ℕ) (tt : List ℕ) (t : Parsed) → Holds B N s (now (blocks .entry)) tt t
+        → GivesOut B N a (now (blocks .exit)) tt (addBlock (blockRoom B) r t)) ⌝ }
 {
     let n = s.blocks;
     let p = s.pending;

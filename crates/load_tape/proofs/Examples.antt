@@ -10,18 +10,23 @@ use Rattle.cut_fields.specs.Field.{leAt, numberAt, fieldAt, placeOf}
 use Rattle.cut_fields.specs.Run.{times, eachAt, groupsAt}
 use Rattle.rows.specs.Rows.{encodeBlock, encodeTone, block, tone}
 use Rattle.rows.proofs.Samples.{rowWords}
-use Rattle.cut_grammar.specs.Grammar.{countedAt, passAt, textsAt, wholeAt, sealed, enclosed, fittingAt, readAt, binaryDigits, orFull, heldIf}
-use Rattle.cut_grammar.specs.Kinds.{kind10, kind11, kind12, kind13, kind14, stream19, kind19, kind20, kind21, kind22, kind24, kind25, kind2A, kind30, kind31, info32, kind32, kind33, kind35, kind5A, kinds, kindOf}
+use Rattle.cut_grammar.specs.Grammar.{countedAt, passAt, textsAt, wholeAt, sealed, enclosed, fittingAt, readAt, binaryDigits}
+use Rattle.cut_grammar.specs.Grammar.{orFull, heldIf}
+use Rattle.cut_grammar.specs.Kinds.{kind10, kind11, kind12, kind13, kind14, stream19, kind19, kind20, kind21, kind22, kind24, kind25}
+use Rattle.cut_grammar.specs.Kinds.{kind2A, kind30, kind31, info32, kind32, kind33, kind35, kind5A, kinds, kindOf}
 use Rattle.cut_grammar.specs.Cut.{signature, startsAt, headAt, takenAs, cutAt, tapBlock, tapAt}
 use Rattle.load_general.specs.General.{pilotOf, dataPart, withPilot, withData, generalOf}
-use Rattle.load_state.specs.Parser.{empty, _⟫_, addTones, addBlock, pend, endGroup, openLoop, copyRows, copies, closed, closeLoop, paused, lastPaused}
+use Rattle.load_state.specs.Parser.{empty, _⟫_, addTones, addBlock, pend, endGroup, openLoop, copyRows, copies, closed, closeLoop}
+use Rattle.load_state.specs.Parser.{paused, lastPaused}
 use Rattle.load_blocks.specs.Sounds.{rowOf, addSound, addSounds}
-use Rattle.load_blocks.specs.Blocks.{standardHeader, standardCycles, standardTones, standardPause, turboTones, pureTones, pureToneTones, pulseAt, standardSound, turboSound, pairSounds, pureSound, pauseSound}
+use Rattle.load_blocks.specs.Blocks.{standardHeader, standardCycles, standardTones, standardPause, turboTones, pureTones, pureToneTones}
+use Rattle.load_blocks.specs.Blocks.{pulseAt, standardSound, turboSound, pairSounds, pureSound, pauseSound}
 use Rattle.load_blocks.specs.Does.{lentOf}
 use Rattle.load_blocks.specs.Adds.{Lent, addRows}
 use Rattle.load_blocks.specs.Deeds.{generalDeed, stop48Deed, does}
 use Rattle.load_source.specs.Meaning.{deedOf}
-use Rattle.load_source.specs.Source.{act, readOn, seeing, foldFrom, halted, tooManyBits, bitsJudged, tzxOf, tzxSee, headed, readTzx, tapOf, tapSee, readTap, Load, tzx, tapped, no, orTap, orElse, loadOf}
+use Rattle.load_source.specs.Source.{act, readOn, seeing, foldFrom, halted, tooManyBits, bitsJudged, tzxOf, tzxSee, headed, readTzx, tapOf}
+use Rattle.load_source.specs.Source.{tapSee, readTap, Load, tzx, tapped, no, orTap, orElse, loadOf}
 use Rattle.text_out.specs.Out.{decimal, digits, latin1, eachByte}
 use Rattle.text_codes.specs.Encoding.{table, encoded}
 use Rattle.text_header.specs.Headers.{typeName, headerName as namedAs}
@@ -101,11 +106,13 @@ two = pieces (0x12 ∷ 100 ∷ 0 ∷ 1 ∷ 0 ∷ 0x20 ∷ 1 ∷ 0 ∷ [])
 -- a TAP of a header with type 3 and name `abcdefghij`, and a block of one byte
 abbrev headerTap : List ℕ
 headerTap =
-    0x13 ∷ 0 ∷ 0 ∷ 3 ∷ 0x61 ∷ 0x62 ∷ 0x63 ∷ 0x64 ∷ 0x65 ∷ 0x66 ∷ 0x67 ∷ 0x68 ∷ 0x69 ∷ 0x6A ∷ 1 ∷ 2 ∷ 3 ∷ 4 ∷ 5 ∷ 6 ∷ 7 ∷ 1 ∷ 0 ∷ 0xFF ∷ []
+    0x13 ∷ 0 ∷ 0 ∷ 3 ∷ 0x61 ∷ 0x62 ∷ 0x63 ∷ 0x64 ∷ 0x65 ∷ 0x66 ∷ 0x67 ∷ 0x68 ∷ 0x69 ∷ 0x6A ∷ 1 ∷ 2 ∷ 3 ∷
+    4 ∷ 5 ∷ 6 ∷ 7 ∷ 1 ∷ 0 ∷ 0xFF ∷ []
 
 -- `Bytes: abcdefghij`
 abbrev headerName : List ℕ
-headerName = 0x42 ∷ 0x79 ∷ 0x74 ∷ 0x65 ∷ 0x73 ∷ 0x3A ∷ 0x20 ∷ 0x61 ∷ 0x62 ∷ 0x63 ∷ 0x64 ∷ 0x65 ∷ 0x66 ∷ 0x67 ∷ 0x68 ∷ 0x69 ∷ 0x6A ∷ []
+headerName = 0x42 ∷ 0x79 ∷ 0x74 ∷ 0x65 ∷ 0x73 ∷ 0x3A ∷ 0x20 ∷ 0x61 ∷ 0x62 ∷ 0x63 ∷ 0x64 ∷ 0x65 ∷ 0x66 ∷ 0x67 ∷
+    0x68 ∷ 0x69 ∷ 0x6A ∷ []
 
 record Example : Type 0 where
   lent : Lent
@@ -129,34 +136,51 @@ examples =
     of 0 (1 ∷ 0 ∷ 0xFF ∷ []) (taken 0 (row 0 2 2 1 855 1710 8 7000000 1 ∷ []) short (sized 1 ∷ [])) ∷
     of 0 (2 ∷ 0 ∷ 0xFF ∷ []) (refusal tapeBad) ∷
     -- 12 with length 100: count 1, count 0
-    of 0 (pieces (0x12 ∷ 100 ∷ 0 ∷ 1 ∷ 0 ∷ [])) (taken 1 (row 0 2 0 0 0 0 0 0 0 ∷ []) ((1 ∷ 0 ∷ 100 ∷ 0 ∷ []) ∷ (0 ∷ 100 ∷ 100 ∷ 0 ∷ []) ∷ []) (sized 0 ∷ [])) ∷
-    of 0 (pieces (0x12 ∷ 100 ∷ 0 ∷ 0 ∷ 0 ∷ [])) (taken 1 (row 0 1 0 0 0 0 0 0 0 ∷ []) ((0 ∷ 100 ∷ 100 ∷ 0 ∷ []) ∷ []) (sized 0 ∷ [])) ∷
+    of 0 (pieces (0x12 ∷ 100 ∷ 0 ∷ 1 ∷ 0 ∷ [])) (taken 1 (row 0 2 0 0 0 0 0 0 0 ∷ [])
+    ((1 ∷ 0 ∷ 100 ∷ 0 ∷ []) ∷ (0 ∷ 100 ∷ 100 ∷ 0 ∷ []) ∷ []) (sized 0 ∷ [])) ∷
+    of 0 (pieces (0x12 ∷ 100 ∷ 0 ∷ 0 ∷ 0 ∷ []))
+    (taken 1 (row 0 1 0 0 0 0 0 0 0 ∷ []) ((0 ∷ 100 ∷ 100 ∷ 0 ∷ []) ∷ []) (sized 0 ∷ [])) ∷
     -- loop 2 round one pause: three blocks; loop 3: refused 6
-    of 0 (pieces (0x24 ∷ 2 ∷ 0 ∷ 0x20 ∷ 1 ∷ 0 ∷ 0x25 ∷ [])) (taken 1 (pause 0 ∷ pause 0 ∷ pause 0 ∷ []) [] (sized 0 ∷ sized 0 ∷ sized 0 ∷ [])) ∷
+    of 0 (pieces (0x24 ∷ 2 ∷ 0 ∷ 0x20 ∷ 1 ∷ 0 ∷ 0x25 ∷ []))
+    (taken 1 (pause 0 ∷ pause 0 ∷ pause 0 ∷ []) [] (sized 0 ∷ sized 0 ∷ sized 0 ∷ [])) ∷
     of 0 (pieces (0x24 ∷ 3 ∷ 0 ∷ 0x20 ∷ 1 ∷ 0 ∷ 0x25 ∷ [])) (refusal blocksFull) ∷
     -- pure data: last bits 8 accepted, 9 refused 7
-    of 0 (pure 8) (taken 1 (row 0 2 21 1 10 20 8 0 1 ∷ []) ((0 ∷ 0 ∷ 0 ∷ 0 ∷ []) ∷ (1 ∷ 0 ∷ 0 ∷ 0 ∷ []) ∷ []) (sized 1 ∷ [])) ∷
+    of 0 (pure 8)
+    (taken 1 (row 0 2 21 1 10 20 8 0 1 ∷ []) ((0 ∷ 0 ∷ 0 ∷ 0 ∷ []) ∷ (1 ∷ 0 ∷ 0 ∷ 0 ∷ []) ∷ []) (sized 1 ∷ [])) ∷
     of 0 (pure 9) (refusal lastBits) ∷
     -- the printed tape on the 48K, and on the others
-    of 0 printed (taken 1 (row 0 1 0 0 0 0 0 0 0 ∷ pause 1 ∷ stop 1 ∷ []) ((2 ∷ 100 ∷ 100 ∷ 0 ∷ []) ∷ []) (sized 0 ∷ sized 0 ∷ stopped ∷ [])) ∷
-    of 1 printed (taken 1 (row 0 1 0 0 0 0 0 0 0 ∷ pause 1 ∷ []) ((2 ∷ 100 ∷ 100 ∷ 0 ∷ []) ∷ []) (sized 0 ∷ sized 0 ∷ [])) ∷
-    of 2 printed (taken 1 (row 0 1 0 0 0 0 0 0 0 ∷ pause 1 ∷ []) ((2 ∷ 100 ∷ 100 ∷ 0 ∷ []) ∷ []) (sized 0 ∷ sized 0 ∷ [])) ∷
+    of 0 printed (taken 1 (row 0 1 0 0 0 0 0 0 0 ∷ pause 1 ∷ stop 1 ∷ []) ((2 ∷ 100 ∷ 100 ∷ 0 ∷ []) ∷ [])
+    (sized 0 ∷ sized 0 ∷ stopped ∷ [])) ∷
+    of 1 printed
+    (taken 1 (row 0 1 0 0 0 0 0 0 0 ∷ pause 1 ∷ []) ((2 ∷ 100 ∷ 100 ∷ 0 ∷ []) ∷ []) (sized 0 ∷ sized 0 ∷ [])) ∷
+    of 2 printed
+    (taken 1 (row 0 1 0 0 0 0 0 0 0 ∷ pause 1 ∷ []) ((2 ∷ 100 ∷ 100 ∷ 0 ∷ []) ∷ []) (sized 0 ∷ sized 0 ∷ [])) ∷
     of 3 printed (refusal badModel) ∷
     -- a generalised piece with neither pilot nor data: refused 4, no fallback
     of 0 (pieces (0x19 ∷ replicate 18 0)) (refusal generalised) ∷
     -- exactly full; one tone row short: refused 5; one block row short: refused 6; both: 5
-    lending 2 2 two (taken 1 (row 0 2 0 0 0 0 0 0 0 ∷ pause 2 ∷ []) ((1 ∷ 0 ∷ 100 ∷ 0 ∷ []) ∷ (0 ∷ 100 ∷ 100 ∷ 0 ∷ []) ∷ []) (sized 0 ∷ sized 0 ∷ [])) ∷
+    lending 2 2 two (taken 1 (row 0 2 0 0 0 0 0 0 0 ∷ pause 2 ∷ [])
+    ((1 ∷ 0 ∷ 100 ∷ 0 ∷ []) ∷ (0 ∷ 100 ∷ 100 ∷ 0 ∷ []) ∷ []) (sized 0 ∷ sized 0 ∷ [])) ∷
     lending 2 1 two (refusal tonesFull) ∷
     lending 1 2 two (refusal blocksFull) ∷
     lending 0 1 two (refusal tonesFull) ∷
     lending 0 0 [] (taken 0 [] [] []) ∷
     -- the naming pass: the block after a header is not selectable
-    of 0 headerTap (taken 0 (row 0 2 2 19 855 1710 8 3500000 1 ∷ row 2 2 23 1 855 1710 8 7000000 0 ∷ []) (long ++ short) (headerName ∷ sized 1 ∷ [])) ∷
+    of 0 headerTap (taken 0 (row 0 2 2 19 855 1710 8 3500000 1 ∷ row 2 2 23 1 855 1710 8 7000000 0 ∷ []) (long ++ short)
+    (headerName ∷ sized 1 ∷ [])) ∷
     -- an unknown kind is one byte
     of 0 (pieces (0x27 ∷ 0x20 ∷ 1 ∷ 0 ∷ 0xFF ∷ [])) (taken 1 (pause 0 ∷ []) [] (sized 0 ∷ [])) ∷ []
 
-shown : map (λ (e : Example). view (e .tape) (loadNamed (e .lent) (e .tape) (e .model))) examples ≡ map (λ (e : Example). e .gives) examples
-unfolding leAt numberAt fieldAt placeOf times eachAt groupsAt countedAt passAt textsAt wholeAt sealed enclosed fittingAt readAt binaryDigits orFull heldIf kind10 kind11 kind12 kind13 kind14 stream19 kind19 kind20 kind21 kind22 kind24 kind25 kind2A kind30 kind31 info32 kind32 kind33 kind35 kind5A kinds kindOf startsAt headAt takenAs cutAt tapBlock tapAt pilotOf dataPart withPilot withData generalOf empty _⟫_ addTones addBlock pend endGroup openLoop copyRows copies closed closeLoop paused lastPaused standardHeader standardCycles standardTones standardPause turboTones pureTones pureToneTones pulseAt addRows rowOf standardSound turboSound pairSounds pureSound pauseSound addSound addSounds generalDeed stop48Deed does deedOf act readOn seeing foldFrom halted tooManyBits bitsJudged tzxOf tzxSee headed readTzx tapOf tapSee readTap orTap orElse loadOf decimal digits latin1 eachByte table encoded isHeader typeName namedAs sizeShown sizeName guessed nameOf unselected nameOne nameAll namedTape namedLoad loadNamed
+shown : map (λ (e : Example). view (e .tape) (loadNamed (e .lent) (e .tape) (e .model))) examples
+    ≡ map (λ (e : Example). e .gives) examples
+unfolding leAt numberAt fieldAt placeOf times eachAt groupsAt countedAt passAt textsAt wholeAt sealed enclosed fittingAt readAt binaryDigits
+    orFull heldIf kind10 kind11 kind12 kind13 kind14 stream19 kind19 kind20 kind21 kind22 kind24 kind25 kind2A kind30 kind31 info32 kind32
+    kind33 kind35 kind5A kinds kindOf startsAt headAt takenAs cutAt tapBlock tapAt pilotOf dataPart withPilot withData generalOf empty _⟫_
+    addTones addBlock pend endGroup openLoop copyRows copies closed closeLoop paused lastPaused standardHeader standardCycles standardTones
+    standardPause turboTones pureTones pureToneTones pulseAt addRows rowOf standardSound turboSound pairSounds pureSound pauseSound addSound
+    addSounds generalDeed stop48Deed does deedOf act readOn seeing foldFrom halted tooManyBits bitsJudged tzxOf tzxSee headed readTzx tapOf
+    tapSee readTap orTap orElse loadOf decimal digits latin1 eachByte table encoded isHeader typeName namedAs sizeShown sizeName guessed
+    nameOf unselected nameOne nameAll namedTape namedLoad loadNamed
 shown = refl
 
 -- a tape over the limit, whatever its bytes
@@ -164,7 +188,18 @@ pub too-long : (lent : Lent) (s : List ℕ) (model : ℕ) → model < 3 → 1048
 unfolding loadNamed namedLoad loadOf
 too-long lent s model h k = rw (lt-leb 3 model h, lt-ltb 1048576 (length s) k)
 
--- two tapes are accepted and leave different block rows: so a load that refuses all tapes, or has one listing for all, does not meet the contract
-pub two-lists : {a a′ : Loaded} {bt bt′ tt tt′ : List ℕ} → Leaves threeBlocks fourTones (loadNamed (lentOf threeBlocks fourTones) (0 ∷ 0 ∷ []) 0) a bt tt → Leaves threeBlocks fourTones (loadNamed (lentOf threeBlocks fourTones) (1 ∷ 0 ∷ 0xFF ∷ []) 0) a′ bt′ tt′ → (a ≡ Tape Tap 1 2) × (a′ ≡ Tape Tap 1 2) × (bt ≡ bt′ → ⊥)
-unfolding leAt numberAt fieldAt placeOf times eachAt groupsAt countedAt passAt textsAt wholeAt sealed enclosed fittingAt readAt binaryDigits orFull heldIf kind10 kind11 kind12 kind13 kind14 stream19 kind19 kind20 kind21 kind22 kind24 kind25 kind2A kind30 kind31 info32 kind32 kind33 kind35 kind5A kinds kindOf startsAt headAt takenAs cutAt tapBlock tapAt pilotOf dataPart withPilot withData generalOf empty _⟫_ addTones addBlock pend endGroup openLoop copyRows copies closed closeLoop paused lastPaused standardHeader standardCycles standardTones standardPause turboTones pureTones pureToneTones pulseAt addRows rowOf standardSound turboSound pairSounds pureSound pauseSound addSound addSounds generalDeed stop48Deed does deedOf act readOn seeing foldFrom halted tooManyBits bitsJudged tzxOf tzxSee headed readTzx tapOf tapSee readTap orTap orElse loadOf decimal digits latin1 eachByte table encoded isHeader typeName namedAs sizeShown sizeName guessed nameOf unselected nameOne nameAll namedTape namedLoad loadNamed answerOf blockTable tableOver
+-- two tapes are accepted and leave different block rows:
+-- so a load that refuses all tapes, or has one listing for all, does not meet the contract
+pub two-lists : {a a′ : Loaded} {bt bt′ tt tt′ : List ℕ}
+    → Leaves threeBlocks fourTones (loadNamed (lentOf threeBlocks fourTones) (0 ∷ 0 ∷ []) 0) a bt tt
+    → Leaves threeBlocks fourTones (loadNamed (lentOf threeBlocks fourTones) (1 ∷ 0 ∷ 0xFF ∷ []) 0) a′ bt′ tt′
+    → (a ≡ Tape Tap 1 2) × (a′ ≡ Tape Tap 1 2) × (bt ≡ bt′ → ⊥)
+unfolding leAt numberAt fieldAt placeOf times eachAt groupsAt countedAt passAt textsAt wholeAt sealed enclosed fittingAt readAt binaryDigits
+    orFull heldIf kind10 kind11 kind12 kind13 kind14 stream19 kind19 kind20 kind21 kind22 kind24 kind25 kind2A kind30 kind31 info32 kind32
+    kind33 kind35 kind5A kinds kindOf startsAt headAt takenAs cutAt tapBlock tapAt pilotOf dataPart withPilot withData generalOf empty _⟫_
+    addTones addBlock pend endGroup openLoop copyRows copies closed closeLoop paused lastPaused standardHeader standardCycles standardTones
+    standardPause turboTones pureTones pureToneTones pulseAt addRows rowOf standardSound turboSound pairSounds pureSound pauseSound addSound
+    addSounds generalDeed stop48Deed does deedOf act readOn seeing foldFrom halted tooManyBits bitsJudged tzxOf tzxSee headed readTzx tapOf
+    tapSee readTap orTap orElse loadOf decimal digits latin1 eachByte table encoded isHeader typeName namedAs sizeShown sizeName guessed
+    nameOf unselected nameOne nameAll namedTape namedLoad loadNamed answerOf blockTable tableOver
 two-lists x y = (x .answer, y .answer, λ e. suc-ne-zero 0 (ap (λ (l : List ℕ). getD l 3 0) (sym (y .blocks) ∙ sym e ∙ x .blocks)))

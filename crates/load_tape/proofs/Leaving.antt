@@ -22,7 +22,8 @@ use Rattle.load_tape.specs.declared.Loaded.the-variants.{Tape, Refused a
 use Rattle.load_tape.specs.Load.{answerOf, blockTable, toneTable, Leaves}
 
 -- any two outcomes that the contract permits are equal
-pub one-outcome : {B N : ℕ} {l : Load} {a a′ : Loaded} {bt bt′ tt tt′ : List ℕ} → Leaves B N l a bt tt → Leaves B N l a′ bt′ tt′ → (a ≡ a′) × (bt ≡ bt′) × (tt ≡ tt′)
+pub one-outcome : {B N : ℕ} {l : Load} {a a′ : Loaded} {bt bt′ tt tt′ : List ℕ} → Leaves B N l a bt tt
+    → Leaves B N l a′ bt′ tt′ → (a ≡ a′) × (bt ≡ bt′) × (tt ≡ tt′)
 one-outcome x y = (x .answer ∙ sym (y .answer), x .blocks ∙ sym (y .blocks), x .tones ∙ sym (y .tones))
 
 pub blanked : {t : List ℕ} (n : ℕ) → t ≡ zeros n → Blank t
@@ -66,7 +67,8 @@ module _ {B N : ℕ} {r : Reading} {bt tt : List ℕ} {o : Verdict} (f : Finds B
   tzx-refuses other e = rw (found-refused f e)
 
 -- both checks passed
-pub load-reads : (lent : Lent) (s : List ℕ) (model : ℕ) → leb 3 model ≡ false → ltb 1048576 (length s) ≡ false → loadOf lent s model ≡ orElse (readTzx lent s model) (readTap lent s)
+pub load-reads : (lent : Lent) (s : List ℕ) (model : ℕ) → leb 3 model ≡ false → ltb 1048576 (length s) ≡ false
+    → loadOf lent s model ≡ orElse (readTzx lent s model) (readTap lent s)
 unfolding loadOf
 load-reads lent s model a b = rw (a, b)
 
@@ -75,14 +77,17 @@ module _ {B N B′ N′ : ℕ} (b : B ≡ B′) (n : N ≡ N′) where
   moved : (P : ℕ → ℕ → Type 0) → P B N → P B′ N′
   moved P x = subst (λ (i : ℕ). P i N′) b (subst (λ (i : ℕ). P B i) n x)
 
-  pub finds-tap : (s : List ℕ) {r : Reading} {bt tt : List ℕ} → Finds B N r bt tt (readTap (lentOf B N) s) → Finds B′ N′ r bt tt (readTap (lentOf B′ N′) s)
+  pub finds-tap : (s : List ℕ) {r : Reading} {bt tt : List ℕ} → Finds B N r bt tt (readTap (lentOf B N) s)
+      → Finds B′ N′ r bt tt (readTap (lentOf B′ N′) s)
   finds-tap s {r} {bt} {tt} f = moved (λ x y. Finds x y r bt tt (readTap (lentOf x y) s)) f
 
-  pub finds-tzx : (s : List ℕ) (model : ℕ) {r : Reading} {bt tt : List ℕ} → Finds B N r bt tt (readTzx (lentOf B N) s model) → Finds B′ N′ r bt tt (readTzx (lentOf B′ N′) s model)
+  pub finds-tzx : (s : List ℕ) (model : ℕ) {r : Reading} {bt tt : List ℕ} → Finds B N r bt tt (readTzx (lentOf B N) s model)
+      → Finds B′ N′ r bt tt (readTzx (lentOf B′ N′) s model)
   finds-tzx s model {r} {bt} {tt} f = moved (λ x y. Finds x y r bt tt (readTzx (lentOf x y) s model)) f
 
   pub leaves-no : {k : ℕ} {a : Loaded} {bt tt : List ℕ} → Leaves B N (no k) a bt tt → Leaves B′ N′ (no k) a bt tt
   leaves-no {k} {a} {bt} {tt} l = moved (λ x y. Leaves x y (no k) a bt tt) l
 
-  pub leaves-tap : (s : List ℕ) {a : Loaded} {bt tt : List ℕ} → Leaves B N (orTap (readTap (lentOf B N) s)) a bt tt → Leaves B′ N′ (orTap (readTap (lentOf B′ N′) s)) a bt tt
+  pub leaves-tap : (s : List ℕ) {a : Loaded} {bt tt : List ℕ} → Leaves B N (orTap (readTap (lentOf B N) s)) a bt tt
+      → Leaves B′ N′ (orTap (readTap (lentOf B′ N′) s)) a bt tt
   leaves-tap s {a} {bt} {tt} l = moved (λ x y. Leaves x y (orTap (readTap (lentOf x y) s)) a bt tt) l

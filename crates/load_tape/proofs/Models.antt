@@ -30,13 +30,17 @@ module _ (lent : Lent) (s : List ℕ) where
   named-as e (suc (suc (suc m))) h = absurd (not-suc-le-zero (le-of-suc-le-suc (le-of-suc-le-suc (le-of-suc-le-suc h))))
 
 module _ {B N : ℕ} (s : List ℕ) {a a′ : Loaded} {bt bt′ tt tt′ : List ℕ} where
-  same : {l l′ : Load} → l ≡ l′ → Leaves B N l a bt tt → Leaves B N l′ a′ bt′ tt′ → (a ≡ a′) × (bt ≡ bt′) × (tt ≡ tt′)
+  same : {l l′ : Load} → l ≡ l′ → Leaves B N l a bt tt → Leaves B N l′ a′ bt′ tt′
+      → (a ≡ a′) × (bt ≡ bt′) × (tt ≡ tt′)
   same e x y = one-outcome (subst (λ (l : Load). Leaves B N l a bt tt) e x) y
 
   -- models 1 and 2: the answer and every word
-  pub load-models : Leaves B N (loadNamed (lentOf B N) s 1) a bt tt → Leaves B N (loadNamed (lentOf B N) s 2) a′ bt′ tt′ → (a ≡ a′) × (bt ≡ bt′) × (tt ≡ tt′)
+  pub load-models : Leaves B N (loadNamed (lentOf B N) s 1) a bt tt → Leaves B N (loadNamed (lentOf B N) s 2) a′ bt′ tt′
+      → (a ≡ a′) × (bt ≡ bt′) × (tt ≡ tt′)
   load-models x y = same (named-equal (lentOf B N) s) x y
 
   -- any two models, where no 2A is reached
-  pub load-models-all : reaches2A (lentOf B N) s ≡ false → (m m′ : ℕ) → m < 3 → m′ < 3 → Leaves B N (loadNamed (lentOf B N) s m) a bt tt → Leaves B N (loadNamed (lentOf B N) s m′) a′ bt′ tt′ → (a ≡ a′) × (bt ≡ bt′) × (tt ≡ tt′)
+  pub load-models-all : reaches2A (lentOf B N) s ≡ false → (m m′ : ℕ) → m < 3 → m′ < 3
+      → Leaves B N (loadNamed (lentOf B N) s m) a bt tt → Leaves B N (loadNamed (lentOf B N) s m′) a′ bt′ tt′
+      → (a ≡ a′) × (bt ≡ bt′) × (tt ≡ tt′)
   load-models-all e m m′ h h′ x y = same (named-as (lentOf B N) s e m h ∙ sym (named-as (lentOf B N) s e m′ h′)) x y

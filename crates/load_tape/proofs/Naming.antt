@@ -37,14 +37,16 @@ is-tape (No k) = false
 
 module _ {B N : ℕ} where
   -- the pass has room for its rows
-  pub named-room : (l : Load) {a : Loaded} {bt tt : List ℕ} {f : Format} {n m : ℕ} → Leaves B N l a bt tt → a ≡ Tape f n m → n * block .width ≤ length bt
+  pub named-room : (l : Load) {a : Loaded} {bt tt : List ℕ} {f : Format} {n m : ℕ} → Leaves B N l a bt tt → a ≡ Tape f n m
+      → n * block .width ≤ length bt
   unfolding answerOf blockTable
   named-room (tzx t) {n = n} x e = room (t .blocks) B n (x .blocks) (ap count-of (sym e ∙ x .answer))
   named-room (tapped t) {n = n} x e = room (t .blocks) B n (x .blocks) (ap count-of (sym e ∙ x .answer))
   named-room (no k) x e = absurd (false≢true (ap is-tape (sym (x .answer) ∙ e)))
 
   -- and leaves the tape with its blocks named
-  pub named-leaves : (s : List ℕ) (l : Load) {a : Loaded} {bt bt′ tt : List ℕ} {f : Format} {n m : ℕ} → Leaves B N l a bt tt → a ≡ Tape f n m → bt′ ≡ step block n (nameAll s false) bt → Leaves B N (namedLoad s l) (Tape f n m) bt′ tt
+  pub named-leaves : (s : List ℕ) (l : Load) {a : Loaded} {bt bt′ tt : List ℕ} {f : Format} {n m : ℕ} → Leaves B N l a bt tt
+      → a ≡ Tape f n m → bt′ ≡ step block n (nameAll s false) bt → Leaves B N (namedLoad s l) (Tape f n m) bt′ tt
   unfolding answerOf blockTable toneTable namedLoad namedTape
   named-leaves s (tzx t) {n = n} x e p =
       let k : length (t .blocks) ≡ length (nameAll s false (t .blocks)) = sym (name-all-length s false (t .blocks)) in
@@ -63,7 +65,8 @@ module _ {B N : ℕ} where
   named-leaves s (no k) x e p = absurd (false≢true (ap is-tape (sym (x .answer) ∙ e)))
 
   -- a refusal is left as it is
-  pub named-refusal : (s : List ℕ) (l : Load) {a : Loaded} {bt tt : List ℕ} {k : ℕ} → Leaves B N l a bt tt → a ≡ No k → Leaves B N (namedLoad s l) a bt tt
+  pub named-refusal : (s : List ℕ) (l : Load) {a : Loaded} {bt tt : List ℕ} {k : ℕ} → Leaves B N l a bt tt → a ≡ No k
+      → Leaves B N (namedLoad s l) a bt tt
   unfolding answerOf namedLoad
   named-refusal s (tzx t) x e = absurd (false≢true (ap is-tape (sym e ∙ x .answer)))
   named-refusal s (tapped t) x e = absurd (false≢true (ap is-tape (sym e ∙ x .answer)))

@@ -1,4 +1,5 @@
--- What a load is and what it leaves: the source reading, then the naming pass; its answer, and every word of both lent tables. Assumes nothing.
+-- What a load is and what it leaves: the source reading, then the naming pass; its answer, and every word of both lent tables.
+-- Assumes nothing.
 use Prim.Native.Nat.{ℕ}
 use mathlib.Core.Path.{_≡_}
 use mathlib.Core.Bool.{false}

@@ -29,7 +29,8 @@ pub enum Loaded {
 
 // A refusal leaves both tables all zero.
 fn refuse(blocks: &mut [u64], tones: &mut [u64], k: u32) -> Loaded
-    ensures { λ a. ⌜ Leaves (length (now (blocks .entry))) (length (now (tones .entry))) (no k) a (now (blocks .exit)) (now (tones .exit)) ⌝ }
+    ensures { λ a.
+        ⌜ Leaves (length (now (blocks .entry))) (length (now (tones .entry))) (no k) a (now (blocks .exit)) (now (tones .exit)) ⌝ }
 {
     blank(blocks);
     blank(tones);
@@ -38,7 +39,9 @@ fn refuse(blocks: &mut [u64], tones: &mut [u64], k: u32) -> Loaded
 
 // The bytes as TAP, whatever the tables held.
 fn load_tap(tape: &[u8], blocks: &mut [u64], tones: &mut [u64]) -> Loaded
-    ensures { λ a. ⌜ Leaves (length (now (blocks .entry))) (length (now (tones .entry))) (orTap (readTap (lentOf (length (now (blocks .entry))) (length (now (tones .entry)))) (now (tape .entry)))) a (now (blocks .exit)) (now (tones .exit)) ⌝ }
+    ensures { λ a. ⌜ Leaves (length (now (blocks .entry))) (length (now (tones .entry)))
+        (orTap (readTap (lentOf (length (now (blocks .entry))) (length (now (tones .entry)))) (now (tape .entry)))) a (now (blocks .exit))
+        (now (tones .exit)) ⌝ }
 {
     blank(blocks);
     blank(tones); // the reading as TZX may have written rows
@@ -58,7 +61,9 @@ fn load_tap(tape: &[u8], blocks: &mut [u64], tones: &mut [u64]) -> Loaded
 
 // The bytes read, before the naming pass.
 fn read(tape: &[u8], model: u32, blocks: &mut [u64], tones: &mut [u64]) -> Loaded
-    ensures { λ a. ⌜ Leaves (length (now (blocks .entry))) (length (now (tones .entry))) (loadOf (lentOf (length (now (blocks .entry))) (length (now (tones .entry)))) (now (tape .entry)) model) a (now (blocks .exit)) (now (tones .exit)) ⌝ }
+    ensures { λ a. ⌜ Leaves (length (now (blocks .entry))) (length (now (tones .entry)))
+        (loadOf (lentOf (length (now (blocks .entry))) (length (now (tones .entry)))) (now (tape .entry)) model) a (now (blocks .exit))
+        (now (tones .exit)) ⌝ }
 {
     if 3 <= model {
         return refuse(blocks, tones, BAD_MODEL);
@@ -84,7 +89,9 @@ fn read(tape: &[u8], model: u32, blocks: &mut [u64], tones: &mut [u64]) -> Loade
 
 // Model 0 is the 48K, 1 the 128K, 2 the Plus3.
 pub fn load(tape: &[u8], model: u32, blocks: &mut [u64], tones: &mut [u64]) -> Loaded
-    ensures { λ a. ⌜ Leaves (length (now (blocks .entry))) (length (now (tones .entry))) (loadNamed (lentOf (length (now (blocks .entry))) (length (now (tones .entry)))) (now (tape .entry)) model) a (now (blocks .exit)) (now (tones .exit)) ⌝ }
+    ensures { λ a. ⌜ Leaves (length (now (blocks .entry))) (length (now (tones .entry)))
+        (loadNamed (lentOf (length (now (blocks .entry))) (length (now (tones .entry)))) (now (tape .entry)) model) a (now (blocks .exit))
+        (now (tones .exit)) ⌝ }
 {
     let loaded = read(tape, model, blocks, tones);
     let Loaded::Tape {

@@ -21,7 +21,8 @@ pub fn turbo_data_block(
     origin: Origin,
     d: TurboData,
 ) -> Step
-    ensures { λ x. ⌜ Does (λ lent. addSound lent origin (turboSound d)) s x (now (blocks .entry)) (now (tones .entry)) (now (blocks .exit)) (now (tones .exit)) ⌝ }
+    ensures { λ x. ⌜ Does (λ lent. addSound lent origin (turboSound d)) s x (now (blocks .entry)) (now (tones .entry))
+        (now (blocks .exit)) (now (tones .exit)) ⌝ }
 {
     let pilot = Tone {
         num: (d.pilots as u64 + 1) / 2,
@@ -55,7 +56,8 @@ pub fn pure_data_block(
     bits: Bits,
     pause: u32,
 ) -> Step
-    ensures { λ x. ⌜ Does (λ lent. addSound lent origin (pureSound bits (ms pause))) s x (now (blocks .entry)) (now (tones .entry)) (now (blocks .exit)) (now (tones .exit)) ⌝ }
+    ensures { λ x. ⌜ Does (λ lent. addSound lent origin (pureSound bits (ms pause))) s x (now (blocks .entry)) (now (tones .entry))
+        (now (blocks .exit)) (now (tones .exit)) ⌝ }
 {
     let pilot = Tone {
         num: 0,
@@ -82,7 +84,8 @@ pub fn pure_tone_block(
     half: u32,
     count: u32,
 ) -> Step
-    ensures { λ x. ⌜ Does (λ lent. addSound lent origin (toneSound (pureToneTones half count))) s x (now (blocks .entry)) (now (tones .entry)) (now (blocks .exit)) (now (tones .exit)) ⌝ }
+    ensures { λ x. ⌜ Does (λ lent. addSound lent origin (toneSound (pureToneTones half count))) s x (now (blocks .entry))
+        (now (tones .entry)) (now (blocks .exit)) (now (tones .exit)) ⌝ }
 {
     let whole = Tone {
         num: (count / 2) as u64,

@@ -26,10 +26,12 @@ module _ (tape tones : List ℕ) (r : Block) (i p d : ℕ) (x : Tone) (e : x ≡
       subst (λ (y : Tone). y .len1 ≤ d → d < secondTime r y → Here s) (sym e)
       (λ u v g. rw (le-leb (toneAt tones r i .len1) d u, lt-leb (secondTime r (toneAt tones r i)) d v) g) l h f
 
-  pub drops-cycles : (n c m : ℕ) → n ≡ cyclesOf r x → c ≡ cycleTime r x → m ≡ cyclePulses r x → x .len1 ≤ d → secondTime r x ≤ d
+  pub drops-cycles : (n c m : ℕ) → n ≡ cyclesOf r x → c ≡ cycleTime r x → m ≡ cyclePulses r x → x .len1 ≤ d
+      → secondTime r x ≤ d
       → stepTo (cycleFrom tones x r i (p + (n - p))) ((n - p) * c) ((n - p) * m) ≡ dropOf tape tones r (Tones i p false) d
   unfolding dropOf cyclesStep
   drops-cycles n c m f a b l h =
       subst
-      (λ (y : Tone). n ≡ cyclesOf r y → c ≡ cycleTime r y → m ≡ cyclePulses r y → y .len1 ≤ d → secondTime r y ≤ d → stepTo (cycleFrom tones y r i (p + (n - p))) ((n - p) * c) ((n - p) * m) ≡ dropOf tape tones r (Tones i p false) d)
+      (λ (y : Tone). n ≡ cyclesOf r y → c ≡ cycleTime r y → m ≡ cyclePulses r y → y .len1 ≤ d → secondTime r y ≤ d
+      → stepTo (cycleFrom tones y r i (p + (n - p))) ((n - p) * c) ((n - p) * m) ≡ dropOf tape tones r (Tones i p false) d)
       (sym e) (λ u o q v w. rw (← u, o, q, le-leb (toneAt tones r i .len1) d v, le-leb (secondTime r (toneAt tones r i)) d w)) f a b l h

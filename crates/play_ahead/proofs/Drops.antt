@@ -49,31 +49,45 @@ time-most [] ys = omega arith
 time-most (endless a v ∷ xs) ys = omega arith
 time-most (pulse a v t ∷ xs) ys = omega (arith, time-most xs ys)
 
-run-most : {A : Type 0} (item : ℕ → List (Entry A)) (c p m : ℕ) → ((i : ℕ) → p ≤ i → i < p + m → time (item i) ≤ c) → time (run item p m) ≤ m * c
+run-most : {A : Type 0} (item : ℕ → List (Entry A)) (c p m : ℕ) → ((i : ℕ) → p ≤ i → i < p + m → time (item i) ≤ c)
+    → time (run item p m) ≤ m * c
 unfolding run time
 run-most item c p zero h = omega (arith, zero-mul c)
 run-most item c p (suc m) h =
-    omega (arith, time-most (item p) (run item (p + 1) m), h p (omega arith) (omega arith), run-most item c (p + 1) m (λ i l g. h i (omega arith) (omega arith)), suc-mul m c)
+    omega (
+      arith,
+      time-most (item p) (run item (p + 1) m),
+      h p (omega arith) (omega arith),
+      run-most item c (p + 1) m (λ i l g. h i (omega arith) (omega arith)),
+      suc-mul m c,
+    )
 
-list-most : {w : Tape} {b₀ k : ℕ} → WellUpTo w b₀ k → w .count ≤ 4096 → (b : ℕ) → b₀ ≤ b → time (listFrom (cutTo w k) b) ≤ 4611686018427387904
+list-most : {w : Tape} {b₀ k : ℕ} → WellUpTo w b₀ k → w .count ≤ 4096 → (b : ℕ) → b₀ ≤ b
+    → time (listFrom (cutTo w k) b) ≤ 4611686018427387904
 unfolding wellRow listFrom
 list-most {w} {b₀} {k} x h b l =
     let v = cutTo w k in
     let n = run-most (λ i. entriesOf (v .bytes) (v .tones) i (blockIn v i)) 1125899906842624 b (k - b)
-    (λ i y z. omega (arith, block-below (tapeSize (v .bytes)) (v .bytes) (v .tones) i (blockIn v i) (x .well i (omega arith) (omega arith)) (omega arith))) in
+    (λ i y z. omega (
+      arith,
+      block-below (tapeSize (v .bytes)) (v .bytes) (v .tones) i (blockIn v i) (x .well i (omega arith) (omega arith)) (omega arith),
+    )) in
     omega (arith, n, x .most)
 
 -- what is left behind a turn: the block's entries from a phase on, or the blocks behind it
 abbrev pub cur : Tape → ℕ → Phase → Bool → List (Entry Label)
 cur v b f over = over ⇒ listFrom v (b + 1) ∣ fullAt v b f
 
-pub cur-most : {w : Tape} {b₀ k : ℕ} → WellUpTo w b₀ k → w .count ≤ 4096 → (b : ℕ) → b₀ ≤ b → b < k → (f : Phase) (over : Bool) → (over ≡ false → hasIn w b f ≡ true)
+pub cur-most : {w : Tape} {b₀ k : ℕ} → WellUpTo w b₀ k → w .count ≤ 4096 → (b : ℕ) → b₀ ≤ b → b < k
+    → (f : Phase) (over : Bool) → (over ≡ false → hasIn w b f ≡ true)
     → (d : ℕ) → drops (cur (cutTo w k) b f over) d ≤ 4611686018427387904
-cur-most {w} {b₀} {k} x h b l g f true s d = omega (arith, drops-most (listFrom (cutTo w k) (b + 1)) d, list-most x h (b + 1) (omega arith))
+cur-most {w} {b₀} {k} x h b l g f true s d =
+    omega (arith, drops-most (listFrom (cutTo w k) (b + 1)) d, list-most x h (b + 1) (omega arith))
 cur-most {w} {b₀} {k} x h b l g f false s d =
     let v = cutTo w k in
     let p = left-part v b g f (lengthIn v b f) (full-valid v b g d f (s refl)) in
-    let e : listFrom v b ≡ p .entry .gone ++ fullAt v b f = p .entry .whole ∙ ap (λ (y : List (Entry Label)). p .entry .gone ++ y) (sym (p .rest)) in
+    let e : listFrom v b ≡ p .entry .gone ++ fullAt v b f =
+    p .entry .whole ∙ ap (λ (y : List (Entry Label)). p .entry .gone ++ y) (sym (p .rest)) in
     omega (arith, drops-most (fullAt v b f) d, list-most x h b l, ap time e, time-append (p .entry .gone) (fullAt v b f) (p .entry .finite))
 
 -- a turn's state, on the tape cut to k
@@ -85,14 +99,16 @@ pub record Off (w : Tape) (k b : ℕ) (f : Phase) (over : Bool) (d sum : ℕ) : 
 cur-in : (v : Tape) (b : ℕ) (f : Phase) (over : Bool) (d : ℕ) → over ≡ false → drops (cur v b f over) d ≡ drops (fullAt v b f) d
 cur-in v b f over d z = ap (λ (x : Bool). drops (cur v b f x) d) z
 
-pub cur-out : (v : Tape) (b : ℕ) (f : Phase) (over : Bool) (d : ℕ) → over ≡ true → drops (cur v b f over) d ≡ drops (listFrom v (b + 1)) d
+pub cur-out : (v : Tape) (b : ℕ) (f : Phase) (over : Bool) (d : ℕ) → over ≡ true
+    → drops (cur v b f over) d ≡ drops (listFrom v (b + 1)) d
 cur-out v b f over d z = ap (λ (x : Bool). drops (cur v b f x) d) z
 
 pub drops-nil : (v : Tape) (b d : ℕ) → listFrom v b ≡ [] → drops (listFrom v b) d ≡ 0
 unfolding drops
 drops-nil v b d e = ap (λ (x : List (Entry Label)). drops x d) e
 
-module _ (w : Tape) (b : ℕ) (f : Phase) (over : Bool) (d : ℕ) (has : over ≡ false → hasIn w b f ≡ true) (z : over ≡ false) (r : Block) (er : r ≡ blockIn w b) (s : Step) (es : s ≡ dropOf (w .bytes) (w .tones) r f d) where
+module _ (w : Tape) (b : ℕ) (f : Phase) (over : Bool) (d : ℕ) (has : over ≡ false → hasIn w b f ≡ true) (z : over ≡ false)
+    (r : Block) (er : r ≡ blockIn w b) (s : Step) (es : s ≡ dropOf (w .bytes) (w .tones) r f d) where
   pub shed-here : (n : ℕ) → b < n → Sheds (cutTo w n) b (fullAt (cutTo w n) b f) d s
   shed-here n h =
       subst (λ (x : Step). Sheds (cutTo w n) b (fullAt (cutTo w n) b f) d x)
@@ -103,7 +119,8 @@ module _ (w : Tape) (b : ℕ) (f : Phase) (over : Bool) (d : ℕ) (has : over �
       → sum + drops (cur (cutTo w n) b f over) d ≡ sum + s .time + drops (cur (cutTo w n) b (s .phase) (s .over)) d
   shed-goes n h p sum = omega (arith, cur-in (cutTo w n) b f over d z, shed-here n h .goes p)
 
-  pub shed-less : (s .passed ≡ 0 → ⊥) → length (cur (cutTo w (b + 1)) b (s .phase) (s .over)) < length (cur (cutTo w (b + 1)) b f over)
+  pub shed-less : (s .passed ≡ 0 → ⊥)
+      → length (cur (cutTo w (b + 1)) b (s .phase) (s .over)) < length (cur (cutTo w (b + 1)) b f over)
   shed-less p = omega (arith, shed-here (b + 1) (omega arith) .less p, ap (λ (x : Bool). length (cur (cutTo w (b + 1)) b f x)) z)
 
   pub shed-rests : (n : ℕ) → b < n → s .passed ≡ 0 → drops (cur (cutTo w n) b f over) d ≡ 0
@@ -119,13 +136,15 @@ module _ (v : Tape) (b : ℕ) (below : b < v .count) (f : Phase) (left : Duratio
   unfolding entryOf runsAhead
   ahead-stop z =
       let x = left-part v b below f left e in
-      ap (λ (y : List (Entry Label)). runsAhead y n) (x .rest ∙ ap (λ (y : Duration). entryOf (labelAt b f) (levelIn v b f) y ∷ x .next) z)
+      ap (λ (y : List (Entry Label)). runsAhead y n)
+      (x .rest ∙ ap (λ (y : Duration). entryOf (labelAt b f) (levelIn v b f) y ∷ x .next) z)
 
   pub ahead-short : (t : ℕ) → left ≡ T t → n < t → runsAhead (leftAt v b f left) n ≡ 0
   unfolding entryOf
   ahead-short t z l =
       let x = left-part v b below f left e in
-      ap (λ (y : List (Entry Label)). runsAhead y n) (x .rest ∙ ap (λ (y : Duration). entryOf (labelAt b f) (levelIn v b f) y ∷ x .next) z)
+      ap (λ (y : List (Entry Label)). runsAhead y n)
+      (x .rest ∙ ap (λ (y : Duration). entryOf (labelAt b f) (levelIn v b f) y ∷ x .next) z)
       ∙ ahead-here (labelAt b f) (levelIn v b f) t (x .next) n l
 
   own-time : (t : ℕ) → left ≡ T t → (g : Phase) → g ≡ f → oneStep (v .tones) (blockIn v b) g t .time ≡ t
@@ -140,7 +159,8 @@ module _ (v : Tape) (b : ℕ) (below : b < v .count) (f : Phase) (left : Duratio
   own-time t z Edge g = refl
   own-time t z Pause g = refl
 
-  pub ahead-long : (t : ℕ) → left ≡ T t → t ≤ n → hasIn v b f ≡ true → (r : Block) → r ≡ blockIn v b → (s : Step) → s ≡ oneStep (v .tones) r f t
+  pub ahead-long : (t : ℕ) → left ≡ T t → t ≤ n → hasIn v b f ≡ true → (r : Block) → r ≡ blockIn v b → (s : Step)
+      → s ≡ oneStep (v .tones) r f t
       → runsAhead (leftAt v b f left) n ≡ drops (leftBehind v b s) (n - t)
   ahead-long t z l h r er s es =
       let q : s ≡ oneStep (v .tones) (blockIn v b) f t = es ∙ ap (λ (x : Block). oneStep (v .tones) x f t) er in
@@ -164,28 +184,35 @@ module _ (w : Tape) (q : Position) (a : Walkable w q) (n : ℕ) where
 
   pub dropped-stop : q .left ≡ Endless → 0 ≡ droppedFrom w q n
   unfolding droppedFrom formed
-  dropped-stop z = sym (dropped-ahead _ n ∙ ahead-stop (cutTo w cut) (q .block) (first-on .below) (q .phase) (q .left) (first-on .stands) n z)
+  dropped-stop z =
+      sym (dropped-ahead _ n ∙ ahead-stop (cutTo w cut) (q .block) (first-on .below) (q .phase) (q .left) (first-on .stands) n z)
 
   module _ (t : ℕ) (z : q .left ≡ T t) where
     pub dropped-short : n < t → 0 ≡ droppedFrom w q n
     unfolding droppedFrom formed
-    dropped-short l = sym (dropped-ahead _ n ∙ ahead-short (cutTo w cut) (q .block) (first-on .below) (q .phase) (q .left) (first-on .stands) n t z l)
+    dropped-short l =
+        sym (dropped-ahead _ n ∙ ahead-short (cutTo w cut) (q .block) (first-on .below) (q .phase) (q .left) (first-on .stands) n t z l)
 
     module _ (l : t ≤ n) (r : Block) (er : r ≡ blockIn w (q .block)) (s : Step) (es : s ≡ oneStep (w .tones) r (q .phase) t) where
       pub dropped-behind : droppedFrom w q n ≡ drops (cur (cutTo w cut) (q .block) (s .phase) (s .over)) (n - t)
       unfolding droppedFrom formed
       dropped-behind =
           dropped-ahead _ n
-          ∙ ahead-long (cutTo w cut) (q .block) (first-on .below) (q .phase) (q .left) (first-on .stands) n t z l (on-has first-on) r er s es
+          ∙ ahead-long (cutTo w cut) (q .block) (first-on .below) (q .phase) (q .left) (first-on .stands) n t z l
+          (on-has first-on) r er s es
 
       pub off-first : Off w cut (q .block) (s .phase) (s .over) (n - t) 0
       off-first =
           let e = es ∙ ap (λ (x : Block). oneStep (w .tones) x (q .phase) t) er in
-          let o = subst (λ (x : Step). One (cutTo w cut) (q .block) (leftAt (cutTo w cut) (q .block) (q .phase) (T t)) x) (sym e) (leap-one (cutTo w cut) (q .block) (first-on .below) (q .phase) t (on-has first-on)) in
+          let o = subst (λ (x : Step). One (cutTo w cut) (q .block) (leftAt (cutTo w cut) (q .block) (q .phase) (T t)) x) (sym e)
+          (leap-one (cutTo w cut) (q .block) (first-on .below) (q .phase) t (on-has first-on)) in
           record {
             below = first-on .below;
             has = o .has;
-            few = omega (arith, cur-most rows (omega (arith, a .lent)) (q .block) (omega arith) (first-on .below) (s .phase) (s .over) (o .has) (n - t));
+            few = omega (
+              arith,
+              cur-most rows (omega (arith, a .lent)) (q .block) (omega arith) (first-on .below) (s .phase) (s .over) (o .has) (n - t),
+            );
           }
 
 -- what a call drops is small
@@ -199,11 +226,16 @@ dropped-most w q n a = by-left (q .left) refl
         (λ l. omega (arith, dropped-short w q a n t z l))
         (λ g.
         let s = oneStep (w .tones) (blockIn w (q .block)) (q .phase) t in
-        omega (arith, dropped-behind w q a n t z g (blockIn w (q .block)) refl s refl, off-first w q a n t z g (blockIn w (q .block)) refl s refl .few))
+        omega (
+          arith,
+          dropped-behind w q a n t z g (blockIn w (q .block)) refl s refl,
+          off-first w q a n t z g (blockIn w (q .block)) refl s refl .few,
+        ))
         (lt-or-ge n t)
 
 -- a block's start
-pub off-start : {w : Tape} {b₀ k : ℕ} → WellUpTo w b₀ k → (b : ℕ) (f : Phase) (over : Bool) (d sum : ℕ) → over ≡ true → Off w k b f over d sum → b + 1 < k
+pub off-start : {w : Tape} {b₀ k : ℕ} → WellUpTo w b₀ k → (b : ℕ) (f : Phase) (over : Bool) (d sum : ℕ) → over ≡ true
+    → Off w k b f over d sum → b + 1 < k
     → Off w k (b + 1) Start false d sum
 unfolding leftAt hasEntry
 off-start {w} {b₀} {k} x b f over d sum z o h =

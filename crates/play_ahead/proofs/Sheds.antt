@@ -39,13 +39,15 @@ pub record Sheds (w : Tape) (b : ℕ) (es : List (Entry Label)) (d : ℕ) (s : S
 one-sheds : (w : Tape) (b : ℕ) (es : List (Entry Label)) (s : Step) (d : ℕ) → One w b es s → s .time ≤ d → Sheds w b es d s
 one-sheds w b es s d o h =
     record {
-      goes = λ n. ap (λ (x : List (Entry Label)). drops x d) (o .split) ∙ drops-past (o .label) (o .level) (s .time) (leftBehind w b s) d h;
+      goes = λ n. ap (λ (x : List (Entry Label)). drops x d) (o .split)
+          ∙ drops-past (o .label) (o .level) (s .time) (leftBehind w b s) d h;
       less = λ n. omega (arith, ap length (o .split));
       rests = λ z. absurd (omega (arith, o .many));
       has = o .has;
     }
 
-leap-sheds : (w : Tape) (b : ℕ) (es : List (Entry Label)) (s : Step) {gone : List (Entry Label)} (d : ℕ) → Leap w b es s gone → Within gone d → 0 < s .passed → Sheds w b es d s
+leap-sheds : (w : Tape) (b : ℕ) (es : List (Entry Label)) (s : Step) {gone : List (Entry Label)} (d : ℕ) → Leap w b es s gone
+    → Within gone d → 0 < s .passed → Sheds w b es d s
 leap-sheds w b es s {gone} d l h p =
     record {
       goes =
@@ -58,7 +60,8 @@ leap-sheds w b es s {gone} d l h p =
       has = l .has;
     }
 
-none-sheds : (w : Tape) (b : ℕ) (f : Phase) (es : List (Entry Label)) (d : ℕ) → hasIn w b f ≡ true → drops es d ≡ 0 → Sheds w b es d (noStep f)
+none-sheds : (w : Tape) (b : ℕ) (f : Phase) (es : List (Entry Label)) (d : ℕ) → hasIn w b f ≡ true → drops es d ≡ 0
+    → Sheds w b es d (noStep f)
 none-sheds w b f es d h e = record { goes = λ n. absurd (n refl); less = λ n. absurd (n refl); rests = λ z. e; has = λ z. h }
 
 half-within : (r : Block) (d x : ℕ) → r .zero ≤ d → r .one ≤ d → halfOf r x ≤ d
@@ -72,7 +75,8 @@ half-within r d x p q =
 byte-within : (b : ℕ) (r : Block) (c : Level) (pos v d : ℕ) → r .zero ≤ d → r .one ≤ d → Within (byteOf b r c pos v) d
 unfolding byteOf Within
 byte-within b r c pos v d p q =
-    run-within (bitEntries b r c pos v) d 0 (bitsAt r pos) (λ k l g. (half-within r d (bitOf v k) p q, (half-within r d (bitOf v k) p q, tt)))
+    run-within (bitEntries b r c pos v) d 0 (bitsAt r pos)
+    (λ k l g. (half-within r d (bitOf v k) p q, (half-within r d (bitOf v k) p q, tt)))
 
 many-some : (tones : List ℕ) (t : Tone) (r : Block) (i p k : ℕ) → 0 < k → 0 < cyclesStep tones t r i p k .passed
 unfolding cyclesStep
@@ -91,7 +95,8 @@ pub time-none : {t : ℕ} → T t ≡ T 0 → 0 ≡ t
 time-none {t} e = cc
 
 module _ (w : Tape) (b : ℕ) (below : b < w .count) (d : ℕ) where
-  shed-left : (f : Phase) (left : Duration) → hasIn w b f ≡ true → valid w b f left ≡ true → Sheds w b (leftAt w b f left) d (dropOne (w .tones) (blockIn w b) f left d)
+  shed-left : (f : Phase) (left : Duration) → hasIn w b f ≡ true → valid w b f left ≡ true
+      → Sheds w b (leftAt w b f left) d (dropOne (w .tones) (blockIn w b) f left d)
   unfolding dropOne entryOf drops
   shed-left f (T t) h v =
       ⊎-elim
@@ -102,7 +107,8 @@ module _ (w : Tape) (b : ℕ) (below : b < w .count) (d : ℕ) where
       (ap (λ (y : List (Entry Label)). drops y d) (x .rest) ∙ drops-here (labelAt b f) (levelIn w b f) t (x .next) d l)))
       (λ g.
       rw (le-leb t d g)
-      (one-sheds w b (leftAt w b f (T t)) (oneStep (w .tones) (blockIn w b) f t) d (leap-one w b below f t h) (one-time (w .tones) (blockIn w b) f t d g)))
+      (one-sheds w b (leftAt w b f (T t)) (oneStep (w .tones) (blockIn w b) f t) d (leap-one w b below f t h)
+      (one-time (w .tones) (blockIn w b) f t d g)))
       (lt-or-ge d t)
   shed-left f Endless h v =
       let x = left-part w b below f Endless v in
@@ -129,8 +135,10 @@ module _ (w : Tape) (b : ℕ) (below : b < w .count) (d : ℕ) where
       (λ l. rw (le-leb (x .len1) d g, lt-leb y d l) (shed-entry (Tones i p false) h))
       (λ m.
       rw (le-leb (x .len1) d g, le-leb y d m)
-      (leap-sheds w b (fullAt w b (Tones i p false)) (cyclesStep (w .tones) x (blockIn w b) i p k) d (leap-cycles w b below i p k (n .0) (n .1) (omega (arith, n .1)))
-      (run-within (cycleItem w b i) d p k (λ j u z. (g, second-within (isSingle (blockIn w b) x) _ _ _ d m))) (many-some (w .tones) x (blockIn w b) i p k (omega (arith, n .1)))))
+      (leap-sheds w b (fullAt w b (Tones i p false)) (cyclesStep (w .tones) x (blockIn w b) i p k) d
+      (leap-cycles w b below i p k (n .0) (n .1) (omega (arith, n .1)))
+      (run-within (cycleItem w b i) d p k (λ j u z. (g, second-within (isSingle (blockIn w b) x) _ _ _ d m)))
+      (many-some (w .tones) x (blockIn w b) i p k (omega (arith, n .1)))))
       (lt-or-ge d y))
       (lt-or-ge d (x .len1))
 

@@ -37,7 +37,8 @@ dropOf tape tones r Start d = dropEntry tape tones r Start d
 dropOf tape tones r (Tones i p true) d = dropEntry tape tones r (Tones i p true) d
 dropOf tape tones r (Tones i p false) d =
     let x = toneAt tones r i in
-    (leb (x .len1) d && leb (secondTime r x) d) ⇒ cyclesStep tones x r i p (cyclesOf r x - p) ∣ dropEntry tape tones r (Tones i p false) d
+    (leb (x .len1) d && leb (secondTime r x) d) ⇒ cyclesStep tones x r i p (cyclesOf r x - p)
+    ∣ dropEntry tape tones r (Tones i p false) d
 dropOf tape tones r (Data pos k true) d = dropEntry tape tones r (Data pos k true) d
 dropOf tape tones r (Data pos k false) d =
     (eqb k 0 && (leb (r .zero) d && leb (r .one) d)) ⇒ byteStep tape r pos ∣ dropEntry tape tones r (Data pos k false) d

@@ -23,7 +23,8 @@ use Rattle.play_deck.proofs.Sources.{sources-told, sources-place}
 abbrev outcome : List (Entry Label) → Bool → Outcome Label
 outcome es b = record { place = es; done = b }
 
-module _ (w : Tape) (whole : WholeTape w) (q : Position) (n : ℕ) (ms : List ℕ) (v : validAt w q ≡ true) (p : 0 < n) (h : Positive ms) where
+module _ (w : Tape) (whole : WholeTape w) (q : Position) (n : ℕ) (ms : List ℕ) (v : validAt w q ≡ true) (p : 0 < n)
+    (h : Positive ms) where
   calls-place : ahead w (positionIn q (runCalls w q n ms)) ≡ calls (ahead w q) n ms .place
   unfolding answer
   calls-place =

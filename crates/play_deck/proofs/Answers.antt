@@ -1,4 +1,5 @@
--- WHAT AN ANSWER HOLDS: where it leaves the head, the entries it counts, its level, whether it is the end; one answer is permitted. Assumes nothing.
+-- WHAT AN ANSWER HOLDS: where it leaves the head, the entries it counts, its level, whether it is the end; one answer is permitted.
+-- Assumes nothing.
 use Prim.Native.Nat.{ℕ, _-_}
 use mathlib.Core.Path.{_≡_, refl}
 use Rattle.law_pulses.specs.Play.{Status, standing, stopped, ended, Answer, countedOn}

@@ -35,7 +35,8 @@ use Rattle.play_deck.specs.declared.Check.the-variants.{Fine, NotValid, 
 use Rattle.play_deck.specs.declared.Verdict.{Verdict}
 use Rattle.play_deck.specs.Deck.{atStart, judged, stays}
 use Rattle.play_deck.specs.Assay.{fineIf, verdictOf, readyRow, levelThere, Assayed, Lending, Sounded}
-use Rattle.play_deck.proofs.Checks.{judged-over, judged-start, judged-past, judged-bad, judged-not, judged-fine, fine-none, stays-at, stays-past, stays-endless}
+use Rattle.play_deck.proofs.Checks.{judged-over, judged-start, judged-past, judged-bad, judged-not, judged-fine, fine-none}
+use Rattle.play_deck.proofs.Checks.{stays-at, stays-past, stays-endless}
 
 -- nothing heard is told
 told-silence : (tones blocks : List ℕ) → Told tones blocks silence
@@ -59,7 +60,8 @@ module _ (tape : ℕ) (tones : List ℕ) (r : Block) where
       by-sort true = rw (words-tones tape tones r, e)
       by-sort false = e
 
-  pub ready-source : isSource r ≡ true → wellWords tape tones r ≡ true → readyRow tape tones r ≡ wellTones tones (r .tone) (r .tones)
+  pub ready-source : isSource r ≡ true → wellWords tape tones r ≡ true
+      → readyRow tape tones r ≡ wellTones tones (r .tone) (r .tones)
   unfolding readyRow
   ready-source s e = rw (s, words-tones tape tones r, e)
 
@@ -91,11 +93,13 @@ module _ (tape : ℕ) (tones : List ℕ) (r : Block) where
 
 module _ (w : Tape) (q : Position) where
   -- a check that tells no level
-  pub assayed-silent : (c : Check) → judged w q ≡ c → (c ≡ Fine → levelThere w q ≡ low) → (a : Verdict) → a ≡ verdictOf c low silence → Assayed w q a
+  pub assayed-silent : (c : Check) → judged w q ≡ c → (c ≡ Fine → levelThere w q ≡ low) → (a : Verdict)
+      → a ≡ verdictOf c low silence → Assayed w q a
   assayed-silent c j l a e =
       subst (Assayed w q) (sym e) (record { check = sym j; level = λ f. sym (l f); told = told-silence (w .tones) (w .blocks) })
 
-  pub assayed-over : capacityOf block blockMost (w .blocks) < w .count → (a : Verdict) → a ≡ verdictOf NotFormed low silence → Assayed w q a
+  pub assayed-over : capacityOf block blockMost (w .blocks) < w .count → (a : Verdict) → a ≡ verdictOf NotFormed low silence
+      → Assayed w q a
   assayed-over h a e = assayed-silent NotFormed (judged-over w q h) (λ f. absurd (unformed f)) a e
 
   module _ (fits : w .count ≤ capacityOf block blockMost (w .blocks)) where
@@ -104,7 +108,8 @@ module _ (w : Tape) (q : Position) where
     judged-beyond h false e = judged-past w q fits h e
 
     pub assayed-past : w .count ≤ q .block → (a : Verdict) → a ≡ verdictOf (fineIf (atStart q)) low silence → Assayed w q a
-    assayed-past h a e = assayed-silent (fineIf (atStart q)) (judged-beyond h (atStart q) refl) (λ f. rw (le-ltb (q .block) (w .count) h)) a e
+    assayed-past h a e =
+        assayed-silent (fineIf (atStart q)) (judged-beyond h (atStart q) refl) (λ f. rw (le-ltb (q .block) (w .count) h)) a e
 
     module _ (h : q .block < w .count) where
       -- whether so much may be left of the entry, of the row that the code read
@@ -115,20 +120,28 @@ module _ (w : Tape) (q : Position) where
       judged-entry e true f = judged-fine w q fits h e f
       judged-entry e false f = judged-not w q fits h e f
 
-      pub assayed-bad : readyRow (tapeSize (w .bytes)) (w .tones) (blockIn w (q .block)) ≡ false → (a : Verdict) → a ≡ verdictOf NotFormed low silence → Assayed w q a
+      pub assayed-bad : readyRow (tapeSize (w .bytes)) (w .tones) (blockIn w (q .block)) ≡ false → (a : Verdict)
+          → a ≡ verdictOf NotFormed low silence → Assayed w q a
       unfolding wellRow
       assayed-bad e a f =
-          assayed-silent NotFormed (judged-bad w q fits h (unready (tapeSize (w .bytes)) (w .tones) (blockIn w (q .block)) e)) (λ z. absurd (unformed z)) a f
+          assayed-silent NotFormed (judged-bad w q fits h (unready (tapeSize (w .bytes)) (w .tones) (blockIn w (q .block)) e))
+          (λ z. absurd (unformed z)) a f
 
       -- a source row
-      pub assayed-source : wellRow w (q .block) ≡ true → (has : Bool) → hasLeft (blockIn w (q .block)) ≡ has → (v : Level) → v ≡ levelIn w (q .block) (q .phase)
+      pub assayed-source : wellRow w (q .block) ≡ true → (has : Bool) → hasLeft (blockIn w (q .block)) ≡ has → (v : Level)
+          → v ≡ levelIn w (q .block) (q .phase)
           → (a : Verdict) → a ≡ verdictOf (fineIf has) v silence → Assayed w q a
       assayed-source e has f v l a z =
           subst (Assayed w q) (sym z)
-          (record { check = sym (judged-entry e has f); level = λ y. l ∙ rw (lt-ltb (q .block) (w .count) h); told = told-silence (w .tones) (w .blocks) })
+          (record {
+            check = sym (judged-entry e has f);
+            level = λ y. l ∙ rw (lt-ltb (q .block) (w .count) h);
+            told = told-silence (w .tones) (w .blocks);
+          })
 
       -- a document row
-      pub assayed-document : wellWords (tapeSize (w .bytes)) (w .tones) (blockIn w (q .block)) ≡ true → (has : Bool) → hasLeft (blockIn w (q .block)) ≡ has
+      pub assayed-document : wellWords (tapeSize (w .bytes)) (w .tones) (blockIn w (q .block)) ≡ true → (has : Bool)
+          → hasLeft (blockIn w (q .block)) ≡ has
           → (a : Verdict) → Sounded (w .tones) (w .blocks) (q .block) (q .phase) has a → Assayed w q a
       unfolding wellRow
       assayed-document e has f a s =
@@ -138,10 +151,12 @@ module _ (w : Tape) (q : Position) where
             told = s .told;
           }
         where
-          row : wellBlock (tapeSize (w .bytes)) (w .tones) (blockIn w (q .block)) ≡ wellTones (w .tones) (blockIn w (q .block) .tone) (blockIn w (q .block) .tones)
+          row : wellBlock (tapeSize (w .bytes)) (w .tones) (blockIn w (q .block))
+              ≡ wellTones (w .tones) (blockIn w (q .block) .tone) (blockIn w (q .block) .tones)
           row = words-tones (tapeSize (w .bytes)) (w .tones) (blockIn w (q .block)) ∙ rw e
 
-          by-tones : (t : Bool) → wellTones (w .tones) (blockIn w (q .block) .tone) (blockIn w (q .block) .tones) ≡ t → (t ⇒ fineIf has ∣ NotFormed) ≡ judged w q
+          by-tones : (t : Bool) → wellTones (w .tones) (blockIn w (q .block) .tone) (blockIn w (q .block) .tones) ≡ t
+              → (t ⇒ fineIf has ∣ NotFormed) ≡ judged w q
           by-tones true z = sym (judged-entry (row ∙ z) has f)
           by-tones false z = sym (judged-bad w q fits h (row ∙ z))
 
@@ -168,7 +183,8 @@ module _ (w : Tape) (q : Position) where
         (lt-or-ge (q .block) (w .count))
 
 -- what a document row's pass asks
-pub lending : (w : Tape) (b : ℕ) → w .count ≤ capacityOf block blockMost (w .blocks) → b < w .count → wellWords (tapeSize (w .bytes)) (w .tones) (blockIn w b) ≡ true
+pub lending : (w : Tape) (b : ℕ) → w .count ≤ capacityOf block blockMost (w .blocks) → b < w .count
+    → wellWords (tapeSize (w .bytes)) (w .tones) (blockIn w b) ≡ true
     → Lending (w .tones) (w .blocks) b
 lending w b fits h e =
     let c = words-clauses (tapeSize (w .bytes)) (w .tones) (blockIn w b) e in
@@ -176,7 +192,8 @@ lending w b fits h e =
 
 -- A DOCUMENT ROW'S PASS, of the rows that the code read
 module _ (tones blocks : List ℕ) (b : ℕ) (f : Phase) where
-  module _ (x : Lending tones blocks b) (r : Block) (e : r ≡ rowAt blocks b) (h : Heard) (g : h ≡ heardTo tones r b (min (rowsBelow r f) (r .tones))) where
+  module _ (x : Lending tones blocks b) (r : Block) (e : r ≡ rowAt blocks b) (h : Heard)
+      (g : h ≡ heardTo tones r b (min (rowsBelow r f) (r .tones))) where
     heard-of : h ≡ heardTo tones (rowAt blocks b) b (min (rowsBelow (rowAt blocks b) f) (rowAt blocks b .tones))
     heard-of = g ∙ ap (λ (y : Block). heardTo tones y b (min (rowsBelow y f) (y .tones))) e
 
@@ -185,7 +202,8 @@ module _ (tones blocks : List ℕ) (b : ℕ) (f : Phase) where
 
     -- what is asked of the row and of what was heard, to judge all tone rows
     abbrev Judging : Block → Heard → Type 0
-    Judging y k = ((y .tone + y .tones ≤ capacityOf tone toneMost tones) × (k .rows ≤ y .tones)) × (k .seen ≡ seenOf tones (y .tone) (k .rows))
+    Judging y k = ((y .tone + y .tones ≤ capacityOf tone toneMost tones) × (k .rows ≤ y .tones))
+        × (k .seen ≡ seenOf tones (y .tone) (k .rows))
 
     pub asks-judging : (y : Block) → y ≡ rowAt blocks b → Judging y h
     asks-judging y d =
@@ -199,22 +217,27 @@ module _ (tones blocks : List ℕ) (b : ℕ) (f : Phase) where
 
     pub sounded-bad : rowsWell ≡ false → a ≡ verdictOf NotFormed low silence → Sounded tones blocks b f has a
     sounded-bad t e =
-        subst (Sounded tones blocks b f has) (sym e) (record { check = rw t; level = λ z. absurd (unformed z); told = told-silence tones blocks })
+        subst (Sounded tones blocks b f has) (sym e)
+        (record { check = rw t; level = λ z. absurd (unformed z); told = told-silence tones blocks })
 
     pub sounded-not : rowsWell ≡ true → has ≡ false → a ≡ verdictOf NotValid low silence → Sounded tones blocks b f has a
     sounded-not t n e =
-        subst (Sounded tones blocks b f has) (sym e) (record { check = rw (t, n); level = λ z. absurd (invalid z); told = told-silence tones blocks })
+        subst (Sounded tones blocks b f has) (sym e)
+        (record { check = rw (t, n); level = λ z. absurd (invalid z); told = told-silence tones blocks })
 
-    pub sounded-fine : rowsWell ≡ true → has ≡ true → (v : Level) → v ≡ levelAt tones (rowAt blocks b) f → (h : Heard) → Told tones blocks h → a ≡ verdictOf Fine v h
+    pub sounded-fine : rowsWell ≡ true → has ≡ true → (v : Level) → v ≡ levelAt tones (rowAt blocks b) f → (h : Heard)
+        → Told tones blocks h → a ≡ verdictOf Fine v h
         → Sounded tones blocks b f has a
     sounded-fine t n v l h k e =
         subst (Sounded tones blocks b f has) (sym e) (record { check = rw (t, n); level = λ z. l; told = k })
 
 -- what the code's calls say of the row as it is lent
-pub words : (tones : List ℕ) (r : Block) {tape n : ℕ} {v : Bool} → v ≡ wellWords n tones r → n ≡ tape → v ≡ wellWords tape tones r
+pub words : (tones : List ℕ) (r : Block) {tape n : ℕ} {v : Bool} → v ≡ wellWords n tones r → n ≡ tape
+    → v ≡ wellWords tape tones r
 words tones r e s = e ∙ ap (λ (k : ℕ). wellWords k tones r) s
 
-pub rows-of : (tones : List ℕ) {r s : Block} {v : Bool} → r ≡ s → v ≡ wellTones tones (r .tone) (r .tones) → v ≡ wellTones tones (s .tone) (s .tones)
+pub rows-of : (tones : List ℕ) {r s : Block} {v : Bool} → r ≡ s → v ≡ wellTones tones (r .tone) (r .tones)
+    → v ≡ wellTones tones (s .tone) (s .tones)
 rows-of tones e f = f ∙ ap (λ (y : Block). wellTones tones (y .tone) (y .tones)) e
 
 -- what a row well formed in its words may be played from

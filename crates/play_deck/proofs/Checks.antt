@@ -39,13 +39,18 @@ same-test true b f g = sym (f refl)
 same-test false true f g = g refl
 same-test false false f g = refl
 
-pub valid-below : (w : Tape) (b : ℕ) (f : Phase) (left : Duration) → b < w .count → valid w b f left ≡ (hasIn w b f && remains left (lengthIn w b f))
+pub valid-below : (w : Tape) (b : ℕ) (f : Phase) (left : Duration) → b < w .count
+    → valid w b f left ≡ (hasIn w b f && remains left (lengthIn w b f))
 valid-below w b f left h =
     same-test _ _
     (λ e. let s = below-stands w b f left h e in rw (s .entry, s .some))
     (λ e.
     stands-valid w b f left
-    (record { below = h; entry = first (hasIn w b f) (remains left (lengthIn w b f)) e; some = second (hasIn w b f) (remains left (lengthIn w b f)) e }))
+    (record {
+      below = h;
+      entry = first (hasIn w b f) (remains left (lengthIn w b f)) e;
+      some = second (hasIn w b f) (remains left (lengthIn w b f)) e;
+    }))
 
 -- the checks, way by way
 module _ (w : Tape) (q : Position) where
@@ -57,7 +62,12 @@ module _ (w : Tape) (q : Position) where
     pub judged-start : w .count ≤ q .block → atStart q ≡ true → judged w q ≡ Fine
     unfolding judged ruledOut illFormed valid
     judged-start h e =
-        rw (le-ltb (capacityOf block blockMost (w .blocks)) (w .count) fits, le-leb (w .count) (q .block) h, le-ltb (q .block) (w .count) h, e)
+        rw (
+          le-ltb (capacityOf block blockMost (w .blocks)) (w .count) fits,
+          le-leb (w .count) (q .block) h,
+          le-ltb (q .block) (w .count) h,
+          e,
+        )
 
     pub judged-past : w .count ≤ q .block → atStart q ≡ false → judged w q ≡ NotValid
     unfolding judged ruledOut
@@ -67,7 +77,12 @@ module _ (w : Tape) (q : Position) where
       pub judged-bad : wellRow w (q .block) ≡ false → judged w q ≡ NotFormed
       unfolding judged ruledOut illFormed
       judged-bad e =
-          rw (le-ltb (capacityOf block blockMost (w .blocks)) (w .count) fits, lt-leb (w .count) (q .block) h, lt-ltb (q .block) (w .count) h, e)
+          rw (
+            le-ltb (capacityOf block blockMost (w .blocks)) (w .count) fits,
+            lt-leb (w .count) (q .block) h,
+            lt-ltb (q .block) (w .count) h,
+            e,
+          )
 
       abbrev entryFine : Bool
       entryFine = hasIn w (q .block) (q .phase) && remains (q .left) (lengthIn w (q .block) (q .phase))
@@ -75,12 +90,26 @@ module _ (w : Tape) (q : Position) where
       pub judged-not : wellRow w (q .block) ≡ true → entryFine ≡ false → judged w q ≡ NotValid
       unfolding judged ruledOut illFormed
       judged-not e f =
-          rw (le-ltb (capacityOf block blockMost (w .blocks)) (w .count) fits, lt-leb (w .count) (q .block) h, lt-ltb (q .block) (w .count) h, e, valid-below w (q .block) (q .phase) (q .left) h, f)
+          rw (
+            le-ltb (capacityOf block blockMost (w .blocks)) (w .count) fits,
+            lt-leb (w .count) (q .block) h,
+            lt-ltb (q .block) (w .count) h,
+            e,
+            valid-below w (q .block) (q .phase) (q .left) h,
+            f,
+          )
 
       pub judged-fine : wellRow w (q .block) ≡ true → entryFine ≡ true → judged w q ≡ Fine
       unfolding judged ruledOut illFormed
       judged-fine e f =
-          rw (le-ltb (capacityOf block blockMost (w .blocks)) (w .count) fits, lt-leb (w .count) (q .block) h, lt-ltb (q .block) (w .count) h, e, valid-below w (q .block) (q .phase) (q .left) h, f)
+          rw (
+            le-ltb (capacityOf block blockMost (w .blocks)) (w .count) fits,
+            lt-leb (w .count) (q .block) h,
+            lt-ltb (q .block) (w .count) h,
+            e,
+            valid-below w (q .block) (q .phase) (q .left) h,
+            f,
+          )
 
 -- the four tests of a fine position
 record Passed (a b c d : Bool) : Type 0 where
@@ -89,7 +118,8 @@ record Passed (a b c d : Bool) : Type 0 where
   pub row : c ≡ false
   pub valid : d ≡ true
 
-passed : (a b c d : Bool) → (a ⇒ NotFormed ∣ b ⇒ NotValid ∣ c ⇒ NotFormed ∣ not d ⇒ NotValid ∣ Fine) ≡ Fine → Passed a b c d
+passed : (a b c d : Bool) → (a ⇒ NotFormed ∣ b ⇒ NotValid ∣ c ⇒ NotFormed ∣ not d ⇒ NotValid ∣ Fine) ≡ Fine
+    → Passed a b c d
 passed true b c d e = let y : _≡_ {A = ℕ} 0 1 = cc in absurd (omega arith)
 passed false true c d e = let y : _≡_ {A = ℕ} 0 1 = cc in absurd (omega arith)
 passed false false true d e = let y : _≡_ {A = ℕ} 0 1 = cc in absurd (omega arith)
@@ -143,7 +173,8 @@ module _ (w : Tape) (q : Position) (fine : judged w q ≡ Fine) where
   unfolding toldAs statusHere levelHere entryOf
   stays-at t e h =
       let x = left-part w (q .block) h (q .phase) (q .left) (tests .valid) in
-      stays-by _ (x .rest ∙ ap (λ (y : Duration). entryOf (labelAt (q .block) (q .phase)) (levelIn w (q .block) (q .phase)) y ∷ x .next) e)
+      stays-by _
+      (x .rest ∙ ap (λ (y : Duration). entryOf (labelAt (q .block) (q .phase)) (levelIn w (q .block) (q .phase)) y ∷ x .next) e)
 
   pub stays-past : w .count ≤ q .block → stays w q ≡ At (stand q 0 low)
   unfolding toldAs statusHere levelHere
@@ -155,12 +186,16 @@ module _ (w : Tape) (q : Position) (fine : judged w q ≡ Fine) where
       ⊎-elim
       (λ h.
       let x = left-part w (q .block) h (q .phase) (q .left) (tests .valid) in
-      stays-by _ (x .rest ∙ ap (λ (y : Duration). entryOf (labelAt (q .block) (q .phase)) (levelIn w (q .block) (q .phase)) y ∷ x .next) e))
+      stays-by _
+      (x .rest ∙ ap (λ (y : Duration). entryOf (labelAt (q .block) (q .phase)) (levelIn w (q .block) (q .phase)) y ∷ x .next) e))
       (λ h. let z = fine-none h in absurd (apart (sym z ∙ e)))
       (lt-or-ge (q .block) (w .count))
     where
       apart : T 0 ≡ Endless → ⊥
-      apart z = let y : _≡_ {A = Bool} true false = ap isNone z in let u : _≡_ {A = ℕ} 0 1 = ap (λ (b : Bool). b ⇒ 0 ∣ 1) y in absurd (omega arith)
+      apart z =
+          let y : _≡_ {A = Bool} true false = ap isNone z in
+          let u : _≡_ {A = ℕ} 0 1 = ap (λ (b : Bool). b ⇒ 0 ∣ 1) y in
+          absurd (omega arith)
 
   -- a start past the count: the end, at the count's start
   pub past-ends : w .count ≤ q .block → (n : ℕ) → 0 < n → walkFrom w q n ≡ Ended (stand (startAt (w .count)) 0 false)
@@ -168,7 +203,8 @@ module _ (w : Tape) (q : Position) (fine : judged w q ≡ Fine) where
   past-ends h n p =
       let z : w .count - q .block ≡ 0 = omega arith in
       rw z
-      (tells-end w (cutTo w (w .count)) n 0 (lead-by (past-nil h (w .count) h) (lead-here (ahead (cutTo w (w .count)) q) n 0)) p (omega arith))
+      (tells-end w (cutTo w (w .count)) n 0
+      (lead-by (past-nil h (w .count) h) (lead-here (ahead (cutTo w (w .count)) q) n 0)) p (omega arith))
 
 -- what the level of a position's entry asks, of the row that the code read
 abbrev Lent : Tape → Phase → Block → Type 0
@@ -177,5 +213,7 @@ Lent w f r = (r .tone + r .tones ≤ capacityOf tone toneMost (w .tones)) × (ha
 pub may-stand : (w : Tape) (q : Position) → Walkable w q → (r : Block) → r ≡ blockIn w (q .block) → Lent w (q .phase) r
 unfolding wellRow
 may-stand w q a r e =
-    subst (Lent w (q .phase)) (sym e)
-    (row-lent (w .bytes) (w .tones) (blockIn w (q .block)) (a .row) .rows, below-stands w (q .block) (q .phase) (q .left) (a .below) (a .stands) .entry)
+    subst (Lent w (q .phase)) (sym e) (
+      row-lent (w .bytes) (w .tones) (blockIn w (q .block)) (a .row) .rows,
+      below-stands w (q .block) (q .phase) (q .left) (a .below) (a .stands) .entry,
+    )

@@ -29,11 +29,13 @@ inside-less left t n e h = ltb-true n t (sym (ap (λ (x : Duration). endsInside 
 
 module _ (w : Tape) (q : Position) (n : ℕ) (p : Walkable w q) where
   -- by what is left
-  walks : (left : Duration) → q .left ≡ left → endsInside left n ≡ true → At (stand (placed (q .block) (q .phase) (lessBy left n)) 0 (levelIn w (q .block) (q .phase))) ≡ walkFrom w q n
+  walks : (left : Duration) → q .left ≡ left → endsInside left n ≡ true
+      → At (stand (placed (q .block) (q .phase) (lessBy left n)) 0 (levelIn w (q .block) (q .phase))) ≡ walkFrom w q n
   unfolding endsInside lessBy walkFrom formed
   walks (T t) e h =
       let k = cutOf w q in
-      sym (leaves-at w k (q .block) (q .phase) (q .left) false 0 (on-first w q k p (rows-of w q p)) (lead-here _ _ _) t e (inr (ltb-true n t h)))
+      sym (leaves-at w k (q .block) (q .phase) (q .left) false 0 (on-first w q k p (rows-of w q p)) (lead-here _ _ _) t e
+      (inr (ltb-true n t h)))
   walks Endless e h = absurd (never h)
 
   pub inside-walk : endsInside (q .left) n ≡ true → inPlace w q n ≡ walkFrom w q n
@@ -42,7 +44,8 @@ module _ (w : Tape) (q : Position) (n : ℕ) (p : Walkable w q) where
   follows : (left : Duration) → q .left ≡ left → endsInside left n ≡ true → sourceFrom w q n ≡ walkFrom w q n
   unfolding endsInside
   follows (T t) e h =
-      source-walk w q n ∙ ap (λ (x : ℕ). walkFrom w q (n + x)) (sym (dropped-short w q p n t e (ltb-true n t h))) ∙ ap (walkFrom w q) (omega arith)
+      source-walk w q n ∙ ap (λ (x : ℕ). walkFrom w q (n + x)) (sym (dropped-short w q p n t e (ltb-true n t h)))
+      ∙ ap (walkFrom w q) (omega arith)
   follows Endless e h = absurd (never h)
 
   pub inside-source : endsInside (q .left) n ≡ true → inPlace w q n ≡ sourceFrom w q n

@@ -66,7 +66,8 @@ module _ (w : Tape) where
   back-here zero e z f = absurd (z refl)
   back-here (suc b) e z f = rw (e, eq-eqb (blockIn w (suc b) .selectable) 1 f)
 
-  pub back-on : (b : ℕ) → wellRow w b ≡ true → (b ≡ 0 → ⊥) → (blockIn w b .selectable ≡ 1 → ⊥) → backTo w (b - 1) ≡ backTo w b
+  pub back-on : (b : ℕ) → wellRow w b ≡ true → (b ≡ 0 → ⊥) → (blockIn w b .selectable ≡ 1 → ⊥)
+      → backTo w (b - 1) ≡ backTo w b
   unfolding backTo
   back-on zero e z f = absurd (z refl)
   back-on (suc b) e z f =

@@ -18,8 +18,10 @@ use Rattle.law_pulses.specs.Source.{isEnded}
 use Rattle.play_entries.specs.declared.Phase.{Phase}
 use Rattle.play_entries.specs.declared.Phase.the-variants.{Start, Tones, Data, Edge, Pause}
 use Rattle.play_entries.specs.declared.Duration.{Duration}
-use Rattle.play_entries.specs.Entries.{Label, labelAt, entryOf, secondOf, edgeOf, rowEntries, bitsAt, bitOf, halfOf, bitEntries, byteEntries, pauseEntry, entriesOf}
-use Rattle.play_entries.specs.Places.{Tape, blockIn, toneIn, byteIn, bitIn, cycleIn, cyclesIn, cycleItem, levelIn, listFrom, fromPause, fromEdge, fromByte, fromBit, fromTone, fromCycle, fromSecond, leftAt, headOf, leftOf}
+use Rattle.play_entries.specs.Entries.{Label, labelAt, entryOf, secondOf, edgeOf, rowEntries, bitsAt, bitOf, halfOf, bitEntries}
+use Rattle.play_entries.specs.Entries.{byteEntries, pauseEntry, entriesOf}
+use Rattle.play_entries.specs.Places.{Tape, blockIn, toneIn, byteIn, bitIn, cycleIn, cyclesIn, cycleItem, levelIn, listFrom, fromPause}
+use Rattle.play_entries.specs.Places.{fromEdge, fromByte, fromBit, fromTone, fromCycle, fromSecond, leftAt, headOf, leftOf}
 use Rattle.play_entries.proofs.Follows.{list-in, list-out}
 use Rattle.play_walk.specs.declared.Position.{Position}
 use Rattle.play_walk.specs.declared.Reached.{Reached}
@@ -84,7 +86,8 @@ module _ (w : Tape) (k : ℕ) (most : k ≤ w .count) where
     unfolding fromBit
     bit-cut pos j =
         let xs = run (bitEntries b (blockIn w b) (bitIn w b) pos (byteIn w b pos)) j (bitsAt (blockIn w b) pos - j) in
-        ap (λ (r : List (Entry Label)). xs ++ r) (byte-cut (pos + 1)) ∙ sym (append-assoc xs (fromByte (cutTo w k) b (pos + 1)) (listFrom w k))
+        ap (λ (r : List (Entry Label)). xs ++ r) (byte-cut (pos + 1))
+        ∙ sym (append-assoc xs (fromByte (cutTo w k) b (pos + 1)) (listFrom w k))
 
     tone-cut : (i : ℕ) → fromTone w b i ≡ fromTone (cutTo w k) b i ++ listFrom w k
     unfolding fromTone
@@ -96,24 +99,31 @@ module _ (w : Tape) (k : ℕ) (most : k ≤ w .count) where
     unfolding fromCycle
     cycle-cut i p =
         let xs = run (cycleItem w b i) p (cyclesIn w b i - p) in
-        ap (λ (r : List (Entry Label)). xs ++ r) (tone-cut (i + 1)) ∙ sym (append-assoc xs (fromTone (cutTo w k) b (i + 1)) (listFrom w k))
+        ap (λ (r : List (Entry Label)). xs ++ r) (tone-cut (i + 1))
+        ∙ sym (append-assoc xs (fromTone (cutTo w k) b (i + 1)) (listFrom w k))
 
     second-cut : (i p : ℕ) → fromSecond w b i p ≡ fromSecond (cutTo w k) b i p ++ listFrom w k
     unfolding fromSecond
     second-cut i p =
         let xs = secondOf b i (blockIn w b) (toneIn w b i) (cycleIn w b i p) p in
-        ap (λ (r : List (Entry Label)). xs ++ r) (cycle-cut i (p + 1)) ∙ sym (append-assoc xs (fromCycle (cutTo w k) b i (p + 1)) (listFrom w k))
+        ap (λ (r : List (Entry Label)). xs ++ r) (cycle-cut i (p + 1))
+        ∙ sym (append-assoc xs (fromCycle (cutTo w k) b i (p + 1)) (listFrom w k))
 
     pub left-cut : (f : Phase) (left : Duration) → leftAt w b f left ≡ leftAt (cutTo w k) b f left ++ listFrom w k
     unfolding leftAt
     left-cut Start left = list-cut b (omega arith)
-    left-cut (Tones i p false) left = ap (λ (r : List (Entry Label)). entryOf (labelAt b (Tones i p false)) (cycleIn w b i p) left ∷ r) (second-cut i p)
-    left-cut (Tones i p true) left = ap (λ (r : List (Entry Label)). entryOf (labelAt b (Tones i p true)) (not (cycleIn w b i p)) left ∷ r) (cycle-cut i (p + 1))
+    left-cut (Tones i p false) left =
+        ap (λ (r : List (Entry Label)). entryOf (labelAt b (Tones i p false)) (cycleIn w b i p) left ∷ r) (second-cut i p)
+    left-cut (Tones i p true) left =
+        ap (λ (r : List (Entry Label)). entryOf (labelAt b (Tones i p true)) (not (cycleIn w b i p)) left ∷ r) (cycle-cut i (p + 1))
     left-cut (Data pos j false) left =
-        ap (λ (r : List (Entry Label)). entryOf (labelAt b (Data pos j false)) (bitIn w b) left ∷ pulse (labelAt b (Data pos j true)) (not (bitIn w b)) (halfOf (blockIn w b) (bitOf (byteIn w b pos) j)) ∷ r) (bit-cut pos (j + 1))
-    left-cut (Data pos j true) left = ap (λ (r : List (Entry Label)). entryOf (labelAt b (Data pos j true)) (not (bitIn w b)) left ∷ r) (bit-cut pos (j + 1))
+        ap (λ (r : List (Entry Label)). entryOf (labelAt b (Data pos j false)) (bitIn w b) left ∷
+        pulse (labelAt b (Data pos j true)) (not (bitIn w b)) (halfOf (blockIn w b) (bitOf (byteIn w b pos) j)) ∷ r) (bit-cut pos (j + 1))
+    left-cut (Data pos j true) left =
+        ap (λ (r : List (Entry Label)). entryOf (labelAt b (Data pos j true)) (not (bitIn w b)) left ∷ r) (bit-cut pos (j + 1))
     left-cut Edge left = ap (λ (r : List (Entry Label)). entryOf (labelAt b Edge) (bitIn w b) left ∷ r) pause-cut
-    left-cut Pause left = ap (λ (r : List (Entry Label)). entryOf (labelAt b Pause) (levelIn w b Pause) left ∷ r) (list-cut (b + 1) (omega arith))
+    left-cut Pause left =
+        ap (λ (r : List (Entry Label)). entryOf (labelAt b Pause) (levelIn w b Pause) left ∷ r) (list-cut (b + 1) (omega arith))
 
   -- what is told of a list's head
   abbrev Said : Tape → List (Entry Label) → ℕ → Reached
@@ -124,7 +134,8 @@ module _ (w : Tape) (k : ℕ) (most : k ≤ w .count) where
   said-start p =
       ⊎-elim
       (λ l. ap (λ (r : List (Entry Label)). Said w r p) (list-in w k l) ∙ rw (lt-ltb k (w .count) l))
-      (λ g. let e : w .count ≡ k = omega arith in ap (λ (r : List (Entry Label)). Said w r p) (list-out w k g) ∙ ap (λ (x : ℕ). Said (cutTo w x) [] p) e)
+      (λ g. let e : w .count ≡ k = omega arith in
+      ap (λ (r : List (Entry Label)). Said w r p) (list-out w k g) ∙ ap (λ (x : ℕ). Said (cutTo w x) [] p) e)
       (lt-or-ge k (w .count))
 
   said-cut : (rs : List (Entry Label)) (p : ℕ) → Said w (rs ++ listFrom w k) p ≡ Said (cutTo w k) rs p
@@ -133,11 +144,15 @@ module _ (w : Tape) (k : ℕ) (most : k ≤ w .count) where
   said-cut (pulse a v t ∷ rs) p = refl
   said-cut (endless a v ∷ rs) p = refl
 
-  told-said : (v : Tape) (es : List (Entry Label)) (n : ℕ) → over es n ≡ 0 → toldReached w v (answer es n) ≡ Said v (rest es n) (length es - length (rest es n))
+  told-said : (v : Tape) (es : List (Entry Label)) (n : ℕ) → over es n ≡ 0
+      → toldReached w v (answer es n) ≡ Said v (rest es n) (length es - length (rest es n))
   unfolding toldReached answer
-  told-said v es n z = ap (λ (s : Status). toldAs s (stand (positionOf v (rest es n)) (length es - length (rest es n)) (levelHere (restLevel w (v .count)) (rest es n)))) (status-left (rest es n) (over es n) z)
+  told-said v es n z = ap (λ (s : Status).
+      toldAs s (stand (positionOf v (rest es n)) (length es - length (rest es n)) (levelHere (restLevel w (v .count)) (rest es n))))
+      (status-left (rest es n) (over es n) z)
 
-  told-cut : (xs : List (Entry Label)) (n : ℕ) → over xs n ≡ 0 → toldReached w (cutTo w k) (answer xs n) ≡ toldReached w w (answer (xs ++ listFrom w k) n)
+  told-cut : (xs : List (Entry Label)) (n : ℕ) → over xs n ≡ 0
+      → toldReached w (cutTo w k) (answer xs n) ≡ toldReached w w (answer (xs ++ listFrom w k) n)
   told-cut xs n z =
       let ys = listFrom w k in
       let r = rest-keeps xs ys n z in
@@ -149,12 +164,14 @@ module _ (w : Tape) (k : ℕ) (most : k ≤ w .count) where
       ∙ ap (Said w (rest (xs ++ ys) n)) (sym e)
       ∙ sym (told-said w (xs ++ ys) n (over-keeps xs ys n z))
 
-  walked-told : (xs : List (Entry Label)) (n : ℕ) → over xs n ≡ 0 → walked w (cutTo w k) (answer xs n) ≡ toldReached w (cutTo w k) (answer xs n)
+  walked-told : (xs : List (Entry Label)) (n : ℕ) → over xs n ≡ 0
+      → walked w (cutTo w k) (answer xs n) ≡ toldReached w (cutTo w k) (answer xs n)
   unfolding walked answer
   walked-told xs n z = rw (status-left (rest xs n) (over xs n) z, never-ended (rest xs n) (ltb k (w .count)))
 
 -- THE ANSWER where no bad row is reached with T-states left
-pub unreached : (w : Tape) (q : Position) (n : ℕ) → Walkable w q → over (ahead (formed w (q .block)) q) n ≡ 0 → walkFrom w q n ≡ toldReached w w (answer (ahead w q) n)
+pub unreached : (w : Tape) (q : Position) (n : ℕ) → Walkable w q → over (ahead (formed w (q .block)) q) n ≡ 0
+    → walkFrom w q n ≡ toldReached w w (answer (ahead w q) n)
 unfolding walkFrom formed
 unreached w q n a z =
     let k = firstBad w (q .block) (w .count - q .block) in

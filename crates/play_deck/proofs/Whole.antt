@@ -33,7 +33,8 @@ ruled-out w q v =
     ⊎-elim
     (λ l. rw (lt-leb (w .count) (q .block) l))
     (λ g.
-    let e : (ltb (q .block) (w .count) && (hasIn w (q .block) (q .phase) && remains (q .left) (lengthIn w (q .block) (q .phase)))) ≡ false = rw (le-ltb (q .block) (w .count) g) in
+    let e : (ltb (q .block) (w .count) && (hasIn w (q .block) (q .phase) && remains (q .left) (lengthIn w (q .block) (q .phase))))
+    ≡ false = rw (le-ltb (q .block) (w .count) g) in
     rw (or-false (atStart q) _ v e) (and-not (leb (w .count) (q .block))))
     (lt-or-ge (q .block) (w .count))
 

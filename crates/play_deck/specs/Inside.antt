@@ -1,4 +1,5 @@
--- A call that ends inside the entry where the head stands: a shortcut of the code, which no public contract cites. Definitions alone; assumes nothing.
+-- A call that ends inside the entry where the head stands: a shortcut of the code, which no public contract cites.
+-- Definitions alone; assumes nothing.
 use Prim.Native.Nat.{ℕ, _-_}
 use mathlib.Core.Bool.{Bool, false}
 use lib.Dec.{ltb}

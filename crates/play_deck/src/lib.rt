@@ -72,7 +72,8 @@ fn none_left(left: Duration) -> bool
 // Whether so much may be left of a block's entry; its callers know the row to be well formed but for its tone rows.
 fn has_left(tape: &[u8], tones: &[u64], r: Block, f: Phase, left: Duration) -> bool
     requires { ⌜ wellWords (tapeSize (now tape)) (now tones) r ≡ true ⌝ }
-    ensures { λ v. ⌜ v ≡ (hasEntry (now (tones .entry)) r f && remains left (lengthAt (now (tape .entry)) (now (tones .entry)) r f)) ⌝ }
+    ensures { λ v. ⌜ v
+        ≡ (hasEntry (now (tones .entry)) r f && remains left (lengthAt (now (tape .entry)) (now (tones .entry)) r f)) ⌝ }
 {
     if !has_entry(tones, r, f) {
         return false;

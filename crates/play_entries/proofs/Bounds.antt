@@ -19,7 +19,8 @@ use Rattle.rows.specs.Rows.{tone}
 use Rattle.rows.specs.Well.{wellTone, wellTones, wellNumbers, wellBlock}
 use Rattle.rows.proofs.WellLaws.{block-clauses, ranges-inside, numbers-most, tone-most, tones-each}
 use Rattle.play_levels.specs.Closed.{pulsesOf, timesOf}
-use Rattle.play_entries.specs.Entries.{isSource, cyclesOf, isSingle, bitLevel, cycleTime, toneOf, rowEntries, tonesOf, bitsAt, bitOf, halfOf, bitEntries, byteOf, byteEntries, dataOf, soundOf, entriesOf}
+use Rattle.play_entries.specs.Entries.{isSource, cyclesOf, isSingle, bitLevel, cycleTime, toneOf, rowEntries, tonesOf, bitsAt}
+use Rattle.play_entries.specs.Entries.{bitOf, halfOf, bitEntries, byteOf, byteEntries, dataOf, soundOf, entriesOf}
 use Rattle.play_entries.proofs.Ends.{endOf, end-time, end-none}
 use Rattle.play_entries.proofs.Runs.{tone-time, bit-finite, bit-time, row-finite, bytes-finite, sound-finite, sound-time}
 
@@ -40,7 +41,8 @@ by-half false n = omega arith
 pub cycle-most : (r : Block) (t : Tone) → cycleTime r t ≤ t .len1 + t .len2
 cycle-most r t = omega (arith, by-half (isSingle r t) (t .len2))
 
-pub tone-most-time : (b i : ℕ) (r : Block) (t : Tone) (v : ℕ → Level) → wellTone t ≡ true → time (toneOf b i r t v) ≤ 8589672450
+pub tone-most-time : (b i : ℕ) (r : Block) (t : Tone) (v : ℕ → Level) → wellTone t ≡ true
+    → time (toneOf b i r t v) ≤ 8589672450
 tone-most-time b i r t v e =
     let h = tone-most t e in
     let m : cyclesOf r t ≤ 65535 = omega (arith, cycles-most r t) in
@@ -96,7 +98,8 @@ few r k e h =
     let b : k * r .zero ≤ 8388608 * 65535 = mul-le-mul h (w .zero) in
     record { long = omega arith; short = omega arith }
 
-pub byte-most-time : (b : ℕ) (r : Block) (c : Level) (pos v : ℕ) → wellNumbers r ≡ true → pos < r .size → time (byteOf b r c pos v) ≤ 1048560
+pub byte-most-time : (b : ℕ) (r : Block) (c : Level) (pos v : ℕ) → wellNumbers r ≡ true → pos < r .size
+    → time (byteOf b r c pos v) ≤ 1048560
 unfolding byteOf
 byte-most-time b r c pos v e l =
     let m : time (run (bitEntries b r c pos v) 0 (bitsAt r pos)) ≤ bitsAt r pos * 131070 =
@@ -117,7 +120,12 @@ module _ (size : ℕ) (tape tones : List ℕ) (b : ℕ) (r : Block) (w : wellBlo
   sound-most =
       let c = block-clauses size tones r w in
       let i = ranges-inside size tones r (c .ranges) in
-      omega (arith, sound-time tape tones b r, rows-most-time tones b r (r .tones) (c .rows) (omega arith), bytes-most-time tape b r (bitLevel tones r) (r .size) (c .numbers) (omega arith))
+      omega (
+        arith,
+        sound-time tape tones b r,
+        rows-most-time tones b r (r .tones) (c .rows) (omega arith),
+        bytes-most-time tape b r (bitLevel tones r) (r .size) (c .numbers) (omega arith),
+      )
 
   pub sound-below : time (soundOf tape tones b r) < 2 ^ 50
   sound-below = omega (arith, sound-most)
@@ -134,4 +142,5 @@ module _ (size : ℕ) (tape tones : List ℕ) (b : ℕ) (r : Block) (w : wellBlo
 
   pub block-below : time (entriesOf tape tones b r) < 2 ^ 50
   unfolding entriesOf
-  block-below = omega (arith, time-append (soundOf tape tones b r) (endOf tones b r) (sound-finite tape tones b r), sound-most, end-most-time)
+  block-below =
+      omega (arith, time-append (soundOf tape tones b r) (endOf tones b r) (sound-finite tape tones b r), sound-most, end-most-time)

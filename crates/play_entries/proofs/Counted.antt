@@ -42,7 +42,9 @@ module _ (tape : List ℕ) (small : (i : ℕ) → getD tape i 0 < 256) where
     unfolding run time onesFrom
     no-bytes = omega (arith, zero-mul (r .one), zero-mul (r .zero))
 
-    one-more : (n : ℕ) → bitsTime r (onesFrom tape (r .start) n) (8 * n) + bitsTime r (ones (byteAt tape r n)) 8 ≡ bitsTime r (onesFrom tape (r .start) (suc n)) (8 * suc n)
+    one-more : (n : ℕ)
+        → bitsTime r (onesFrom tape (r .start) n) (8 * n) + bitsTime r (ones (byteAt tape r n)) 8
+        ≡ bitsTime r (onesFrom tape (r .start) (suc n)) (8 * suc n)
     unfolding onesFrom
     one-more n =
         let e : 8 * n + 8 ≡ 8 * suc n = omega arith in
@@ -50,7 +52,8 @@ module _ (tape : List ℕ) (small : (i : ℕ) → getD tape i 0 < 256) where
         ∙ ap (λ (x : ℕ). bitsTime r (onesFrom tape (r .start) n + ones (byteAt tape r n)) x) e
 
     -- n bytes before the last
-    bytes-counted : (n : ℕ) → n < r .size → time (run (byteEntries tape b r c) 0 n) ≡ bitsTime r (onesFrom tape (r .start) n) (8 * n)
+    bytes-counted : (n : ℕ) → n < r .size
+        → time (run (byteEntries tape b r c) 0 n) ≡ bitsTime r (onesFrom tape (r .start) n) (8 * n)
     bytes-counted zero h = no-bytes
     bytes-counted (suc n) h =
         rw (← add-one n) (run-time-next (byteEntries tape b r c) (bytes-finite tape b r c) n)
@@ -58,7 +61,8 @@ module _ (tape : List ℕ) (small : (i : ℕ) → getD tape i 0 < 256) where
         ∙ one-more n
 
     -- ALL DATA: the bytes before the last, and the last
-    pub data-counted : (n : ℕ) → n + 1 ≡ r .size → time (dataOf tape b r c) ≡ bitsTime r (onesFrom tape (r .start) n) (8 * n) + time (byteEntries tape b r c n)
+    pub data-counted : (n : ℕ) → n + 1 ≡ r .size
+        → time (dataOf tape b r c) ≡ bitsTime r (onesFrom tape (r .start) n) (8 * n) + time (byteEntries tape b r c n)
     unfolding dataOf
     data-counted n e =
         ap (λ (x : ℕ). time (run (byteEntries tape b r c) 0 x)) (sym e)

@@ -13,15 +13,18 @@ use Rattle.play_entries.specs.declared.Phase.{Phase}
 use Rattle.play_entries.specs.declared.Phase.the-variants.{Start, Tones, Data, Edge, Pause}
 use Rattle.play_entries.specs.declared.Duration.{Duration}
 use Rattle.play_entries.specs.declared.Duration.the-variants.{T, Endless}
-use Rattle.play_entries.specs.Entries.{labelAt, entryOf, cyclesOf, isSingle, startLevel, cycleLevel, bitLevel, edged, pauseLevel, toneOf, tonesOf, bitsAt, halfOf, byteOf, dataOf, pauseOf, soundOf, entriesOf}
-use Rattle.play_entries.specs.Places.{Tape, levelAt, fromEdge, fromSecond, hasEntry, lengthAt, remains, valid, listFrom, fromPause, fromByte, fromBit, fromTone, fromCycle, leftAt}
+use Rattle.play_entries.specs.Entries.{labelAt, entryOf, cyclesOf, isSingle, startLevel, cycleLevel, bitLevel, edged, pauseLevel}
+use Rattle.play_entries.specs.Entries.{toneOf, tonesOf, bitsAt, halfOf, byteOf, dataOf, pauseOf, soundOf, entriesOf}
+use Rattle.play_entries.specs.Places.{Tape, levelAt, fromEdge, fromSecond, hasEntry, lengthAt, remains, valid, listFrom, fromPause}
+use Rattle.play_entries.specs.Places.{fromByte, fromBit, fromTone, fromCycle, leftAt}
 
 -- a block with two bytes of data, zero 10, one 20 and these last bits
 abbrev withLast : ℕ → Block
 withLast last = decodeBlock (0 ∷ 0 ∷ 1 ∷ 2 ∷ 10 ∷ 20 ∷ last ∷ [])
 
 -- tone row 2 of block 5: a count of 0 is one cycle; and three cycles, the first half of each of no length
-count-none : toneOf 5 2 (withLast 0) (decodeTone (0 ∷ 30 ∷ 40 ∷ 0 ∷ [])) (λ p. low) ≡ pulse (labelAt 5 (Tones 2 0 false)) low 30 ∷ pulse (labelAt 5 (Tones 2 0 true)) high 40 ∷ []
+count-none : toneOf 5 2 (withLast 0) (decodeTone (0 ∷ 30 ∷ 40 ∷ 0 ∷ [])) (λ p. low)
+    ≡ pulse (labelAt 5 (Tones 2 0 false)) low 30 ∷ pulse (labelAt 5 (Tones 2 0 true)) high 40 ∷ []
 unfolding toneOf cyclesOf isSingle run
 count-none = refl
 
@@ -34,7 +37,8 @@ unfolding toneOf cyclesOf isSingle run
 count-three = refl
 
 -- 8 bits of the byte before the last; of the last 8, 3, and with 0 one
-bits : map (λ last. bitsAt (withLast last) 0 ∷ bitsAt (withLast last) 1 ∷ []) (8 ∷ 3 ∷ 0 ∷ []) ≡ (8 ∷ 8 ∷ []) ∷ (8 ∷ 3 ∷ []) ∷ (8 ∷ 1 ∷ []) ∷ []
+bits : map (λ last. bitsAt (withLast last) 0 ∷ bitsAt (withLast last) 1 ∷ []) (8 ∷ 3 ∷ 0 ∷ [])
+    ≡ (8 ∷ 8 ∷ []) ∷ (8 ∷ 3 ∷ []) ∷ (8 ∷ 1 ∷ []) ∷ []
 unfolding bitsAt
 bits = refl
 
@@ -73,7 +77,8 @@ small-entries :
     ∷ pulse (labelAt 3 (Tones 0 0 false)) low 667 ∷ pulse (labelAt 3 (Tones 0 0 true)) high 735
     ∷ pulse (labelAt 3 (Data 0 0 false)) low 20 ∷ pulse (labelAt 3 (Data 0 0 true)) high 20
     ∷ pulse (labelAt 3 Pause) low 3500 ∷ []
-unfolding entriesOf soundOf tonesOf toneOf cyclesOf isSingle startLevel cycleLevel bitLevel edged pauseLevel dataOf byteOf bitsAt halfOf pauseOf entryOf run
+unfolding entriesOf soundOf tonesOf toneOf cyclesOf isSingle startLevel cycleLevel bitLevel edged pauseLevel dataOf byteOf bitsAt halfOf
+    pauseOf entryOf run
 small-entries = refl
 
 -- a stop: its start, and a pause that never ends, whatever its word
@@ -93,13 +98,16 @@ left-tone :
     ≡ pulse (labelAt 0 (Tones 0 0 false)) low 5 ∷ pulse (labelAt 0 (Tones 0 0 true)) high 735
     ∷ pulse (labelAt 0 (Data 0 0 false)) low 20 ∷ pulse (labelAt 0 (Data 0 0 true)) high 20
     ∷ pulse (labelAt 0 Pause) low 3500 ∷ pulse (labelAt 1 Start) low 0 ∷ endless (labelAt 1 Pause) low ∷ []
-unfolding leftAt fromSecond fromEdge fromCycle fromTone fromByte fromPause listFrom entriesOf soundOf tonesOf toneOf cyclesOf isSingle startLevel cycleLevel bitLevel edged pauseLevel dataOf byteOf bitsAt halfOf pauseOf entryOf run
+unfolding leftAt fromSecond fromEdge fromCycle fromTone fromByte fromPause listFrom entriesOf soundOf tonesOf toneOf cyclesOf isSingle
+    startLevel cycleLevel bitLevel edged pauseLevel dataOf byteOf bitsAt halfOf pauseOf entryOf run
 left-tone = refl
 
 left-bit :
     leftAt small-tape 0 (Data 0 0 true) (T 20)
-    ≡ pulse (labelAt 0 (Data 0 0 true)) high 20 ∷ pulse (labelAt 0 Pause) low 3500 ∷ pulse (labelAt 1 Start) low 0 ∷ endless (labelAt 1 Pause) low ∷ []
-unfolding leftAt fromBit fromByte fromEdge fromPause levelAt listFrom entriesOf soundOf tonesOf dataOf startLevel bitLevel edged pauseLevel bitsAt pauseOf entryOf run
+    ≡ pulse (labelAt 0 (Data 0 0 true)) high 20 ∷ pulse (labelAt 0 Pause) low 3500 ∷ pulse (labelAt 1 Start) low 0 ∷
+    endless (labelAt 1 Pause) low ∷ []
+unfolding leftAt fromBit fromByte fromEdge fromPause levelAt listFrom entriesOf soundOf tonesOf dataOf startLevel bitLevel edged pauseLevel
+    bitsAt pauseOf entryOf run
 left-bit = refl
 
 left-past : leftAt small-tape 9 Start (T 0) ≡ []

@@ -9,11 +9,14 @@ use Rattle.law_pulses.specs.Play.{Entry, pulse}
 use Rattle.law_pulses.specs.Runs.{run}
 use Rattle.law_pulses.proofs.Runs.{run-split, run-next, run-none}
 use Rattle.play_entries.specs.declared.Phase.the-variants.{Tones, Edge}
-use Rattle.play_entries.specs.Entries.{Label, labelAt, isSingle, edged, edgeTime, startOf, toneOf, rowEntries, tonesOf, bitsAt, bitEntries, byteOf, byteEntries, dataOf, edgeOf, pauseEntry, soundOf, entriesOf}
-use Rattle.play_entries.specs.Places.{Tape, blockIn, toneIn, byteIn, bitIn, cycleIn, cyclesIn, cycleItem, listFrom, fromPause, fromEdge, fromByte, fromBit, fromTone, fromCycle, fromSecond}
+use Rattle.play_entries.specs.Entries.{Label, labelAt, isSingle, edged, edgeTime, startOf, toneOf, rowEntries, tonesOf, bitsAt}
+use Rattle.play_entries.specs.Entries.{bitEntries, byteOf, byteEntries, dataOf, edgeOf, pauseEntry, soundOf, entriesOf}
+use Rattle.play_entries.specs.Places.{Tape, blockIn, toneIn, byteIn, bitIn, cycleIn, cyclesIn, cycleItem, listFrom, fromPause}
+use Rattle.play_entries.specs.Places.{fromEdge, fromByte, fromBit, fromTone, fromCycle, fromSecond}
 
 -- n items are those below p, and those from p on
-reach : (item : ℕ → List (Entry Label)) (p n : ℕ) (ys : List (Entry Label)) → p ≤ n → run item 0 (n - 0) ++ ys ≡ run item 0 p ++ (run item p (n - p) ++ ys)
+reach : (item : ℕ → List (Entry Label)) (p n : ℕ) (ys : List (Entry Label)) → p ≤ n
+    → run item 0 (n - 0) ++ ys ≡ run item 0 p ++ (run item p (n - p) ++ ys)
 reach item p n ys h =
     let e : n - 0 ≡ p + (n - p) = omega arith in
     let z : 0 + p ≡ p = omega arith in
@@ -30,7 +33,8 @@ next item p n ys h =
 none : (item : ℕ → List (Entry Label)) (p n : ℕ) (ys : List (Entry Label)) → n ≤ p → run item p (n - p) ++ ys ≡ ys
 none item p n ys h = ap (λ (r : List (Entry Label)). r ++ ys) (run-none item p n h)
 
-joined : (s p : Entry Label) (xs ys es zs : List (Entry Label)) → ((s ∷ xs ++ ys) ++ (es ++ p ∷ [])) ++ zs ≡ s ∷ xs ++ (ys ++ (es ++ p ∷ zs))
+joined : (s p : Entry Label) (xs ys es zs : List (Entry Label))
+    → ((s ∷ xs ++ ys) ++ (es ++ p ∷ [])) ++ zs ≡ s ∷ xs ++ (ys ++ (es ++ p ∷ zs))
 joined s p xs ys es zs =
     ap (λ (x : List (Entry Label)). s ∷ x)
     (append-assoc (xs ++ ys) (es ++ p ∷ []) zs
@@ -44,8 +48,11 @@ module _ (w : Tape) where
       let r = blockIn w b in
       let behind = listFrom w (b + 1) in
       run-next (λ i. entriesOf (w .bytes) (w .tones) i (blockIn w i)) b (w .count) h
-      ∙ joined (startOf b r) (pauseEntry (w .tones) b r) (tonesOf (w .tones) b r) (dataOf (w .bytes) b r (bitIn w b)) (edgeOf (w .tones) b r) behind
-      ∙ ap₂ (λ (x y : ℕ). startOf b r ∷ run (rowEntries (w .tones) b r) 0 x ++ (run (byteEntries (w .bytes) b r (bitIn w b)) 0 y ++ (edgeOf (w .tones) b r ++ pauseEntry (w .tones) b r ∷ behind))) (sym (sub-zero (r .tones))) (sym (sub-zero (r .size)))
+      ∙ joined (startOf b r) (pauseEntry (w .tones) b r) (tonesOf (w .tones) b r) (dataOf (w .bytes) b r (bitIn w b))
+      (edgeOf (w .tones) b r) behind
+      ∙ ap₂ (λ (x y : ℕ). startOf b r ∷ run (rowEntries (w .tones) b r) 0 x
+      ++ (run (byteEntries (w .bytes) b r (bitIn w b)) 0 y ++ (edgeOf (w .tones) b r ++ pauseEntry (w .tones) b r ∷ behind)))
+      (sym (sub-zero (r .tones))) (sym (sub-zero (r .size)))
 
   pub list-out : (b : ℕ) → w .count ≤ b → listFrom w b ≡ []
   unfolding listFrom
@@ -75,7 +82,8 @@ module _ (w : Tape) where
 
     -- behind a repetition's first pulse: its second, or the next repetition
     pub second-in : (i p : ℕ) → isSingle (blockIn w b) (toneIn w b i) ≡ false
-        → fromSecond w b i p ≡ pulse (labelAt b (Tones i p true)) (not (cycleIn w b i p)) (toneIn w b i .len2) ∷ fromCycle w b i (p + 1)
+        → fromSecond w b i p
+        ≡ pulse (labelAt b (Tones i p true)) (not (cycleIn w b i p)) (toneIn w b i .len2) ∷ fromCycle w b i (p + 1)
     unfolding fromSecond
     second-in i p e = rw e
 
@@ -123,7 +131,8 @@ module _ (w : Tape) where
     bit-reach pos k h = reach (bitEntries b (blockIn w b) (bitIn w b) pos (byteIn w b pos)) k _ (fromByte w b (pos + 1)) h
 
     -- the edge, if there is one
-    pub edge-in : edged (blockIn w b) ≡ true → fromEdge w b ≡ pulse (labelAt b Edge) (bitIn w b) (edgeTime (blockIn w b)) ∷ fromPause w b
+    pub edge-in : edged (blockIn w b) ≡ true
+        → fromEdge w b ≡ pulse (labelAt b Edge) (bitIn w b) (edgeTime (blockIn w b)) ∷ fromPause w b
     unfolding fromEdge
     edge-in e = rw e
 

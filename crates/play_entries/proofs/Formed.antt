@@ -18,15 +18,18 @@ pub record WellUpTo (w : Tape) (b k : ℕ) : Type 0 where
 
 needs-of : (w : Tape) (b m : ℕ) → b + m ≡ w .count → WellUpTo w b (firstBad w b m)
 unfolding firstBad
-needs-of w b zero e = record { from = omega arith; most = omega arith; well = λ i l g. absurd (omega arith); bad = λ h. absurd (omega arith) }
+needs-of w b zero e =
+    record { from = omega arith; most = omega arith; well = λ i l g. absurd (omega arith); bad = λ h. absurd (omega arith) }
 needs-of w b (suc m) e = by-cases (wellRow w b) refl (needs-of w (b + 1) m (omega arith))
   where
-    by-cases : (t : Bool) → wellRow w b ≡ t → WellUpTo w (b + 1) (firstBad w (b + 1) m) → WellUpTo w b (t ⇒ firstBad w (b + 1) m ∣ b)
+    by-cases : (t : Bool) → wellRow w b ≡ t → WellUpTo w (b + 1) (firstBad w (b + 1) m)
+        → WellUpTo w b (t ⇒ firstBad w (b + 1) m ∣ b)
     by-cases true f x =
         record {
           from = omega (arith, x .from);
           most = x .most;
-          well = λ i l g. ⊎-elim (λ q. x .well i (omega arith) g) (λ q. let z : b ≡ i = omega arith in ap (wellRow w) (sym z) ∙ f) (lt-or-ge b i);
+          well = λ i l g. ⊎-elim (λ q. x .well i (omega arith) g)
+              (λ q. let z : b ≡ i = omega arith in ap (wellRow w) (sym z) ∙ f) (lt-or-ge b i);
           bad = x .bad;
         }
     by-cases false f x = record { from = omega arith; most = omega arith; well = λ i l g. absurd (omega arith); bad = λ h. f }
@@ -40,7 +43,8 @@ not-both {x} e f = let y : _≡_ {A = ℕ} 0 1 = ap (λ (t : Bool). t ⇒ 0 ∣ 
 -- a well-formed row up to the bad one stands before it
 pub well-before : {w : Tape} {b k : ℕ} → WellUpTo w b k → (i : ℕ) → i ≤ k → i < w .count → wellRow w i ≡ true → i < k
 well-before {w} {b} {k} x i l g e =
-    ⊎-elim (λ q. q) (λ q. let z : i ≡ k = omega arith in absurd (not-both (ap (wellRow w) (sym z) ∙ e) (x .bad (omega arith)))) (lt-or-ge i k)
+    ⊎-elim (λ q. q)
+    (λ q. let z : i ≡ k = omega arith in absurd (not-both (ap (wellRow w) (sym z) ∙ e) (x .bad (omega arith)))) (lt-or-ge i k)
 
 -- and one that is not well formed is that one
 pub bad-there : {w : Tape} {b k : ℕ} → WellUpTo w b k → (i : ℕ) → b ≤ i → i ≤ k → wellRow w i ≡ false → k ≡ i
@@ -54,7 +58,8 @@ module _ (w : Tape) (whole : WholeTape w) where
       ⊎-elim
       (λ l.
       let x = needed w b (omega arith) in
-      ⊎-elim (λ h. absurd (not-both (whole .rows _ h) (x .bad h))) (λ g. omega (arith, x .most)) (lt-or-ge (firstBad w b (w .count - b)) (w .count)))
+      ⊎-elim (λ h. absurd (not-both (whole .rows _ h) (x .bad h))) (λ g. omega (arith, x .most))
+      (lt-or-ge (firstBad w b (w .count - b)) (w .count)))
       (λ g. let z : w .count - b ≡ 0 = omega arith in ap (firstBad w b) z)
       (lt-or-ge b (w .count))
 

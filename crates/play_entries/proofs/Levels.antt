@@ -11,8 +11,10 @@ use Rattle.play_entries.specs.declared.Phase.{Phase}
 use Rattle.play_entries.specs.declared.Phase.the-variants.{Start, Tones, Data, Edge, Pause}
 use Rattle.play_entries.specs.declared.Duration.{Duration}
 use Rattle.play_entries.specs.declared.Duration.the-variants.{T, Endless}
-use Rattle.play_entries.specs.Entries.{Label, labelAt, entryOf, isSingle, edged, edgeTime, edgeOf, toneOf, rowEntries, tonesOf, bitsAt, bitEntries, byteOf, byteEntries, dataOf, pauseOf, soundOf, entriesOf}
-use Rattle.play_entries.specs.Places.{Tape, blockIn, toneIn, byteIn, bitIn, cycleIn, cyclesIn, cycleItem, levelAt, levelIn, listFrom, leftAt, valid}
+use Rattle.play_entries.specs.Entries.{Label, labelAt, entryOf, isSingle, edged, edgeTime, edgeOf, toneOf, rowEntries, tonesOf}
+use Rattle.play_entries.specs.Entries.{bitsAt, bitEntries, byteOf, byteEntries, dataOf, pauseOf, soundOf, entriesOf}
+use Rattle.play_entries.specs.Places.{Tape, blockIn, toneIn, byteIn, bitIn, cycleIn, cyclesIn, cycleItem, levelAt, levelIn}
+use Rattle.play_entries.specs.Places.{listFrom, leftAt, valid}
 use Rattle.play_entries.specs.Tails.{Levels}
 use Rattle.play_entries.proofs.Valid.{valid-stands}
 use Rattle.play_entries.proofs.Parts.{left-part}
@@ -35,7 +37,8 @@ module _ (w : Tape) where
   levels-run item l p zero = tt
   levels-run item l p (suc m) = levels-append (item p) (run item (p + 1) m) (l p) (levels-run item l (p + 1) m)
 
-  levels-entry : (b : ℕ) (f : Phase) (d : Duration) (es : List (Entry Label)) → Levels w es → Levels w (entryOf (labelAt b f) (levelIn w b f) d ∷ es)
+  levels-entry : (b : ℕ) (f : Phase) (d : Duration) (es : List (Entry Label)) → Levels w es
+      → Levels w (entryOf (labelAt b f) (levelIn w b f) d ∷ es)
   unfolding Levels entryOf
   levels-entry b f (T t) es l = (refl, l)
   levels-entry b f Endless es l = (refl, l)
@@ -49,7 +52,8 @@ module _ (w : Tape) where
     levels-row : (i : ℕ) → Levels w (rowEntries (w .tones) b (blockIn w b) i)
     unfolding toneOf Levels levelAt
     levels-row i =
-        levels-run (cycleItem w b i) (λ p. (refl, levels-second (isSingle (blockIn w b) (toneIn w b i)) i p (toneIn w b i .len2))) 0 (cyclesIn w b i)
+        levels-run (cycleItem w b i) (λ p. (refl, levels-second (isSingle (blockIn w b) (toneIn w b i)) i p (toneIn w b i .len2))) 0
+        (cyclesIn w b i)
 
     levels-byte : (pos : ℕ) → Levels w (byteEntries (w .bytes) b (blockIn w b) (bitIn w b) pos)
     unfolding byteOf Levels levelAt

@@ -13,6 +13,7 @@ pub line-none : (tones : List ℕ) (r : Block) (l : Line) → l ≡ lineStart r 
 unfolding lineAt
 line-none tones r l e = e
 
-pub line-next : (tones : List ℕ) (r : Block) (i : ℕ) (t : Tone) (l m : Line) → l ≡ lineAt tones r i → t ≡ toneAt tones r i → m ≡ lineAfter t l → m ≡ lineAt tones r (i + 1)
+pub line-next : (tones : List ℕ) (r : Block) (i : ℕ) (t : Tone) (l m : Line) → l ≡ lineAt tones r i → t ≡ toneAt tones r i
+    → m ≡ lineAfter t l → m ≡ lineAt tones r (i + 1)
 unfolding lineAt
 line-next tones r i t l m e f g = rw (add-one i) (g ∙ ap₂ lineAfter f e)

@@ -30,7 +30,8 @@ module _ (w : Tape) (b : ℕ) where
         let r = blockIn w b in
         run-next (λ i. entriesOf (w .bytes) (w .tones) i (blockIn w i)) b (w .count) h
         ∙ append-assoc (soundOf (w .bytes) (w .tones) b r) (endOf (w .tones) b r) (listFrom w (b + 1))
-        ∙ ap (λ (x : List (Entry Label)). soundOf (w .bytes) (w .tones) b r ++ x) (append-assoc (edgeOf (w .tones) b r) (pauseEntry (w .tones) b r ∷ []) (listFrom w (b + 1)))
+        ∙ ap (λ (x : List (Entry Label)). soundOf (w .bytes) (w .tones) b r ++ x)
+        (append-assoc (edgeOf (w .tones) b r) (pauseEntry (w .tones) b r ∷ []) (listFrom w (b + 1)))
 
     block-time : time (listFrom w b) ≡ time (soundOf (w .bytes) (w .tones) b (blockIn w b)) + time (fromEdge w b)
     block-time = ap time block-list ∙ time-append _ _ (sound-finite (w .bytes) (w .tones) b (blockIn w b))

@@ -13,11 +13,15 @@ use Rattle.play_entries.specs.declared.Phase.{Phase}
 use Rattle.play_entries.specs.declared.Phase.the-variants.{Start, Tones, Data, Edge, Pause}
 use Rattle.play_entries.specs.declared.Duration.{Duration}
 use Rattle.play_entries.specs.declared.Duration.the-variants.{T, Endless}
-use Rattle.play_entries.specs.Entries.{Label, labelAt, entryOf, startOf, edged, edgeTime, edgeOf, rowEntries, bitsAt, bitEntries, byteEntries}
-use Rattle.play_entries.specs.Places.{Tape, blockIn, toneIn, byteIn, bitIn, cycleIn, cyclesIn, cycleItem, levelAt, levelIn, listFrom, fromPause, fromEdge, fromByte, fromBit, fromTone, fromCycle, leftAt, hasEntry, lengthAt, valid, headOf, leftOf}
+use Rattle.play_entries.specs.Entries.{Label, labelAt, entryOf, startOf, edged, edgeTime, edgeOf, rowEntries, bitsAt}
+use Rattle.play_entries.specs.Entries.{bitEntries, byteEntries}
+use Rattle.play_entries.specs.Places.{Tape, blockIn, toneIn, byteIn, bitIn, cycleIn, cyclesIn, cycleItem, levelAt, levelIn}
+use Rattle.play_entries.specs.Places.{listFrom, fromPause, fromEdge, fromByte, fromBit, fromTone, fromCycle, leftAt, hasEntry}
+use Rattle.play_entries.specs.Places.{lengthAt, valid, headOf, leftOf}
 use Rattle.play_entries.specs.Tails.{LeadsInto, PartAt}
 use Rattle.play_entries.proofs.Runs.{cycle-finite, bit-finite, row-finite, bytes-finite}
-use Rattle.play_entries.proofs.Follows.{list-in, tone-in, tone-out, tone-reach, cycle-in, second-in, edge-in, cycle-reach, byte-in, byte-out, byte-reach, bit-in, bit-reach}
+use Rattle.play_entries.proofs.Follows.{list-in, tone-in, tone-out, tone-reach, cycle-in, second-in, edge-in, cycle-reach, byte-in}
+use Rattle.play_entries.proofs.Follows.{byte-out, byte-reach, bit-in, bit-reach}
 use Rattle.play_entries.proofs.Valid.{tone-entry, tone-second, data-entry, Stands, stands-valid, valid-start, below-stands}
 
 into-by : {es xs ys : List (Entry Label)} → xs ≡ ys → LeadsInto es xs → LeadsInto es ys
@@ -25,7 +29,11 @@ into-by e x = record { gone = x .gone; finite = x .finite; whole = x .whole ∙ 
 
 into-past : {es : List (Entry Label)} (xs ys : List (Entry Label)) → Finite xs → LeadsInto es (xs ++ ys) → LeadsInto es ys
 into-past xs ys f x =
-    record { gone = x .gone ++ xs; finite = finite-append (x .gone) xs (x .finite) f; whole = x .whole ∙ sym (append-assoc (x .gone) xs ys) }
+    record {
+      gone = x .gone ++ xs;
+      finite = finite-append (x .gone) xs (x .finite) f;
+      whole = x .whole ∙ sym (append-assoc (x .gone) xs ys);
+    }
 
 module _ (w : Tape) (b : ℕ) (h : b < w .count) where
   into-start : LeadsInto (listFrom w b) (startOf b (blockIn w b) ∷ fromTone w b 0)
@@ -52,7 +60,8 @@ module _ (w : Tape) (b : ℕ) (h : b < w .count) where
       into-past (run item 0 pos) (fromByte w b pos) (run-finite item (bytes-finite (w .bytes) b (blockIn w b) (bitIn w b)) 0 pos)
       (into-by (tone-out w b n (omega arith) ∙ byte-reach w b pos l) (into-tone n (omega arith)))
 
-  pub into-bit : (pos k : ℕ) → pos < blockIn w b .size → k ≤ bitsAt (blockIn w b) pos → LeadsInto (listFrom w b) (fromBit w b pos k)
+  pub into-bit : (pos k : ℕ) → pos < blockIn w b .size → k ≤ bitsAt (blockIn w b) pos
+      → LeadsInto (listFrom w b) (fromBit w b pos k)
   into-bit pos k l g =
       let item = bitEntries b (blockIn w b) (bitIn w b) pos (byteIn w b pos) in
       into-past (run item 0 k) (fromBit w b pos k) (run-finite item (bit-finite b (blockIn w b) (bitIn w b) pos (byteIn w b pos)) 0 k)
@@ -77,7 +86,11 @@ module _ (w : Tape) (b : ℕ) (h : b < w .count) where
   unfolding leftAt lengthAt levelAt entryOf fromPause Finite hasEntry
   left-of Start left s =
       let z = valid-start w b left (stands-valid w b Start left s) in
-      record { next = fromTone w b 0; entry = into-start; rest = list-in w b h ∙ ap (λ (d : Duration). entryOf (labelAt b Start) (levelIn w b Start) d ∷ fromTone w b 0) (sym z) }
+      record {
+        next = fromTone w b 0;
+        entry = into-start;
+        rest = list-in w b h ∙ ap (λ (d : Duration). entryOf (labelAt b Start) (levelIn w b Start) d ∷ fromTone w b 0) (sym z);
+      }
   left-of (Tones i p false) left s =
       let k = tone-entry (w .tones) (blockIn w b) i p false (s .entry) in
       record { next = _; entry = into-by (cycle-in w b i p (k .1)) (into-cycle i p (k .0) (omega arith)); rest = refl }
@@ -85,13 +98,23 @@ module _ (w : Tape) (b : ℕ) (h : b < w .count) where
       let k = tone-entry (w .tones) (blockIn w b) i p true (s .entry) in
       let o = tone-second (w .tones) (blockIn w b) i p (s .entry) in
       let into = into-by (cycle-in w b i p (k .1)) (into-cycle i p (k .0) (omega arith)) in
-      record { next = _; entry = into-by (second-in w b i p o) (into-past (pulse (labelAt b (Tones i p false)) (cycleIn w b i p) (toneIn w b i .len1) ∷ []) _ tt into); rest = refl }
+      record {
+        next = _;
+        entry = into-by (second-in w b i p o)
+            (into-past (pulse (labelAt b (Tones i p false)) (cycleIn w b i p) (toneIn w b i .len1) ∷ []) _ tt into);
+        rest = refl;
+      }
   left-of (Data pos k false) left s =
       let l = data-entry (w .tones) (blockIn w b) pos k false (s .entry) in
       record { next = _; entry = into-by (bit-in w b pos k (l .1)) (into-bit pos k (l .0) (omega arith)); rest = refl }
   left-of (Data pos k true) left s =
       let l = data-entry (w .tones) (blockIn w b) pos k true (s .entry) in
-      record { next = _; entry = into-past (pulse (labelAt b (Data pos k false)) (bitIn w b) _ ∷ []) _ tt (into-by (bit-in w b pos k (l .1)) (into-bit pos k (l .0) (omega arith))); rest = refl }
+      record {
+        next = _;
+        entry = into-past (pulse (labelAt b (Data pos k false)) (bitIn w b) _ ∷ []) _ tt
+            (into-by (bit-in w b pos k (l .1)) (into-bit pos k (l .0) (omega arith)));
+        rest = refl;
+      }
   left-of Edge left s = record { next = fromPause w b; entry = into-by (edge-in w b (s .entry)) into-edge; rest = refl }
   left-of Pause left s = record { next = listFrom w (b + 1); entry = into-pause; rest = refl }
 
@@ -99,11 +122,13 @@ module _ (w : Tape) (b : ℕ) (h : b < w .count) where
   pub left-part : (f : Phase) (left : Duration) → valid w b f left ≡ true → PartAt w b f left
   left-part f left e = left-of f left (below-stands w b f left h e)
 
-  head-of : (f : Phase) (v : Level) (left : Duration) (es : List (Entry Label)) → (headOf w (entryOf (labelAt b f) v left ∷ es) ≡ labelAt b f) × (leftOf (entryOf (labelAt b f) v left ∷ es) ≡ left)
+  head-of : (f : Phase) (v : Level) (left : Duration) (es : List (Entry Label))
+      → (headOf w (entryOf (labelAt b f) v left ∷ es) ≡ labelAt b f) × (leftOf (entryOf (labelAt b f) v left ∷ es) ≡ left)
   unfolding headOf leftOf entryOf
   head-of f v (T t) es = (refl, refl)
   head-of f v Endless es = (refl, refl)
 
   -- the position at its head is that position
-  pub left-head : (f : Phase) (left : Duration) → valid w b f left ≡ true → (headOf w (leftAt w b f left) ≡ labelAt b f) × (leftOf (leftAt w b f left) ≡ left)
+  pub left-head : (f : Phase) (left : Duration) → valid w b f left ≡ true
+      → (headOf w (leftAt w b f left) ≡ labelAt b f) × (leftOf (leftAt w b f left) ≡ left)
   left-head f left e = let x = left-part f left e in rw (x .rest) (head-of f (levelIn w b f) left (x .next))

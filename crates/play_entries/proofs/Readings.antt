@@ -11,7 +11,9 @@ use Rattle.rows.proofs.Samples.{rowWords}
 use Rattle.play_entries.specs.declared.Phase.the-variants.{Tones, Pause}
 use Rattle.play_entries.specs.declared.Duration.{Duration}
 use Rattle.play_entries.specs.declared.Duration.the-variants.{T}
-use Rattle.play_entries.specs.Entries.{Label, labelAt, entryOf, cyclesOf, isSingle, startLevel, cycleLevel, bitLevel, edged, pauseLevel, toneOf, tonesOf, bitsAt, halfOf, byteOf, dataOf, pauseOf, soundOf, entriesOf, lastsOf}
+use Rattle.play_entries.specs.Entries.{Label, labelAt, entryOf, cyclesOf, isSingle, startLevel, cycleLevel, bitLevel, edged}
+use Rattle.play_entries.specs.Entries.{pauseLevel, toneOf, tonesOf, bitsAt, halfOf, byteOf, dataOf, pauseOf, soundOf}
+use Rattle.play_entries.specs.Entries.{entriesOf, lastsOf}
 use Rattle.play_entries.specs.Places.{listFrom}
 
 -- a reading: the tape's bytes, the tone table and the block row that it gives, and the T-states it is to have
@@ -27,19 +29,25 @@ reading tape tones row t = record { tape = tape; tones = tones; row = row; lasts
 abbrev pub readings : List TimeReading
 readings =
     -- 12 with length 100, count 1: a tone 0/100, then 0 cycles, which are one
-    reading [] (1 ∷ 0 ∷ 100 ∷ 0 ∷ 0 ∷ 100 ∷ 100 ∷ 0 ∷ []) (0 ∷ 2 ∷ 0 ∷ 0 ∷ 0 ∷ 0 ∷ 0 ∷ 0 ∷ 0 ∷ 0 ∷ 0 ∷ 0 ∷ 0 ∷ 0 ∷ 0 ∷ 0 ∷ []) 300 ∷
+    reading [] (1 ∷ 0 ∷ 100 ∷ 0 ∷ 0 ∷ 100 ∷ 100 ∷ 0 ∷ [])
+    (0 ∷ 2 ∷ 0 ∷ 0 ∷ 0 ∷ 0 ∷ 0 ∷ 0 ∷ 0 ∷ 0 ∷ 0 ∷ 0 ∷ 0 ∷ 0 ∷ 0 ∷ 0 ∷ []) 300 ∷
     -- 12 with count 0
-    reading [] (0 ∷ 100 ∷ 100 ∷ 0 ∷ []) (0 ∷ 1 ∷ 0 ∷ 0 ∷ 0 ∷ 0 ∷ 0 ∷ 0 ∷ 0 ∷ 0 ∷ 0 ∷ 0 ∷ 0 ∷ 0 ∷ 0 ∷ 0 ∷ []) 200 ∷
+    reading [] (0 ∷ 100 ∷ 100 ∷ 0 ∷ [])
+    (0 ∷ 1 ∷ 0 ∷ 0 ∷ 0 ∷ 0 ∷ 0 ∷ 0 ∷ 0 ∷ 0 ∷ 0 ∷ 0 ∷ 0 ∷ 0 ∷ 0 ∷ 0 ∷ []) 200 ∷
     -- pure data byte 80, zero 10, one 20, last bits 0, pause 0
-    reading (0x80 ∷ []) (0 ∷ 0 ∷ 0 ∷ 0 ∷ 1 ∷ 0 ∷ 0 ∷ 0 ∷ 0 ∷ 0 ∷ 0 ∷ []) (0 ∷ 2 ∷ 0 ∷ 1 ∷ 10 ∷ 20 ∷ 0 ∷ 0 ∷ 0 ∷ 1 ∷ 0 ∷ 0 ∷ 0 ∷ 0 ∷ 0 ∷ 0 ∷ []) 40 ∷
+    reading (0x80 ∷ []) (0 ∷ 0 ∷ 0 ∷ 0 ∷ 1 ∷ 0 ∷ 0 ∷ 0 ∷ 0 ∷ 0 ∷ 0 ∷ [])
+    (0 ∷ 2 ∷ 0 ∷ 1 ∷ 10 ∷ 20 ∷ 0 ∷ 0 ∷ 0 ∷ 1 ∷ 0 ∷ 0 ∷ 0 ∷ 0 ∷ 0 ∷ 0 ∷ []) 40 ∷
     -- `01 00 FF`: 1,612 cycles, pause 7,000,000
-    reading (0x01 ∷ 0x00 ∷ 0xFF ∷ []) (1612 ∷ 2168 ∷ 2168 ∷ 0 ∷ 1 ∷ 667 ∷ 735 ∷ 0 ∷ []) (0 ∷ 2 ∷ 2 ∷ 1 ∷ 855 ∷ 1710 ∷ 8 ∷ 7000000 ∷ 0 ∷ 1 ∷ 0 ∷ 0 ∷ 0 ∷ 0 ∷ 0 ∷ 0 ∷ []) 14018394 ∷
+    reading (0x01 ∷ 0x00 ∷ 0xFF ∷ []) (1612 ∷ 2168 ∷ 2168 ∷ 0 ∷ 1 ∷ 667 ∷ 735 ∷ 0 ∷ [])
+    (0 ∷ 2 ∷ 2 ∷ 1 ∷ 855 ∷ 1710 ∷ 8 ∷ 7000000 ∷ 0 ∷ 1 ∷ 0 ∷ 0 ∷ 0 ∷ 0 ∷ 0 ∷ 0 ∷ []) 14018394 ∷
     -- `00 00`: 4,032 cycles, and a header's pause
-    reading (0x00 ∷ 0x00 ∷ []) (4032 ∷ 2168 ∷ 2168 ∷ 0 ∷ 1 ∷ 667 ∷ 735 ∷ 0 ∷ []) (0 ∷ 2 ∷ 2 ∷ 0 ∷ 855 ∷ 1710 ∷ 8 ∷ 3500000 ∷ 0 ∷ 1 ∷ 0 ∷ 0 ∷ 0 ∷ 0 ∷ 0 ∷ 0 ∷ []) 20984154 ∷
+    reading (0x00 ∷ 0x00 ∷ []) (4032 ∷ 2168 ∷ 2168 ∷ 0 ∷ 1 ∷ 667 ∷ 735 ∷ 0 ∷ [])
+    (0 ∷ 2 ∷ 2 ∷ 0 ∷ 855 ∷ 1710 ∷ 8 ∷ 3500000 ∷ 0 ∷ 1 ∷ 0 ∷ 0 ∷ 0 ∷ 0 ∷ 0 ∷ 0 ∷ []) 20984154 ∷
     []
 
 pub times-said : map (λ e. lastsOf (entriesOf (e .tape) (e .tones) 0 (decodeBlock (e .row)))) readings ≡ map (λ e. e .lasts) readings
-unfolding lastsOf comesTo time entriesOf soundOf tonesOf toneOf cyclesOf isSingle startLevel cycleLevel bitLevel edged pauseLevel dataOf byteOf bitsAt halfOf pauseOf entryOf run
+unfolding lastsOf comesTo time entriesOf soundOf tonesOf toneOf cyclesOf isSingle startLevel cycleLevel bitLevel edged pauseLevel dataOf
+    byteOf bitsAt halfOf pauseOf entryOf run
 times-said = refl
 
 -- a sole 12 of 100 and 4: its list, from its start
@@ -64,5 +72,6 @@ places =
     []
 
 pub places-said : map (λ e. (heard (answer sole (e .0)), source sole (e .0))) places ≡ map (λ e. e .1) places
-unfolding heard answer rest over status statusHere sourced reached turns turn after listFrom entriesOf soundOf tonesOf toneOf cyclesOf isSingle startLevel cycleLevel bitLevel edged pauseLevel dataOf pauseOf entryOf run
+unfolding heard answer rest over status statusHere sourced reached turns turn after listFrom entriesOf soundOf tonesOf toneOf cyclesOf
+    isSingle startLevel cycleLevel bitLevel edged pauseLevel dataOf pauseOf entryOf run
 places-said = refl

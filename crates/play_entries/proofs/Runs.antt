@@ -19,7 +19,9 @@ use Rattle.rows.specs.declared.Tone.{Tone}
 use Rattle.rows.specs.declared.Block.{Block}
 use Rattle.play_entries.specs.declared.Duration.the-variants.{T, Endless}
 use Rattle.play_entries.specs.Counted.{bitsTime}
-use Rattle.play_entries.specs.Entries.{Label, cyclesOf, isSingle, bitLevel, cycleOf, cyclePulses, cycleTime, toneOf, rowEntries, tonesOf, bitsAt, bitOf, halfOf, bitEntries, byteOf, byteEntries, dataOf, soundOf, entriesOf, lastsOf}
+use Rattle.play_entries.specs.Entries.{Label, cyclesOf, isSingle, bitLevel, cycleOf, cyclePulses, cycleTime, toneOf, rowEntries}
+use Rattle.play_entries.specs.Entries.{tonesOf, bitsAt, bitOf, halfOf, bitEntries, byteOf, byteEntries, dataOf, soundOf}
+use Rattle.play_entries.specs.Entries.{entriesOf, lastsOf}
 use Rattle.play_entries.proofs.Ends.{endOf, end-time, end-comes, end-on}
 
 -- a repetition's second pulse, if there is one
@@ -141,7 +143,8 @@ module _ (tape : List ℕ) (b : ℕ) (r : Block) (c : Level) where
 module _ (tape tones : List ℕ) (b : ℕ) (r : Block) where
   pub sound-finite : Finite (soundOf tape tones b r)
   unfolding soundOf Finite
-  sound-finite = finite-append (tonesOf tones b r) (dataOf tape b r (bitLevel tones r)) (tones-finite tones b r) (data-finite tape b r (bitLevel tones r))
+  sound-finite = finite-append (tonesOf tones b r) (dataOf tape b r (bitLevel tones r)) (tones-finite tones b r)
+      (data-finite tape b r (bitLevel tones r))
 
   pub sound-time : time (soundOf tape tones b r) ≡ time (tonesOf tones b r) + time (dataOf tape b r (bitLevel tones r))
   unfolding soundOf
@@ -159,4 +162,10 @@ module _ (tape tones : List ℕ) (b : ℕ) (r : Block) where
   unfolding lastsOf entriesOf comesTo time
   lasts-pause e =
       let s = soundOf tape tones b r in
-      rw (comes-append s (endOf tones b r) sound-finite, end-on tones b r [] e, time-append s (endOf tones b r) sound-finite, end-time tones b r [] e, add-zero)
+      rw (
+        comes-append s (endOf tones b r) sound-finite,
+        end-on tones b r [] e,
+        time-append s (endOf tones b r) sound-finite,
+        end-time tones b r [] e,
+        add-zero,
+      )

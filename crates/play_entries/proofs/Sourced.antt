@@ -11,7 +11,9 @@ use Rattle.play_levels.specs.Closed.{flipped}
 use Rattle.play_levels.proofs.Voices.{run-same}
 use Rattle.play_entries.specs.declared.Phase.{Phase}
 use Rattle.play_entries.specs.declared.Phase.the-variants.{Start, Tones, Data, Edge, Pause}
-use Rattle.play_entries.specs.Entries.{labelAt, entryOf, toneAt, isSource, cyclesOf, isSingle, startLevel, cycleLevel, bitLevel, edged, cycleOf, toneOf, rowEntries, tonesOf, byteOf, dataOf, edgeOf, wholePause, pauseOf, pauseLevel, pauseEntry, soundOf, entriesOf}
+use Rattle.play_entries.specs.Entries.{labelAt, entryOf, toneAt, isSource, cyclesOf, isSingle, startLevel, cycleLevel, bitLevel}
+use Rattle.play_entries.specs.Entries.{edged, cycleOf, toneOf, rowEntries, tonesOf, byteOf, dataOf, edgeOf, wholePause, pauseOf}
+use Rattle.play_entries.specs.Entries.{pauseLevel, pauseEntry, soundOf, entriesOf}
 use Rattle.play_entries.specs.Places.{levelAt}
 use Rattle.play_entries.specs.Source.{sourceCycle, sourceTone, sourceByte, sourceEntries, levelOf}
 

@@ -1,4 +1,5 @@
--- WHERE A HEAD CAN STAND: what a valid position leaves to play is what is left at its own head, and playing leads to such places only. Assumes nothing.
+-- WHERE A HEAD CAN STAND: what a valid position leaves to play is what is left at its own head, and playing leads to such places only.
+-- Assumes nothing.
 use Prim.Native.Nat.{ℕ, zero, suc, _+_, _-_, _≤_, _<_}
 use native.Mathlib.Omega.{arith}
 use mathlib.Core.Path.{_≡_, refl, sym, subst, _∙_}
@@ -13,11 +14,15 @@ use Rattle.play_entries.specs.declared.Phase.the-variants.{Start, Tones,
 use Rattle.play_entries.specs.declared.Duration.{Duration}
 use Rattle.play_entries.specs.declared.Duration.the-variants.{T, Endless}
 use Rattle.play_entries.specs.Entries.{Label, labelAt, entryOf, isSingle, startLevel, edged, bitsAt, bitOf, halfOf, pauseOf}
-use Rattle.play_entries.specs.Places.{Tape, blockIn, toneIn, byteIn, bitIn, cycleIn, cyclesIn, levelAt, levelIn, listFrom, fromPause, fromEdge, fromByte, fromBit, fromTone, fromCycle, fromSecond, leftAt, hasEntry, lengthAt, isStart, valid, headOf, leftOf, lengthIn}
+use Rattle.play_entries.specs.Places.{Tape, blockIn, toneIn, byteIn, bitIn, cycleIn, cyclesIn, levelAt, levelIn, listFrom}
+use Rattle.play_entries.specs.Places.{fromPause, fromEdge, fromByte, fromBit, fromTone, fromCycle, fromSecond, leftAt, hasEntry}
+use Rattle.play_entries.specs.Places.{lengthAt, isStart, valid, headOf, leftOf, lengthIn}
 use Rattle.play_entries.specs.Tails.{Tail}
 use Rattle.play_entries.proofs.Bounds.{bits-some}
-use Rattle.play_entries.proofs.Follows.{list-in, list-out, tone-in, tone-out, cycle-in, cycle-out, second-in, second-out, byte-in, byte-out, bit-in, bit-out, edge-in, edge-out}
-use Rattle.play_entries.proofs.Valid.{remains-full, remains-less, tone-entry, has-tone, has-second, data-entry, has-data, stands-valid, valid-stands, start-valid, valid-start}
+use Rattle.play_entries.proofs.Follows.{list-in, list-out, tone-in, tone-out, cycle-in, cycle-out, second-in, second-out, byte-in}
+use Rattle.play_entries.proofs.Follows.{byte-out, bit-in, bit-out, edge-in, edge-out}
+use Rattle.play_entries.proofs.Valid.{remains-full, remains-less, tone-entry, has-tone, has-second, data-entry, has-data}
+use Rattle.play_entries.proofs.Valid.{stands-valid, valid-stands, start-valid, valid-start}
 
 module _ (w : Tape) where
   tail-by : {es fs : List (Entry Label)} → es ≡ fs → Tail w fs → Tail w es
@@ -25,7 +30,8 @@ module _ (w : Tape) where
 
   -- from an entry whose position is valid
   tail-at : (b : ℕ) (f : Phase) (v : Level) (left : Duration) (es : List (Entry Label))
-      → leftAt w b f left ≡ entryOf (labelAt b f) v left ∷ es → valid w b f left ≡ true → Tail w (entryOf (labelAt b f) v left ∷ es)
+      → leftAt w b f left ≡ entryOf (labelAt b f) v left ∷ es → valid w b f left ≡ true
+      → Tail w (entryOf (labelAt b f) v left ∷ es)
   unfolding headOf leftOf entryOf
   tail-at b f v (T t) es e s = record { ahead = e; stands = s }
   tail-at b f v Endless es e s = record { ahead = e; stands = s }
@@ -57,26 +63,34 @@ module _ (w : Tape) where
         by-edge : (x : Bool) → edged (blockIn w b) ≡ x → Tail w (fromEdge w b)
         by-edge true e =
             tail-by (edge-in w b e)
-            (tail-at b Edge (bitIn w b) (T _) (fromPause w b) refl (stands-valid w b Edge _ (record { below = h; entry = e; some = remains-full (T _) })))
+            (tail-at b Edge (bitIn w b) (T _) (fromPause w b) refl
+            (stands-valid w b Edge _ (record { below = h; entry = e; some = remains-full (T _) })))
         by-edge false e = tail-by (edge-out w b e) tail-pause
 
     -- from a pulse of a tone row or of a bit, full
-    tail-first : (i p : ℕ) → i < blockIn w b .tones → p < cyclesIn w b i → Tail w (leftAt w b (Tones i p false) (T (toneIn w b i .len1)))
+    tail-first : (i p : ℕ) → i < blockIn w b .tones → p < cyclesIn w b i
+        → Tail w (leftAt w b (Tones i p false) (T (toneIn w b i .len1)))
     unfolding leftAt lengthAt
     tail-first i p l g =
-        tail-at b (Tones i p false) (cycleIn w b i p) _ _ refl (stands-valid w b (Tones i p false) _ (record { below = h; entry = has-tone (w .tones) (blockIn w b) i p l g; some = remains-full (T _) }))
+        tail-at b (Tones i p false) (cycleIn w b i p) _ _ refl (stands-valid w b (Tones i p false) _
+        (record { below = h; entry = has-tone (w .tones) (blockIn w b) i p l g; some = remains-full (T _) }))
 
-    tail-second : (i p : ℕ) → i < blockIn w b .tones → p < cyclesIn w b i → isSingle (blockIn w b) (toneIn w b i) ≡ false → Tail w (leftAt w b (Tones i p true) (T (toneIn w b i .len2)))
+    tail-second : (i p : ℕ) → i < blockIn w b .tones → p < cyclesIn w b i → isSingle (blockIn w b) (toneIn w b i) ≡ false
+        → Tail w (leftAt w b (Tones i p true) (T (toneIn w b i .len2)))
     unfolding leftAt lengthAt
     tail-second i p l g e =
-        tail-at b (Tones i p true) (not (cycleIn w b i p)) _ _ refl (stands-valid w b (Tones i p true) _ (record { below = h; entry = has-second (w .tones) (blockIn w b) i p l g e; some = remains-full (T _) }))
+        tail-at b (Tones i p true) (not (cycleIn w b i p)) _ _ refl (stands-valid w b (Tones i p true) _
+        (record { below = h; entry = has-second (w .tones) (blockIn w b) i p l g e; some = remains-full (T _) }))
 
     tail-bit-half : (pos k : ℕ) → pos < blockIn w b .size → k < bitsAt (blockIn w b) pos
-        → Tail w (leftAt w b (Data pos k false) (T (halfOf (blockIn w b) (bitOf (byteIn w b pos) k)))) × Tail w (leftAt w b (Data pos k true) (T (halfOf (blockIn w b) (bitOf (byteIn w b pos) k))))
+        → Tail w (leftAt w b (Data pos k false) (T (halfOf (blockIn w b) (bitOf (byteIn w b pos) k))))
+        × Tail w (leftAt w b (Data pos k true) (T (halfOf (blockIn w b) (bitOf (byteIn w b pos) k))))
     unfolding leftAt lengthAt
     tail-bit-half pos k l g = (
-      tail-at b (Data pos k false) (bitIn w b) _ _ refl (stands-valid w b (Data pos k false) _ (record { below = h; entry = has-data (w .tones) (blockIn w b) pos k false l g; some = remains-full (T _) })),
-      tail-at b (Data pos k true) (not (bitIn w b)) _ _ refl (stands-valid w b (Data pos k true) _ (record { below = h; entry = has-data (w .tones) (blockIn w b) pos k true l g; some = remains-full (T _) })),
+      tail-at b (Data pos k false) (bitIn w b) _ _ refl (stands-valid w b (Data pos k false) _
+          (record { below = h; entry = has-data (w .tones) (blockIn w b) pos k false l g; some = remains-full (T _) })),
+      tail-at b (Data pos k true) (not (bitIn w b)) _ _ refl (stands-valid w b (Data pos k true) _
+          (record { below = h; entry = has-data (w .tones) (blockIn w b) pos k true l g; some = remains-full (T _) })),
     )
 
     tail-bit-in : (pos k : ℕ) → pos < blockIn w b .size → k < bitsAt (blockIn w b) pos → Tail w (fromBit w b pos k)
@@ -92,7 +106,8 @@ module _ (w : Tape) where
 
     pub tail-bit : (pos k : ℕ) → pos < blockIn w b .size → Tail w (fromBit w b pos k)
     tail-bit pos k l =
-        ⊎-elim (λ g. tail-bit-in pos k l g) (λ g. tail-by (bit-out w b pos k g) (tail-byte (pos + 1))) (lt-or-ge k (bitsAt (blockIn w b) pos))
+        ⊎-elim (λ g. tail-bit-in pos k l g) (λ g. tail-by (bit-out w b pos k g) (tail-byte (pos + 1)))
+        (lt-or-ge k (bitsAt (blockIn w b) pos))
 
     tail-cycle-in : (i p : ℕ) → i < blockIn w b .tones → p < cyclesIn w b i → Tail w (fromCycle w b i p)
     unfolding leftAt entryOf
@@ -127,7 +142,8 @@ module _ (w : Tape) where
         by-single false e = tail-by (second-in w b i p e) (tail-second i p l g e)
 
   -- an entry spent
-  next-of : (b : ℕ) (f : Phase) (v : Level) (t : ℕ) (es : List (Entry Label)) → leftAt w b f (T t) ≡ pulse (labelAt b f) v t ∷ es → valid w b f (T t) ≡ true → Tail w es
+  next-of : (b : ℕ) (f : Phase) (v : Level) (t : ℕ) (es : List (Entry Label)) → leftAt w b f (T t) ≡ pulse (labelAt b f) v t ∷ es
+      → valid w b f (T t) ≡ true → Tail w es
   unfolding leftAt entryOf
   next-of b Start v t es e s =
       ⊎-elim
@@ -146,7 +162,9 @@ module _ (w : Tape) where
   next-of b (Data pos k false) v t es e s =
       let a = valid-stands w b (Data pos k false) (T t) refl s in
       let l = data-entry (w .tones) (blockIn w b) pos k false (a .entry) in
-      let y : es ≡ pulse (labelAt b (Data pos k true)) (not (bitIn w b)) (halfOf (blockIn w b) (bitOf (byteIn w b pos) k)) ∷ fromBit w b pos (k + 1) = cc in
+      let y : es
+      ≡ pulse (labelAt b (Data pos k true)) (not (bitIn w b)) (halfOf (blockIn w b) (bitOf (byteIn w b pos) k)) ∷
+      fromBit w b pos (k + 1) = cc in
       tail-by y (tail-bit-half b (a .below) pos k (l .0) (l .1) .1)
   next-of b (Data pos k true) v t es e s =
       let a = valid-stands w b (Data pos k true) (T t) refl s in
@@ -175,21 +193,28 @@ module _ (w : Tape) where
   shorter b Pause v t u es n e = cc
 
   less-entry : (b : ℕ) (f : Phase) (v : Level) (t u : ℕ) (es : List (Entry Label)) → isStart f ≡ false
-      → leftAt w b f (T t) ≡ pulse (labelAt b f) v t ∷ es → valid w b f (T t) ≡ true → 0 < u → u ≤ t → Tail w (pulse (labelAt b f) v u ∷ es)
+      → leftAt w b f (T t) ≡ pulse (labelAt b f) v t ∷ es → valid w b f (T t) ≡ true → 0 < u → u ≤ t
+      → Tail w (pulse (labelAt b f) v u ∷ es)
   unfolding headOf leftOf
   less-entry b f v t u es n e d p h =
       let a = valid-stands w b f (T t) n d in
-      record { ahead = shorter b f v t u es n e; stands = stands-valid w b f (T u) (record { below = a .below; entry = a .entry; some = remains-less t u (lengthIn w b f) p h (a .some) }) }
+      record {
+        ahead = shorter b f v t u es n e;
+        stands = stands-valid w b f (T u)
+            (record { below = a .below; entry = a .entry; some = remains-less t u (lengthIn w b f) p h (a .some) });
+      }
 
   less-of : (b : ℕ) (f : Phase) (v : Level) (t u : ℕ) (es : List (Entry Label))
-      → leftAt w b f (T t) ≡ pulse (labelAt b f) v t ∷ es → valid w b f (T t) ≡ true → 0 < u → u ≤ t → Tail w (pulse (labelAt b f) v u ∷ es)
+      → leftAt w b f (T t) ≡ pulse (labelAt b f) v t ∷ es → valid w b f (T t) ≡ true → 0 < u → u ≤ t
+      → Tail w (pulse (labelAt b f) v u ∷ es)
   less-of b Start v t u es e d p h = let z = valid-start w b (T t) d in let y : t ≡ 0 = cc in absurd (omega arith)
   less-of b (Tones i q l) v t u es e d p h = less-entry b (Tones i q l) v t u es refl e d p h
   less-of b (Data pos k l) v t u es e d p h = less-entry b (Data pos k l) v t u es refl e d p h
   less-of b Edge v t u es e d p h = less-entry b Edge v t u es refl e d p h
   less-of b Pause v t u es e d p h = less-entry b Pause v t u es refl e d p h
 
-  pub tail-less : (a : Label) (v : Level) (t u : ℕ) (es : List (Entry Label)) → Tail w (pulse a v t ∷ es) → 0 < u → u ≤ t → Tail w (pulse a v u ∷ es)
+  pub tail-less : (a : Label) (v : Level) (t u : ℕ) (es : List (Entry Label)) → Tail w (pulse a v t ∷ es) → 0 < u → u ≤ t
+      → Tail w (pulse a v u ∷ es)
   unfolding headOf leftOf
   tail-less a v t u es x p h = less-of (a .block) (a .phase) v t u es (x .ahead) (x .stands) p h
 

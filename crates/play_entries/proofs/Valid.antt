@@ -46,7 +46,8 @@ remains-less n u Endless p h e = cc
 
 -- a block's entries of tones and of data
 module _ (tones : List ℕ) (r : Block) where
-  pub tone-entry : (i p : ℕ) (h : Bool) → hasEntry tones r (Tones i p h) ≡ true → (i < r .tones) × (p < cyclesOf r (toneAt tones r i))
+  pub tone-entry : (i p : ℕ) (h : Bool) → hasEntry tones r (Tones i p h) ≡ true
+      → (i < r .tones) × (p < cyclesOf r (toneAt tones r i))
   unfolding hasEntry
   tone-entry i p h e =
       let a = ltb i (r .tones) in
@@ -67,7 +68,8 @@ module _ (tones : List ℕ) (r : Block) where
   unfolding hasEntry
   has-tone i p k l = rw (lt-ltb i (r .tones) k, lt-ltb p (cyclesOf r (toneAt tones r i)) l)
 
-  pub has-second : (i p : ℕ) → i < r .tones → p < cyclesOf r (toneAt tones r i) → isSingle r (toneAt tones r i) ≡ false → hasEntry tones r (Tones i p true) ≡ true
+  pub has-second : (i p : ℕ) → i < r .tones → p < cyclesOf r (toneAt tones r i) → isSingle r (toneAt tones r i) ≡ false
+      → hasEntry tones r (Tones i p true) ≡ true
   unfolding hasEntry
   has-second i p k l e = rw (lt-ltb i (r .tones) k, lt-ltb p (cyclesOf r (toneAt tones r i)) l, e)
 
@@ -105,7 +107,8 @@ stands-valid w b f left s = rw (lt-ltb b (w .count) (s .below), s .entry, s .som
     by-true true = refl
     by-true false = refl
 
-pub valid-stands : (w : Tape) (b : ℕ) (f : Phase) (left : Duration) → isStart f ≡ false → valid w b f left ≡ true → Stands w b f left
+pub valid-stands : (w : Tape) (b : ℕ) (f : Phase) (left : Duration) → isStart f ≡ false → valid w b f left ≡ true
+    → Stands w b f left
 unfolding valid
 valid-stands w b f left s e =
     let n : (isStart f && isNone left) ≡ false = rw s in

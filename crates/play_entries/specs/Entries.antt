@@ -115,7 +115,8 @@ halfOf r bit = eqb bit 0 ⇒ r .zero ∣ r .one
 -- bit k of the byte at pos, whose value is v: two equal halves, at level c and the other
 abbrev pub bitEntries : ℕ → Block → Level → ℕ → ℕ → ℕ → List (Entry Label)
 bitEntries b r c pos v k =
-    pulse (labelAt b (Data pos k false)) c (halfOf r (bitOf v k)) ∷ pulse (labelAt b (Data pos k true)) (not c) (halfOf r (bitOf v k)) ∷ []
+    pulse (labelAt b (Data pos k false)) c (halfOf r (bitOf v k)) ∷
+    pulse (labelAt b (Data pos k true)) (not c) (halfOf r (bitOf v k)) ∷ []
 
 -- each bit of that byte
 unfoldable pub byteOf : ℕ → Block → Level → ℕ → ℕ → List (Entry Label)

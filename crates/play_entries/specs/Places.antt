@@ -14,7 +14,9 @@ use Rattle.play_entries.specs.declared.Phase.the-variants.{Start, Tones,
 use Rattle.play_entries.specs.declared.Duration.{Duration}
 use Rattle.play_entries.specs.declared.Duration.the-variants.{T, Endless}
 use Rattle.play_levels.specs.Closed.{flipped}
-use Rattle.play_entries.specs.Entries.{Label, labelAt, entryOf, toneAt, cyclesOf, isSingle, startLevel, cycleLevel, bitLevel, edged, secondOf, cycleOf, rowEntries, bitsAt, bitOf, halfOf, bitEntries, byteAt, byteEntries, edgeTime, edgeOf, pauseOf, pauseLevel, pauseEntry, entriesOf}
+use Rattle.play_entries.specs.Entries.{Label, labelAt, entryOf, toneAt, cyclesOf, isSingle, startLevel, cycleLevel, bitLevel, edged}
+use Rattle.play_entries.specs.Entries.{secondOf, cycleOf, rowEntries, bitsAt, bitOf, halfOf, bitEntries, byteAt, byteEntries}
+use Rattle.play_entries.specs.Entries.{edgeTime, edgeOf, pauseOf, pauseLevel, pauseEntry, entriesOf}
 
 -- a mounted tape: its bytes, its tone table, its block table and how many blocks it counts
 pub record Tape : Type 0 where
@@ -41,7 +43,8 @@ listFrom w b = run (λ i. entriesOf (w .bytes) (w .tones) i (blockIn w i)) b (w 
 abbrev pub loadingTime : Tape → ℕ
 loadingTime w = time (listFrom w 0)
 
--- from block b's pause on; from its edge; from its data byte at pos; from bit k of that byte; from its tone row i; from repetition p of that row
+-- from block b's pause on; from its edge; from its data byte at pos; from bit k of that byte; from its tone row i;
+-- from repetition p of that row
 unfoldable pub fromPause : Tape → ℕ → List (Entry Label)
 fromPause w b = pauseEntry (w .tones) b (blockIn w b) ∷ listFrom w (b + 1)
 
@@ -59,7 +62,8 @@ unfoldable pub fromByte : Tape → ℕ → ℕ → List (Entry Label)
 fromByte w b pos = run (byteEntries (w .bytes) b (blockIn w b) (bitIn w b)) pos (blockIn w b .size - pos) ++ fromEdge w b
 
 unfoldable pub fromBit : Tape → ℕ → ℕ → ℕ → List (Entry Label)
-fromBit w b pos k = run (bitEntries b (blockIn w b) (bitIn w b) pos (byteIn w b pos)) k (bitsAt (blockIn w b) pos - k) ++ fromByte w b (pos + 1)
+fromBit w b pos k =
+    run (bitEntries b (blockIn w b) (bitIn w b) pos (byteIn w b pos)) k (bitsAt (blockIn w b) pos - k) ++ fromByte w b (pos + 1)
 
 unfoldable pub fromTone : Tape → ℕ → ℕ → List (Entry Label)
 fromTone w b i = run (rowEntries (w .tones) b (blockIn w b)) i (blockIn w b .tones - i) ++ fromByte w b 0
@@ -105,7 +109,8 @@ leftAt w b Pause left = entryOf (labelAt b Pause) (levelIn w b Pause) left ∷ l
 -- whether a block has an entry of this phase
 unfoldable pub hasEntry : List ℕ → Block → Phase → Bool
 hasEntry tones r Start = true
-hasEntry tones r (Tones i p last-half) = ltb i (r .tones) && (ltb p (cyclesOf r (toneAt tones r i)) && not (last-half && isSingle r (toneAt tones r i)))
+hasEntry tones r (Tones i p last-half) =
+    ltb i (r .tones) && (ltb p (cyclesOf r (toneAt tones r i)) && not (last-half && isSingle r (toneAt tones r i)))
 hasEntry tones r (Data pos k last-half) = ltb pos (r .size) && ltb k (bitsAt r pos)
 hasEntry tones r Edge = edged r
 hasEntry tones r Pause = true

@@ -1,4 +1,5 @@
--- A DOCUMENT ROW'S SIGNALS in order, as the format says them, and the line behind the row by arithmetic. Definitions alone; assumes nothing.
+-- A DOCUMENT ROW'S SIGNALS in order, as the format says them, and the line behind the row by arithmetic.
+-- Definitions alone; assumes nothing.
 use Prim.Native.Nat.{ℕ}
 use mathlib.Core.Bool.{not}
 use mathlib.Core.List.{List, [], _∷_, _++_}

@@ -20,7 +20,8 @@ sourceTone tones b r i = run (sourceCycle b i (toneAt tones r i)) 0 (max 1 (tone
 -- bit k of the byte at pos, whose value is v: two equal halves, low then high
 abbrev pub sourceBit : ℕ → Block → ℕ → ℕ → ℕ → List (Entry Label)
 sourceBit b r pos v k =
-    pulse (labelAt b (Data pos k false)) low (halfOf r (bitOf v k)) ∷ pulse (labelAt b (Data pos k true)) high (halfOf r (bitOf v k)) ∷ []
+    pulse (labelAt b (Data pos k false)) low (halfOf r (bitOf v k)) ∷
+    pulse (labelAt b (Data pos k true)) high (halfOf r (bitOf v k)) ∷ []
 
 unfoldable pub sourceByte : List ℕ → ℕ → Block → ℕ → List (Entry Label)
 sourceByte tape b r pos = run (sourceBit b r pos (byteAt tape r pos)) 0 (bitsAt r pos)
@@ -28,7 +29,8 @@ sourceByte tape b r pos = run (sourceBit b r pos (byteAt tape r pos)) 0 (bitsAt 
 -- a start, each tone cycle, each data bit, the pause
 unfoldable pub sourceEntries : List ℕ → List ℕ → ℕ → Block → List (Entry Label)
 sourceEntries tape tones b r =
-    (pulse (labelAt b Start) low 0 ∷ run (sourceTone tones b r) 0 (r .tones) ++ run (sourceByte tape b r) 0 (r .size)) ++ entryOf (labelAt b Pause) low (wholePause r) ∷ []
+    (pulse (labelAt b Start) low 0 ∷ run (sourceTone tones b r) 0 (r .tones) ++ run (sourceByte tape b r) 0 (r .size))
+    ++ entryOf (labelAt b Pause) low (wholePause r) ∷ []
 
 -- its level: the last half of a cycle or of a bit is high, everything else low
 unfoldable pub levelOf : Phase → Level

@@ -57,8 +57,10 @@ pub fn play_head(
     head: &mut Head,
     n: u32,
 ) -> Reached
-    ensures { λ r. ⌜ (r ≡ playMounted (tapeOf (now (tape .entry)) (now (tones .entry)) (now (blocks .entry)) count) (now (head .entry)) n .answer)
-        × (now (head .exit) ≡ playMounted (tapeOf (now (tape .entry)) (now (tones .entry)) (now (blocks .entry)) count) (now (head .entry)) n .head) ⌝ }
+    ensures { λ r.
+        ⌜ (r ≡ playMounted (tapeOf (now (tape .entry)) (now (tones .entry)) (now (blocks .entry)) count) (now (head .entry)) n .answer)
+        × (now (head .exit)
+        ≡ playMounted (tapeOf (now (tape .entry)) (now (tones .entry)) (now (blocks .entry)) count) (now (head .entry)) n .head) ⌝ }
 {
     let h = *head;
     let p = play_mounted(tape, tones, blocks, count, h, n);

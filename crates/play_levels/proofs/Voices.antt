@@ -40,7 +40,8 @@ module _ {A : Type 0} where
   unfolding voiced linePast bare
   voices-none l = record { heard = refl; line = refl }
 
-  pub voices-join : {l m n : Line} {xs ys : List Signal} {es fs : List (Entry A)} → Voices l xs m es → Voices m ys n fs → Voices l (xs ++ ys) n (es ++ fs)
+  pub voices-join : {l m n : Line} {xs ys : List Signal} {es fs : List (Entry A)} → Voices l xs m es → Voices m ys n fs
+      → Voices l (xs ++ ys) n (es ++ fs)
   voices-join {l} {m} {n} {xs} {ys} {es} {fs} x y =
       record {
         heard =
@@ -58,19 +59,23 @@ module _ {A : Type 0} where
 
   -- RUNS: lot for item, with the line before each
   pub voices-run : (lot : ℕ → List Signal) (item : ℕ → List (Entry A)) (at : ℕ → Line) (p m : ℕ)
-      → ((i : ℕ) → p ≤ i → i < p + m → Voices (at i) (lot i) (at (i + 1)) (item i)) → Voices (at p) (lots lot p m) (at (p + m)) (run item p m)
+      → ((i : ℕ) → p ≤ i → i < p + m → Voices (at i) (lot i) (at (i + 1)) (item i))
+      → Voices (at p) (lots lot p m) (at (p + m)) (run item p m)
   unfolding lots run
   voices-run lot item at p zero h = let e : p ≡ p + 0 = omega arith in voices-by (ap at e) (voices-none (at p))
   voices-run lot item at p (suc m) h =
       let e : p + 1 + m ≡ p + suc m = omega arith in
-      voices-by (ap at e) (voices-join (h p (omega arith) (omega arith)) (voices-run lot item at (p + 1) m (λ i l g. h i (omega arith) (omega arith))))
+      voices-by (ap at e)
+      (voices-join (h p (omega arith) (omega arith)) (voices-run lot item at (p + 1) m (λ i l g. h i (omega arith) (omega arith))))
 
   -- runs whose items all leave line s, from any line with s's current level
   pub voices-steady : (lot : ℕ → List Signal) (item : ℕ → List (Entry A)) (m s : Line) → m .current ≡ s .current
-      → ((i : ℕ) (k : Line) → k .current ≡ s .current → Voices k (lot i) s (item i)) → (n : ℕ) → Voices m (lots lot 0 n) (eqb n 0 ⇒ m ∣ s) (run item 0 n)
+      → ((i : ℕ) (k : Line) → k .current ≡ s .current → Voices k (lot i) s (item i)) → (n : ℕ)
+      → Voices m (lots lot 0 n) (eqb n 0 ⇒ m ∣ s) (run item 0 n)
   voices-steady lot item m s e h n =
       let z : 0 + n ≡ n = omega arith in
-      voices-by (ap at z) (voices-run lot item at 0 n (λ i l g. rw (ne-eqb (i + 1) 0 (λ y. omega arith)) (h i (at i) (steadily (eqb i 0)))))
+      voices-by (ap at z)
+      (voices-run lot item at 0 n (λ i l g. rw (ne-eqb (i + 1) 0 (λ y. omega arith)) (h i (at i) (steadily (eqb i 0)))))
     where
       at : ℕ → Line
       at i = eqb i 0 ⇒ m ∣ s

@@ -1,4 +1,5 @@
--- THE SAME BY ARITHMETIC: the level of any pulse of a tone row, and the line behind the row, from the line before it. Definitions alone; assumes nothing.
+-- THE SAME BY ARITHMETIC: the level of any pulse of a tone row, and the line behind the row, from the line before it.
+-- Definitions alone; assumes nothing.
 use Prim.Native.Nat.{ℕ, _-_, _/_, _%_}
 use mathlib.Core.Bool.{Bool, true, false, not}
 use mathlib.Core.List.{List, [], _∷_}

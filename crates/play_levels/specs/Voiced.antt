@@ -1,4 +1,5 @@
--- THE DOCUMENT'S LEVELS, step by step: signals are voiced one by one, each from the line that the one before it left. Definitions alone; assumes nothing.
+-- THE DOCUMENT'S LEVELS, step by step: signals are voiced one by one, each from the line that the one before it left.
+-- Definitions alone; assumes nothing.
 use Prim.Native.Nat.{ℕ, zero, suc, _+_, _-_, min}
 use mathlib.Core.Bool.{not}
 use mathlib.Core.List.{List, [], _∷_, _++_}
@@ -35,7 +36,8 @@ Bare = Entry (Unit {0})
 -- one signal's entries, and the line behind it
 unfoldable pub sounded : Line → Signal → List Bare
 sounded l (tick begin n) = pulse tt (voice begin l) n ∷ []
-sounded l (silence n) = eqb n 0 ⇒ (pulse tt (l .current) 0 ∷ []) ∣ (pulse tt (l .current) (min 3500 n) ∷ pulse tt low (n - 3500) ∷ [])
+sounded l (silence n) =
+    eqb n 0 ⇒ (pulse tt (l .current) 0 ∷ []) ∣ (pulse tt (l .current) (min 3500 n) ∷ pulse tt low (n - 3500) ∷ [])
 sounded l halt = endless tt low ∷ []
 
 unfoldable pub lineBy : Line → Signal → Line

@@ -15,7 +15,8 @@ ghost use Rattle.play_deck.specs.Deck.{backTo, blockAt};
 // From a block back to a selectable one or 0; its callers know the rows to be lent.
 fn back(tape: &[u8], tones: &[u64], blocks: &[u64], from: u64) -> Selected
     requires { ⌜ from * block .width + block .width ≤ length (now blocks) ⌝ }
-    ensures { λ r. ⌜ ((count : ℕ) → r ≡ backTo (tapeOf (now (tape .entry)) (now (tones .entry)) (now (blocks .entry)) count) from) ⌝ }
+    ensures { λ r.
+        ⌜ ((count : ℕ) → r ≡ backTo (tapeOf (now (tape .entry)) (now (tones .entry)) (now (blocks .entry)) count) from) ⌝ }
 {
     let mut b = from;
     loop {

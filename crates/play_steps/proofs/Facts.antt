@@ -18,7 +18,8 @@ use Rattle.play_entries.specs.declared.Phase.the-variants.{Start, Tones, Edge, 
 use Rattle.play_entries.specs.Entries.{toneAt, cyclesOf, isSingle, cyclePulses, cycleTime}
 use Rattle.play_entries.specs.Places.{hasEntry}
 use Rattle.play_entries.proofs.Bounds.{cycles-most, cycle-most}
-use Rattle.play_steps.specs.Steps.{stepTo, dataFrom, pulseFrom, toneFrom, cycleFrom, cyclesStep, oneStep, cyclesFitting, takeCycles, takeOf}
+use Rattle.play_steps.specs.Steps.{stepTo, dataFrom, pulseFrom, toneFrom, cycleFrom, cyclesStep, oneStep, cyclesFitting}
+use Rattle.play_steps.specs.Steps.{takeCycles, takeOf}
 
 -- the numbers of a well-formed tone row
 pub record Small (r : Block) (t : Tone) : Type 0 where
@@ -30,14 +31,16 @@ by-pulses : (o : Bool) → (o ⇒ 1 ∣ 2) ≤ 2
 by-pulses true = omega arith
 by-pulses false = omega arith
 
-pub tone-small : (tones : List ℕ) (r : Block) → wellTones tones (r .tone) (r .tones) ≡ true → (i : ℕ) → i < r .tones → Small r (toneAt tones r i)
+pub tone-small : (tones : List ℕ) (r : Block) → wellTones tones (r .tone) (r .tones) ≡ true → (i : ℕ) → i < r .tones
+    → Small r (toneAt tones r i)
 tone-small tones r w i h =
     let m = tone-most _ (tones-each tones (r .tone) (r .tones) i w h) in
     let t = toneAt tones r i in
     record { cycles = omega (arith, cycles-most r t); lasts = omega (arith, cycle-most r t); pulses = by-pulses (isSingle r t) }
 
 -- of the tone row that the code read
-pub small-of : (tones : List ℕ) (r : Block) (i : ℕ) (x : Tone) → x ≡ toneAt tones r i → wellTones tones (r .tone) (r .tones) ≡ true → i < r .tones → Small r x
+pub small-of : (tones : List ℕ) (r : Block) (i : ℕ) (x : Tone) → x ≡ toneAt tones r i
+    → wellTones tones (r .tone) (r .tones) ≡ true → i < r .tones → Small r x
 small-of tones r i x e w h = subst (Small r) (sym e) (tone-small tones r w i h)
 
 -- whole cycles, fewer than d T-states of them
@@ -62,14 +65,16 @@ pub has-by : (tones : List ℕ) (r : Block) {f g : Phase} → f ≡ g → hasEnt
 has-by tones r e x = subst (λ (h : Phase). hasEntry tones r h ≡ true) e x
 
 -- what `take_cycles` answers, of the tone it read, its repetitions, what one lasts, its pulses, and how many fit
-module _ (tones : List ℕ) (r : Block) (i p t d : ℕ) (x : Tone) (n c m k : ℕ) (e : x ≡ toneAt tones r i) (u : n ≡ cyclesOf r x) (v : c ≡ cycleTime r x) (g : k ≡ cyclesFitting c (n - p) d) where
+module _ (tones : List ℕ) (r : Block) (i p t d : ℕ) (x : Tone) (n c m k : ℕ) (e : x ≡ toneAt tones r i) (u : n ≡ cyclesOf r x)
+    (v : c ≡ cycleTime r x) (g : k ≡ cyclesFitting c (n - p) d) where
   fits-so : k ≡ cyclesFitting (cycleTime r (toneAt tones r i)) (cyclesOf r (toneAt tones r i) - p) d
   fits-so = subst (λ (y : Tone). k ≡ cyclesFitting (cycleTime r y) (cyclesOf r y - p) d) e (rw (← u, ← v) g)
 
   pub takes-run : m ≡ cyclePulses r x → 0 < k → stepTo (cycleFrom tones x r i (p + k)) (k * c) (k * m) ≡ takeCycles tones r i p t d
   unfolding takeCycles cyclesStep
   takes-run z h =
-      subst (λ (y : Tone). c ≡ cycleTime r y → m ≡ cyclePulses r y → stepTo (cycleFrom tones y r i (p + k)) (k * c) (k * m) ≡ takeCycles tones r i p t d) (sym e)
+      subst (λ (y : Tone). c ≡ cycleTime r y → m ≡ cyclePulses r y
+      → stepTo (cycleFrom tones y r i (p + k)) (k * c) (k * m) ≡ takeCycles tones r i p t d) (sym e)
       (λ a b. rw (← fits-so, lt-ltb 0 k h, a, b)) v z
 
   pub takes-one : k ≤ 0 → oneStep tones r (Tones i p false) t ≡ takeCycles tones r i p t d

@@ -20,14 +20,19 @@ use Rattle.play_entries.specs.declared.Phase.{Phase}
 use Rattle.play_entries.specs.declared.Phase.the-variants.{Start, Tones, Data, Edge, Pause}
 use Rattle.play_entries.specs.declared.Duration.{Duration}
 use Rattle.play_entries.specs.declared.Duration.the-variants.{T}
-use Rattle.play_entries.specs.Entries.{Label, labelAt, entryOf, isSingle, edged, startOf, cyclePulses, cycleTime, bitsAt, bitEntries, byteOf, byteEntries}
-use Rattle.play_entries.specs.Places.{Tape, blockIn, toneIn, byteIn, bitIn, cycleIn, cyclesIn, cycleItem, levelAt, listFrom, fromPause, fromEdge, fromByte, fromBit, fromTone, fromCycle, fromSecond, leftAt, hasEntry, lengthAt, hasIn, lengthIn}
+use Rattle.play_entries.specs.Entries.{Label, labelAt, entryOf, isSingle, edged, startOf, cyclePulses, cycleTime, bitsAt, bitEntries}
+use Rattle.play_entries.specs.Entries.{byteOf, byteEntries}
+use Rattle.play_entries.specs.Places.{Tape, blockIn, toneIn, byteIn, bitIn, cycleIn, cyclesIn, cycleItem, levelAt, listFrom, fromPause}
+use Rattle.play_entries.specs.Places.{fromEdge, fromByte, fromBit, fromTone, fromCycle, fromSecond, leftAt, hasEntry, lengthAt}
+use Rattle.play_entries.specs.Places.{hasIn, lengthIn}
 use Rattle.play_entries.proofs.Runs.{cycle-finite, cycle-time, cycle-length, bit-finite, byte-finite, byte-length, bit-time}
 use Rattle.play_entries.proofs.Bounds.{bits-some}
-use Rattle.play_entries.proofs.Follows.{list-in, tone-in, tone-out, cycle-in, cycle-out, second-in, second-out, byte-in, byte-out, bit-in, bit-out, edge-in, edge-out}
+use Rattle.play_entries.proofs.Follows.{list-in, tone-in, tone-out, cycle-in, cycle-out, second-in, second-out, byte-in, byte-out, bit-in}
+use Rattle.play_entries.proofs.Follows.{bit-out, edge-in, edge-out}
 use Rattle.play_entries.proofs.Valid.{tone-entry, has-tone, has-second, data-entry, has-data}
 use Rattle.play_steps.specs.declared.Step.{Step}
-use Rattle.play_steps.specs.Steps.{endFrom, dataFrom, bitFrom, pulseFrom, toneFrom, cycleFrom, secondFrom, cyclesStep, byteTime, byteStep, oneStep, cyclesFitting, takeCycles, takeByte, takeOf}
+use Rattle.play_steps.specs.Steps.{endFrom, dataFrom, bitFrom, pulseFrom, toneFrom, cycleFrom, secondFrom, cyclesStep, byteTime}
+use Rattle.play_steps.specs.Steps.{byteStep, oneStep, cyclesFitting, takeCycles, takeByte, takeOf}
 use Rattle.play_steps.proofs.Facts.{fit}
 
 -- what is left from an entry, full
@@ -51,7 +56,8 @@ module _ (w : Tape) (b : ℕ) where
   unfolding leftAt lengthAt fromPause hasEntry levelAt
   lands-pause = record { to = refl; has = refl }
 
-  lands-bit-in : (pos k : ℕ) → pos < blockIn w b .size → k < bitsAt (blockIn w b) pos → Lands w b (Data pos k false) (fromBit w b pos k)
+  lands-bit-in : (pos k : ℕ) → pos < blockIn w b .size → k < bitsAt (blockIn w b) pos
+      → Lands w b (Data pos k false) (fromBit w b pos k)
   unfolding leftAt lengthAt entryOf
   lands-bit-in pos k l g = record { to = bit-in w b pos k g; has = has-data (w .tones) (blockIn w b) pos k false l g }
 
@@ -98,7 +104,8 @@ module _ (w : Tape) (b : ℕ) where
   unfolding toneFrom
   lands-tone i l = lands-rows (blockIn w b .tones - i) i (omega arith)
 
-  pub lands-cycle : (i p : ℕ) → i < blockIn w b .tones → Lands w b (cycleFrom (w .tones) (toneIn w b i) (blockIn w b) i p) (fromCycle w b i p)
+  pub lands-cycle : (i p : ℕ) → i < blockIn w b .tones
+      → Lands w b (cycleFrom (w .tones) (toneIn w b i) (blockIn w b) i p) (fromCycle w b i p)
   unfolding cycleFrom
   lands-cycle i p l =
       ⊎-elim
@@ -112,7 +119,8 @@ module _ (w : Tape) (b : ℕ) where
   lands-second-by true i p l g e = lands-by (second-out w b i p e) (lands-cycle i (p + 1) l)
   lands-second-by false i p l g e = record { to = second-in w b i p e; has = has-second (w .tones) (blockIn w b) i p l g e }
 
-  pub lands-second : (i p : ℕ) → i < blockIn w b .tones → p < cyclesIn w b i → Lands w b (secondFrom (w .tones) (toneIn w b i) (blockIn w b) i p) (fromSecond w b i p)
+  pub lands-second : (i p : ℕ) → i < blockIn w b .tones → p < cyclesIn w b i
+      → Lands w b (secondFrom (w .tones) (toneIn w b i) (blockIn w b) i p) (fromSecond w b i p)
   unfolding secondFrom
   lands-second i p l g = lands-second-by (isSingle (blockIn w b) (toneIn w b i)) i p l g refl
 
@@ -133,12 +141,14 @@ pub record Leap (w : Tape) (b : ℕ) (es : List (Entry Label)) (s : Step) (gone 
   pub has : s .over ≡ false → hasIn w b (s .phase) ≡ true
 
 -- runs of items that last the same, whatever their labels
-same-time : {A : Type 0} (x y : ℕ → List (Entry A)) → ((i : ℕ) → Finite (x i)) → ((i : ℕ) → Finite (y i)) → ((i : ℕ) → time (x i) ≡ time (y i))
+same-time : {A : Type 0} (x y : ℕ → List (Entry A)) → ((i : ℕ) → Finite (x i)) → ((i : ℕ) → Finite (y i))
+    → ((i : ℕ) → time (x i) ≡ time (y i))
     → (p m : ℕ) → time (run x p m) ≡ time (run y p m)
 unfolding run
 same-time x y f g e p zero = refl
 same-time x y f g e p (suc m) =
-    time-append (x p) (run x (p + 1) m) (f p) ∙ ap₂ (λ (a b : ℕ). a + b) (e p) (same-time x y f g e (p + 1) m) ∙ sym (time-append (y p) (run y (p + 1) m) (g p))
+    time-append (x p) (run x (p + 1) m) (f p) ∙ ap₂ (λ (a b : ℕ). a + b) (e p) (same-time x y f g e (p + 1) m)
+    ∙ sym (time-append (y p) (run y (p + 1) m) (g p))
 
 byte-same : (b : ℕ) (r : Block) (c : Level) (pos v : ℕ) → time (byteOf b r c pos v) ≡ time (byteOf 0 r low pos v)
 unfolding byteOf
@@ -152,23 +162,59 @@ module _ (w : Tape) (b : ℕ) (below : b < w .count) where
   unfolding oneStep leftAt entryOf lengthAt levelAt
   leap-one Start t h =
       let l = lands-tone w b 0 (omega arith) in
-      record { label = labelAt b Start; level = _; split = list-in w b below ∙ ap (λ (x : List (Entry Label)). startOf b (blockIn w b) ∷ x) (l .to); many = refl; has = λ z. l .has }
+      record {
+        label = labelAt b Start;
+        level = _;
+        split = list-in w b below ∙ ap (λ (x : List (Entry Label)). startOf b (blockIn w b) ∷ x) (l .to);
+        many = refl;
+        has = λ z. l .has;
+      }
   leap-one (Tones i p false) t h =
       let e = tone-entry (w .tones) (blockIn w b) i p false h in
       let l = lands-second w b i p (e .0) (e .1) in
-      record { label = labelAt b (Tones i p false); level = cycleIn w b i p; split = ap (λ (x : List (Entry Label)). pulse (labelAt b (Tones i p false)) (cycleIn w b i p) t ∷ x) (l .to); many = refl; has = λ z. l .has }
+      record {
+        label = labelAt b (Tones i p false);
+        level = cycleIn w b i p;
+        split = ap (λ (x : List (Entry Label)). pulse (labelAt b (Tones i p false)) (cycleIn w b i p) t ∷ x) (l .to);
+        many = refl;
+        has = λ z. l .has;
+      }
   leap-one (Tones i p true) t h =
       let l = lands-cycle w b i (p + 1) (tone-entry (w .tones) (blockIn w b) i p true h .0) in
-      record { label = labelAt b (Tones i p true); level = not (cycleIn w b i p); split = ap (λ (x : List (Entry Label)). pulse (labelAt b (Tones i p true)) (not (cycleIn w b i p)) t ∷ x) (l .to); many = refl; has = λ z. l .has }
+      record {
+        label = labelAt b (Tones i p true);
+        level = not (cycleIn w b i p);
+        split = ap (λ (x : List (Entry Label)). pulse (labelAt b (Tones i p true)) (not (cycleIn w b i p)) t ∷ x) (l .to);
+        many = refl;
+        has = λ z. l .has;
+      }
   leap-one (Data pos k false) t h =
       let e = data-entry (w .tones) (blockIn w b) pos k false h in
-      record { label = labelAt b (Data pos k false); level = bitIn w b; split = refl; many = refl; has = λ z. has-data (w .tones) (blockIn w b) pos k true (e .0) (e .1) }
+      record {
+        label = labelAt b (Data pos k false);
+        level = bitIn w b;
+        split = refl;
+        many = refl;
+        has = λ z. has-data (w .tones) (blockIn w b) pos k true (e .0) (e .1);
+      }
   leap-one (Data pos k true) t h =
       let l = lands-bit w b pos (k + 1) (data-entry (w .tones) (blockIn w b) pos k true h .0) in
-      record { label = labelAt b (Data pos k true); level = not (bitIn w b); split = ap (λ (x : List (Entry Label)). pulse (labelAt b (Data pos k true)) (not (bitIn w b)) t ∷ x) (l .to); many = refl; has = λ z. l .has }
+      record {
+        label = labelAt b (Data pos k true);
+        level = not (bitIn w b);
+        split = ap (λ (x : List (Entry Label)). pulse (labelAt b (Data pos k true)) (not (bitIn w b)) t ∷ x) (l .to);
+        many = refl;
+        has = λ z. l .has;
+      }
   leap-one Edge t h =
       let l = lands-pause w b in
-      record { label = labelAt b Edge; level = bitIn w b; split = ap (λ (x : List (Entry Label)). pulse (labelAt b Edge) (bitIn w b) t ∷ x) (l .to); many = refl; has = λ z. l .has }
+      record {
+        label = labelAt b Edge;
+        level = bitIn w b;
+        split = ap (λ (x : List (Entry Label)). pulse (labelAt b Edge) (bitIn w b) t ∷ x) (l .to);
+        many = refl;
+        has = λ z. l .has;
+      }
   leap-one Pause t h = record { label = labelAt b Pause; level = _; split = refl; many = refl; has = λ z. absurd (no z) }
     where
       no : true ≡ false → ⊥
@@ -200,7 +246,9 @@ module _ (w : Tape) (b : ℕ) (below : b < w .count) where
       }
 
   -- A BYTE
-  pub leap-byte : (pos : ℕ) → pos < blockIn w b .size → Leap w b (fullAt w b (Data pos 0 false)) (byteStep (w .bytes) (blockIn w b) pos) (byteOf b (blockIn w b) (bitIn w b) pos (byteIn w b pos))
+  pub leap-byte : (pos : ℕ) → pos < blockIn w b .size
+      → Leap w b (fullAt w b (Data pos 0 false)) (byteStep (w .bytes) (blockIn w b) pos)
+      (byteOf b (blockIn w b) (bitIn w b) pos (byteIn w b pos))
   unfolding byteStep byteTime fromByte
   leap-byte pos h =
       let r = blockIn w b in
@@ -232,7 +280,8 @@ pub record Took (w : Tape) (b : ℕ) (es : List (Entry Label)) (d j : ℕ) (s : 
   pub some : 0 < s .passed
   pub has : s .over ≡ false → hasIn w b (s .phase) ≡ true
 
-one-took : (w : Tape) (b : ℕ) (es : List (Entry Label)) (s : Step) (d j : ℕ) → One w b es s → 0 < d → s .time ≤ d → Took w b es d j s
+one-took : (w : Tape) (b : ℕ) (es : List (Entry Label)) (s : Step) (d j : ℕ) → One w b es s → 0 < d → s .time ≤ d
+    → Took w b es d j s
 one-took w b es s d j o p h =
     let e : j + 1 ≡ j + s .passed = omega (arith, o .many) in
     record {
@@ -244,7 +293,8 @@ one-took w b es s d j o p h =
       has = o .has;
     }
 
-leap-took : (w : Tape) (b : ℕ) (es : List (Entry Label)) (s : Step) {gone : List (Entry Label)} (d j : ℕ) → Leap w b es s gone → s .time < d → 0 < s .passed → Took w b es d j s
+leap-took : (w : Tape) (b : ℕ) (es : List (Entry Label)) (s : Step) {gone : List (Entry Label)} (d j : ℕ) → Leap w b es s gone
+    → s .time < d → 0 < s .passed → Took w b es d j s
 leap-took w b es s {gone} d j l h k =
     let x : d - time gone ≡ d - s .time = omega (arith, l .lasts) in
     let y : j + length gone ≡ j + s .passed = omega (arith, l .many) in
@@ -268,7 +318,8 @@ one-time tones r Edge t d h = h
 one-time tones r Pause t d h = h
 
 module _ (w : Tape) (b : ℕ) (below : b < w .count) (d j : ℕ) (p : 0 < d) where
-  took-one : (f : Phase) (t : ℕ) → hasIn w b f ≡ true → t ≤ d → Took w b (leftAt w b f (T t)) d j (oneStep (w .tones) (blockIn w b) f t)
+  took-one : (f : Phase) (t : ℕ) → hasIn w b f ≡ true → t ≤ d
+      → Took w b (leftAt w b f (T t)) d j (oneStep (w .tones) (blockIn w b) f t)
   took-one f t h l = one-took w b _ _ d j (leap-one w b below f t h) p (one-time (w .tones) (blockIn w b) f t d l)
 
   took-cycles : (i q t : ℕ) → hasIn w b (Tones i q false) ≡ true → T t ≡ lengthIn w b (Tones i q false) → t ≤ d
@@ -285,7 +336,8 @@ module _ (w : Tape) (b : ℕ) (below : b < w .count) (d j : ℕ) (p : 0 < d) whe
       (λ g.
       rw (lt-ltb 0 k g)
       (subst (λ (y : Duration). Took w b (leftAt w b (Tones i q false) y) d j (cyclesStep (w .tones) x (blockIn w b) i q k)) (sym e)
-      (leap-took w b _ _ d j (leap-cycles w b below i q k (n .0) (n .1) (omega (arith, z .most, n .1))) (z .before) (runs-some (isSingle (blockIn w b) x) k g))))
+      (leap-took w b _ _ d j (leap-cycles w b below i q k (n .0) (n .1) (omega (arith, z .most, n .1))) (z .before)
+      (runs-some (isSingle (blockIn w b) x) k g))))
       (λ g. rw (le-ltb 0 k g) (took-one (Tones i q false) t h l))
       (lt-or-ge 0 k)
 

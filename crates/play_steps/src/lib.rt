@@ -20,7 +20,8 @@ ghost use Rattle.rows.specs.Rows.{tone, toneMost};
 ghost use Rattle.rows.specs.Well.{wellTones, wellNumbers, wellBlock};
 ghost use Rattle.play_entries.specs.Entries.{cyclesOf, toneAt, bitsAt};
 ghost use Rattle.play_entries.specs.Places.{hasEntry};
-ghost use Rattle.play_steps.specs.Steps.{endFrom, dataFrom, bitFrom, toneFrom, cycleFrom, secondFrom, Found, stepTo, stepOut, cyclesFitting, oneStep, takeCycles, takeByte, takeOf};
+ghost use Rattle.play_steps.specs.Steps.{endFrom, dataFrom, bitFrom, toneFrom, cycleFrom, secondFrom, Found, stepTo, stepOut};
+ghost use Rattle.play_steps.specs.Steps.{cyclesFitting, oneStep, takeCycles, takeByte, takeOf};
 ghost use Rattle.play_entries.specs.Mounted.{tapeSize};
 ghost use Rattle.play_entries.specs.declared.Phase.the-variants.{Tones, Data};
 
@@ -71,7 +72,8 @@ fn bit_from(r: Block, pos: u64, k: u64) -> Phase
     data_from(r, pos + 1)
 }
 
-// The first tone row from row i on that has a pulse, or how many tone rows there are; a step a row without one. Its callers know the tone rows to be lent.
+// The first tone row from row i on that has a pulse, or how many tone rows there are; a step a row without one.
+// Its callers know the tone rows to be lent.
 fn voiced_row(tones: &[u64], r: Block, i: u64) -> u64
     requires { ⌜ (r .tone + r .tones ≤ capacityOf tone toneMost (now tones)) × (i ≤ r .tones) ⌝ }
     ensures { λ j. ⌜ Found (now (tones .entry)) r i j ⌝ }
@@ -221,9 +223,11 @@ fn fits(c: u64, m: u64, d: u64) -> u64
     if m <= k { m } else { k }
 }
 
-// From the first half of a cycle, full: the cycles that last less than d, or this half; its callers know the tone rows to be lent and well formed.
+// From the first half of a cycle, full: the cycles that last less than d, or this half;
+// its callers know the tone rows to be lent and well formed.
 fn take_cycles(tones: &[u64], r: Block, i: u64, p: u64, t: u64, d: u64) -> Step
-    requires { ⌜ (r .tone + r .tones ≤ capacityOf tone toneMost (now tones)) × (wellTones (now tones) (r .tone) (r .tones) ≡ true) ⌝ }
+    requires { ⌜ (r .tone + r .tones ≤ capacityOf tone toneMost (now tones))
+        × (wellTones (now tones) (r .tone) (r .tones) ≡ true) ⌝ }
     requires { ⌜ (i < r .tones) × (p < cyclesOf r (toneAt (now tones) r i)) ⌝ }
     requires { ⌜ 0 < d ⌝ }
     ensures { λ s. ⌜ s ≡ takeCycles (now (tones .entry)) r i p t d ⌝ }
@@ -262,7 +266,8 @@ fn take_tone(
     t: u64,
     d: u64,
 ) -> Step
-    requires { ⌜ (r .tone + r .tones ≤ capacityOf tone toneMost (now tones)) × (wellTones (now tones) (r .tone) (r .tones) ≡ true) ⌝ }
+    requires { ⌜ (r .tone + r .tones ≤ capacityOf tone toneMost (now tones))
+        × (wellTones (now tones) (r .tone) (r .tones) ≡ true) ⌝ }
     requires { ⌜ (i < r .tones) × (p < cyclesOf r (toneAt (now tones) r i)) ⌝ }
     requires { ⌜ 0 < d ⌝ }
     ensures { λ s. ⌜ ((tape : List ℕ) → s ≡ takeOf tape (now (tones .entry)) r (Tones i p last) full t d) ⌝ }

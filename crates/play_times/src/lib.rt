@@ -110,7 +110,8 @@ pub fn sound_time(tape: &[u8], tones: &[u64], r: Block) -> u64
 // What a row lasts by its sound's T-states: with its pause, or that it never ends; its callers know them to be those of a well-formed row.
 pub fn lasts(sound: u64, r: Block) -> Duration
     requires { ⌜ (sound < 2 ^ 50) × (wellNumbers r ≡ true) ⌝ }
-    ensures { λ d. ⌜ ((tape tones : List ℕ) (b : ℕ) → sound ≡ time (soundOf tape tones b r) → d ≡ lastsOf (entriesOf tape tones b r)) ⌝ }
+    ensures { λ d. ⌜ ((tape tones : List ℕ) (b : ℕ) → sound ≡ time (soundOf tape tones b r)
+        → d ≡ lastsOf (entriesOf tape tones b r)) ⌝ }
 {
     if r.endless == 1 {
         Duration::Endless

@@ -24,7 +24,8 @@ use Rattle.play_voice.specs.declared.Heard.{Heard}
 use Rattle.play_voice.proofs.Turned.{current-turned}
 
 -- by whether it is endless, and whether it is 0
-paused : (x y : Bool) (at : ℕ → Line) (n : ℕ) → (x ⇒ low ∣ y ⇒ at n .current ∣ low) ≡ (x ⇒ low ∣ y ⇒ at (x ⇒ 0 ∣ y ⇒ n ∣ 0) .current ∣ low)
+paused : (x y : Bool) (at : ℕ → Line) (n : ℕ)
+    → (x ⇒ low ∣ y ⇒ at n .current ∣ low) ≡ (x ⇒ low ∣ y ⇒ at (x ⇒ 0 ∣ y ⇒ n ∣ 0) .current ∣ low)
 paused true y at n = refl
 paused false true at n = refl
 paused false false at n = refl
@@ -72,7 +73,8 @@ module _ (tones : List ℕ) (r : Block) where
     level-same Pause n = rw e
 
   -- THE LEVEL BY TURNS, where the rows below are of begin 0 and the entry doesn't ask for the level last played
-  pub level-turned : isSource r ≡ false → (f : Phase) (s : Seen) → s ≡ seenOf tones (r .tone) (rowsBelow r f) → steadySeen s ≡ true → asksPlayed tones r f ≡ false
+  pub level-turned : isSource r ≡ false → (f : Phase) (s : Seen) → s ≡ seenOf tones (r .tone) (rowsBelow r f)
+      → steadySeen s ≡ true → asksPlayed tones r f ≡ false
       → levelBy tones r f (turnedLine r s) ≡ levelAt tones r f
   level-turned d f s e t n =
       let c = current-turned tones r (rowsBelow r f) (sym (ap steadySeen e) ∙ t) in

@@ -87,7 +87,8 @@ row-turns t l h =
         → lineAfter (toned (t .num) (t .len1) (t .len2) w) l .current ≡ flipped (odd (bitAnd (t .num) w)) (l .current)
         → lineAfter t l .current ≡ flipped (odd (bitAnd (t .num) (t .wave))) (l .current)
     by-wave w e p =
-        subst (λ (x : ℕ). lineAfter (toned (t .num) (t .len1) (t .len2) x) l .current ≡ flipped (odd (bitAnd (t .num) x)) (l .current)) (sym e) p
+        subst (λ (x : ℕ). lineAfter (toned (t .num) (t .len1) (t .len2) x) l .current ≡ flipped (odd (bitAnd (t .num) x)) (l .current))
+        (sym e) p
 
 -- turns add up
 odd-xor : (a b : ℕ) (v : Level) → flipped (odd b) (flipped (odd a) v) ≡ flipped (odd (bitXor a b)) v

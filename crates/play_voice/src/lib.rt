@@ -26,7 +26,8 @@ ghost use Rattle.play_levels.specs.Closed.{beginOf, flipped};
 ghost use Rattle.play_entries.specs.Entries.{isSource, lineStart, lineAt, startLevel};
 ghost use Rattle.play_entries.specs.Signals.{lineData, lineBehind};
 ghost use Rattle.play_entries.specs.Places.{hasEntry, levelAt};
-ghost use Rattle.play_voice.specs.Voice.{pauseBelow, rowsBelow, pauseBy, levelBy, asksPlayed, turnedLine, silence, heardTo, Told, rowAt, Standing};
+ghost use Rattle.play_voice.specs.Voice.{pauseBelow, rowsBelow, pauseBy, levelBy, asksPlayed, turnedLine, silence, heardTo, Told};
+ghost use Rattle.play_voice.specs.Voice.{rowAt, Standing};
 
 // What was seen of a block's first tone rows.
 pub struct Heard {

@@ -28,15 +28,18 @@ over-nil A m = refl
 
 module _ {A : Type 0} {es : List (Entry A)} {n : ℕ} where
   -- the answer by what a walk has led to
-  answer-by : (fs gs : List (Entry A)) (m i u : ℕ) → Leads es n 0 fs m i → rest fs m ≡ gs → over fs m ≡ u → length fs ≡ length gs
+  answer-by : (fs gs : List (Entry A)) (m i u : ℕ) → Leads es n 0 fs m i → rest fs m ≡ gs → over fs m ≡ u
+      → length fs ≡ length gs
       → answer es n ≡ made gs (status gs u) i
   unfolding answer
   answer-by fs gs m i u l r o k =
       let e : rest es n ≡ gs = l .rests ∙ r in
       let c : length es - length (rest es n) ≡ i = omega (arith, l .counts, ap length e) in
-      ap₂ (λ (x : List (Entry A)) (j : ℕ). made x (status x (over es n)) j) e c ∙ ap (λ (x : ℕ). made gs (status gs x) i) (l .overs ∙ o)
+      ap₂ (λ (x : List (Entry A)) (j : ℕ). made x (status x (over es n)) j) e c
+      ∙ ap (λ (x : ℕ). made gs (status gs x) i) (l .overs ∙ o)
 
-  pub answer-in : (a : A) (v : Level) (t : ℕ) (fs : List (Entry A)) (m i : ℕ) → Leads es n 0 (pulse a v t ∷ fs) m i → (m ≡ 0) ⊎ (m < t)
+  pub answer-in : (a : A) (v : Level) (t : ℕ) (fs : List (Entry A)) (m i : ℕ) → Leads es n 0 (pulse a v t ∷ fs) m i
+      → (m ≡ 0) ⊎ (m < t)
       → answer es n ≡ made (pulse a v (t - m) ∷ fs) standing i
   unfolding statusHere
   answer-in a v t fs m i l h =
@@ -64,18 +67,21 @@ module _ {A : Type 0} {es : List (Entry A)} {n : ℕ} where
 
 module _ (w v : Tape) {es : List (Entry Label)} {n : ℕ} where
   -- standing in an entry
-  pub tells-at : (b : ℕ) (f : Phase) (x : Level) (t : ℕ) (fs : List (Entry Label)) (m i : ℕ) → Leads es n 0 (pulse (labelAt b f) x t ∷ fs) m i
+  pub tells-at : (b : ℕ) (f : Phase) (x : Level) (t : ℕ) (fs : List (Entry Label)) (m i : ℕ)
+      → Leads es n 0 (pulse (labelAt b f) x t ∷ fs) m i
       → (m ≡ 0) ⊎ (m < t) → walked w v (answer es n) ≡ At (stand (placed b f (T (t - m))) i x)
   unfolding walked toldReached toldAs levelHere headOf leftOf
   tells-at b f x t fs m i l h = rw (answer-in (labelAt b f) x t fs m i l h)
 
-  pub tells-stop : (b : ℕ) (f : Phase) (x : Level) (fs : List (Entry Label)) (m i : ℕ) → Leads es n 0 (endless (labelAt b f) x ∷ fs) m i
+  pub tells-stop : (b : ℕ) (f : Phase) (x : Level) (fs : List (Entry Label)) (m i : ℕ)
+      → Leads es n 0 (endless (labelAt b f) x ∷ fs) m i
       → walked w v (answer es n) ≡ Stopped (stand (placed b f Endless) i x)
   unfolding walked toldReached toldAs levelHere headOf leftOf
   tells-stop b f x fs m i l = rw (answer-stop (labelAt b f) x fs m i l)
 
   -- at the end of v with T-states left: the tape's end, or a row that is not well formed
-  pub tells-end : (m i : ℕ) → Leads es n 0 [] m i → 0 < m → w .count ≤ v .count → walked w v (answer es n) ≡ Ended (stand (startAt (v .count)) i false)
+  pub tells-end : (m i : ℕ) → Leads es n 0 [] m i → 0 < m → w .count ≤ v .count
+      → walked w v (answer es n) ≡ Ended (stand (startAt (v .count)) i false)
   unfolding walked toldReached toldAs levelHere restLevel headOf leftOf
   tells-end m i l h e = rw (answer-end m i l, status-over {A = Label} [] m h, le-ltb (v .count) (w .count) e)
 
@@ -83,7 +89,8 @@ module _ (w v : Tape) {es : List (Entry Label)} {n : ℕ} where
   unfolding walked
   tells-bad m i l h e = rw (answer-end m i l, status-over {A = Label} [] m h, lt-ltb (v .count) (w .count) e)
 
-  pub tells-last : (i : ℕ) → Leads es n 0 [] 0 i → walked w v (answer es n) ≡ At (stand (startAt (v .count)) i (restLevel w (v .count)))
+  pub tells-last : (i : ℕ) → Leads es n 0 [] 0 i
+      → walked w v (answer es n) ≡ At (stand (startAt (v .count)) i (restLevel w (v .count)))
   unfolding walked toldReached toldAs levelHere headOf leftOf statusHere
   tells-last i l = rw (answer-end 0 i l, status-left {A = Label} [] 0 refl)
 
@@ -105,5 +112,6 @@ module _ (w : Tape) (k : ℕ) (few : k ≤ w .count) {es : List (Entry Label)} {
       ∙ ap₂ (λ (x : ℕ) (c : Level). At (stand (placed (b + 1) Start (T x)) i c)) y (rest-start w (b + 1) (omega arith)))
       (λ g.
       let e : k ≡ b + 1 = omega arith in
-      tells-last w v i (lead-as 0 i z refl (lead-by (list-out v (b + 1) g) l)) ∙ ap (λ (x : ℕ). At (stand (startAt x) i (restLevel w x))) e)
+      tells-last w v i (lead-as 0 i z refl (lead-by (list-out v (b + 1) g) l))
+      ∙ ap (λ (x : ℕ). At (stand (startAt x) i (restLevel w x))) e)
       (lt-or-ge (b + 1) k)

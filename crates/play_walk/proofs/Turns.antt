@@ -45,13 +45,15 @@ pub record On (w : Tape) (k b : ℕ) (f : Phase) (left : Duration) (full : Bool)
   pub whole : full ≡ true → left ≡ lengthIn w b f
   pub few : p + length (leftAt (cutTo w k) b f left) ≤ 35254272000000
 
-pub on-has : {w : Tape} {k b : ℕ} {f : Phase} {left : Duration} {full : Bool} {p : ℕ} → On w k b f left full p → hasIn w b f ≡ true
+pub on-has : {w : Tape} {k b : ℕ} {f : Phase} {left : Duration} {full : Bool} {p : ℕ} → On w k b f left full p
+    → hasIn w b f ≡ true
 on-has {w} {k} {b} {f} {left} o = below-stands (cutTo w k) b f left (o .below) (o .stands) .entry
 
 module _ (w : Tape) (k b : ℕ) (f : Phase) (left : Duration) (full : Bool) (p : ℕ) (o : On w k b f left full p) where
   -- where the walk leaves inside a block
   module _ {es : List (Entry Label)} {n d : ℕ} (l : Leads es n 0 (leftAt (cutTo w k) b f left) d p) where
-    pub leaves-at : (t : ℕ) → left ≡ T t → (d ≡ 0) ⊎ (d < t) → walked w (cutTo w k) (answer es n) ≡ At (stand (placed b f (T (t - d))) p (levelIn w b f))
+    pub leaves-at : (t : ℕ) → left ≡ T t → (d ≡ 0) ⊎ (d < t)
+        → walked w (cutTo w k) (answer es n) ≡ At (stand (placed b f (T (t - d))) p (levelIn w b f))
     unfolding entryOf
     leaves-at t e h =
         let x = left-part (cutTo w k) b (o .below) f left (o .stands) in
@@ -66,12 +68,14 @@ module _ (w : Tape) (k b : ℕ) (f : Phase) (left : Duration) (full : Bool) (p :
         (lead-by (x .rest ∙ ap (λ (y : Duration). entryOf (record { block = b; phase = f }) (levelIn w b f) y ∷ x .next) e) l)
 
   -- the step that the code took
-  module _ (d t : ℕ) (e : left ≡ T t) (some : 0 < d) (most : t ≤ d) (r : Block) (er : r ≡ blockIn w b) (s : Step) (es : s ≡ takeOf (w .bytes) (w .tones) r f full t d) where
+  module _ (d t : ℕ) (e : left ≡ T t) (some : 0 < d) (most : t ≤ d) (r : Block) (er : r ≡ blockIn w b) (s : Step)
+      (es : s ≡ takeOf (w .bytes) (w .tones) r f full t d) where
     pub stepped : (n : ℕ) → b < n → Took (cutTo w n) b (leftAt (cutTo w n) b f left) d p s
     stepped n h =
         subst (λ (x : Step). Took (cutTo w n) b (leftAt (cutTo w n) b f left) d p x)
         (sym (es ∙ ap (λ (x : Block). takeOf (w .bytes) (w .tones) x f full t d) er))
-        (subst (λ (x : Duration). Took (cutTo w n) b (leftAt (cutTo w n) b f x) d p (takeOf (w .bytes) (w .tones) (blockIn w b) f full t d)) (sym e)
+        (subst (λ (x : Duration).
+        Took (cutTo w n) b (leftAt (cutTo w n) b f x) d p (takeOf (w .bytes) (w .tones) (blockIn w b) f full t d)) (sym e)
         (took (cutTo w n) b h d p some f full t (on-has o) (λ y. sym e ∙ o .whole y) most))
 
     pub step-most : s .time ≤ d
@@ -97,7 +101,8 @@ module _ (w : Tape) (k b : ℕ) (f : Phase) (left : Duration) (full : Bool) (p :
         record {
           below = o .below;
           stands =
-              rw g (stands-valid (cutTo w k) b (s .phase) _ (record { below = o .below; entry = step-has z; some = remains-full (lengthIn w b (s .phase)) }));
+              rw g (stands-valid (cutTo w k) b (s .phase) _
+              (record { below = o .below; entry = step-has z; some = remains-full (lengthIn w b (s .phase)) }));
           whole = λ y. g;
           few = omega (arith, turn-lead k (o .below) z m g .counts, o .few);
         }
@@ -118,16 +123,19 @@ stands-cut : (w : Tape) (k b : ℕ) (f : Phase) (left : Duration) → b < k → 
 stands-cut w k b f left h s = record { below = h; entry = s .entry; some = s .some }
 
 -- what a step asks of the row that the code read
-pub asks : {w : Tape} {b₀ k : ℕ} → WellUpTo w b₀ k → (b : ℕ) → b₀ ≤ b → b < k → (r : Block) → r ≡ blockIn w b → wellBlock (tapeSize (w .bytes)) (w .tones) r ≡ true
+pub asks : {w : Tape} {b₀ k : ℕ} → WellUpTo w b₀ k → (b : ℕ) → b₀ ≤ b → b < k → (r : Block) → r ≡ blockIn w b
+    → wellBlock (tapeSize (w .bytes)) (w .tones) r ≡ true
 unfolding wellRow
 asks {w} x b l h r e = ap (wellBlock (tapeSize (w .bytes)) (w .tones)) e ∙ x .well b l h
 
-pub asks-has : (w : Tape) (b : ℕ) (f : Phase) (r : Block) → r ≡ blockIn w b → hasIn w b f ≡ true → hasEntry (w .tones) r f ≡ true
+pub asks-has : (w : Tape) (b : ℕ) (f : Phase) (r : Block) → r ≡ blockIn w b → hasIn w b f ≡ true
+    → hasEntry (w .tones) r f ≡ true
 asks-has w b f r e h = ap (λ (x : Block). hasEntry (w .tones) x f) e ∙ h
 
 -- what the level where the walk leaves asks
 pub stands-there : {w : Tape} {b₀ k b : ℕ} {f : Phase} {left : Duration} {full : Bool} {p : ℕ}
-    → WellUpTo w b₀ k → w .count ≤ capacityOf block blockMost (w .blocks) → b₀ ≤ b → On w k b f left full p → Standing (w .tones) (w .blocks) b f
+    → WellUpTo w b₀ k → w .count ≤ capacityOf block blockMost (w .blocks) → b₀ ≤ b → On w k b f left full p
+    → Standing (w .tones) (w .blocks) b f
 stands-there {w} {b₀} {k} {b} x lent l o =
     record {
       row = omega (arith, o .below, x .most);
@@ -143,11 +151,18 @@ pub rows-of : (w : Tape) (q : Position) → Walkable w q → WellUpTo w (q .bloc
 rows-of w q a = needed w (q .block) (omega (arith, a .below))
 
 -- the position where a walk begins
-pub on-first : (w : Tape) (q : Position) (k : ℕ) → Walkable w q → WellUpTo w (q .block) k → On w k (q .block) (q .phase) (q .left) false 0
+pub on-first : (w : Tape) (q : Position) (k : ℕ) → Walkable w q → WellUpTo w (q .block) k
+    → On w k (q .block) (q .phase) (q .left) false 0
 on-first w q k a x =
     let h = well-before x (q .block) (x .from) (a .below) (a .row) in
-    let v = stands-valid (cutTo w k) (q .block) (q .phase) (q .left) (stands-cut w k (q .block) (q .phase) (q .left) h (below-stands w (q .block) (q .phase) (q .left) (a .below) (a .stands))) in
-    record { below = h; stands = v; whole = λ z. absurd (no z); few = omega (arith, few-entries x (omega (arith, a .lent)) (q .phase) (q .left) h v) }
+    let v = stands-valid (cutTo w k) (q .block) (q .phase) (q .left)
+    (stands-cut w k (q .block) (q .phase) (q .left) h (below-stands w (q .block) (q .phase) (q .left) (a .below) (a .stands))) in
+    record {
+      below = h;
+      stands = v;
+      whole = λ z. absurd (no z);
+      few = omega (arith, few-entries x (omega (arith, a .lent)) (q .phase) (q .left) h v);
+    }
   where
     no : false ≡ true → ⊥
     no z = let y : _≡_ {A = ℕ} 1 0 = ap (λ (t : Bool). t ⇒ 0 ∣ 1) z in absurd (omega arith)
@@ -158,17 +173,20 @@ unfolding leftAt lengthAt
 on-start w k b p h l = record { below = h; stands = start-valid (cutTo w k) b; whole = λ z. refl; few = l }
 
 -- nothing spent
-pub less-none : (b : ℕ) (f : Phase) (t d : ℕ) {p : ℕ} {v : Bool} → d ≡ 0 → At (stand (placed b f (T t)) p v) ≡ At (stand (placed b f (T (t - d))) p v)
+pub less-none : (b : ℕ) (f : Phase) (t d : ℕ) {p : ℕ} {v : Bool} → d ≡ 0
+    → At (stand (placed b f (T t)) p v) ≡ At (stand (placed b f (T (t - d))) p v)
 less-none b f t d {p} {v} z = let e : t ≡ t - d = omega arith in ap (λ (x : ℕ). At (stand (placed b f (T x)) p v)) e
 
 -- WHERE A WALK GOES BEHIND A BLOCK: into the next one, whose row is well formed, or it leaves with what the list answers
-into-by : (a b c : Bool) (x y z : Reached) → (a ⇒ Left x ∣ b ⇒ Left y ∣ c ⇒ Into ∣ Left z) ≡ Into → (a ≡ false) × ((b ≡ false) × (c ≡ true))
+into-by : (a b c : Bool) (x y z : Reached) → (a ⇒ Left x ∣ b ⇒ Left y ∣ c ⇒ Into ∣ Left z) ≡ Into
+    → (a ≡ false) × ((b ≡ false) × (c ≡ true))
 into-by true b c x y z e = let i : _≡_ {A = ℕ} 0 1 = cc in absurd (omega arith)
 into-by false true c x y z e = let i : _≡_ {A = ℕ} 0 1 = cc in absurd (omega arith)
 into-by false false true x y z e = (refl, (refl, refl))
 into-by false false false x y z e = let i : _≡_ {A = ℕ} 0 1 = cc in absurd (omega arith)
 
-left-by : (P : Reached → Type 0) (a b c : Bool) (x y z r : Reached) → (a ⇒ Left x ∣ b ⇒ Left y ∣ c ⇒ Into ∣ Left z) ≡ Left r
+left-by : (P : Reached → Type 0) (a b c : Bool) (x y z r : Reached)
+    → (a ⇒ Left x ∣ b ⇒ Left y ∣ c ⇒ Into ∣ Left z) ≡ Left r
     → (a ≡ true → P x) → (a ≡ false → b ≡ true → P y) → (a ≡ false → b ≡ false → c ≡ false → P z) → P r
 left-by P true b c x y z r e f g h = let i : x ≡ r = cc in subst P i (f refl)
 left-by P false true c x y z r e f g h = let i : y ≡ r = cc in subst P i (g refl refl)
@@ -181,7 +199,8 @@ next-into w b d i e =
     let t = into-by (eqb d 0) (eqb b (w .count)) (wellRow w b) _ _ _ e in
     (eqb-false _ _ (t .1 .0), t .1 .1)
 
-pub next-left : {w : Tape} {b₀ k : ℕ} → WellUpTo w b₀ k → {es : List (Entry Label)} {n : ℕ} (b d i : ℕ) (r : Reached) → nextOf w (b + 1) d i ≡ Left r
+pub next-left : {w : Tape} {b₀ k : ℕ} → WellUpTo w b₀ k → {es : List (Entry Label)} {n : ℕ} (b d i : ℕ) (r : Reached)
+    → nextOf w (b + 1) d i ≡ Left r
     → Leads es n 0 (listFrom (cutTo w k) (b + 1)) d i → b₀ ≤ b → b < k → r ≡ walked w (cutTo w k) (answer es n)
 unfolding nextOf
 next-left {w} {b₀} {k} x {es} {n} b d i r e l h g =

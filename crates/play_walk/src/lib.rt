@@ -97,7 +97,8 @@ fn stands(
 ) -> Reached
     requires { ⌜ Standing (now tones) (now blocks) block phase ⌝ }
     requires { ⌜ Told (now tones) (now blocks) h ⌝ }
-    ensures { λ x. ⌜ x ≡ At (stand (placed block phase (T left)) passed (levelAt (now (tones .entry)) (rowAt (now (blocks .entry)) block) phase)) ⌝ }
+    ensures { λ x. ⌜ x
+        ≡ At (stand (placed block phase (T left)) passed (levelAt (now (tones .entry)) (rowAt (now (blocks .entry)) block) phase)) ⌝ }
 {
     Reached::At(Stand {
         position: Position {
@@ -114,7 +115,9 @@ fn stands(
 fn stops(tones: &[u64], blocks: &[u64], block: u64, phase: Phase, passed: u64, h: Heard) -> Reached
     requires { ⌜ Standing (now tones) (now blocks) block phase ⌝ }
     requires { ⌜ Told (now tones) (now blocks) h ⌝ }
-    ensures { λ x. ⌜ x ≡ Stopped (stand (placed block phase Endless) passed (levelAt (now (tones .entry)) (rowAt (now (blocks .entry)) block) phase)) ⌝ }
+    ensures { λ x. ⌜ x
+        ≡ Stopped
+        (stand (placed block phase Endless) passed (levelAt (now (tones .entry)) (rowAt (now (blocks .entry)) block) phase)) ⌝ }
 {
     Reached::Stopped(Stand {
         position: Position {

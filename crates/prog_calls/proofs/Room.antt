@@ -12,5 +12,6 @@ use Rattle.play_deck.specs.declared.Selected.{Selected}
 use Rattle.text_trace.specs.Lines.{lineOf}
 use Rattle.text_trace.proofs.Lengths.{line-length}
 
-pub line-room : {d d1 : List ℕ} {r : ℕ} (m : Bool) (a : Reached) (b : Selected) → Wrote d 0 (lineOf m a b) d1 r → 4096 ≡ length d → r ≤ length d1
+pub line-room : {d d1 : List ℕ} {r : ℕ} (m : Bool) (a : Reached) (b : Selected) → Wrote d 0 (lineOf m a b) d1 r → 4096 ≡ length d
+    → r ≤ length d1
 line-room m a b w k = omega (arith, w .count, same-len w, line-length m a b)

@@ -1,5 +1,6 @@
-// A run of calls of a player, from its description to standard output. The description: a model byte (`4`, `1`, `3`), `m` (measured) or `s` (the source's), a block
-// number (4 bytes), how many calls (2 bytes, at most 1,000), each call's count (4 bytes), then the tape. Numbers are little-endian.
+// A run of calls of a player, from its description to standard output. The description: a model byte (`4`, `1`, `3`), `m` (measured) or `s`
+// (the source's), a block number (4 bytes), how many calls (2 bytes, at most 1,000), each call's count (4 bytes), then the tape.
+// Numbers are little-endian.
 use cut_fields::Cursor;
 use cut_fields::field;
 use load_tape::Loaded;

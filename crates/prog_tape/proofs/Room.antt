@@ -21,15 +21,18 @@ module _ {d d1 : List ℕ} {r : ℕ} where
   pub hex-room : (s : List ℕ) → Wrote d 0 (hexAll s) d1 r → length s ≤ 2048 → 4096 ≡ length d → r ≤ length d1
   hex-room s w h k = omega (arith, w .count, same-len w, each-length hex 2 hex-length s)
 
-  pub rows-room : (tones : List ℕ) (from n : ℕ) → Wrote d 0 (tonesText (tonesFrom tones from n)) d1 r → n ≤ 64 → 4096 ≡ length d → r ≤ length d1
+  pub rows-room : (tones : List ℕ) (from n : ℕ) → Wrote d 0 (tonesText (tonesFrom tones from n)) d1 r → n ≤ 64
+      → 4096 ≡ length d → r ≤ length d1
   rows-room tones from n w h k = omega (arith, w .count, same-len w, tones-length tones from n)
 
-  pub line-room : (word : List ℕ) (n : ℕ) → Wrote d 0 (word ++ decimal n ++ (0x0A ∷ [])) d1 r → length word ≤ 64 → 4096 ≡ length d → r ≤ length d1
+  pub line-room : (word : List ℕ) (n : ℕ) → Wrote d 0 (word ++ decimal n ++ (0x0A ∷ [])) d1 r → length word ≤ 64
+      → 4096 ≡ length d → r ≤ length d1
   line-room word n w h k =
       let e : length (word ++ decimal n ++ (0x0A ∷ [])) ≤ 85 = simp length-append (omega (arith, decimal-length n)) in
       omega (arith, w .count, same-len w)
 
-  pub head-room : (i : ℕ) (b : Bool) (nil one last : ℕ) (p : Duration) → Wrote d 0 (headText i b nil one last p) d1 r → 4096 ≡ length d → r ≤ length d1
+  pub head-room : (i : ℕ) (b : Bool) (nil one last : ℕ) (p : Duration) → Wrote d 0 (headText i b nil one last p) d1 r
+      → 4096 ≡ length d → r ≤ length d1
   head-room i b nil one last p w k = omega (arith, w .count, same-len w, head-length i b nil one last p)
 
 -- a part of n bytes has no more

@@ -1,4 +1,4 @@
-// A loaded tape on standard output, in the words of `views`, from a small buffer: 512 copies of a block of 48 KB are 50 MB of text.
+// A loaded tape on standard output, in the words of `text_view`, from a small buffer: 512 copies of a block of 48 KB are 50 MB of text.
 use load_tape::Format;
 use load_tape::Loaded;
 use play_phases::row_well;

@@ -22,19 +22,24 @@ block-words : encodeBlock (decodeBlock (upFrom 1 (block .width))) ≡ upFrom 1 (
 block-words = refl
 
 -- ten words are two tone rows and a broken one: row 1 is appended, row 2 is not
-appends : map (λ n. appended tone toneMost (zeros 10) n (decodeTone (7 ∷ 8 ∷ 9 ∷ 6 ∷ []))) (1 ∷ 2 ∷ []) ≡ (0 ∷ 0 ∷ 0 ∷ 0 ∷ 7 ∷ 8 ∷ 9 ∷ 6 ∷ 0 ∷ 0 ∷ []) ∷ zeros 10 ∷ []
+appends : map (λ n. appended tone toneMost (zeros 10) n (decodeTone (7 ∷ 8 ∷ 9 ∷ 6 ∷ []))) (1 ∷ 2 ∷ [])
+    ≡ (0 ∷ 0 ∷ 0 ∷ 0 ∷ 7 ∷ 8 ∷ 9 ∷ 6 ∷ 0 ∷ 0 ∷ []) ∷ zeros 10 ∷ []
 appends = refl
 
 -- whole rows alone count, and no more than the limit
-block-capacities : map (λ n. capacityOf block blockMost (zeros n)) ((block .width - 1) ∷ block .width ∷ (4096 * block .width - 1) ∷ 4096 * block .width ∷ 4097 * block .width ∷ []) ≡ 0 ∷ 1 ∷ 4095 ∷ 4096 ∷ 4096 ∷ []
+block-capacities : map (λ n. capacityOf block blockMost (zeros n))
+    ((block .width - 1) ∷ block .width ∷ (4096 * block .width - 1) ∷ 4096 * block .width ∷ 4097 * block .width ∷ [])
+    ≡ 0 ∷ 1 ∷ 4095 ∷ 4096 ∷ 4096 ∷ []
 block-capacities = refl
 
-tone-capacities : map (λ n. capacityOf tone toneMost (zeros n)) ((tone .width - 1) ∷ tone .width ∷ 65537 * tone .width ∷ []) ≡ 0 ∷ 1 ∷ 65536 ∷ []
+tone-capacities : map (λ n. capacityOf tone toneMost (zeros n)) ((tone .width - 1) ∷ tone .width ∷ 65537 * tone .width ∷ [])
+    ≡ 0 ∷ 1 ∷ 65536 ∷ []
 tone-capacities = refl
 
 -- tones, and whether they are well formed
 tones-judged :
-    map (λ w. wellTone (decodeTone w)) ((65535 ∷ 65535 ∷ 65535 ∷ 11 ∷ []) ∷ (65536 ∷ 0 ∷ 0 ∷ 0 ∷ []) ∷ (0 ∷ 65536 ∷ 0 ∷ 0 ∷ []) ∷ (0 ∷ 0 ∷ 65536 ∷ 0 ∷ []) ∷ (0 ∷ 0 ∷ 0 ∷ 12 ∷ []) ∷ [])
+    map (λ w. wellTone (decodeTone w)) ((65535 ∷ 65535 ∷ 65535 ∷ 11 ∷ []) ∷ (65536 ∷ 0 ∷ 0 ∷ 0 ∷ []) ∷
+    (0 ∷ 65536 ∷ 0 ∷ 0 ∷ []) ∷ (0 ∷ 0 ∷ 65536 ∷ 0 ∷ []) ∷ (0 ∷ 0 ∷ 0 ∷ 12 ∷ []) ∷ [])
     ≡ true ∷ false ∷ false ∷ false ∷ false ∷ []
 unfolding wellTone
 tones-judged = refl

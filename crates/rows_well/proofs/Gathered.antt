@@ -112,7 +112,8 @@ module _ (tones : List ℕ) where
   wells-last from zero = rw add-zero (and-true (wellTone (get tone tones from)))
   wells-last from (suc n) =
       let k : from + 1 + n ≡ from + suc n = omega arith in
-      ap (λ (b : Bool). wellTone (get tone tones from) && b) (wells-last (from + 1) n ∙ ap (λ (i : ℕ). wellTones tones (from + 1) n && wellTone (get tone tones i)) k)
+      ap (λ (b : Bool). wellTone (get tone tones from) && b)
+      (wells-last (from + 1) n ∙ ap (λ (i : ℕ). wellTones tones (from + 1) n && wellTone (get tone tones i)) k)
       ∙ sym (and-assoc (wellTone (get tone tones from)) (wellTones tones (from + 1) n) (wellTone (get tone tones (from + suc n))))
 
   wells-more : (s : Seen) (from n : ℕ) → wellSeen (seenFrom tones s from n) ≡ (wellSeen s && wellTones tones from n)
@@ -130,7 +131,8 @@ module _ (tones : List ℕ) where
   seen-wells from n = wells-more unseen from n
 
   -- one turn over the rows
-  pub seen-turn : (s : Seen) (from i : ℕ) → from ≤ i → seenFrom tones s from (i + 1 - from) ≡ seeing (get tone tones i) (seenFrom tones s from (i - from))
+  pub seen-turn : (s : Seen) (from i : ℕ) → from ≤ i
+      → seenFrom tones s from (i + 1 - from) ≡ seeing (get tone tones i) (seenFrom tones s from (i - from))
   unfolding seenFrom
   seen-turn s from i h =
       let k : i + 1 - from ≡ suc (i - from) = omega arith in
@@ -146,7 +148,8 @@ module _ (tones : List ℕ) where
       (ap₂ (λ (i : ℕ) (x : Seen). seeing (get tone tones i) x) (add-assoc from a b) (seen-joins s from a b))
 
   -- on from the first k rows to the first n
-  pub seen-on : (s : Seen) (from k n : ℕ) → s ≡ seenOf tones from k → k ≤ n → seenFrom tones s (from + k) (n - k) ≡ seenOf tones from n
+  pub seen-on : (s : Seen) (from k n : ℕ) → s ≡ seenOf tones from k → k ≤ n
+      → seenFrom tones s (from + k) (n - k) ≡ seenOf tones from n
   seen-on s from k n e h =
       let z : k + (n - k) ≡ n = omega arith in
       ap (λ (x : Seen). seenFrom tones x (from + k) (n - k)) e ∙ seen-joins unseen from k (n - k) ∙ ap (seenOf tones from) z

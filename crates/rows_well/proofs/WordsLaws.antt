@@ -13,7 +13,8 @@ joined true true c d = refl
 joined true false c d = refl
 joined false b c d = refl
 
-pub words-tones : (tape : ℕ) (tones : List ℕ) (r : Block) → wellBlock tape tones r ≡ (wellWords tape tones r && wellTones tones (r .tone) (r .tones))
+pub words-tones : (tape : ℕ) (tones : List ℕ) (r : Block)
+    → wellBlock tape tones r ≡ (wellWords tape tones r && wellTones tones (r .tone) (r .tones))
 unfolding wellBlock wellWords
 words-tones tape tones r = joined (wellRanges tape tones r) (wellNumbers r) (wellCases r) (wellTones tones (r .tone) (r .tones))
 
@@ -27,4 +28,8 @@ pub words-clauses : (tape : ℕ) (tones : List ℕ) (r : Block) → wellWords ta
 unfolding wellWords
 words-clauses tape tones r e =
     let n = second (wellRanges tape tones r) (wellNumbers r && wellCases r) e in
-    record { ranges = first (wellRanges tape tones r) (wellNumbers r && wellCases r) e; numbers = first (wellNumbers r) (wellCases r) n; cases = second (wellNumbers r) (wellCases r) n }
+    record {
+      ranges = first (wellRanges tape tones r) (wellNumbers r && wellCases r) e;
+      numbers = first (wellNumbers r) (wellCases r) n;
+      cases = second (wellNumbers r) (wellCases r) n;
+    }

@@ -16,7 +16,12 @@ unseen = record { words = 0; tops = 0; lows = 0; turns = 0 }
 -- a row more: its words; its wave and 4, below 16 up to 11; its wave and 1, below 4 up to 2; its count, where the wave is odd
 abbrev pub seeing : Tone → Seen → Seen
 seeing t s =
-    record { words = bitOr (bitOr (bitOr (bitOr (s .words) (t .num)) (t .len1)) (t .len2)) (t .wave); tops = bitOr (s .tops) ((t .wave + 4) % 2 ^ 64); lows = bitOr (s .lows) ((t .wave + 1) % 2 ^ 64); turns = bitXor (s .turns) (bitAnd (t .num) (t .wave)) }
+    record {
+      words = bitOr (bitOr (bitOr (bitOr (s .words) (t .num)) (t .len1)) (t .len2)) (t .wave);
+      tops = bitOr (s .tops) ((t .wave + 4) % 2 ^ 64);
+      lows = bitOr (s .lows) ((t .wave + 1) % 2 ^ 64);
+      turns = bitXor (s .turns) (bitAnd (t .num) (t .wave));
+    }
 
 -- n rows from row `from` on behind what was seen before, the last row last
 unfoldable pub seenFrom : List ℕ → Seen → ℕ → ℕ → Seen

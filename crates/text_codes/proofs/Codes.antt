@@ -21,7 +21,8 @@ first-offset a [] = refl
 first-offset a (t ∷ ts) = refl
 
 -- for any texts, after any bytes p
-cut : (p : List ℕ) (n : ℕ) (ts : List (List ℕ)) (k : ℕ) → length p ≡ n → k < length ts → Cut ts (p ++ flatTexts ts) k (getD (offsets n ts) k 0) (getD (offsets n ts) (suc k) 0)
+cut : (p : List ℕ) (n : ℕ) (ts : List (List ℕ)) (k : ℕ) → length p ≡ n → k < length ts
+    → Cut ts (p ++ flatTexts ts) k (getD (offsets n ts) k 0) (getD (offsets n ts) (suc k) 0)
 unfolding offsets flatTexts
 cut p n [] k e h = absurd (not-suc-le-zero h)
 cut p n (t ∷ ts) zero e h =
@@ -68,6 +69,7 @@ pub part : (k a e : ℕ) → k < 256 → a ≡ getD (offsets 0 table) k 0 → e 
 unfolding encoded
 part k a e h p q =
     let c : Cut table (flatTexts table) k a e = rw (p, q, add-one) (cut [] 0 table k refl (rw codes h)) in
-    let l : length (take (e - a) (drop a (flatTexts table))) ≡ e - a = length-take-le (e - a) (drop a (flatTexts table)) (rw length-drop (omega (arith, c .inside))) in
+    let l : length (take (e - a) (drop a (flatTexts table))) ≡ e - a =
+    length-take-le (e - a) (drop a (flatTexts table)) (rw length-drop (omega (arith, c .inside))) in
     let m : e - a ≡ length (encoded k) = sym l ∙ ap length (c .is) in
     record { order = c .order; inside = c .inside; short = omega (arith, m, code-length k); is = c .is }

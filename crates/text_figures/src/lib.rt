@@ -55,7 +55,8 @@ fn put_end(out: &mut [u8], at: usize, pause: Duration) -> usize
 // The line's numbers, up to the name.
 pub fn put_head(out: &mut [u8], at: usize, i: u64, r: Block) -> usize
     requires { ⌜ at + 136 < 2 ^ 63 ⌝ }
-    ensures { λ n. ⌜ Wrote (now (out .entry)) at (headText i (eqb (r .selectable) 1) (r .zero) (r .one) (r .last) (wholePause r)) (now (out .exit)) n ⌝ }
+    ensures { λ n. ⌜ Wrote (now (out .entry))
+        at (headText i (eqb (r .selectable) 1) (r .zero) (r .one) (r .last) (wholePause r)) (now (out .exit)) n ⌝ }
 {
     let a = put_mark(out, at, i, r.selectable == 1);
     let b = put_bits(out, a, r.zero, r.one, r.last);

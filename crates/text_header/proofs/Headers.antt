@@ -15,12 +15,14 @@ use Rattle.text_codes.proofs.Codes.{code-length}
 use Rattle.text_header.specs.Headers.{typeName, headerName}
 
 -- a type byte that has no word of its own
-pub as-other : {d d1 : List ℕ} {at r : ℕ} (b : ℕ) → (b ≡ 0 → ⊥) → (b ≡ 1 → ⊥) → (b ≡ 3 → ⊥) → Wrote d at ((0x54 ∷ 0x79 ∷ 0x70 ∷ 0x65 ∷ 0x20 ∷ []) ++ decimal b) d1 r → Wrote d at (typeName b) d1 r
+pub as-other : {d d1 : List ℕ} {at r : ℕ} (b : ℕ) → (b ≡ 0 → ⊥) → (b ≡ 1 → ⊥) → (b ≡ 3 → ⊥)
+    → Wrote d at ((0x54 ∷ 0x79 ∷ 0x70 ∷ 0x65 ∷ 0x20 ∷ []) ++ decimal b) d1 r → Wrote d at (typeName b) d1 r
 unfolding typeName
 as-other b f g h w = rw (ne-eqb b 0 f, ne-eqb b 1 g, ne-eqb b 3 h) w
 
 -- a header's three parts; the name is the part of the tape from byte 2 up to byte 12
-pub as-header : {d d1 d2 d3 : List ℕ} {at r1 r2 r3 : ℕ} (s : List ℕ) (start : ℕ) → Wrote d at (typeName (getD s (start + 1) 0)) d1 r1 → Wrote d1 r1 (0x3A ∷ 0x20 ∷ []) d2 r2
+pub as-header : {d d1 d2 d3 : List ℕ} {at r1 r2 r3 : ℕ} (s : List ℕ) (start : ℕ)
+    → Wrote d at (typeName (getD s (start + 1) 0)) d1 r1 → Wrote d1 r1 (0x3A ∷ 0x20 ∷ []) d2 r2
     → Wrote d2 r2 (spelled (take ((start + 12) - (start + 2)) (drop (start + 2) s))) d3 r3 → Wrote d at (headerName s start) d3 r3
 unfolding headerName
 as-header s start p q w =
@@ -46,4 +48,5 @@ pub header-length : (s : List ℕ) (start : ℕ) → length (headerName s start)
 unfolding headerName
 header-length s start =
     let ten : length (take 10 (drop (start + 2) s)) ≤ 10 = rw length-take (omega arith) in
-    simp length-append (omega (arith, type-length (getD s (start + 1) 0), each-length encoded 9 code-length (take 10 (drop (start + 2) s)), ten))
+    simp length-append
+    (omega (arith, type-length (getD s (start + 1) 0), each-length encoded 9 code-length (take 10 (drop (start + 2) s)), ten))

@@ -72,7 +72,8 @@ tail-most d name h =
 joined : (h t a n b : List ℕ) → h ++ (t ++ a ++ n ++ b) ≡ h ++ t ++ a ++ n ++ b
 joined h t a n b = simp append-assoc refl
 
-pub row-joins : (s tones blocks : List ℕ) (n i : ℕ) (r : Block) → r ≡ get block blocks i → rowHeadText i r ++ rowTailText (lastsOf (entriesOf s tones i r)) (nameOf s r) ≡ rowText (tapeOf s tones blocks n) i
+pub row-joins : (s tones blocks : List ℕ) (n i : ℕ) (r : Block) → r ≡ get block blocks i
+    → rowHeadText i r ++ rowTailText (lastsOf (entriesOf s tones i r)) (nameOf s r) ≡ rowText (tapeOf s tones blocks n) i
 unfolding rowText
 row-joins s tones blocks n i r e =
     let q = get block blocks i in
@@ -90,7 +91,8 @@ row-most w i h =
     omega (arith, ap length e)
 
 -- the first i rows of a tape whose rows are ready
-pub rows-most : {s tones blocks : List ℕ} {n : ℕ} → Ready s tones blocks n → (i : ℕ) → i ≤ n → length (rowsText (tapeOf s tones blocks n) i) ≤ 576 * i
+pub rows-most : {s tones blocks : List ℕ} {n : ℕ} → Ready s tones blocks n → (i : ℕ) → i ≤ n
+    → length (rowsText (tapeOf s tones blocks n) i) ≤ 576 * i
 unfolding rowsText
 rows-most r zero h = omega arith
 rows-most {s} {tones} {blocks} {n} r (suc i) h =
@@ -99,7 +101,8 @@ rows-most {s} {tones} {blocks} {n} r (suc i) h =
     simp length-append (omega arith)
 
 -- one row more
-pub rows-next : {d d1 d2 : List ℕ} {at o1 o2 : ℕ} (w : Tape) (i : ℕ) → Wrote d at (rowsText w i) d1 o1 → Wrote d1 o1 (rowText w i) d2 o2 → Wrote d at (rowsText w (i + 1)) d2 o2
+pub rows-next : {d d1 d2 : List ℕ} {at o1 o2 : ℕ} (w : Tape) (i : ℕ) → Wrote d at (rowsText w i) d1 o1
+    → Wrote d1 o1 (rowText w i) d2 o2 → Wrote d at (rowsText w (i + 1)) d2 o2
 unfolding rowsText
 rows-next w i p q = rw add-one (then p q)
 

@@ -86,7 +86,9 @@ fn put_tail(out: &mut [u8], at: usize, tape: &[u8], r: Block, d: Duration) -> us
 fn put_row(out: &mut [u8], s: Told, tape: &[u8], tones: &[u64], blocks: &[u64], i: u64) -> Told
     requires { ⌜ ReadyRow (now tape) (now tones) (now blocks) i ⌝ }
     requires { ⌜ (s .at + 1024 < 2 ^ 63) × (s .load .sum < 2 ^ 63) ⌝ }
-    ensures { λ q. ⌜ ((n : ℕ) → Wrote (now (out .entry)) (s .at) (rowText (tapeOf (now (tape .entry)) (now (tones .entry)) (now (blocks .entry)) n) i) (now (out .exit)) (q .at)) ⌝ }
+    ensures { λ q. ⌜ ((n : ℕ)
+        → Wrote (now (out .entry)) (s .at) (rowText (tapeOf (now (tape .entry)) (now (tones .entry)) (now (blocks .entry)) n) i)
+        (now (out .exit)) (q .at)) ⌝ }
     ensures { λ q. ⌜ ((n : ℕ) → i < n → Sums (tapeOf (now (tape .entry)) (now (tones .entry)) (now (blocks .entry)) n) i (s .load)
         → Sums (tapeOf (now (tape .entry)) (now (tones .entry)) (now (blocks .entry)) n) (i + 1) (q .load)) ⌝ }
 {
@@ -110,7 +112,8 @@ pub fn put_rows(
 ) -> Told
     requires { ⌜ Ready (now tape) (now tones) (now blocks) n ⌝ }
     requires { ⌜ at ≤ 1024 ⌝ }
-    ensures { λ q. ⌜ Wrote (now (out .entry)) at (rowsText (tapeOf (now (tape .entry)) (now (tones .entry)) (now (blocks .entry)) n) n) (now (out .exit)) (q .at) ⌝ }
+    ensures { λ q. ⌜ Wrote (now (out .entry))
+        at (rowsText (tapeOf (now (tape .entry)) (now (tones .entry)) (now (blocks .entry)) n) n) (now (out .exit)) (q .at) ⌝ }
     ensures { λ q. ⌜ q .load .sum ≡ loadingTime (tapeOf (now (tape .entry)) (now (tones .entry)) (now (blocks .entry)) n) ⌝ }
 {
     let load = none();

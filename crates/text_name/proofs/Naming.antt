@@ -24,5 +24,6 @@ unfolding isHeader
 header-size s r e = eqb-true (r .size) 19 (first (eqb (r .size) 19) (eqb (getD s (r .start) 0) 0) e)
 
 -- what `put_name` asks is so of a well-formed row
-pub inside-tape : (tape : ℕ) (tones : List ℕ) (r : Block) → wellBlock tape tones r ≡ true → (r .start + r .size ≤ tape) × (r .text + r .chars ≤ tape)
+pub inside-tape : (tape : ℕ) (tones : List ℕ) (r : Block) → wellBlock tape tones r ≡ true
+    → (r .start + r .size ≤ tape) × (r .text + r .chars ≤ tape)
 inside-tape tape tones r e = let i = ranges-inside tape tones r (block-clauses tape tones r e .ranges) in (i .bytes, i .name)

@@ -23,9 +23,12 @@ name-all-pass s p [] = refl
 name-all-pass s p (r ∷ rs) = ap (λ (l : List Block). nameOne s p r ∷ l) (name-all-pass s (isHeader s r) rs)
 
 -- one turn: t₀ as the loop began, t and a as the turn begins, t′ and header as it ends
-pub name-turn : {t t′ : List ℕ} {a header : Bool} {r q : Block} (s : List ℕ) (i : ℕ) (rs : List Block) (t₀ : List ℕ) → i < length rs → a ≡ carried (nameOne s) (next s) i false rs → t ≡ tableOver block (turnedRows (nameOne s) (next s) i false rs) t₀
+pub name-turn : {t t′ : List ℕ} {a header : Bool} {r q : Block} (s : List ℕ) (i : ℕ) (rs : List Block) (t₀ : List ℕ)
+    → i < length rs → a ≡ carried (nameOne s) (next s) i false rs
+    → t ≡ tableOver block (turnedRows (nameOne s) (next s) i false rs) t₀
     → r ≡ get block t i → header ≡ isHeader s r → q ≡ (header ⇒ r ∣ a ⇒ unselected r ∣ r) → t′ ≡ put block t i q
-    → (header ≡ carried (nameOne s) (next s) (i + 1) false rs) × (t′ ≡ tableOver block (turnedRows (nameOne s) (next s) (i + 1) false rs) t₀)
+    → (header ≡ carried (nameOne s) (next s) (i + 1) false rs)
+    × (t′ ≡ tableOver block (turnedRows (nameOne s) (next s) (i + 1) false rs) t₀)
 unfolding nameOne
 name-turn {t} {t′} {a} {header} {r} {q} s i rs t₀ h p o re he qe te =
     let w = pass-more (nameOne s) (next s) block i false rs t₀ t a h p o in
@@ -38,10 +41,12 @@ name-all-length s p [] = refl
 name-all-length s p (r ∷ rs) = ap suc (name-all-length s (isHeader s r) rs)
 
 -- what `name_blocks` leaves of a table of known rows
-pub named-table : {t t′ : List ℕ} (s : List ℕ) (rs : List Block) (N n : ℕ) → t ≡ tableOf block rs N → n ≡ length rs → t′ ≡ step block n (nameAll s false) t → t′ ≡ tableOf block (nameAll s false rs) N
+pub named-table : {t t′ : List ℕ} (s : List ℕ) (rs : List Block) (N n : ℕ) → t ≡ tableOf block rs N → n ≡ length rs
+    → t′ ≡ step block n (nameAll s false) t → t′ ≡ tableOf block (nameAll s false rs) N
 named-table s rs N n e k p = p ∙ step-over block rs (zeros N) n (nameAll s false) e (sym k) (omega (arith, name-all-length s false rs))
 
-pub name-all-row : (s : List ℕ) (p : Bool) (rs : List Block) (i : ℕ) (d : Block) → i < length rs → getD (nameAll s p rs) i d ≡ nameOne s (headerBefore s p rs i d) (getD rs i d)
+pub name-all-row : (s : List ℕ) (p : Bool) (rs : List Block) (i : ℕ) (d : Block) → i < length rs
+    → getD (nameAll s p rs) i d ≡ nameOne s (headerBefore s p rs i d) (getD rs i d)
 unfolding nameAll
 name-all-row s p [] i d h = absurd (not-suc-le-zero h)
 name-all-row s p (r ∷ rs) zero d h = refl
@@ -49,17 +54,21 @@ name-all-row s p (r ∷ rs) (suc zero) d h = name-all-row s (isHeader s r) rs ze
 name-all-row s p (r ∷ rs) (suc (suc i)) d h = name-all-row s (isHeader s r) rs (suc i) d (le-of-suc-le-suc h)
 
 -- a header keeps its selectability
-pub header-stays : (s : List ℕ) (p : Bool) (rs : List Block) (i : ℕ) (d : Block) → i < length rs → isHeader s (getD rs i d) ≡ true → getD (nameAll s p rs) i d ≡ getD rs i d
+pub header-stays : (s : List ℕ) (p : Bool) (rs : List Block) (i : ℕ) (d : Block) → i < length rs → isHeader s (getD rs i d) ≡ true
+    → getD (nameAll s p rs) i d ≡ getD rs i d
 unfolding nameOne
 header-stays s p rs i d h e = name-all-row s p rs i d h ∙ rw e
 
 -- a block after a header that is no header becomes unselectable
-pub after-header : (s : List ℕ) (p : Bool) (rs : List Block) (i : ℕ) (d : Block) → suc i < length rs → isHeader s (getD rs i d) ≡ true → isHeader s (getD rs (suc i) d) ≡ false → getD (nameAll s p rs) (suc i) d ≡ unselected (getD rs (suc i) d)
+pub after-header : (s : List ℕ) (p : Bool) (rs : List Block) (i : ℕ) (d : Block) → suc i < length rs
+    → isHeader s (getD rs i d) ≡ true → isHeader s (getD rs (suc i) d) ≡ false
+    → getD (nameAll s p rs) (suc i) d ≡ unselected (getD rs (suc i) d)
 unfolding nameOne
 after-header s p rs i d h e f = name-all-row s p rs (suc i) d h ∙ rw (f, e)
 
 -- any other block keeps it
-pub other-stays : (s : List ℕ) (p : Bool) (rs : List Block) (i : ℕ) (d : Block) → i < length rs → headerBefore s p rs i d ≡ false → getD (nameAll s p rs) i d ≡ getD rs i d
+pub other-stays : (s : List ℕ) (p : Bool) (rs : List Block) (i : ℕ) (d : Block) → i < length rs → headerBefore s p rs i d ≡ false
+    → getD (nameAll s p rs) i d ≡ getD rs i d
 unfolding nameOne
 other-stays s p rs i d h e = name-all-row s p rs i d h ∙ rw e (same (isHeader s (getD rs i d)) (getD rs i d))
   where
@@ -101,7 +110,10 @@ passed-twice : (s : List ℕ) (p : Bool) (r : Block) → nameOne s p (nameOne s 
 unfolding nameOne unselected
 passed-twice s p r = rw (header-same s p r) (cases (isHeader s r) p)
   where
-    cases : (h p : Bool) → (h ⇒ (h ⇒ r ∣ p ⇒ unselected r ∣ r) ∣ p ⇒ unselected (h ⇒ r ∣ p ⇒ unselected r ∣ r) ∣ (h ⇒ r ∣ p ⇒ unselected r ∣ r)) ≡ (h ⇒ r ∣ p ⇒ unselected r ∣ r)
+    cases : (h p : Bool)
+        → (h ⇒ (h ⇒ r ∣ p ⇒ unselected r ∣ r) ∣ p ⇒ unselected (h ⇒ r ∣ p ⇒ unselected r ∣ r)
+        ∣ (h ⇒ r ∣ p ⇒ unselected r ∣ r))
+        ≡ (h ⇒ r ∣ p ⇒ unselected r ∣ r)
     cases true p = refl
     cases false true = refl
     cases false false = refl

@@ -24,7 +24,8 @@ pub goes-on : {left : ℕ → List ℕ} {k : ℕ} {d₀ d d1 x : List ℕ} {at i
 goes-on {k = k} {i = i} w g e h p =
     record { few = omega (arith, g .few, p .count, mul-add k i w); rest = λ d′ r u. g .rest d′ r (rw e (then p u)) }
 
-pub goes-over : {left : ℕ → List ℕ} {k : ℕ} {d₀ d : List ℕ} {at i o : ℕ} → Goes left k d₀ at i d o → left i ≡ [] → Wrote d₀ at (left 0) d o
+pub goes-over : {left : ℕ → List ℕ} {k : ℕ} {d₀ d : List ℕ} {at i o : ℕ} → Goes left k d₀ at i d o → left i ≡ []
+    → Wrote d₀ at (left 0) d o
 goes-over {d = d} {o = o} g e = g .rest d o (rw e (wrote-nothing d o))
 
 -- the byte at i, and those behind it
@@ -32,7 +33,8 @@ pub byte-here : (s : List ℕ) (i : ℕ) → i < length s → drop i s ≡ getD 
 byte-here s i h = drop-cons s i 0 h ∙ rw add-one
 
 -- A TEXT FOR EACH BYTE of s, of at most k bytes
-pub record Spells (f : ℕ → List ℕ) (k : ℕ) (d₀ : List ℕ) (at : ℕ) (s : List ℕ) (i : ℕ) (d : List ℕ) (o : ℕ) : Type 0 where
+pub record Spells (f : ℕ → List ℕ) (k : ℕ) (d₀ : List ℕ) (at : ℕ) (s : List ℕ) (i : ℕ) (d : List ℕ)
+    (o : ℕ) : Type 0 where
   pub goes : Goes (λ j. eachByte f (drop j s)) k d₀ at i d o
 
 module _ {f : ℕ → List ℕ} {k : ℕ} {d₀ : List ℕ} {at : ℕ} {s : List ℕ} where

@@ -21,8 +21,10 @@ wrote-nothing d at = record { count = sym (add-zero at); bytes = refl }
 
 pub then : {d d1 d2 s t : List ℕ} {at r1 r2 : ℕ} → Wrote d at s d1 r1 → Wrote d1 r1 t d2 r2 → Wrote d at (s ++ t) d2 r2
 then {d} {d1} {d2} {s} {t} {at} {r1} {r2} p q = record {
-  count = q .count ∙ ap (λ (n : ℕ). n + length t) (p .count) ∙ add-assoc at (length s) (length t) ∙ sym (ap (λ (n : ℕ). at + n) (length-append s t));
-  bytes = q .bytes ∙ ap (λ (n : ℕ). sets d1 n t) (p .count) ∙ ap (λ (l : List ℕ). sets l (at + length s) t) (p .bytes) ∙ sets-append d s t at;
+  count = q .count ∙ ap (λ (n : ℕ). n + length t) (p .count) ∙ add-assoc at (length s) (length t)
+      ∙ sym (ap (λ (n : ℕ). at + n) (length-append s t));
+  bytes = q .bytes ∙ ap (λ (n : ℕ). sets d1 n t) (p .count) ∙ ap (λ (l : List ℕ). sets l (at + length s) t) (p .bytes)
+      ∙ sets-append d s t at;
 }
 
 pub same-len : {d d1 s : List ℕ} {at r : ℕ} → Wrote d at s d1 r → length d1 ≡ length d
@@ -35,17 +37,20 @@ wrote-whole {d} {d1} {t} p h =
     let h2 : 0 + length t ≤ length d = omega arith in
     p .bytes ∙ sets-eq t d 0 h2 ∙ ap (λ (n : ℕ). t ++ drop n d) z
 
--- A DRY RUN AND THE RUN: a dry run counts the text; lent bytes that it says suffice then have the text told, and others are too short for it
+-- A DRY RUN AND THE RUN: a dry run counts the text;
+-- lent bytes that it says suffice then have the text told, and others are too short for it
 pub wrote-counted : {d d1 t : List ℕ} {n : ℕ} → Wrote d 0 t d1 n → n ≡ length t
 wrote-counted {d} {d1} {t} p = omega (arith, p .count)
 
-pub dry-told : {dry dry′ out out′ t : List ℕ} {n n′ : ℕ} → Wrote dry 0 t dry′ n → Wrote out 0 t out′ n′ → n ≤ length out → Fitted t out out′ n
+pub dry-told : {dry dry′ out out′ t : List ℕ} {n n′ : ℕ} → Wrote dry 0 t dry′ n → Wrote out 0 t out′ n′
+    → n ≤ length out → Fitted t out out′ n
 unfolding told
 dry-told {out = out} {t = t} p q h =
     let r : fits t out ≡ true = le-leb (length t) (length out) (omega (arith, wrote-counted p)) in
     record { count = wrote-counted p; room = r; bytes = wrote-whole q (omega (arith, wrote-counted p)) ∙ rw r }
 
-pub dry-short : {dry dry′ t : List ℕ} {n : ℕ} (out : List ℕ) → Wrote dry 0 t dry′ n → length out < n → (fits t out ≡ false) × (told t out ≡ out)
+pub dry-short : {dry dry′ t : List ℕ} {n : ℕ} (out : List ℕ) → Wrote dry 0 t dry′ n → length out < n
+    → (fits t out ≡ false) × (told t out ≡ out)
 unfolding told
 dry-short {t = t} out p h =
     let r : fits t out ≡ false = lt-leb (length t) (length out) (omega (arith, wrote-counted p)) in
@@ -72,7 +77,8 @@ digits-more zero n h =
     let h2 : n < 10 = h in
     rw (lt-ltb n 10 h2)
 digits-more (suc f) n h =
-    ap (λ (l : List ℕ). ltb n 10 ⇒ ((48 + n) ∷ []) ∣ l ++ ((48 + n % 10) ∷ [])) (digits-more f (n / 10) (div-lt-iff-lt-mul (omega arith) .1 (rw (← pow-suc 10 (suc f)) h)))
+    ap (λ (l : List ℕ). ltb n 10 ⇒ ((48 + n) ∷ []) ∣ l ++ ((48 + n % 10) ∷ []))
+    (digits-more f (n / 10) (div-lt-iff-lt-mul (omega arith) .1 (rw (← pow-suc 10 (suc f)) h)))
 
 digits-step : (n : ℕ) → 10 ≤ n → n < 2 ^ 64 → digits 20 n ≡ digits 20 (n / 10) ++ ((48 + n % 10) ∷ [])
 unfolding digits
@@ -89,7 +95,8 @@ latin1-length b = cases (ltb b 128)
     cases false = omega arith
 
 -- a text for each byte, where no byte's text is longer than k
-pub each-length : (f : ℕ → List ℕ) (k : ℕ) → ((b : ℕ) → length (f b) ≤ k) → (s : List ℕ) → length (eachByte f s) ≤ k * length s
+pub each-length : (f : ℕ → List ℕ) (k : ℕ) → ((b : ℕ) → length (f b) ≤ k) → (s : List ℕ)
+    → length (eachByte f s) ≤ k * length s
 unfolding eachByte
 each-length f k h [] = omega arith
 each-length f k h (b ∷ s) = simp (length-append, mul-suc) (omega (arith, h b, each-length f k h s))
@@ -99,7 +106,8 @@ pub as-plain : {d d1 : List ℕ} {at r : ℕ} (b : ℕ) → b < 128 → Wrote d 
 unfolding latin1
 as-plain b k w = rw (lt-ltb b 128 k) w
 
-pub as-high : {d d1 : List ℕ} {at r : ℕ} (b : ℕ) → 128 ≤ b → Wrote d at ((192 + b / 64) ∷ (128 + b % 64) ∷ []) d1 r → Wrote d at (latin1 b) d1 r
+pub as-high : {d d1 : List ℕ} {at r : ℕ} (b : ℕ) → 128 ≤ b → Wrote d at ((192 + b / 64) ∷ (128 + b % 64) ∷ []) d1 r
+    → Wrote d at (latin1 b) d1 r
 unfolding latin1
 as-high b k w = rw (le-ltb b 128 k) w
 
@@ -107,6 +115,7 @@ pub as-digit : {d d1 : List ℕ} {at r : ℕ} (n : ℕ) → n < 10 → Wrote d a
 unfolding decimal digits
 as-digit n h w = rw (lt-ltb n 10 h) w
 
-pub as-digits : {d d1 d2 : List ℕ} {at r1 r2 : ℕ} (n : ℕ) → 10 ≤ n → n < 2 ^ 64 → Wrote d at (decimal (n / 10)) d1 r1 → Wrote d1 r1 ((48 + n % 10) ∷ []) d2 r2 → Wrote d at (decimal n) d2 r2
+pub as-digits : {d d1 d2 : List ℕ} {at r1 r2 : ℕ} (n : ℕ) → 10 ≤ n → n < 2 ^ 64 → Wrote d at (decimal (n / 10)) d1 r1
+    → Wrote d1 r1 ((48 + n % 10) ∷ []) d2 r2 → Wrote d at (decimal n) d2 r2
 unfolding decimal
 as-digits n h k p q = rw (digits-step n h k) (then p q)

@@ -1,4 +1,5 @@
--- How long each part of a listing's text is: a tape of 512 rows has at most 300,000 bytes, and none has fewer than 37; and what was written of it. Assumes nothing.
+-- How long each part of a listing's text is: a tape of 512 rows has at most 300,000 bytes, and none has fewer than 37;
+-- and what was written of it. Assumes nothing.
 use Prim.Native.Nat.{ℕ, _+_, _*_, _≤_}
 use native.Mathlib.Omega.{arith}
 use mathlib.Core.Path.{_≡_, subst}
@@ -42,7 +43,8 @@ loading-long w =
     record { low = simp length-append (omega arith); high = simp length-append (omega arith) }
 
 -- THE WHOLE TEXT, by its rows; there are at most 512
-pub text-rows : {s tones blocks : List ℕ} {n : ℕ} (m : ℕ) (f : Format) → Ready s tones blocks n → length (listingText m f (tapeOf s tones blocks n)) ≤ 77 + 576 * n
+pub text-rows : {s tones blocks : List ℕ} {n : ℕ} (m : ℕ) (f : Format) → Ready s tones blocks n
+    → length (listingText m f (tapeOf s tones blocks n)) ≤ 77 + 576 * n
 unfolding listingText restText
 text-rows {s} {tones} {blocks} {n} m f r =
     let a = model-long m in
@@ -51,7 +53,8 @@ text-rows {s} {tones} {blocks} {n} m f r =
     let d = loading-long (tapeOf s tones blocks n) in
     simp length-append (omega arith)
 
-pub text-most : {s tones blocks : List ℕ} {n : ℕ} (m : ℕ) (f : Format) → Ready s tones blocks n → length (listingText m f (tapeOf s tones blocks n)) ≤ 300000
+pub text-most : {s tones blocks : List ℕ} {n : ℕ} (m : ℕ) (f : Format) → Ready s tones blocks n
+    → length (listingText m f (tapeOf s tones blocks n)) ≤ 300000
 text-most m f r = omega (arith, text-rows m f r, r .few)
 
 pub text-least : (m : ℕ) (f : Format) (w : Tape) → 37 ≤ length (listingText m f w)
@@ -63,7 +66,10 @@ text-least m f w =
     simp length-append (omega arith)
 
 -- what was written of the parts of the whole text
-pub listing-written : {d d1 d2 d3 d4 d5 : List ℕ} {o1 o2 o3 o4 o5 : ℕ} (m : ℕ) (f : Format) (w : Tape) (total : ℕ) → total ≡ loadingTime w → Wrote d 0 (0x6D ∷ 0x6F ∷ 0x64 ∷ 0x65 ∷ 0x6C ∷ 0x20 ∷ []) d1 o1
-    → Wrote d1 o1 (modelText m) d2 o2 → Wrote d2 o2 (countText f (w .count)) d3 o3 → Wrote d3 o3 (rowsText w (w .count)) d4 o4 → Wrote d4 o4 (totalText total) d5 o5 → Wrote d 0 (listingText m f w) d5 o5
+pub listing-written : {d d1 d2 d3 d4 d5 : List ℕ} {o1 o2 o3 o4 o5 : ℕ} (m : ℕ) (f : Format) (w : Tape) (total : ℕ)
+    → total ≡ loadingTime w → Wrote d 0 (0x6D ∷ 0x6F ∷ 0x64 ∷ 0x65 ∷ 0x6C ∷ 0x20 ∷ []) d1 o1
+    → Wrote d1 o1 (modelText m) d2 o2 → Wrote d2 o2 (countText f (w .count)) d3 o3 → Wrote d3 o3 (rowsText w (w .count)) d4 o4
+    → Wrote d4 o4 (totalText total) d5 o5 → Wrote d 0 (listingText m f w) d5 o5
 unfolding listingText restText loadingText
-listing-written {d4 = d4} {d5} {o4 = o4} {o5} m f w total e p q r u v = then (then p q) (then (then r u) (subst (λ (n : ℕ). Wrote d4 o4 (totalText n) d5 o5) e v))
+listing-written {d4 = d4} {d5} {o4 = o4} {o5} m f w total e p q r u v =
+    then (then p q) (then (then r u) (subst (λ (n : ℕ). Wrote d4 o4 (totalText n) d5 o5) e v))

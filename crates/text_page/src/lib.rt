@@ -69,7 +69,8 @@ pub fn put_listing(
     n: u64,
 ) -> usize
     requires { ⌜ Ready (now tape) (now tones) (now blocks) n ⌝ }
-    ensures { λ r. ⌜ Wrote (now (out .entry)) 0 (listingText model format (tapeOf (now (tape .entry)) (now (tones .entry)) (now (blocks .entry)) n)) (now (out .exit)) r ⌝ }
+    ensures { λ r. ⌜ Wrote (now (out .entry)) 0
+        (listingText model format (tapeOf (now (tape .entry)) (now (tones .entry)) (now (blocks .entry)) n)) (now (out .exit)) r ⌝ }
 {
     let a = put_all(out, 0, b"model ");
     let b = put_model(out, a, model);

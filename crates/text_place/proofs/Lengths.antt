@@ -35,4 +35,5 @@ rest-length d v = simp length-append (omega (arith, duration-length d, flag-leng
 pub place-length : (s : Stand) → length (placeText s) ≤ 103
 unfolding placeText
 place-length s =
-    simp length-append (omega (arith, decimal-length (s .position .block), phase-length (s .position .phase), rest-length (s .position .left) (s .level)))
+    simp length-append
+    (omega (arith, decimal-length (s .position .block), phase-length (s .position .phase), rest-length (s .position .left) (s .level)))

@@ -57,7 +57,8 @@ in-range p a b c e = of (ltb p a) refl e
 out-of-range : (p a b c : ℕ) → (ltb p a || (leb b p && leb p c)) ≡ false → (a ≤ p) × ((p < b) ⊎ (c < p))
 out-of-range p a b c e = of (ltb p a) (leb b p) (leb p c) refl refl refl e
   where
-    of : (t u v : Bool) → ltb p a ≡ t → leb b p ≡ u → leb p c ≡ v → (t || (u && v)) ≡ false → (a ≤ p) × ((p < b) ⊎ (c < p))
+    of : (t u v : Bool) → ltb p a ≡ t → leb b p ≡ u → leb p c ≡ v → (t || (u && v)) ≡ false
+        → (a ≤ p) × ((p < b) ⊎ (c < p))
     of true u v f g h e = absurd (false≢true (sym e))
     of false false v f g h e = (ltb-false p a f, inl (leb-false b p g))
     of false true false f g h e = (ltb-false p a f, inr (leb-false p c h))

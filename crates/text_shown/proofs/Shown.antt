@@ -25,17 +25,21 @@ shown-last b = by-cases (ltb b 32 || eqb b 127)
     by-cases true = refl
     by-cases false = refl
 
-shown-first : (b c : ℕ) (bs : List ℕ) → shown (b ∷ c ∷ bs) ≡ printed (eqb b 0xC2 && ltb c 0xA0) b ∷ shown (drop (width (eqb b 0xC2 && ltb c 0xA0)) (b ∷ c ∷ bs))
+shown-first : (b c : ℕ) (bs : List ℕ)
+    → shown (b ∷ c ∷ bs) ≡ printed (eqb b 0xC2 && ltb c 0xA0) b ∷ shown (drop (width (eqb b 0xC2 && ltb c 0xA0)) (b ∷ c ∷ bs))
 unfolding shown
 shown-first b c bs = by-cases (eqb b 0xC2 && ltb c 0xA0) (ltb b 32 || eqb b 127)
   where
-    by-cases : (t u : Bool) → (t ⇒ 0x3F ∷ shown bs ∣ u ⇒ 0x3F ∷ shown (c ∷ bs) ∣ b ∷ shown (c ∷ bs)) ≡ (t ⇒ 0x3F ∣ u ⇒ 0x3F ∣ b) ∷ shown (drop (width t) (b ∷ c ∷ bs))
+    by-cases : (t u : Bool)
+        → (t ⇒ 0x3F ∷ shown bs ∣ u ⇒ 0x3F ∷ shown (c ∷ bs) ∣ b ∷ shown (c ∷ bs))
+        ≡ (t ⇒ 0x3F ∣ u ⇒ 0x3F ∣ b) ∷ shown (drop (width t) (b ∷ c ∷ bs))
     by-cases true u = refl
     by-cases false true = refl
     by-cases false false = refl
 
 -- the code point at i, and what follows it
-pub shown-at : (s : List ℕ) (i : ℕ) → i < length s → shown (drop i s) ≡ printed (isC1 s i) (getD s i 0) ∷ shown (drop (i + width (isC1 s i)) s)
+pub shown-at : (s : List ℕ) (i : ℕ) → i < length s
+    → shown (drop i s) ≡ printed (isC1 s i) (getD s i 0) ∷ shown (drop (i + width (isC1 s i)) s)
 unfolding shown
 shown-at s i h = ⊎-elim more last (lt-or-ge (i + 1) (length s))
   where
@@ -59,7 +63,8 @@ shown-at s i h = ⊎-elim more last (lt-or-ge (i + 1) (length s))
 
 -- it lies in the name
 pub c1-inside : (s : List ℕ) (i : ℕ) → i < length s → i + width (isC1 s i) ≤ length s
-c1-inside s i h = ⊎-elim (λ k. rw (lt-ltb (i + 1) (length s) k) (either (eqb (getD s i 0) 0xC2 && ltb (getD s (i + 1) 0) 0xA0) k)) (λ k. rw (le-ltb (i + 1) (length s) k) (omega arith)) (lt-or-ge (i + 1) (length s))
+c1-inside s i h = ⊎-elim (λ k. rw (lt-ltb (i + 1) (length s) k) (either (eqb (getD s i 0) 0xC2 && ltb (getD s (i + 1) 0) 0xA0) k))
+    (λ k. rw (le-ltb (i + 1) (length s) k) (omega arith)) (lt-or-ge (i + 1) (length s))
   where
     either : (t : Bool) → i + 1 < length s → i + width t ≤ length s
     either true k = omega arith
@@ -96,7 +101,8 @@ pub shows-none : (d : List ℕ) (at : ℕ) (s : List ℕ) → Shows d at s 0 d a
 shows-none d at s = record { inside = omega arith; goes = goes-none _ 1 d at }
 
 pub shows-on : {d₀ d d1 s : List ℕ} {at i o o1 b k : ℕ} {c1 : Bool} → Shows d₀ at s i d o → i < length s
-    → c1 ≡ isC1 s i → b ≡ printed c1 (getD s i 0) → k ≡ width c1 → Wrote d o (b ∷ []) d1 o1 → Shows d₀ at s (i + k) d1 o1
+    → c1 ≡ isC1 s i → b ≡ printed c1 (getD s i 0) → k ≡ width c1 → Wrote d o (b ∷ []) d1 o1
+    → Shows d₀ at s (i + k) d1 o1
 shows-on {s = s} {i = i} {b = b} {k} {c1} g h e p q w =
     let z : k ≡ width (isC1 s i) = q ∙ ap width e in
     let y : b ≡ printed (isC1 s i) (getD s i 0) = p ∙ ap (λ (t : Bool). printed t (getD s i 0)) e in
@@ -114,7 +120,8 @@ shows-over {s = s} g h = goes-over (g .goes) (ap shown (drop-of-length-le s h))
 -- a text that was written into lent bytes, read back from them
 pub name-part : {d d1 t : List ℕ} {n : ℕ} → Wrote d 0 t d1 n → length t ≤ length d → take n d1 ≡ t
 name-part {d} {d1} {t} {n} p h =
-    ap (λ (x : ℕ). take x d1) (wrote-counted p) ∙ ap (take (length t)) (wrote-whole p h) ∙ take-append-le (length t) t (drop (length t) d) (omega arith) ∙ take-length t
+    ap (λ (x : ℕ). take x d1) (wrote-counted p) ∙ ap (take (length t)) (wrote-whole p h)
+    ∙ take-append-le (length t) t (drop (length t) d) (omega arith) ∙ take-length t
 
 pub part-length : {d d1 t : List ℕ} {n : ℕ} → Wrote d 0 t d1 n → length t ≤ length d → n ≡ length (take n d1)
 part-length p h = wrote-counted p ∙ sym (ap length (name-part p h))

@@ -31,11 +31,13 @@ pub two : (p : ℕ) → 0x80 ≤ p → p < 0x800 → bytesOf p ≡ (0xC0 + p / 6
 unfolding bytesOf
 two p h k = rw (le-ltb p 0x80 h, lt-ltb p 0x800 k)
 
-pub three : (p : ℕ) → 0x800 ≤ p → p < 0x10000 → bytesOf p ≡ (0xE0 + p / 4096) ∷ (0x80 + p / 64 % 64) ∷ (0x80 + p % 64) ∷ []
+pub three : (p : ℕ) → 0x800 ≤ p → p < 0x10000
+    → bytesOf p ≡ (0xE0 + p / 4096) ∷ (0x80 + p / 64 % 64) ∷ (0x80 + p % 64) ∷ []
 unfolding bytesOf
 three p h k = rw (le-ltb p 0x80 (omega arith), le-ltb p 0x800 h, lt-ltb p 0x10000 k)
 
-pub four : (p : ℕ) → 0x10000 ≤ p → bytesOf p ≡ (0xF0 + p / 262144) ∷ (0x80 + p / 4096 % 64) ∷ (0x80 + p / 64 % 64) ∷ (0x80 + p % 64) ∷ []
+pub four : (p : ℕ) → 0x10000 ≤ p
+    → bytesOf p ≡ (0xF0 + p / 262144) ∷ (0x80 + p / 4096 % 64) ∷ (0x80 + p / 64 % 64) ∷ (0x80 + p % 64) ∷ []
 unfolding bytesOf
 four p h = rw (le-ltb p 0x80 (omega arith), le-ltb p 0x800 (omega arith), le-ltb p 0x10000 h)
 
@@ -60,7 +62,8 @@ by-64 p =
 first-back : (p : ℕ) (bs : List ℕ) → firstPoint (bytesOf p ++ bs) ≡ p
 first-back p bs =
     ⊎-elim (λ h. rw (one p h, lt-ltb p 0x80 h))
-    (λ h. ⊎-elim (λ k. rw (two p h k, le-ltb (0xC0 + p / 64) 0x80 (omega arith), lt-ltb (0xC0 + p / 64) 0xE0 (omega arith)) (omega arith))
+    (λ h.
+    ⊎-elim (λ k. rw (two p h k, le-ltb (0xC0 + p / 64) 0x80 (omega arith), lt-ltb (0xC0 + p / 64) 0xE0 (omega arith)) (omega arith))
     (λ k. ⊎-elim (λ m. let a = 0xE0 + p / 4096 in
     rw (three p k m, le-ltb a 0x80 (omega arith), le-ltb a 0xE0 (omega arith), lt-ltb a 0xF0 (omega arith)) (omega arith))
     (λ m. let a = 0xF0 + p / 262144 in
@@ -103,7 +106,8 @@ utf8-none = record { whole = refl; scalars = refl }
 each-join : (ps qs : List ℕ) → eachByte bytesOf ps ++ eachByte bytesOf qs ≡ eachByte bytesOf (ps ++ qs)
 unfolding eachByte
 each-join [] qs = refl
-each-join (p ∷ ps) qs = append-assoc (bytesOf p) (eachByte bytesOf ps) (eachByte bytesOf qs) ∙ ap (λ (l : List ℕ). bytesOf p ++ l) (each-join ps qs)
+each-join (p ∷ ps) qs =
+    append-assoc (bytesOf p) (eachByte bytesOf ps) (eachByte bytesOf qs) ∙ ap (λ (l : List ℕ). bytesOf p ++ l) (each-join ps qs)
 
 scalars-join : (ps qs : List ℕ) → areScalars ps ≡ true → areScalars qs ≡ true → areScalars (ps ++ qs) ≡ true
 unfolding areScalars

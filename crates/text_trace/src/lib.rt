@@ -10,7 +10,8 @@ use text_out::put_decimal;
 use text_place::put_place;
 ghost use Prim.Native.Nat.{_+_, _^_, _<_};
 ghost use Rattle.text_out.specs.Out.{Wrote};
-ghost use Rattle.text_trace.specs.Lines.{refusedText, refusedLine, selectedText, standLine, passedLine, sourceLine, measuredLine, lineOf};
+ghost use Rattle.text_trace.specs.Lines.{refusedText, refusedLine, selectedText, standLine, passedLine, sourceLine};
+ghost use Rattle.text_trace.specs.Lines.{measuredLine, lineOf};
 
 // `refused n`
 fn put_refused(out: &mut [u8], at: usize, k: u32) -> usize
@@ -101,7 +102,8 @@ fn put_measured(out: &mut [u8], at: usize, answer: Reached, b: Selected) -> usiz
     }
 }
 
-// The line of a call's answer, and of the block then shown, of the measured player or of the source's play. Our crates alone call it: the place is far from overflow.
+// The line of a call's answer, and of the block then shown, of the measured player or of the source's play.
+// Our crates alone call it: the place is far from overflow.
 pub fn put_line(out: &mut [u8], at: usize, measured: bool, answer: Reached, b: Selected) -> usize
     requires { ⌜ at + 256 < 2 ^ 63 ⌝ }
     ensures { λ r. ⌜ Wrote (now (out .entry)) at (lineOf measured answer b) (now (out .exit)) r ⌝ }

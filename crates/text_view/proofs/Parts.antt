@@ -65,16 +65,19 @@ module _ {d d1 : List ℕ} {at r : ℕ} where
   bits-next nil one last w = omega (arith, w .count, bits-length nil one last)
 
 module _ (tones : List ℕ) where
-  more : (from i : ℕ) → tonesText (tonesFrom tones from (suc i)) ≡ tonesText (tonesFrom tones from i) ++ toneText (get tone tones (from + i))
+  more : (from i : ℕ)
+      → tonesText (tonesFrom tones from (suc i)) ≡ tonesText (tonesFrom tones from i) ++ toneText (get tone tones (from + i))
   unfolding tonesText tonesFrom
   more from zero = rw (append-nil (toneText (get tone tones from)), add-zero)
   more from (suc i) =
       let e : from + 1 + i ≡ from + suc i = omega arith in
       ap (λ (l : List ℕ). toneText (get tone tones from) ++ l) (more (from + 1) i ∙ rw e)
-      ∙ sym (append-assoc (toneText (get tone tones from)) (tonesText (tonesFrom tones (from + 1) i)) (toneText (get tone tones (from + suc i))))
+      ∙ sym
+      (append-assoc (toneText (get tone tones from)) (tonesText (tonesFrom tones (from + 1) i)) (toneText (get tone tones (from + suc i))))
 
   -- one row more
-  pub tones-next : (from i : ℕ) → tonesText (tonesFrom tones from (i + 1)) ≡ tonesText (tonesFrom tones from i) ++ toneText (get tone tones (from + i))
+  pub tones-next : (from i : ℕ)
+      → tonesText (tonesFrom tones from (i + 1)) ≡ tonesText (tonesFrom tones from i) ++ toneText (get tone tones (from + i))
   tones-next from i = rw (add-one i) (more from i)
 
   pub tones-length : (from n : ℕ) → length (tonesText (tonesFrom tones from n)) ≤ 63 * n

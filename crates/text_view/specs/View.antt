@@ -30,7 +30,16 @@ tonesFrom tones from (suc n) = get tone tones from ∷ tonesFrom tones (from + 1
 
 abbrev pub viewOf : List ℕ → List Tone → Block → View
 viewOf tape ts r =
-    record { name = nameOf tape r; selectable = eqb (r .selectable) 1; tones = ts; zero = r .zero; one = r .one; last = r .last; pause = wholePause r; bytes = take (r .size) (drop (r .start) tape) }
+    record {
+      name = nameOf tape r;
+      selectable = eqb (r .selectable) 1;
+      tones = ts;
+      zero = r .zero;
+      one = r .one;
+      last = r .last;
+      pause = wholePause r;
+      bytes = take (r .size) (drop (r .start) tape);
+    }
 
 -- A ROW'S BLOCK, over a tape's bytes and a tone table
 abbrev pub rowView : List ℕ → List ℕ → Block → View

@@ -1,4 +1,5 @@
-// The parts of a view's line behind its numbers, each written into lent bytes: a program prints them one after the other. Our programs alone call them.
+// The parts of a view's line behind its numbers, each written into lent bytes: a program prints them one after the other.
+// Our programs alone call them.
 use rows::Tone;
 use rows::tone_at;
 use text_out::put;

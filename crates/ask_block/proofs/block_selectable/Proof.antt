@@ -1,4 +1,4 @@
--- `queries::block_selectable` meets its contract: the refusal, or the row's mark. Assumes nothing.
+-- `block_selectable` meets its contract: the refusal, or the row's mark. Assumes nothing.
 use native.Mathlib.Omega.{arith}
 use mathlib.Core.Path.{ap}
 use lib.Dec.{eqb}
@@ -22,13 +22,16 @@ returns c =
 block-at-requires : tie.Need-block-at-requires
 block-at-requires c κs =
     let a = c .before .before .before .before .before .args in
-    let q = asked (tapeOf (a .tape .now) (a .tones .now) (a .blocks .now) (a .count)) (a .i) _ (c .before .refusal .ensures) (c .if1 .left) in
+    let q = asked (tapeOf (a .tape .now) (a .tones .now) (a .blocks .now) (a .count)) (a .i) _ (c .before .refusal .ensures)
+    (c .if1 .left) in
     omega arith
 
 returns-2 : tie.Need-returns-2
 unfolding selectableOf
 returns-2 c =
-    mark-given _ (c .before .before .before .refusal .ensures) (c .before .before .if1 .left) (ap (λ (r : Block). Is (eqb (r .selectable) 1)) (c .before .block-at .ensures))
+    let refusal = c .before .before .before in
+    mark-given _ (refusal .refusal .ensures) (c .before .before .if1 .left)
+    (ap (λ (r : Block). Is (eqb (r .selectable) 1)) (c .before .block-at .ensures))
 
 pub block-selectable-spec : {M : Type 1} → statement M
 block-selectable-spec = tie.close (tie.spec refusal-requires returns block-at-requires returns-2)

@@ -1,4 +1,4 @@
--- `queries::block_size` meets its contract: the refusal, or the row's data size. Assumes nothing.
+-- `block_size` meets its contract: the refusal, or the row's data size. Assumes nothing.
 use native.Mathlib.Omega.{arith}
 use mathlib.Core.Path.{ap}
 use borrow.Author.Needs.{needs}
@@ -21,7 +21,8 @@ returns c =
 block-at-requires : tie.Need-block-at-requires
 block-at-requires c κs =
     let a = c .before .before .before .before .before .args in
-    let q = asked (tapeOf (a .tape .now) (a .tones .now) (a .blocks .now) (a .count)) (a .i) _ (c .before .refusal .ensures) (c .if1 .left) in
+    let q = asked (tapeOf (a .tape .now) (a .tones .now) (a .blocks .now) (a .count)) (a .i) _ (c .before .refusal .ensures)
+    (c .if1 .left) in
     omega arith
 
 returns-2 : tie.Need-returns-2

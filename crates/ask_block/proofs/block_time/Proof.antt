@@ -1,4 +1,4 @@
--- `queries::block_time` meets its contract: the refusal, or what the well-formed row's entries last. Assumes nothing.
+-- `block_time` meets its contract: the refusal, or what the well-formed row's entries last. Assumes nothing.
 use native.Mathlib.Omega.{arith}
 use mathlib.Core.Path.{_≡_, sym, subst, ap, _∙_}
 use mathlib.Core.Bool.{true}
@@ -24,23 +24,27 @@ returns c =
 block-at-requires : tie.Need-block-at-requires
 block-at-requires c κs =
     let a = c .before .before .before .before .before .args in
-    let q = asked (tapeOf (a .tape .now) (a .tones .now) (a .blocks .now) (a .count)) (a .i) _ (c .before .refusal .ensures) (c .if1 .left) in
+    let q = asked (tapeOf (a .tape .now) (a .tones .now) (a .blocks .now) (a .count)) (a .i) _ (c .before .refusal .ensures)
+    (c .if1 .left) in
     omega arith
 
 block-time-requires : tie.Need-block-time-requires
 unfolding wellRow
 block-time-requires c κs =
     let a = c .before .before .before .before .before .before .args in
-    let q = asked (tapeOf (a .tape .now) (a .tones .now) (a .blocks .now) (a .count)) (a .i) _ (c .before .before .refusal .ensures) (c .before .if1 .left) in
+    let q = asked (tapeOf (a .tape .now) (a .tones .now) (a .blocks .now) (a .count)) (a .i) _ (c .before .before .refusal .ensures)
+    (c .before .if1 .left) in
     subst (λ (r : Block). wellBlock (tapeSize (a .tape .now)) (a .tones .now) r ≡ true) (sym (c .block-at .ensures)) (q .well)
 
 returns-2 : tie.Need-returns-2
 unfolding timeOf
 returns-2 c =
-    let a = c .before .before .before .before .before .before .before .args in
+    let refusal = c .before .before .before in
+    let a = refusal .before .before .before .before .args in
     let w = tapeOf (a .tape .now) (a .tones .now) (a .blocks .now) (a .count) in
-    time-given _ {m = refusalOf w (a .i)} (c .before .before .before .refusal .ensures) (c .before .before .if1 .left)
-    (ap Lasts (c .block-time .ensures (a .i) ∙ ap (λ (r : Block). lastsOf (entriesOf (a .tape .now) (a .tones .now) (a .i) r)) (c .before .block-at .ensures)))
+    time-given _ {m = refusalOf w (a .i)} (refusal .refusal .ensures) (c .before .before .if1 .left)
+    (ap Lasts (c .block-time .ensures (a .i)
+    ∙ ap (λ (r : Block). lastsOf (entriesOf (a .tape .now) (a .tones .now) (a .i) r)) (c .before .block-at .ensures)))
 
 pub block-time-spec : {M : Type 1} → statement M
 block-time-spec =

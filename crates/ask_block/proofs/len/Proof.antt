@@ -1,4 +1,4 @@
--- `queries::len` meets its contract, whatever the bytes and tones are. Assumes nothing.
+-- `len` meets its contract, whatever the bytes and tones are. Assumes nothing.
 use mathlib.Core.Path.{sym, _∙_}
 use borrow.Author.Needs.{needs}
 use Rattle.ask_block.specs.Queries.{lenOf}

@@ -1,4 +1,4 @@
--- `queries::overfull` meets its contract. Assumes nothing.
+-- `overfull` meets its contract. Assumes nothing.
 use Prim.Native.Nat.{ℕ}
 use mathlib.Core.Path.{ap}
 use lib.Dec.{ltb}

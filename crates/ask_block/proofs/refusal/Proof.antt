@@ -1,4 +1,4 @@
--- `queries::refusal` meets its contract: each return is one rule, and a row below the count is lent. Assumes nothing.
+-- `refusal` meets its contract: each return is one rule, and a row below the count is lent. Assumes nothing.
 use Prim.Native.Nat.{_≤_}
 use native.Mathlib.Omega.{arith}
 use mathlib.Core.Path.{sym, _∙_}
@@ -28,7 +28,8 @@ returns-2 c =
 row-well-requires : tie.Need-row-well-requires
 row-well-requires c κs =
     let a = c .before .before .before .before .before .before .args in
-    let l : a .count ≤ capacityOf block blockMost (a .blocks .now) = ltb-false _ _ (sym (c .before .before .overfull .ensures) ∙ c .before .if1 .left) in
+    let l : a .count ≤ capacityOf block blockMost (a .blocks .now) =
+    ltb-false _ _ (sym (c .before .before .overfull .ensures) ∙ c .before .if1 .left) in
     omega arith
 
 returns-3 : tie.Need-returns-3
@@ -36,14 +37,22 @@ unfolding refusalOf wellRow
 returns-3 c =
     let f = c .before .before .before in
     let a = f .before .before .before .before .before .args in
-    rw (sym (f .before .overfull .ensures) ∙ f .if1 .left, lt-leb (a .count) (a .i) (omega arith), sym (c .before .row-well .ensures) ∙ c .if3 .taken)
+    rw (
+      sym (f .before .overfull .ensures) ∙ f .if1 .left,
+      lt-leb (a .count) (a .i) (omega arith),
+      sym (c .before .row-well .ensures) ∙ c .if3 .taken,
+    )
 
 returns-4 : tie.Need-returns-4
 unfolding refusalOf wellRow
 returns-4 c =
     let f = c .before .before .before in
     let a = f .before .before .before .before .before .args in
-    rw (sym (f .before .overfull .ensures) ∙ f .if1 .left, lt-leb (a .count) (a .i) (omega arith), sym (c .before .row-well .ensures) ∙ c .if3 .left)
+    rw (
+      sym (f .before .overfull .ensures) ∙ f .if1 .left,
+      lt-leb (a .count) (a .i) (omega arith),
+      sym (c .before .row-well .ensures) ∙ c .if3 .left,
+    )
 
 pub refusal-spec : {M : Type 1} → statement M
 refusal-spec =

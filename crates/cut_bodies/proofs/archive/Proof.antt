@@ -22,7 +22,9 @@ enum-known-end c = search needs
 
 slice-aggregate-inside : tie.Need-slice-aggregate-inside
 slice-aggregate-inside c =
-    sym (length-take-le _ _ (field-inside (c .before .before .before .before .before .before .before .before .args .tape .now) _ _ (sym (c .before .before .before .before .pass .ensures) ∙ c .before .before .end .given .1)))
+    let pass = c .before .before .before .before in
+    let a = pass .before .before .before .before .args in
+    sym (length-take-le _ _ (field-inside (a .tape .now) _ _ (sym (pass .pass .ensures) ∙ c .before .before .end .given .1)))
 
 info-requires : tie.Need-info-requires
 info-requires c κs = search needs
@@ -36,12 +38,15 @@ enum-known-at c = search needs
 returns : tie.Need-returns
 unfolding kind32 readAt enclosed
 returns c =
-    rw (c .sealed .ensures, c .before .info .ensures, ← c .before .before .before .before .before .before .before .before .field .ensures, ← c .before .before .before .before .before .before .pass .ensures, c .before .before .before .before .end .given .1)
+    let end = c .before .before .before .before in
+    let field = end .before .before .before .before in
+    rw (c .sealed .ensures, c .before .info .ensures, ← field .field .ensures, ← end .before .before .pass .ensures, end .end .given .1)
 
 returns-2 : tie.Need-returns-2
 unfolding kind32 readAt enclosed
 returns-2 c =
-    rw (← c .before .before .before .before .before .field .ensures, ← c .before .before .before .pass .ensures, c .before .at .given .1)
+    let pass = c .before .before .before in
+    rw (← pass .before .before .field .ensures, ← pass .pass .ensures, c .before .at .given .1)
 
 pub archive-spec : {M : Type 1} → statement M
 archive-spec =

@@ -23,7 +23,8 @@ whole-requires c κs = search needs
 returns : tie.Need-returns
 unfolding kind33 readAt passAt
 returns c =
-    rw (c .whole .ensures, c .before .groups .ensures, c .before .before .before .place .ensures, c .before .before .before .before .field .ensures)
+    let place = c .before .before .before in
+    rw (c .whole .ensures, c .before .groups .ensures, place .place .ensures, place .before .field .ensures)
 
 pub hardware-spec : {M : Type 1} → statement M
 hardware-spec =

@@ -23,7 +23,8 @@ whole-requires c κs = search needs
 returns : tie.Need-returns
 unfolding kind13 readAt passAt
 returns c =
-    rw (c .whole .ensures, c .before .each .ensures, c .before .before .before .place .ensures, c .before .before .before .before .field .ensures)
+    let place = c .before .before .before in
+    rw (c .whole .ensures, c .before .each .ensures, place .place .ensures, place .before .field .ensures)
 
 pub pulses-spec : {M : Type 1} → statement M
 pulses-spec =

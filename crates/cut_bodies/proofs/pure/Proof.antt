@@ -26,7 +26,15 @@ whole-requires c κs = search needs
 returns : tie.Need-returns
 unfolding kind14 readAt passAt
 returns c =
-    rw (c .whole .ensures, c .before .counted .ensures, c .before .before .after3 .ensures, c .before .before .before .after2 .ensures, c .before .before .before .before .after .ensures, c .before .before .before .before .before .field .ensures)
+    let after2 = c .before .before .before in
+    rw (
+      c .whole .ensures,
+      c .before .counted .ensures,
+      c .before .before .after3 .ensures,
+      after2 .after2 .ensures,
+      after2 .before .after .ensures,
+      after2 .before .before .field .ensures,
+    )
 
 pub pure-spec : {M : Type 1} → statement M
 pure-spec =

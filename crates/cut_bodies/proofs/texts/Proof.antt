@@ -32,7 +32,12 @@ loop-less c = search needs
 
 loop-again : tie.Need-loop-again Inv-loop μ-loop
 loop-again c =
-    rw (c .counted .ensures, c .before .field .ensures) (sym (texts-more (c .before .before .before .before .before .args .tape .now) (c .before .before .before .loop .at) (c .before .before .before .loop .left) (c .before .before .loop-test .taken))) ∙ c .before .before .before .loop .inv
+    let loop = c .before .before .before in
+    rw (
+      c .counted .ensures,
+      c .before .field .ensures,
+    ) (sym (texts-more (loop .before .before .args .tape .now) (loop .loop .at) (loop .loop .left) (c .before .before .loop-test .taken)))
+    ∙ loop .loop .inv
 
 returns : tie.Need-returns Inv-loop μ-loop
 unfolding textsAt times

@@ -38,7 +38,21 @@ whole-requires c κs = search needs
 returns : tie.Need-returns
 unfolding kind11 readAt passAt
 returns c =
-    rw (c .whole .ensures, c .before .counted .ensures, c .before .before .after7 .ensures, c .before .before .before .after6 .ensures, c .before .before .before .before .after5 .ensures, c .before .before .before .before .before .after4 .ensures, c .before .before .before .before .before .before .after3 .ensures, c .before .before .before .before .before .before .before .after2 .ensures, c .before .before .before .before .before .before .before .before .after .ensures, c .before .before .before .before .before .before .before .before .before .field .ensures)
+    let after6 = c .before .before .before in
+    let after3 = after6 .before .before .before in
+    let field = after3 .before .before .before in
+    rw (
+      c .whole .ensures,
+      c .before .counted .ensures,
+      c .before .before .after7 .ensures,
+      after6 .after6 .ensures,
+      after6 .before .after5 .ensures,
+      after6 .before .before .after4 .ensures,
+      after3 .after3 .ensures,
+      after3 .before .after2 .ensures,
+      after3 .before .before .after .ensures,
+      field .field .ensures,
+    )
 
 pub turbo-spec : {M : Type 1} → statement M
 turbo-spec =

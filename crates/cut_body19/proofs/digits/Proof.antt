@@ -30,7 +30,8 @@ loop-less c = search needs
 
 loop-again : tie.Need-loop-again Inv-loop μ-loop
 loop-again c =
-    (omega arith, sym (digits-more (c .before .before .loop .k) (c .before .before .loop .left) (c .before .loop-test .taken) (c .if1 .left)) ∙ c .before .before .loop .inv .1)
+    let loop = c .before .before in
+    (omega arith, sym (digits-more (loop .loop .k) (loop .loop .left) (c .before .loop-test .taken) (c .if1 .left)) ∙ loop .loop .inv .1)
 
 returns-2 : tie.Need-returns-2 Inv-loop μ-loop
 unfolding binaryDigits

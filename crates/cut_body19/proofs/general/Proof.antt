@@ -38,7 +38,9 @@ cast-bits-2 c = search needs
 
 mul-bits : tie.Need-mul-bits
 mul-bits c =
-    let b = bits-fit {n = c .before .symbol-bits .result} {t = c .before .before .before .before .general-head .result .totd} (search needs) (search needs) in record { fits = omega arith }
+    let general-head = c .before .before .before .before in
+    let b = bits-fit {n = c .before .symbol-bits .result} {t = general-head .general-head .result .totd} (search needs) (search needs) in
+    record { fits = omega arith }
 
 held-if-requires : tie.Need-held-if-requires
 held-if-requires c κs = search needs
@@ -78,7 +80,11 @@ place-requires-4 c κs = search needs
 
 add-t18 : tie.Need-add-t18
 add-t18 c =
-    record { fits = bits-fit {n = c .before .before .before .before .before .before .before .before .before .before .before .symbol-bits .result} {t = c .before .before .before .before .before .before .before .before .before .before .before .before .before .before .general-head .result .totd} (search needs) (search needs) }
+    record {
+      fits = bits-fit {n = c .before .before .before .before .before .before .before .before .before .before .before .symbol-bits .result}
+          {t = c .before .before .before .before .before .before .before .before .before .before .before .before .before .before
+          .general-head .result .totd} (search needs) (search needs);
+    }
 
 stream-requires : tie.Need-stream-requires
 stream-requires c κs = search needs

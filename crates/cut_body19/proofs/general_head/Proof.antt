@@ -31,7 +31,18 @@ after-requires-7 c κs = search needs
 returns : tie.Need-returns
 unfolding head19
 returns c =
-    rw (c .after7 .ensures, c .before .after6 .ensures, c .before .before .after5 .ensures, c .before .before .before .after4 .ensures, c .before .before .before .before .after3 .ensures, c .before .before .before .before .before .after2 .ensures, c .before .before .before .before .before .before .after .ensures, c .before .before .before .before .before .before .before .field .ensures)
+    let after4 = c .before .before .before in
+    let after = after4 .before .before .before in
+    rw (
+      c .after7 .ensures,
+      c .before .after6 .ensures,
+      c .before .before .after5 .ensures,
+      after4 .after4 .ensures,
+      after4 .before .after3 .ensures,
+      after4 .before .before .after2 .ensures,
+      after .after .ensures,
+      after .before .field .ensures,
+    )
 
 pub general-head-spec : {M : Type 1} → statement M
 general-head-spec =

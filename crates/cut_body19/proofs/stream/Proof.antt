@@ -22,7 +22,8 @@ enum-known-c-2 c = search needs
 returns : tie.Need-returns
 unfolding stream19 readAt passAt fittingAt
 returns c =
-    rw (c .whole .ensures, c .before .each .ensures, c .before .before .before .before .c .given .1, le-leb _ _ (c .before .before .if1 .taken))
+    let at-c = c .before .before .before .before in
+    rw (c .whole .ensures, c .before .each .ensures, at-c .c .given .1, le-leb _ _ (c .before .before .if1 .taken))
 
 returns-2 : tie.Need-returns-2
 unfolding stream19 readAt passAt fittingAt
@@ -32,7 +33,11 @@ returns-2 c =
 returns-3 : tie.Need-returns-3
 unfolding stream19 readAt passAt fittingAt wholeAt
 returns-3 c =
-    rw (c .before .c2 .given .1, each-stopped (c .before .before .before .before .args .tape .now) (c .before .before .before .before .args .general .size) 1 (stopped {p = c .before .c2 .given .0 .0} {w = c .before .c2 .given .0 .1 .0}))
+    let a = c .before .before .before .before .args in
+    rw (
+      c .before .c2 .given .1,
+      each-stopped (a .tape .now) (a .general .size) 1 (stopped {p = c .before .c2 .given .0 .0} {w = c .before .c2 .given .0 .1 .0}),
+    )
 
 pub stream-spec : {M : Type 1} → statement M
 stream-spec =

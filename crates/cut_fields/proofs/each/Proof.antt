@@ -22,11 +22,15 @@ enum-told c = search needs
 
 returns : tie.Need-returns
 returns c =
-    rw (c .before .before .before .c .given .1) (sym (each-short (c .before .before .before .before .before .before .args .tape .now) (c .before .wholes .ensures) (c .if1 .taken)))
+    let at-c = c .before .before .before in
+    let a = at-c .before .before .before .args in
+    rw (at-c .c .given .1) (sym (each-short (a .tape .now) (c .before .wholes .ensures) (c .if1 .taken)))
 
 returns-2 : tie.Need-returns-2
 returns-2 c =
-    rw (c .before .before .before .c .given .1) (sym (each-all (c .before .before .before .before .before .before .args .tape .now) (c .before .wholes .ensures) (c .if1 .left)))
+    let at-c = c .before .before .before in
+    let a = at-c .before .before .before .args in
+    rw (at-c .c .given .1) (sym (each-all (a .tape .now) (c .before .wholes .ensures) (c .if1 .left)))
 
 returns-3 : tie.Need-returns-3
 returns-3 c =

@@ -17,11 +17,18 @@ room-requires c κs = search needs
 
 number-requires : tie.Need-number-requires
 number-requires c κs =
-    omega (arith, leb-true (c .before .before .before .c .given .0 .0 + c .before .before .before .before .before .before .args .width) (length (c .before .before .before .before .before .before .args .tape .now)) (sym (c .before .room .ensures) ∙ c .if1 .taken))
+    let at-c = c .before .before .before in
+    let a = at-c .before .before .before .args in
+    omega (arith, leb-true (at-c .c .given .0 .0 + a .width) (length (a .tape .now)) (sym (c .before .room .ensures) ∙ c .if1 .taken))
 
 add-t9 : tie.Need-add-t9
 add-t9 c =
-    omega (arith, leb-true (c .before .before .before .before .c .given .0 .0 + c .before .before .before .before .before .before .before .args .width) (length (c .before .before .before .before .before .before .before .args .tape .now)) (sym (c .before .before .room .ensures) ∙ c .before .if1 .taken))
+    let at-c = c .before .before .before .before in
+    let a = at-c .before .before .before .args in
+    omega (
+      arith,
+      leb-true (at-c .c .given .0 .0 + a .width) (length (a .tape .now)) (sym (c .before .before .room .ensures) ∙ c .before .if1 .taken),
+    )
 
 enum-told : tie.Need-enum-told
 enum-told c = search needs
@@ -29,7 +36,8 @@ enum-told c = search needs
 returns : tie.Need-returns
 unfolding fieldAt
 returns c =
-    rw (c .before .before .before .before .c .given .1, sym (c .before .before .room .ensures) ∙ c .before .if1 .taken, c .number .ensures)
+    let at-c = c .before .before .before .before in
+    rw (at-c .c .given .1, sym (c .before .before .room .ensures) ∙ c .before .if1 .taken, c .number .ensures)
 
 returns-2 : tie.Need-returns-2
 unfolding fieldAt

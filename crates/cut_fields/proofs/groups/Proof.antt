@@ -18,7 +18,9 @@ enum-known-c c = search needs
 
 mul-size : tie.Need-mul-size
 mul-size c =
-    let s = size-fits {h = c .before .before .before .before .args .head} {k = c .before .before .before .before .args .k} {w = c .before .before .before .before .args .width} (search needs) (search needs) (search needs) in record { fits = omega arith }
+    let a = c .before .before .before .before .args in
+    let s = size-fits {h = a .head} {k = a .k} {w = a .width} (search needs) (search needs) (search needs) in
+    record { fits = omega arith }
 
 add-size : tie.Need-add-size
 add-size c =
@@ -44,11 +46,16 @@ enum-told c = search needs
 
 returns : tie.Need-returns
 returns c =
-    rw (c .before .before .before .before .before .c .given .1) (c .each .ensures ∙ rw (c .before .pass .ensures) (sym (groups-short (c .before .before .before .before .before .before .before .before .args .tape .now) _ _ _ (c .before .before .before .wholes .ensures) (c .before .before .if1 .taken))))
+    let wholes = c .before .before .before in
+    let a = wholes .before .before .before .before .before .args in
+    rw (wholes .before .before .c .given .1) (c .each .ensures
+    ∙ rw (c .before .pass .ensures) (sym (groups-short (a .tape .now) _ _ _ (wholes .wholes .ensures) (c .before .before .if1 .taken))))
 
 returns-2 : tie.Need-returns-2
 returns-2 c =
-    rw (c .before .before .before .c .given .1) (sym (groups-all (c .before .before .before .before .before .before .args .tape .now) _ _ _ (c .before .wholes .ensures) (c .if1 .left)))
+    let at-c = c .before .before .before in
+    let a = at-c .before .before .before .args in
+    rw (at-c .c .given .1) (sym (groups-all (a .tape .now) _ _ _ (c .before .wholes .ensures) (c .if1 .left)))
 
 returns-3 : tie.Need-returns-3
 returns-3 c =

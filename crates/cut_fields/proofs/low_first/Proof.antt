@@ -45,7 +45,9 @@ mul-value : tie.Need-mul-value Inv-loop μ-loop
 mul-value c = omega (arith, small c)
 
 add-value : tie.Need-add-value Inv-loop μ-loop
-add-value c = omega (arith, small c, c .shared-slice-known .given (c .before .before .before .args .at + (c .before .before .loop .left - 1)))
+add-value c =
+    let a = c .before .before .before .args in
+    omega (arith, small c, c .shared-slice-known .given (a .at + (c .before .before .loop .left - 1)))
 
 loop-less : tie.Need-loop-less Inv-loop μ-loop
 loop-less c = search needs

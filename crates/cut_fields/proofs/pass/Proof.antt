@@ -17,7 +17,9 @@ room-requires c κs = search needs
 
 add-t8 : tie.Need-add-t8
 add-t8 c =
-    omega (arith, leb-true (c .before .before .before .c .given .0 .0 + c .before .before .before .before .before .before .args .width) (length (c .before .before .before .before .before .before .args .tape .now)) (sym (c .before .room .ensures) ∙ c .if1 .taken))
+    let at-c = c .before .before .before in
+    let a = at-c .before .before .before .args in
+    omega (arith, leb-true (at-c .c .given .0 .0 + a .width) (length (a .tape .now)) (sym (c .before .room .ensures) ∙ c .if1 .taken))
 
 enum-told : tie.Need-enum-told
 enum-told c = search needs

@@ -30,12 +30,24 @@ enum-known-c-2 c = search needs
 returns-3 : tie.Need-returns-3
 unfolding tapAt tapBlock
 returns-3 c =
-    rw (lt-leb _ _ (c .before .before .before .before .before .if1 .left), ne-eqb _ _ (c .before .before .before .before .if2 .left), ← c .before .before .before .counted .ensures, c .before .c .given .1)
+    let counted = c .before .before .before in
+    rw (
+      lt-leb _ _ (counted .before .before .if1 .left),
+      ne-eqb _ _ (counted .before .if2 .left),
+      ← counted .counted .ensures,
+      c .before .c .given .1,
+    )
 
 returns-4 : tie.Need-returns-4
 unfolding tapAt tapBlock
 returns-4 c =
-    rw (lt-leb _ _ (c .before .before .before .before .before .if1 .left), ne-eqb _ _ (c .before .before .before .before .if2 .left), ← c .before .before .before .counted .ensures, c .before .c2 .given .1)
+    let counted = c .before .before .before in
+    rw (
+      lt-leb _ _ (counted .before .before .if1 .left),
+      ne-eqb _ _ (counted .before .if2 .left),
+      ← counted .counted .ensures,
+      c .before .c2 .given .1,
+    )
 
 pub cut-tap-spec : {M : Type 1} → statement M
 cut-tap-spec =

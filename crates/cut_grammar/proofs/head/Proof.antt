@@ -23,7 +23,8 @@ shared-slice-read-t9 c = search needs
 returns-2 : tie.Need-returns-2
 unfolding headAt
 returns-2 c =
-    rw (le-leb _ _ (c .before .before .before .before .if1 .left), sym (c .before .before .before .signed .ensures) ∙ c .before .before .if2 .taken)
+    let signed = c .before .before .before in
+    rw (le-leb _ _ (signed .before .if1 .left), sym (signed .signed .ensures) ∙ c .before .before .if2 .taken)
 
 returns-3 : tie.Need-returns-3
 unfolding headAt

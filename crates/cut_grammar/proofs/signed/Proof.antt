@@ -28,7 +28,10 @@ array-read-if1 c = search needs
 
 returns : tie.Need-returns Inv-loop μ-loop
 returns c =
-    sym (sym (c .before .before .before .loop .inv .1) ∙ starts-more (c .before .before .before .before .args .tape .now) signature (c .before .before .before .loop .i) (c .before .before .loop-test .taken) ∙ rw (ne-eqb _ _ (c .if1 .taken)))
+    let loop = c .before .before .before in
+    sym (sym (loop .loop .inv .1)
+    ∙ starts-more (loop .before .args .tape .now) signature (loop .loop .i) (c .before .before .loop-test .taken)
+    ∙ rw (ne-eqb _ _ (c .if1 .taken)))
 
 add-i : tie.Need-add-i Inv-loop μ-loop
 add-i c = search needs
@@ -38,7 +41,12 @@ loop-less c = search needs
 
 loop-again : tie.Need-loop-again Inv-loop μ-loop
 loop-again c =
-    (omega arith, sym (starts-more (c .before .before .before .before .args .tape .now) signature (c .before .before .before .loop .i) (c .before .before .loop-test .taken) ∙ rw (eq-eqb _ _ (c .if1 .left))) ∙ c .before .before .before .loop .inv .1)
+    let loop = c .before .before .before in (
+      omega arith,
+      sym (starts-more (loop .before .args .tape .now) signature (loop .loop .i) (c .before .before .loop-test .taken)
+          ∙ rw (eq-eqb _ _ (c .if1 .left)))
+          ∙ loop .loop .inv .1,
+    )
 
 returns-2 : tie.Need-returns-2 Inv-loop μ-loop
 unfolding startsAt

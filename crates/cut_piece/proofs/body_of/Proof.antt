@@ -12,10 +12,12 @@ use Rattle.cut_piece.proofs.body_of.Statement.{statement}
 use Rattle.cut_piece.proofs.body_of.Tie as tie
 
 -- the tests of a range begin below the keys that stand before it
-past-14 : (k : ℕ) → 0x10 ≤ k → (k ≡ 0x10 → ⊥) → (k ≡ 0x11 → ⊥) → (k ≡ 0x12 → ⊥) → (k ≡ 0x13 → ⊥) → (k ≡ 0x14 → ⊥) → 0x15 ≤ k
+past-14 : (k : ℕ) → 0x10 ≤ k → (k ≡ 0x10 → ⊥) → (k ≡ 0x11 → ⊥) → (k ≡ 0x12 → ⊥) → (k ≡ 0x13 → ⊥)
+    → (k ≡ 0x14 → ⊥) → 0x15 ≤ k
 past-14 k h a b d e f = omega arith
 
-past-25 : (k : ℕ) → 0x20 ≤ k → (k ≡ 0x20 → ⊥) → (k ≡ 0x21 → ⊥) → (k ≡ 0x22 → ⊥) → (k ≡ 0x23 → ⊥) → (k ≡ 0x24 → ⊥) → (k ≡ 0x25 → ⊥) → 0x26 ≤ k
+past-25 : (k : ℕ) → 0x20 ≤ k → (k ≡ 0x20 → ⊥) → (k ≡ 0x21 → ⊥) → (k ≡ 0x22 → ⊥) → (k ≡ 0x23 → ⊥)
+    → (k ≡ 0x24 → ⊥) → (k ≡ 0x25 → ⊥) → 0x26 ≤ k
 past-25 k h a b d e f g = omega arith
 
 -- a kind that no key has
@@ -192,32 +194,64 @@ returns-22 c =
 returns-23 : tie.Need-returns-23
 unfolding kindOf kinds readAt
 returns-23 c =
-    let k = c .before .before .before .before .args .kind in
-    rw (lookup-none (kinds (c .before .before .before .before .args .full)) k (described k) (c .before .before .match .rest), between-in 0x15 0x18 k (past-14 k (c .before .if1 .left) (c .before .before .match .rest .0 .0 .0 .0 .0 .0 .0 .0 .0 .0 .0 .0 .0 .0 .0 .0 .0 .0 .0 .0 .0 .1) (c .before .before .match .rest .0 .0 .0 .0 .0 .0 .0 .0 .0 .0 .0 .0 .0 .0 .0 .0 .0 .0 .0 .0 .1) (c .before .before .match .rest .0 .0 .0 .0 .0 .0 .0 .0 .0 .0 .0 .0 .0 .0 .0 .0 .0 .0 .0 .1) (c .before .before .match .rest .0 .0 .0 .0 .0 .0 .0 .0 .0 .0 .0 .0 .0 .0 .0 .0 .0 .0 .1) (c .before .before .match .rest .0 .0 .0 .0 .0 .0 .0 .0 .0 .0 .0 .0 .0 .0 .0 .0 .0 .1)) (c .if2 .taken))
+    let match = c .before .before in
+    let k = match .before .before .args .kind in
+    rw (
+      lookup-none (kinds (match .before .before .args .full)) k (described k) (match .match .rest),
+      between-in 0x15 0x18 k
+          (past-14 k (c .before .if1 .left) (match .match .rest .0 .0 .0 .0 .0 .0 .0 .0 .0 .0 .0 .0 .0 .0 .0 .0 .0 .0 .0 .0 .0 .1)
+          (match .match .rest .0 .0 .0 .0 .0 .0 .0 .0 .0 .0 .0 .0 .0 .0 .0 .0 .0 .0 .0 .0 .1)
+          (match .match .rest .0 .0 .0 .0 .0 .0 .0 .0 .0 .0 .0 .0 .0 .0 .0 .0 .0 .0 .0 .1)
+          (match .match .rest .0 .0 .0 .0 .0 .0 .0 .0 .0 .0 .0 .0 .0 .0 .0 .0 .0 .0 .1)
+          (match .match .rest .0 .0 .0 .0 .0 .0 .0 .0 .0 .0 .0 .0 .0 .0 .0 .0 .0 .1)) (c .if2 .taken),
+    )
 
 returns-24 : tie.Need-returns-24
 unfolding kindOf kinds readAt
 returns-24 c =
-    let k = c .before .before .before .before .before .before .args .kind in
-    rw (lookup-none (kinds (c .before .before .before .before .before .before .args .full)) k (described k) (c .before .before .before .before .match .rest), between-above 0x15 0x18 k (omega arith), between-in 0x26 0x28 k (past-25 k (c .before .if3 .left) (c .before .before .before .before .match .rest .0 .0 .0 .0 .0 .0 .0 .0 .0 .0 .0 .0 .0 .0 .0 .1) (c .before .before .before .before .match .rest .0 .0 .0 .0 .0 .0 .0 .0 .0 .0 .0 .0 .0 .0 .1) (c .before .before .before .before .match .rest .0 .0 .0 .0 .0 .0 .0 .0 .0 .0 .0 .0 .0 .1) (c .before .before .before .before .match .rest .0 .0 .0 .0 .0 .0 .0 .0 .0 .0 .0 .0 .1) (c .before .before .before .before .match .rest .0 .0 .0 .0 .0 .0 .0 .0 .0 .0 .0 .1) (c .before .before .before .before .match .rest .0 .0 .0 .0 .0 .0 .0 .0 .0 .0 .1)) (c .if4 .taken))
+    let match = c .before .before .before .before in
+    let k = match .before .before .args .kind in
+    rw (
+      lookup-none (kinds (match .before .before .args .full)) k (described k) (match .match .rest),
+      between-above 0x15 0x18 k (omega arith),
+      between-in 0x26 0x28 k (past-25 k (c .before .if3 .left) (match .match .rest .0 .0 .0 .0 .0 .0 .0 .0 .0 .0 .0 .0 .0 .0 .0 .1)
+          (match .match .rest .0 .0 .0 .0 .0 .0 .0 .0 .0 .0 .0 .0 .0 .0 .1) (match .match .rest .0 .0 .0 .0 .0 .0 .0 .0 .0 .0 .0 .0 .0 .1)
+          (match .match .rest .0 .0 .0 .0 .0 .0 .0 .0 .0 .0 .0 .0 .1) (match .match .rest .0 .0 .0 .0 .0 .0 .0 .0 .0 .0 .0 .1)
+          (match .match .rest .0 .0 .0 .0 .0 .0 .0 .0 .0 .0 .1)) (c .if4 .taken),
+    )
 
 returns-25 : tie.Need-returns-25
 unfolding kindOf kinds readAt
 returns-25 c =
-    let k = c .before .before .before .args .kind in
-    rw (lookup-none (kinds (c .before .before .before .args .full)) k (described k) (c .before .match .rest), between-below 0x15 0x18 k (omega arith), between-below 0x26 0x28 k (omega arith))
+    let a = c .before .before .before .args in
+    let k = a .kind in
+    rw (
+      lookup-none (kinds (a .full)) k (described k) (c .before .match .rest),
+      between-below 0x15 0x18 k (omega arith),
+      between-below 0x26 0x28 k (omega arith),
+    )
 
 returns-26 : tie.Need-returns-26
 unfolding kindOf kinds readAt
 returns-26 c =
-    let k = c .before .before .before .before .before .args .kind in
-    rw (lookup-none (kinds (c .before .before .before .before .before .args .full)) k (described k) (c .before .before .before .match .rest), between-above 0x15 0x18 k (omega arith), between-below 0x26 0x28 k (omega arith))
+    let match = c .before .before .before in
+    let k = match .before .before .args .kind in
+    rw (
+      lookup-none (kinds (match .before .before .args .full)) k (described k) (match .match .rest),
+      between-above 0x15 0x18 k (omega arith),
+      between-below 0x26 0x28 k (omega arith),
+    )
 
 returns-27 : tie.Need-returns-27
 unfolding kindOf kinds readAt
 returns-27 c =
-    let k = c .before .before .before .before .before .before .args .kind in
-    rw (lookup-none (kinds (c .before .before .before .before .before .before .args .full)) k (described k) (c .before .before .before .before .match .rest), between-above 0x15 0x18 k (omega arith), between-above 0x26 0x28 k (omega arith))
+    let match = c .before .before .before .before in
+    let k = match .before .before .args .kind in
+    rw (
+      lookup-none (kinds (match .before .before .args .full)) k (described k) (match .match .rest),
+      between-above 0x15 0x18 k (omega arith),
+      between-above 0x26 0x28 k (omega arith),
+    )
 
 pub body-of-spec : {M : Type 1} → statement M
 body-of-spec =

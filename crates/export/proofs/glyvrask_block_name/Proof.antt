@@ -1,4 +1,4 @@
--- `export::glyvrask_block_name` meets its contract: the name told where there is a word for its length. Assumes nothing.
+-- `glyvrask_block_name` meets its contract: the name told where there is a word for its length. Assumes nothing.
 use native.Mathlib.Omega.{arith}
 use Rattle.export.proofs.Naming.{name-unwritten, name-written}
 use borrow.Author.Needs.{needs}
@@ -16,8 +16,9 @@ same-length c = search needs
 
 returns : tie.Need-returns
 returns c =
-    let a = c .before .before .before .before .before .before .before .before .before .before .before .args in
-    name-unwritten _ _ _ (a .answer .now) (omega arith) (c .before .before .before .before .block-size .ensures) (c .before .before .tell-number .ensures)
+    let block-size = c .before .before .before .before in
+    let a = block-size .before .before .before .before .before .before .before .args in
+    name-unwritten _ _ _ (a .answer .now) (omega arith) (block-size .block-size .ensures) (c .before .before .tell-number .ensures)
 
 block-name-requires : tie.Need-block-name-requires
 block-name-requires c κs = search needs
@@ -33,8 +34,9 @@ same-length-3 c = search needs
 
 returns-2 : tie.Need-returns-2
 returns-2 c =
-    let a = c .before .before .before .before .before .before .before .before .before .before .before .before .before .before .args in
-    name-written _ _ _ (a .answer .now) (omega arith) (c .before .before .before .before .before .before .block-name .ensures) (c .before .before .tell-number2 .ensures)
+    let block-name = c .before .before .before .before .before .before in
+    let a = block-name .before .before .before .before .before .before .before .before .args in
+    name-written _ _ _ (a .answer .now) (omega arith) (block-name .block-name .ensures) (c .before .before .tell-number2 .ensures)
 
 pub glyvrask-block-name-spec : {M : Type 1} → statement M
 glyvrask-block-name-spec =

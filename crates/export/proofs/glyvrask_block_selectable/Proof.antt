@@ -1,4 +1,4 @@
--- `export::glyvrask_block_selectable` meets its contract: the mark told. Assumes nothing.
+-- `glyvrask_block_selectable` meets its contract: the mark told. Assumes nothing.
 use borrow.Author.Needs.{needs}
 use Rattle.export.proofs.glyvrask_block_selectable.Statement.{statement}
 use Rattle.export.proofs.glyvrask_block_selectable.Tie as tie

@@ -1,4 +1,4 @@
--- `export::glyvrask_block_size` meets its contract: the size told. Assumes nothing.
+-- `glyvrask_block_size` meets its contract: the size told. Assumes nothing.
 use borrow.Author.Needs.{needs}
 use Rattle.export.proofs.glyvrask_block_size.Statement.{statement}
 use Rattle.export.proofs.glyvrask_block_size.Tie as tie

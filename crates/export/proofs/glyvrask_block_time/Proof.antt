@@ -1,4 +1,4 @@
--- `export::glyvrask_block_time` meets its contract: the time told. Assumes nothing.
+-- `glyvrask_block_time` meets its contract: the time told. Assumes nothing.
 use borrow.Author.Needs.{needs}
 use Rattle.export.proofs.glyvrask_block_time.Statement.{statement}
 use Rattle.export.proofs.glyvrask_block_time.Tie as tie

@@ -1,4 +1,4 @@
--- `export::glyvrask_load` meets its contract: 10 first, else the load. Assumes nothing.
+-- `glyvrask_load` meets its contract: 10 first, else the load. Assumes nothing.
 use native.Mathlib.Omega.{arith}
 use lib.ListN.{length}
 use Rattle.load_blocks.specs.Does.{lentOf}
@@ -11,7 +11,8 @@ use Rattle.export.proofs.glyvrask_load.Tie as tie
 returns : tie.Need-returns
 returns c =
     let a = c .before .before .before .before .before .args in
-    load-short (loadNamed (lentOf (length (a .blocks .now)) (length (a .tones .now))) (a .tape .now) (a .model)) _ _ _ _ (a .answer .now) (omega arith)
+    load-short (loadNamed (lentOf (length (a .blocks .now)) (length (a .tones .now))) (a .tape .now) (a .model)) _ _ _ _
+    (a .answer .now) (omega arith)
 
 load-requires : tie.Need-load-requires
 load-requires c κs = search needs
@@ -30,8 +31,9 @@ same-length-3 c = search needs
 
 returns-2 : tie.Need-returns-2
 returns-2 c =
-    let a = c .before .before .before .before .before .before .before .before .before .before .before .before .before .before .before .before .args in
-    load-told _ _ _ _ _ (a .answer .now) (omega arith) (c .before .before .before .before .before .before .before .before .load .ensures) (c .before .before .tell-loaded .ensures)
+    let load = c .before .before .before .before .before .before .before .before in
+    let a = load .before .before .before .before .before .before .before .before .args in
+    load-told _ _ _ _ _ (a .answer .now) (omega arith) (load .load .ensures) (c .before .before .tell-loaded .ensures)
 
 pub glyvrask-load-spec : {M : Type 1} → statement M
 glyvrask-load-spec =

@@ -1,4 +1,4 @@
--- `export::glyvrask_loading_time` meets its contract: the time told. Assumes nothing.
+-- `glyvrask_loading_time` meets its contract: the time told. Assumes nothing.
 use borrow.Author.Needs.{needs}
 use Rattle.export.proofs.glyvrask_loading_time.Statement.{statement}
 use Rattle.export.proofs.glyvrask_loading_time.Tie as tie

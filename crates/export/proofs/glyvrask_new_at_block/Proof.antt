@@ -1,4 +1,4 @@
--- `export::glyvrask_new_at_block` meets its contract: the start told. Assumes nothing.
+-- `glyvrask_new_at_block` meets its contract: the start told. Assumes nothing.
 use borrow.Author.Needs.{needs}
 use Rattle.export.proofs.glyvrask_new_at_block.Statement.{statement}
 use Rattle.export.proofs.glyvrask_new_at_block.Tie as tie

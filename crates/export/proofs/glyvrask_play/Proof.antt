@@ -1,4 +1,4 @@
--- `export::glyvrask_play` meets its contract: the words are read as a position, and the answer told. Assumes nothing.
+-- `glyvrask_play` meets its contract: the words are read as a position, and the answer told. Assumes nothing.
 use Rattle.export.specs.Export.{withPlace}
 use Rattle.play_entries.specs.Mounted.{tapeOf}
 use Rattle.export.proofs.Placing.{tell-misplaced}
@@ -30,7 +30,10 @@ same-length c = search needs
 returns : tie.Need-returns
 unfolding withPlace
 returns c =
-    rw (← c .before .before .before .before .before .before .before .before .position-from .ensures, c .before .before .before .before .before .before .pos .given .1, ← c .before .before .before .before .play .ensures) (c .before .before .tell-reached .ensures)
+    let play = c .before .before .before .before in
+    let position-from = play .before .before .before .before in
+    rw (← position-from .position-from .ensures, play .before .before .pos .given .1, ← play .play .ensures)
+    (c .before .before .tell-reached .ensures)
 
 returns-2 : tie.Need-returns-2
 returns-2 c =

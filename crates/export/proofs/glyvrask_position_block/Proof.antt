@@ -1,4 +1,4 @@
--- `export::glyvrask_position_block` meets its contract: the words are read as a position, and its block told. Assumes nothing.
+-- `glyvrask_position_block` meets its contract: the words are read as a position, and its block told. Assumes nothing.
 use Rattle.export.specs.Export.{withPlace}
 use Rattle.play_entries.specs.Mounted.{tapeOf}
 use Rattle.export.proofs.Placing.{tell-misplaced}
@@ -30,7 +30,10 @@ same-length c = search needs
 returns : tie.Need-returns
 unfolding withPlace
 returns c =
-    rw (← c .before .before .before .before .before .before .before .before .position-from .ensures, c .before .before .before .before .before .before .pos .given .1, ← c .before .before .before .before .block .ensures) (c .before .before .tell-selected .ensures)
+    let block = c .before .before .before .before in
+    let position-from = block .before .before .before .before in
+    rw (← position-from .position-from .ensures, block .before .before .pos .given .1, ← block .block .ensures)
+    (c .before .before .tell-selected .ensures)
 
 returns-2 : tie.Need-returns-2
 returns-2 c =

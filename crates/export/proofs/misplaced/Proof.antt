@@ -1,4 +1,4 @@
--- `export::misplaced` meets its contract: each return is one rule of rule 37's order. Assumes nothing.
+-- `misplaced` meets its contract: each return is one rule of rule 37's order. Assumes nothing.
 use native.Mathlib.Omega.{arith}
 use mathlib.Core.Path.{sym, _∙_}
 use borrow.Author.Needs.{needs}

@@ -1,4 +1,4 @@
--- `listings::list_all` meets its contract: each turn lists one tape. Assumes nothing.
+-- `list_all` meets its contract: each turn lists one tape. Assumes nothing.
 use native.Mathlib.Omega.{arith}
 use mathlib.Core.Path.{_≡_}
 use lib.ListN.{length}

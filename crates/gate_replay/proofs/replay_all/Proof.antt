@@ -7,7 +7,8 @@ use Rattle.gate_replay.proofs.replay_all.Statement.{statement}
 use Rattle.gate_replay.proofs.replay_all.Tie as tie
 
 abbrev Inv-loop : tie.InvT-loop
-Inv-loop bytes₀ blocks₀ tones₀ n left₀ bytes blocks tones left = ((length bytes ≡ length bytes₀) × (length blocks ≡ length blocks₀)) × (length tones ≡ length tones₀)
+Inv-loop bytes₀ blocks₀ tones₀ n left₀ bytes blocks tones left =
+    ((length bytes ≡ length bytes₀) × (length blocks ≡ length blocks₀)) × (length tones ≡ length tones₀)
 
 abbrev μ-loop : tie.MeasureT-loop
 μ-loop bytes₀ blocks₀ tones₀ n left₀ bytes blocks tones left = left
@@ -18,7 +19,9 @@ loop-holds c =
 
 replay-requires : tie.Need-replay-requires Inv-loop μ-loop
 replay-requires c κs =
-    omega (arith, c .before .before .before .before .before .before .before .before .pre, c .before .before .before .before .loop .inv .0 .0)
+    let loop = c .before .before .before .before in
+    let start = loop .before .before .before .before in
+    omega (arith, start .pre, loop .loop .inv .0 .0)
 
 sub-left : tie.Need-sub-left Inv-loop μ-loop
 sub-left c =

@@ -1,4 +1,4 @@
--- `answers::format_number` meets its contract: each format has its number. Assumes nothing.
+-- `format_number` meets its contract: each format has its number. Assumes nothing.
 use Rattle.host_answers.specs.Answers.{formatNumber}
 use borrow.Author.Needs.{needs}
 use Rattle.host_answers.proofs.format_number.Statement.{statement}

@@ -1,4 +1,4 @@
--- `answers::tell` meets its contract: the first j words stand in the row. Assumes nothing.
+-- `tell` meets its contract: the first j words stand in the row. Assumes nothing.
 use Prim.Native.Nat.{_≤_, _-_}
 use native.Mathlib.Omega.{arith}
 use mathlib.Core.Path.{_≡_, refl}
@@ -10,7 +10,8 @@ use Rattle.host_answers.proofs.tell.Statement.{statement}
 use Rattle.host_answers.proofs.tell.Tie as tie
 
 abbrev Inv-loop : tie.InvT-loop
-Inv-loop words answer₀ j₀ answer j = (j ≤ length words) × (answer ≡ paste answer₀ 0 words j) × (length answer ≡ length answer₀)
+Inv-loop words answer₀ j₀ answer j =
+    (j ≤ length words) × (answer ≡ paste answer₀ 0 words j) × (length answer ≡ length answer₀)
 
 abbrev μ-loop : tie.MeasureT-loop
 μ-loop words answer₀ j₀ answer j = length words - j
@@ -43,8 +44,11 @@ loop-less c = omega arith
 loop-again : tie.Need-loop-again Inv-loop μ-loop
 loop-again c =
     let a = c .before .before .before .before .args in
-    let l = c .before .before .loop in
-    (omega arith, tell-turn (a .words .now) (a .answer .now) (l .answer) (l .j) (l .inv .1) (omega arith) (omega arith), simp length-set (omega arith))
+    let l = c .before .before .loop in (
+      omega arith,
+      tell-turn (a .words .now) (a .answer .now) (l .answer) (l .j) (l .inv .1) (omega arith) (omega arith),
+      simp length-set (omega arith),
+    )
 
 same-length : tie.Need-same-length Inv-loop μ-loop
 same-length c = search needs

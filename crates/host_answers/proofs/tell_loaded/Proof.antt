@@ -1,4 +1,4 @@
--- `answers::tell_loaded` meets its contract: format, blocks and tone rows, or the refusal. Assumes nothing.
+-- `tell_loaded` meets its contract: format, blocks and tone rows, or the refusal. Assumes nothing.
 use Rattle.host_answers.specs.Answers.{numberOf, valuesOf, ofLoaded}
 use Rattle.host_answers.proofs.Telling.{tell-refused}
 use borrow.Author.Needs.{needs}
@@ -26,7 +26,8 @@ same-length c = search needs
 returns : tie.Need-returns
 unfolding numberOf valuesOf ofLoaded
 returns c =
-    rw (c .before .before .before .before .before .before .before .a .given .1, ← c .before .before .before .before .before .format-number .ensures) (c .before .before .tell .ensures)
+    let format-number = c .before .before .before .before .before in
+    rw (format-number .before .before .a .given .1, ← format-number .format-number .ensures) (c .before .before .tell .ensures)
 
 returns-2 : tie.Need-returns-2
 unfolding ofLoaded

@@ -1,4 +1,4 @@
--- `answers::tell_mark` meets its contract: the mark as a word, or the refusal. Assumes nothing.
+-- `tell_mark` meets its contract: the mark as a word, or the refusal. Assumes nothing.
 use Rattle.host_answers.specs.Answers.{numberOf, valuesOf, ofMark}
 use Rattle.host_answers.proofs.Telling.{tell-refused}
 use borrow.Author.Needs.{needs}
@@ -26,7 +26,8 @@ same-length c = search needs
 returns : tie.Need-returns
 unfolding numberOf valuesOf ofMark
 returns c =
-    rw (c .before .before .before .before .before .before .before .a .given .1, ← c .before .before .before .before .before .flag .ensures) (c .before .before .tell .ensures)
+    let flag = c .before .before .before .before .before in
+    rw (flag .before .before .a .given .1, ← flag .flag .ensures) (c .before .before .tell .ensures)
 
 returns-2 : tie.Need-returns-2
 unfolding ofMark

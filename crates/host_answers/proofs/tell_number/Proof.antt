@@ -1,4 +1,4 @@
--- `answers::tell_number` meets its contract: the number as a word, or the refusal. Assumes nothing.
+-- `tell_number` meets its contract: the number as a word, or the refusal. Assumes nothing.
 use Rattle.host_answers.specs.Answers.{numberOf, valuesOf, ofNumber}
 use Rattle.host_answers.proofs.Telling.{tell-refused}
 use borrow.Author.Needs.{needs}

@@ -1,4 +1,4 @@
--- `answers::tell_position` meets its contract: the seven words. Assumes nothing.
+-- `tell_position` meets its contract: the seven words. Assumes nothing.
 use Rattle.host_answers.specs.Answers.{numberOf, valuesOf, ofPosition}
 use Rattle.host_words.specs.Words.{wordsOf}
 use borrow.Author.Needs.{needs}
@@ -23,7 +23,8 @@ same-length c = search needs
 returns : tie.Need-returns
 unfolding numberOf valuesOf ofPosition wordsOf
 returns c =
-    rw (← c .before .before .before .before .before .span-of .ensures, ← c .before .before .before .before .before .before .spot-of .ensures) (c .before .before .tell .ensures)
+    let span-of = c .before .before .before .before .before in
+    rw (← span-of .span-of .ensures, ← span-of .before .spot-of .ensures) (c .before .before .tell .ensures)
 
 pub tell-position-spec : {M : Type 1} → statement M
 tell-position-spec =

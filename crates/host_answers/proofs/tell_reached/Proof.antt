@@ -1,4 +1,4 @@
--- `answers::tell_reached` meets its contract: how the player stands, or the refusal. Assumes nothing.
+-- `tell_reached` meets its contract: how the player stands, or the refusal. Assumes nothing.
 use Rattle.host_answers.specs.Answers.{numberOf, valuesOf, ofReached}
 use Rattle.host_answers.proofs.Telling.{tell-refused}
 use borrow.Author.Needs.{needs}

@@ -1,4 +1,4 @@
--- `answers::tell_selected` meets its contract: the block as a word, or the refusal. Assumes nothing.
+-- `tell_selected` meets its contract: the block as a word, or the refusal. Assumes nothing.
 use Rattle.host_answers.specs.Answers.{numberOf, valuesOf, ofSelected}
 use Rattle.host_answers.proofs.Telling.{tell-refused}
 use borrow.Author.Needs.{needs}

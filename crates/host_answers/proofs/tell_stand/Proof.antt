@@ -1,4 +1,4 @@
--- `answers::tell_stand` meets its contract: how it stands, the entries passed, the level, the seven words. Assumes nothing.
+-- `tell_stand` meets its contract: how it stands, the entries passed, the level, the seven words. Assumes nothing.
 use Rattle.host_answers.specs.Answers.{standWords}
 use Rattle.host_words.specs.Words.{wordsOf}
 use borrow.Author.Needs.{needs}
@@ -26,7 +26,9 @@ same-length c = search needs
 returns : tie.Need-returns
 unfolding standWords wordsOf
 returns c =
-    rw (← c .before .before .before .before .before .flag .ensures, ← c .before .before .before .before .before .before .span-of .ensures, ← c .before .before .before .before .before .before .before .spot-of .ensures) (c .before .before .tell .ensures)
+    let flag = c .before .before .before .before .before in
+    rw (← flag .flag .ensures, ← flag .before .span-of .ensures, ← flag .before .before .spot-of .ensures)
+    (c .before .before .tell .ensures)
 
 pub tell-stand-spec : {M : Type 1} → statement M
 tell-stand-spec =

@@ -1,4 +1,4 @@
--- `answers::tell_time` meets its contract: the duration as words, or the refusal. Assumes nothing.
+-- `tell_time` meets its contract: the duration as words, or the refusal. Assumes nothing.
 use Rattle.host_answers.specs.Answers.{numberOf, valuesOf, ofTime}
 use Rattle.host_answers.proofs.Telling.{tell-refused}
 use borrow.Author.Needs.{needs}
@@ -26,7 +26,8 @@ same-length c = search needs
 returns : tie.Need-returns
 unfolding numberOf valuesOf ofTime
 returns c =
-    rw (c .before .before .before .before .before .before .before .a .given .1, ← c .before .before .before .before .before .span-of .ensures) (c .before .before .tell .ensures)
+    let span-of = c .before .before .before .before .before in
+    rw (span-of .before .before .a .given .1, ← span-of .span-of .ensures) (c .before .before .tell .ensures)
 
 returns-2 : tie.Need-returns-2
 unfolding ofTime

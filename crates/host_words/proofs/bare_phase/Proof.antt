@@ -1,4 +1,4 @@
--- `words::bare_phase` meets its contract: the three words are 0, or none is named. Assumes nothing.
+-- `bare_phase` meets its contract: the three words are 0, or none is named. Assumes nothing.
 use borrow.Author.Tests.{ne-eqb, eq-eqb}
 use Rattle.host_words.specs.Words.{unhalved}
 use Rattle.host_words.proofs.bare_phase.Statement.{statement}

@@ -1,4 +1,4 @@
--- `words::data_phase` meets its contract: the flag is 0 or 1, or none is named. Assumes nothing.
+-- `data_phase` meets its contract: the flag is 0 or 1, or none is named. Assumes nothing.
 use borrow.Author.Tests.{ne-eqb, eq-eqb}
 use Rattle.host_words.specs.Words.{halved}
 use Rattle.host_words.proofs.data_phase.Statement.{statement}

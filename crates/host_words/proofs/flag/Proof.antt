@@ -1,4 +1,4 @@
--- `words::flag` meets its contract: a flag is 0 or 1. Assumes nothing.
+-- `flag` meets its contract: a flag is 0 or 1. Assumes nothing.
 use Rattle.host_words.specs.Words.{flagOf}
 use Rattle.host_words.proofs.flag.Statement.{statement}
 use Rattle.host_words.proofs.flag.Tie as tie

@@ -1,4 +1,4 @@
--- `words::phase_from` meets its contract: each number has its phase. Assumes nothing.
+-- `phase_from` meets its contract: each number has its phase. Assumes nothing.
 use borrow.Author.Tests.{ne-eqb, eq-eqb}
 use Rattle.host_words.specs.Words.{phaseFrom}
 use borrow.Author.Needs.{needs}
@@ -27,7 +27,8 @@ data-phase-requires c κs = search needs
 returns-3 : tie.Need-returns-3
 unfolding phaseFrom
 returns-3 c =
-    rw (ne-eqb _ _ (c .before .before .before .if1 .left), ne-eqb _ _ (c .before .before .if2 .left), eq-eqb _ _ (c .before .if3 .taken)) (c .data-phase .ensures)
+    let if1 = c .before .before .before in
+    rw (ne-eqb _ _ (if1 .if1 .left), ne-eqb _ _ (c .before .before .if2 .left), eq-eqb _ _ (c .before .if3 .taken)) (c .data-phase .ensures)
 
 bare-phase-requires-2 : tie.Need-bare-phase-requires-2
 bare-phase-requires-2 c κs = search needs
@@ -35,7 +36,13 @@ bare-phase-requires-2 c κs = search needs
 returns-4 : tie.Need-returns-4
 unfolding phaseFrom
 returns-4 c =
-    rw (ne-eqb _ _ (c .before .before .before .before .if1 .left), ne-eqb _ _ (c .before .before .before .if2 .left), ne-eqb _ _ (c .before .before .if3 .left), eq-eqb _ _ (c .before .if4 .taken)) (c .bare-phase2 .ensures)
+    let if2 = c .before .before .before in
+    rw (
+      ne-eqb _ _ (if2 .before .if1 .left),
+      ne-eqb _ _ (if2 .if2 .left),
+      ne-eqb _ _ (c .before .before .if3 .left),
+      eq-eqb _ _ (c .before .if4 .taken),
+    ) (c .bare-phase2 .ensures)
 
 bare-phase-requires-3 : tie.Need-bare-phase-requires-3
 bare-phase-requires-3 c κs = search needs
@@ -44,13 +51,27 @@ returns-5 : tie.Need-returns-5
 unfolding phaseFrom
 returns-5 c =
     let p = c .before .before in
-    rw (ne-eqb _ _ (p .before .before .before .if1 .left), ne-eqb _ _ (p .before .before .if2 .left), ne-eqb _ _ (p .before .if3 .left), ne-eqb _ _ (p .if4 .left), eq-eqb _ _ (c .before .if5 .taken)) (c .bare-phase3 .ensures)
+    let if1 = p .before .before .before in
+    rw (
+      ne-eqb _ _ (if1 .if1 .left),
+      ne-eqb _ _ (p .before .before .if2 .left),
+      ne-eqb _ _ (p .before .if3 .left),
+      ne-eqb _ _ (p .if4 .left),
+      eq-eqb _ _ (c .before .if5 .taken),
+    ) (c .bare-phase3 .ensures)
 
 returns-6 : tie.Need-returns-6
 unfolding phaseFrom
 returns-6 c =
     let p = c .before in
-    rw (ne-eqb _ _ (p .before .before .before .if1 .left), ne-eqb _ _ (p .before .before .if2 .left), ne-eqb _ _ (p .before .if3 .left), ne-eqb _ _ (p .if4 .left), ne-eqb _ _ (c .if5 .left))
+    let if1 = p .before .before .before in
+    rw (
+      ne-eqb _ _ (if1 .if1 .left),
+      ne-eqb _ _ (p .before .before .if2 .left),
+      ne-eqb _ _ (p .before .if3 .left),
+      ne-eqb _ _ (p .if4 .left),
+      ne-eqb _ _ (c .if5 .left),
+    )
 
 pub phase-from-spec : {M : Type 1} → statement M
 phase-from-spec =

@@ -1,4 +1,4 @@
--- `words::position_from` meets its contract: seven words, or none is named. Assumes nothing.
+-- `position_from` meets its contract: seven words, or none is named. Assumes nothing.
 use mathlib.Core.Path.{_∙_}
 use borrow.Author.Tests.{lt-ltb, le-ltb}
 use Rattle.host_words.specs.Words.{positionFrom}
@@ -44,7 +44,10 @@ with-phase-requires c κs = search needs
 returns-2 : tie.Need-returns-2
 unfolding positionFrom
 returns-2 c =
-    rw (le-ltb _ _ (c .before .before .before .before .before .before .before .before .before .before .if1 .left)) (c .with-phase .ensures ∙ rw (c .before .before .span-from .ensures, c .before .before .before .before .before .phase-from .ensures))
+    let phase-from = c .before .before .before .before .before in
+    let if1 = phase-from .before .before .before .before .before in
+    rw (le-ltb _ _ (if1 .if1 .left))
+    (c .with-phase .ensures ∙ rw (c .before .before .span-from .ensures, phase-from .phase-from .ensures))
 
 pub position-from-spec : {M : Type 1} → statement M
 position-from-spec =

@@ -1,4 +1,4 @@
--- `words::span_from` meets its contract: the flag is 0, or 1 with no T-states. Assumes nothing.
+-- `span_from` meets its contract: the flag is 0, or 1 with no T-states. Assumes nothing.
 use borrow.Author.Tests.{ne-eqb, eq-eqb}
 use Rattle.host_words.specs.Words.{spanFrom}
 use Rattle.host_words.proofs.span_from.Statement.{statement}

@@ -1,4 +1,4 @@
--- `words::span_of` meets its contract: T-states, or the flag. Assumes nothing.
+-- `span_of` meets its contract: T-states, or the flag. Assumes nothing.
 use Rattle.host_words.specs.Words.{spanOf}
 use borrow.Author.Needs.{needs}
 use Rattle.host_words.proofs.span_of.Statement.{statement}

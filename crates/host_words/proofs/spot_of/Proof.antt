@@ -1,4 +1,4 @@
--- `words::spot_of` meets its contract: each phase has its number, and words that it does not use are 0. Assumes nothing.
+-- `spot_of` meets its contract: each phase has its number, and words that it does not use are 0. Assumes nothing.
 use Rattle.host_words.specs.Words.{spotOf}
 use borrow.Author.Needs.{needs}
 use Rattle.host_words.proofs.spot_of.Statement.{statement}

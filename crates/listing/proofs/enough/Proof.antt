@@ -1,4 +1,4 @@
--- `listing::enough` meets its contract: the most by the rows' number, or the length that the dry run tells. Assumes nothing.
+-- `enough` meets its contract: the most by the rows' number, or the length that the dry run tells. Assumes nothing.
 use native.Mathlib.Omega.{arith}
 use borrow.Author.Needs.{needs}
 use Rattle.text_page.proofs.Texts.{text-rows}

@@ -1,4 +1,5 @@
--- `listing::glyvrask_listing` meets its contract: the refusals in their order, else the load's tables are ready and their text is told. Assumes nothing.
+-- `glyvrask_listing` meets its contract: the refusals in their order, else the load's tables are ready and their text is told.
+-- Assumes nothing.
 use native.Mathlib.Omega.{arith}
 use mathlib.Core.Path.{refl}
 use borrow.Author.Needs.{needs}
@@ -40,8 +41,12 @@ slice-aggregate-tell-2 c =
 
 tell-requires : tie.Need-tell-requires
 tell-requires c κs =
-    let a = c .before .before .before .before .before .before .before .before .before .before .before .before .before .before .before .args in
-    load-ready (a .tape .now) (a .model) (λ i. c .before .before .before .before .before .before .before .before .before .before .before .before .before .before .shared-slice-known .given i .fits) (leaves-told (lent-words (a .tape .now) (a .model) (c .before .before .before .before .before .before .before .before .load .ensures)) (c .before .before .before .before .format .given .1))
+    let format = c .before .before .before .before in
+    let load = format .before .before .before .before in
+    let shared-slice-known = load .before .before .before .before .before .before in
+    let a = shared-slice-known .before .args in
+    load-ready (a .tape .now) (a .model) (λ i. shared-slice-known .shared-slice-known .given i .fits)
+    (leaves-told (lent-words (a .tape .now) (a .model) (load .load .ensures)) (format .format .given .1))
 
 enum-known-k : tie.Need-enum-known-k
 enum-known-k c =
@@ -53,13 +58,18 @@ same-length c =
 
 returns-3 : tie.Need-returns-3
 returns-3 c =
-    let a = c .before .before .before .before .before .before .before .before .before .before .before .before .before .before .before .before .before .before .args in
-    load-told (a .tape .now) (a .model) (omega arith) (omega arith) (a .out .now) (leaves-told (lent-words (a .tape .now) (a .model) (c .before .before .before .before .before .before .before .before .before .before .before .load .ensures)) (c .before .before .before .before .before .before .before .format .given .1)) (c .before .before .tell .ensures)
+    let format = c .before .before .before .before .before .before .before in
+    let load = format .before .before .before .before in
+    let a = load .before .before .before .before .before .before .before .args in
+    load-told (a .tape .now) (a .model) (omega arith) (omega arith) (a .out .now)
+    (leaves-told (lent-words (a .tape .now) (a .model) (load .load .ensures)) (format .format .given .1)) (c .before .before .tell .ensures)
 
 returns-4 : tie.Need-returns-4
 returns-4 c =
-    let a = c .before .before .before .before .before .before .before .before .before .before .before .before .args in
-    load-refused (a .tape .now) (a .model) (omega arith) (omega arith) (a .out .now) (leaves-told (lent-words (a .tape .now) (a .model) (c .before .before .before .before .before .load .ensures)) (c .before .k .given .1))
+    let load = c .before .before .before .before .before in
+    let a = load .before .before .before .before .before .before .before .args in
+    load-refused (a .tape .now) (a .model) (omega arith) (omega arith) (a .out .now)
+    (leaves-told (lent-words (a .tape .now) (a .model) (load .load .ensures)) (c .before .k .given .1))
 
 pub glyvrask-listing-spec : {M : Type 1} → statement M
 glyvrask-listing-spec =

@@ -1,4 +1,4 @@
--- `listing::say` meets its contract: a number below 32 is the load's refusal, and another the text's length. Assumes nothing.
+-- `say` meets its contract: a number below 32 is the load's refusal, and another the text's length. Assumes nothing.
 use native.Mathlib.Omega.{arith}
 use borrow.Author.Needs.{needs}
 use Rattle.listing.proofs.Saying.{say-refusal, say-text}
@@ -16,8 +16,12 @@ same-length c = search needs
 
 returns : tie.Need-returns
 returns c =
-    let a = c .before .before .before .before .before .before .before .before .before .before .before .args in
-    say-refusal (a .tape .now) (a .out .now) (a .model) (λ i. c .before .before .before .before .before .before .before .before .before .before .shared-slice-known .given i .fits) (c .before .before .before .before .before .before .before .before .before .before .before .pre) (c .before .before .before .before .before .before .before .glyvrask-listing .ensures .0) (c .before .before .before .before .before .before .before .glyvrask-listing .ensures .1) (omega arith) (c .before .before .say-refused .ensures)
+    let glyvrask-listing = c .before .before .before .before .before .before .before in
+    let shared-slice-known = glyvrask-listing .before .before .before in
+    let a = shared-slice-known .before .args in
+    say-refusal (a .tape .now) (a .out .now) (a .model) (λ i. shared-slice-known .shared-slice-known .given i .fits)
+    (shared-slice-known .before .pre) (glyvrask-listing .glyvrask-listing .ensures .0) (glyvrask-listing .glyvrask-listing .ensures .1)
+    (omega arith) (c .before .before .say-refused .ensures)
 
 cast-result : tie.Need-cast-result
 cast-result c = search needs
@@ -27,8 +31,12 @@ same-length-2 c = search needs
 
 returns-2 : tie.Need-returns-2
 returns-2 c =
-    let a = c .before .before .before .before .before .before .before .args in
-    say-text (a .tape .now) (a .out .now) (a .model) (λ i. c .before .before .before .before .before .before .shared-slice-known .given i .fits) (c .before .before .before .before .before .before .before .pre) (c .before .before .before .glyvrask-listing .ensures .0) (c .before .before .before .glyvrask-listing .ensures .1) (omega arith)
+    let glyvrask-listing = c .before .before .before in
+    let shared-slice-known = glyvrask-listing .before .before .before in
+    let a = shared-slice-known .before .args in
+    say-text (a .tape .now) (a .out .now) (a .model) (λ i. shared-slice-known .shared-slice-known .given i .fits)
+    (shared-slice-known .before .pre) (glyvrask-listing .glyvrask-listing .ensures .0)
+    (glyvrask-listing .glyvrask-listing .ensures .1) (omega arith)
 
 pub say-spec : {M : Type 1} → statement M
 say-spec =

@@ -1,4 +1,4 @@
--- `listing::say_refused` meets its contract: three writes into bytes that have room. Assumes nothing.
+-- `say_refused` meets its contract: three writes into bytes that have room. Assumes nothing.
 use native.Mathlib.Omega.{arith}
 use borrow.Author.Needs.{needs}
 use Rattle.text_out.proofs.Writing.{then}
@@ -19,7 +19,10 @@ put-decimal-requires c κs = search needs
 
 put-requires : tie.Need-put-requires
 put-requires c κs =
-    omega (arith, c .before .before .before .before .before .before .before .put-all .ensures .count, c .before .before .before .put-decimal .ensures .count, decimal-long (c .before .before .before .before .before .before .before .before .before .before .before .args .k))
+    let put-decimal = c .before .before .before in
+    let put-all = put-decimal .before .before .before .before in
+    let a = put-all .before .before .before .before .args in
+    omega (arith, put-all .put-all .ensures .count, put-decimal .put-decimal .ensures .count, decimal-long (a .k))
 
 same-length : tie.Need-same-length
 same-length c = search needs
@@ -27,7 +30,11 @@ same-length c = search needs
 returns : tie.Need-returns
 unfolding printedNo
 returns c =
-    says-written (then (then (c .before .before .before .before .before .before .before .before .before .before .put-all .ensures) (c .before .before .before .before .before .before .put-decimal .ensures)) (c .before .before .put .ensures)) (omega (arith, c .before .before .before .before .before .before .before .before .before .before .before .before .before .before .pre, refused-most (c .before .before .before .before .before .before .before .before .before .before .before .before .before .before .args .k)))
+    let put-decimal = c .before .before .before .before .before .before in
+    let put-all = put-decimal .before .before .before .before in
+    let start = put-all .before .before .before .before in
+    says-written (then (then (put-all .put-all .ensures) (put-decimal .put-decimal .ensures)) (c .before .before .put .ensures))
+    (omega (arith, start .pre, refused-most (start .args .k)))
 
 pub say-refused-spec : {M : Type 1} → statement M
 say-refused-spec =

@@ -1,4 +1,4 @@
--- `listing::tell` meets its contract: the text is written where it has room. Assumes nothing.
+-- `tell` meets its contract: the text is written where it has room. Assumes nothing.
 use native.Mathlib.Omega.{arith}
 use borrow.Author.Needs.{needs}
 use Rattle.play_entries.specs.Mounted.{tapeOf}

@@ -12,7 +12,8 @@ same-length c = search needs
 
 returns : tie.Need-returns
 returns c =
-    λ tt B N t h. rw (rows-none (c .before .before .before .before .before .args .r) t h) (c .before .before .add-block .ensures B N tt t h)
+    let a = c .before .before .before .before .before .args in
+    λ tt B N t h. rw (rows-none (a .r) t h) (c .before .before .add-block .ensures B N tt t h)
 
 pub no-tone-spec : {M : Type 1} → statement M
 no-tone-spec = tie.close (tie.spec add-block-requires same-length returns)

@@ -28,7 +28,10 @@ same-length-2 c = search needs
 returns : tie.Need-returns
 unfolding addRows
 returns c =
-    λ B N t h. then-on (c .before .before .before .before .before .before .before .before .before .add-tone .ensures B N _ t h) (c .before .before .before .before .before .next .given .1) (λ u k. c .before .before .add-block .ensures B N _ u k)
+    let next = c .before .before .before .before .before in
+    let add-tone = next .before .before .before .before in
+    λ B N t h.
+    then-on (add-tone .add-tone .ensures B N _ t h) (next .next .given .1) (λ u k. c .before .before .add-block .ensures B N _ u k)
 
 same-length-3 : tie.Need-same-length-3
 same-length-3 c = search needs
@@ -36,7 +39,9 @@ same-length-3 c = search needs
 returns-2 : tie.Need-returns-2
 unfolding addRows
 returns-2 c =
-    λ B N t h. then-no (addBlock (blockRoom B) (c .before .before .before .before .before .before .before .before .before .args .r)) (c .before .before .before .before .before .add-tone .ensures B N _ t h) (c .before .k .given .1)
+    let add-tone = c .before .before .before .before .before in
+    let a = add-tone .before .before .before .before .args in
+    λ B N t h. then-no (addBlock (blockRoom B) (a .r)) (add-tone .add-tone .ensures B N _ t h) (c .before .k .given .1)
 
 pub one-tone-spec : {M : Type 1} → statement M
 one-tone-spec =

@@ -25,8 +25,10 @@ returns : tie.Need-returns
 unfolding rowOf standardTones standardSound
 returns c =
     let n = c .before .before .before .before in
-    let a = n .before .before .before .before .before .before .before .args in
-    does-sound (a .origin) (standardSound (a .header) (a .start) (a .size) (a .pause)) (n .before .before .before .data-row .ensures) (rw (← n .before .before .before .before .standard-cycles .ensures) (n .two-tones .ensures))
+    let data-row = n .before .before .before in
+    let a = data-row .before .before .before .before .args in
+    does-sound (a .origin) (standardSound (a .header) (a .start) (a .size) (a .pause)) (data-row .data-row .ensures)
+    (rw (← data-row .before .standard-cycles .ensures) (n .two-tones .ensures))
 
 pub standard-data-block-spec : {M : Type 1} → statement M
 standard-data-block-spec =

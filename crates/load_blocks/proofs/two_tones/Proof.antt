@@ -28,14 +28,22 @@ same-length-2 c = search needs
 
 returns : tie.Need-returns
 returns c =
-    λ B N t h. rw (rows-more (lentOf B N) (c .before .before .before .before .before .before .before .before .before .before .before .before .before .before .before .before .args .a) (c .before .before .before .before .before .before .before .before .before .before .before .before .before .before .before .before .args .b ∷ []) (c .before .before .before .before .before .before .before .before .before .before .before .before .before .before .before .before .args .r) t) (then-on (c .before .before .before .before .before .before .before .before .before .before .before .before .add-tone .ensures B N _ t h) (c .before .before .before .before .before .before .before .before .next .given .1) (λ u k. c .before .before .before .before .one-tone .ensures B N u k))
+    let one-tone = c .before .before .before .before in
+    let next = one-tone .before .before .before .before in
+    let add-tone = next .before .before .before .before in
+    let a = add-tone .before .before .before .before .args in
+    λ B N t h. rw (rows-more (lentOf B N) (a .a) (a .b ∷ []) (a .r) t)
+    (then-on (add-tone .add-tone .ensures B N _ t h) (next .next .given .1) (λ u k. one-tone .one-tone .ensures B N u k))
 
 same-length-3 : tie.Need-same-length-3
 same-length-3 c = search needs
 
 returns-2 : tie.Need-returns-2
 returns-2 c =
-    λ B N t h. rw (rows-more (lentOf B N) (c .before .before .before .before .before .before .before .before .before .args .a) (c .before .before .before .before .before .before .before .before .before .args .b ∷ []) (c .before .before .before .before .before .before .before .before .before .args .r) t) (then-no (addRows (lentOf B N) (c .before .before .before .before .before .before .before .before .before .args .b ∷ []) (c .before .before .before .before .before .before .before .before .before .args .r)) (c .before .before .before .before .before .add-tone .ensures B N _ t h) (c .before .k .given .1))
+    let add-tone = c .before .before .before .before .before in
+    let a = add-tone .before .before .before .before .args in
+    λ B N t h. rw (rows-more (lentOf B N) (a .a) (a .b ∷ []) (a .r) t)
+    (then-no (addRows (lentOf B N) (a .b ∷ []) (a .r)) (add-tone .add-tone .ensures B N _ t h) (c .before .k .given .1))
 
 pub two-tones-spec : {M : Type 1} → statement M
 two-tones-spec =

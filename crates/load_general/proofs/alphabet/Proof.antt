@@ -20,7 +20,8 @@ loop-holds c =
 
 symbol-requires : tie.Need-symbol-requires Inv-loop μ-loop
 symbol-requires c κs =
-    (omega arith, omega (arith, below (c .before .loop .i) (c .before .before .before .args .n) (1 + c .before .before .before .args .pulses * 2) (c .loop-test .taken)))
+    let a = c .before .before .before .args in
+    (omega arith, omega (arith, below (c .before .loop .i) (a .n) (1 + a .pulses * 2) (c .loop-test .taken)))
 
 cast-a : tie.Need-cast-a Inv-loop μ-loop
 cast-a c = omega arith
@@ -39,7 +40,14 @@ loop-less c = omega arith
 
 loop-again : tie.Need-loop-again Inv-loop μ-loop
 loop-again c =
-    let l = c .before .before .loop .inv .1 in (omega arith, rw length-set l, kept-more (c .before .before .before .before .args .tape .now) (c .before .before .before .before .args .place) (c .before .before .before .before .args .pulses) (c .before .before .loop .i) (c .before .before .loop .a) (c .symbol .result) (c .before .before .loop .inv .2) (omega arith) (c .symbol .ensures))
+    let loop = c .before .before in
+    let a = loop .before .before .args in
+    let l = loop .loop .inv .1 in (
+      omega arith,
+      rw length-set l,
+      kept-more (a .tape .now) (a .place) (a .pulses) (loop .loop .i) (loop .loop .a) (c .symbol .result) (loop .loop .inv .2) (omega arith)
+          (c .symbol .ensures),
+    )
 
 returns : tie.Need-returns Inv-loop μ-loop
 returns c =

@@ -10,7 +10,8 @@ low-first-requires c κs = search needs
 
 cast-result : tie.Need-cast-result
 cast-result c =
-    omega (arith, c .low-first .ensures, le-small (c .before .before .args .tape .now) (λ i. c .before .shared-slice-known .given i .fits) (c .before .before .args .at) 2)
+    let a = c .before .before .args in
+    omega (arith, c .low-first .ensures, le-small (a .tape .now) (λ i. c .before .shared-slice-known .given i .fits) (a .at) 2)
 
 returns : tie.Need-returns
 returns c = search needs

@@ -22,7 +22,9 @@ singles-part-requires c κs = search needs
 returns-3 : tie.Need-returns-3
 unfolding dataPart
 returns-3 c =
-    rw (ne-eqb _ _ (c .before .before .before .before .before .if1 .left), lt-leb _ _ (c .before .before .before .if2 .left), eq-eqb _ _ (c .before .if3 .taken)) (c .singles-part .ensures)
+    let if2 = c .before .before .before in
+    rw (ne-eqb _ _ (if2 .before .before .if1 .left), lt-leb _ _ (if2 .if2 .left), eq-eqb _ _ (c .before .if3 .taken))
+    (c .singles-part .ensures)
 
 pairs-part-requires : tie.Need-pairs-part-requires
 pairs-part-requires c κs = search needs
@@ -30,12 +32,25 @@ pairs-part-requires c κs = search needs
 returns-4 : tie.Need-returns-4
 unfolding dataPart
 returns-4 c =
-    rw (ne-eqb _ _ (c .before .before .before .before .before .before .before .if1 .left), lt-leb _ _ (c .before .before .before .before .before .if2 .left), ne-eqb _ _ (c .before .before .before .if3 .left), eq-eqb _ _ (c .before .if4 .taken)) (c .pairs-part .ensures)
+    let if3 = c .before .before .before in
+    let if1 = if3 .before .before .before .before in
+    rw (
+      ne-eqb _ _ (if1 .if1 .left),
+      lt-leb _ _ (if3 .before .before .if2 .left),
+      ne-eqb _ _ (if3 .if3 .left),
+      eq-eqb _ _ (c .before .if4 .taken),
+    ) (c .pairs-part .ensures)
 
 returns-5 : tie.Need-returns-5
 unfolding dataPart judgedOf
 returns-5 c =
-    rw (ne-eqb _ _ (c .before .before .before .before .before .before .if1 .left), lt-leb _ _ (c .before .before .before .before .if2 .left), ne-eqb _ _ (c .before .before .if3 .left), ne-eqb _ _ (c .if4 .left))
+    let if2 = c .before .before .before .before in
+    rw (
+      ne-eqb _ _ (if2 .before .before .if1 .left),
+      lt-leb _ _ (if2 .if2 .left),
+      ne-eqb _ _ (c .before .before .if3 .left),
+      ne-eqb _ _ (c .if4 .left),
+    )
 
 pub data-part-spec : {M : Type 1} → statement M
 data-part-spec =

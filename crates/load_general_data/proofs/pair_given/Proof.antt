@@ -12,23 +12,37 @@ mul-bit c = search needs
 
 mul-bit-2 : tie.Need-mul-bit-2
 mul-bit-2 c =
-    let a = c .before .before .args in let p = c .before .before .pre in omega (arith, pair-bit (a .i) (a .g .nb) (a .g .totd) (p .3) (p .1), p .0 .places .fits)
+    let a = c .before .before .args in
+    let p = c .before .before .pre in
+    omega (arith, pair-bit (a .i) (a .g .nb) (a .g .totd) (p .3) (p .1), p .0 .places .fits)
 
 number-at-requires : tie.Need-number-at-requires
 number-at-requires c κs =
-    let a = c .before .before .args in let p = c .before .before .pre in (p .0, p .2, pair-bit (a .i) (a .g .nb) (a .g .totd) (p .3) (p .1), omega arith)
+    let a = c .before .before .args in
+    let p = c .before .before .pre in
+    (p .0, p .2, pair-bit (a .i) (a .g .nb) (a .g .totd) (p .3) (p .1), omega arith)
 
 number-at-requires-2 : tie.Need-number-at-requires-2
 number-at-requires-2 c κs =
-    let a = c .before .before .before .before .before .args in let p = c .before .before .before .before .before .pre in (p .0, p .2, pair-bit (a .i) (a .g .nb) (a .g .totd) (p .3) (p .1), pair-even (a .i) (a .g .nb))
+    let a = c .before .before .before .before .before .args in
+    let p = c .before .before .before .before .before .pre in
+    (p .0, p .2, pair-bit (a .i) (a .g .nb) (a .g .totd) (p .3) (p .1), pair-even (a .i) (a .g .nb))
 
 returns : tie.Need-returns
 returns c =
-    rw (pair-given (c .before .before .before .before .before .before .before .args .tape .now) (c .before .before .before .before .before .before .before .args .g) (c .before .before .before .before .before .before .before .args .i), ← c .before .before .before .before .number-at .ensures, lt-ltb _ _ (c .before .before .if1 .taken), c .before .number-at2 .ensures)
+    let number-at = c .before .before .before .before in
+    let a = number-at .before .before .before .args in
+    rw (
+      pair-given (a .tape .now) (a .g) (a .i),
+      ← number-at .number-at .ensures,
+      lt-ltb _ _ (c .before .before .if1 .taken),
+      c .before .number-at2 .ensures,
+    )
 
 returns-2 : tie.Need-returns-2
 returns-2 c =
-    rw (pair-given (c .before .before .before .before .before .args .tape .now) (c .before .before .before .before .before .args .g) (c .before .before .before .before .before .args .i), ← c .before .before .number-at .ensures, le-ltb _ _ (c .if1 .left))
+    let a = c .before .before .before .before .before .args in
+    rw (pair-given (a .tape .now) (a .g) (a .i), ← c .before .before .number-at .ensures, le-ltb _ _ (c .if1 .left))
 
 pub pair-given-spec : {M : Type 1} → statement M
 pair-given-spec =

@@ -21,7 +21,8 @@ every-number-requires c κs =
 
 returns : tie.Need-returns Inv-loop μ-loop
 returns c =
-    sym (every-pair (c .before .before .before .args .tape .now) (c .before .before .before .args .g) (sym (c .before .every-number .ensures) ∙ c .if1 .taken))
+    let a = c .before .before .before .args in
+    sym (every-pair (a .tape .now) (a .g) (sym (c .before .every-number .ensures) ∙ c .if1 .taken))
 
 pairs-of-requires : tie.Need-pairs-of-requires Inv-loop μ-loop
 pairs-of-requires c κs =
@@ -29,15 +30,21 @@ pairs-of-requires c κs =
 
 loop-holds : tie.Need-loop-holds Inv-loop μ-loop
 loop-holds c =
-    judging-starts (pairRow (c .before .before .before .before .args .tape .now) (c .before .before .before .before .args .g)) (c .before .before .before .before .args .g .totd / 2)
+    let a = c .before .before .before .before .args in
+    judging-starts (pairRow (a .tape .now) (a .g)) (a .g .totd / 2)
 
 pair-given-requires : tie.Need-pair-given-requires Inv-loop μ-loop
 pair-given-requires c κs =
-    let p = c .before .before .before .before .before .before .pre in let e = c .before .before .pairs-of .ensures in (p .0, p .1 (omega (arith, e)), p .2, omega (arith, e))
+    let p = c .before .before .before .before .before .before .pre in
+    let e = c .before .before .pairs-of .ensures in
+    (p .0, p .1 (omega (arith, e)), p .2, omega (arith, e))
 
 returns-2 : tie.Need-returns-2 Inv-loop μ-loop
 returns-2 c =
-    let a = c .before .before .before .before .before .before .before .before .args in judging-refused (pairRow (a .tape .now) (a .g)) (a .g .totd / 2) (c .before .before .before .loop .i) (omega (arith, c .before .before .before .before .pairs-of .ensures)) (c .before .before .before .loop .inv) (failed (c .before .pair-given .ensures) (c .if2 .taken))
+    let loop = c .before .before .before in
+    let a = loop .before .before .before .before .before .args in
+    judging-refused (pairRow (a .tape .now) (a .g)) (a .g .totd / 2) (loop .loop .i) (omega (arith, loop .before .pairs-of .ensures))
+    (loop .loop .inv) (failed (c .before .pair-given .ensures) (c .if2 .taken))
 
 add-i : tie.Need-add-i Inv-loop μ-loop
 add-i c =
@@ -49,11 +56,16 @@ loop-less c =
 
 loop-again : tie.Need-loop-again Inv-loop μ-loop
 loop-again c =
-    let a = c .before .before .before .before .before .before .before .before .args in judging-on (pairRow (a .tape .now) (a .g)) (a .g .totd / 2) (c .before .before .before .loop .i) (omega (arith, c .before .before .before .before .pairs-of .ensures)) (c .before .before .before .loop .inv) (passed (c .before .pair-given .ensures) (c .if2 .left))
+    let loop = c .before .before .before in
+    let a = loop .before .before .before .before .before .args in
+    judging-on (pairRow (a .tape .now) (a .g)) (a .g .totd / 2) (loop .loop .i) (omega (arith, loop .before .pairs-of .ensures))
+    (loop .loop .inv) (passed (c .before .pair-given .ensures) (c .if2 .left))
 
 returns-3 : tie.Need-returns-3 Inv-loop μ-loop
 returns-3 c =
-    let a = c .before .before .before .before .before .before .args in judging-over (pairRow (a .tape .now) (a .g)) (a .g .totd / 2) (c .before .loop .i) (omega (arith, c .before .before .pairs-of .ensures)) (c .before .loop .inv)
+    let a = c .before .before .before .before .before .before .args in
+    judging-over (pairRow (a .tape .now) (a .g)) (a .g .totd / 2) (c .before .loop .i) (omega (arith, c .before .before .pairs-of .ensures))
+    (c .before .loop .inv)
 
 pub pairs-given-spec : {M : Type 1} → statement M
 pairs-given-spec =

@@ -29,7 +29,12 @@ returns c =
 returns-2 : tie.Need-returns-2
 unfolding pairsOf
 returns-2 c =
-    let a = c .before .before .before .before .before .before .args in let row = pairRow (a .tape .now) (a .g) in let e = c .before .pairs-of .ensures in rw (← c .before .before .before .before .no-bits .ensures, c .before .before .before .if1 .left, ← e) (c .part-of .ensures row (c .before .before .pairs-given .ensures ∙ ap (λ (n : ℕ). isTones (rowsFrom row 0 n)) (sym e)))
+    let if1 = c .before .before .before in
+    let a = if1 .before .before .before .args in
+    let row = pairRow (a .tape .now) (a .g) in
+    let e = c .before .pairs-of .ensures in
+    rw (← if1 .before .no-bits .ensures, if1 .if1 .left, ← e)
+    (c .part-of .ensures row (c .before .before .pairs-given .ensures ∙ ap (λ (n : ℕ). isTones (rowsFrom row 0 n)) (sym e)))
 
 pub pairs-part-spec : {M : Type 1} → statement M
 pairs-part-spec = tie.close (tie.spec no-bits-requires pairs-given-requires pairs-of-requires part-of-requires returns returns-2)

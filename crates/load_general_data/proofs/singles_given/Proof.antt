@@ -1,4 +1,5 @@
--- `singles_given` meets its contract: where not every number is a symbol's, what is judged of the symbols from i on is what is judged of all. Assumes nothing.
+-- `singles_given` meets its contract: where not every number is a symbol's,
+-- what is judged of the symbols from i on is what is judged of all. Assumes nothing.
 use mathlib.Core.Path.{sym, _∙_}
 use Rattle.load_general.proofs.Given.{every-single}
 use Prim.Native.Nat.{_-_}
@@ -21,11 +22,13 @@ every-number-requires c κs =
 
 returns : tie.Need-returns Inv-loop μ-loop
 returns c =
-    sym (every-single (c .before .before .before .args .tape .now) (c .before .before .before .args .g) (sym (c .before .every-number .ensures) ∙ c .if1 .taken))
+    let a = c .before .before .before .args in
+    sym (every-single (a .tape .now) (a .g) (sym (c .before .every-number .ensures) ∙ c .if1 .taken))
 
 loop-holds : tie.Need-loop-holds Inv-loop μ-loop
 loop-holds c =
-    judging-starts (singleRow (c .before .before .before .args .tape .now) (c .before .before .before .args .g)) (c .before .before .before .args .g .totd)
+    let a = c .before .before .before .args in
+    judging-starts (singleRow (a .tape .now) (a .g)) (a .g .totd)
 
 single-given-requires : tie.Need-single-given-requires Inv-loop μ-loop
 single-given-requires c κs =
@@ -33,7 +36,10 @@ single-given-requires c κs =
 
 returns-2 : tie.Need-returns-2 Inv-loop μ-loop
 returns-2 c =
-    let a = c .before .before .before .before .before .before .before .before .args in judging-refused (singleRow (a .tape .now) (a .g)) (a .g .totd) (c .before .before .before .before .loop .i) (omega arith) (c .before .before .before .before .loop .inv) (failed (c .before .single-given .ensures) (c .if3 .taken))
+    let loop = c .before .before .before .before in
+    let a = loop .before .before .before .before .args in
+    judging-refused (singleRow (a .tape .now) (a .g)) (a .g .totd) (loop .loop .i) (omega arith) (loop .loop .inv)
+    (failed (c .before .single-given .ensures) (c .if3 .taken))
 
 add-i : tie.Need-add-i Inv-loop μ-loop
 add-i c =
@@ -45,11 +51,16 @@ loop-less c =
 
 loop-again : tie.Need-loop-again Inv-loop μ-loop
 loop-again c =
-    let a = c .before .before .before .before .before .before .before .before .args in judging-on (singleRow (a .tape .now) (a .g)) (a .g .totd) (c .before .before .before .before .loop .i) (omega arith) (c .before .before .before .before .loop .inv) (passed (c .before .single-given .ensures) (c .if3 .left))
+    let loop = c .before .before .before .before in
+    let a = loop .before .before .before .before .args in
+    judging-on (singleRow (a .tape .now) (a .g)) (a .g .totd) (loop .loop .i) (omega arith) (loop .loop .inv)
+    (passed (c .before .single-given .ensures) (c .if3 .left))
 
 returns-3 : tie.Need-returns-3 Inv-loop μ-loop
 returns-3 c =
-    let a = c .before .before .before .before .before .before .args in judging-over (singleRow (a .tape .now) (a .g)) (a .g .totd) (c .before .before .loop .i) (omega arith) (c .before .before .loop .inv)
+    let loop = c .before .before in
+    let a = loop .before .before .before .before .args in
+    judging-over (singleRow (a .tape .now) (a .g)) (a .g .totd) (loop .loop .i) (omega arith) (loop .loop .inv)
 
 pub singles-given-spec : {M : Type 1} → statement M
 singles-given-spec =

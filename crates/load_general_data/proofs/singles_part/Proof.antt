@@ -20,7 +20,9 @@ returns c =
 returns-2 : tie.Need-returns-2
 unfolding singlesOf
 returns-2 c =
-    let a = c .before .before .before .before .before .args in rw (ne-eqb _ _ (c .before .before .if1 .left)) (c .part-of .ensures (singleRow (a .tape .now) (a .g)) (c .before .singles-given .ensures))
+    let a = c .before .before .before .before .before .args in
+    rw (ne-eqb _ _ (c .before .before .if1 .left))
+    (c .part-of .ensures (singleRow (a .tape .now) (a .g)) (c .before .singles-given .ensures))
 
 pub singles-part-spec : {M : Type 1} → statement M
 singles-part-spec = tie.close (tie.spec singles-given-requires part-of-requires returns returns-2)

@@ -24,7 +24,9 @@ loop-holds c =
 
 entry-row-requires : tie.Need-entry-row-requires Inv-loop μ-loop
 entry-row-requires c κs =
-    let p = c .before .before .before .before .before .before .pre in (p .0, c .before .before .before .before .alphabet .ensures, omega arith)
+    let alphabet = c .before .before .before .before in
+    let p = alphabet .before .before .pre in
+    (p .0, alphabet .alphabet .ensures, omega arith)
 
 is-given-requires : tie.Need-is-given-requires Inv-loop μ-loop
 is-given-requires c κs =
@@ -32,7 +34,10 @@ is-given-requires c κs =
 
 returns : tie.Need-returns Inv-loop μ-loop
 returns c =
-    let a = c .before .before .before .before .before .before .before .before .before .args in judging-refused (entryRow (a .tape .now) (a .g)) (a .g .totp) (c .before .before .before .before .before .before .loop .i) (omega arith) (c .before .before .before .before .before .before .loop .inv) (rw (← c .before .before .entry-row .ensures) (failed (c .before .is-given .ensures) (c .if2 .taken)))
+    let loop = c .before .before .before .before .before .before in
+    let a = loop .before .before .before .args in
+    judging-refused (entryRow (a .tape .now) (a .g)) (a .g .totp) (loop .loop .i) (omega arith) (loop .loop .inv)
+    (rw (← c .before .before .entry-row .ensures) (failed (c .before .is-given .ensures) (c .if2 .taken)))
 
 add-i : tie.Need-add-i Inv-loop μ-loop
 add-i c =
@@ -44,11 +49,16 @@ loop-less c =
 
 loop-again : tie.Need-loop-again Inv-loop μ-loop
 loop-again c =
-    let a = c .before .before .before .before .before .before .before .before .before .args in judging-on (entryRow (a .tape .now) (a .g)) (a .g .totp) (c .before .before .before .before .before .before .loop .i) (omega arith) (c .before .before .before .before .before .before .loop .inv) (rw (← c .before .before .entry-row .ensures) (passed (c .before .is-given .ensures) (c .if2 .left)))
+    let loop = c .before .before .before .before .before .before in
+    let a = loop .before .before .before .args in
+    judging-on (entryRow (a .tape .now) (a .g)) (a .g .totp) (loop .loop .i) (omega arith) (loop .loop .inv)
+    (rw (← c .before .before .entry-row .ensures) (passed (c .before .is-given .ensures) (c .if2 .left)))
 
 returns-2 : tie.Need-returns-2 Inv-loop μ-loop
 returns-2 c =
-    let a = c .before .before .before .before .before .args in judging-over (entryRow (a .tape .now) (a .g)) (a .g .totp) (c .before .before .loop .i) (omega arith) (c .before .before .loop .inv)
+    let loop = c .before .before in
+    let a = loop .before .before .before .args in
+    judging-over (entryRow (a .tape .now) (a .g)) (a .g .totp) (loop .loop .i) (omega arith) (loop .loop .inv)
 
 pub entries-given-spec : {M : Type 1} → statement M
 entries-given-spec =

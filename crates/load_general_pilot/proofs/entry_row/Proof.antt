@@ -40,12 +40,30 @@ low-first-requires c κs = search needs
 
 cycles-requires : tie.Need-cycles-requires
 cycles-requires c κs =
-    omega (arith, c .low-first .ensures, le-small (c .before .before .before .before .before .before .before .args .tape .now) (λ i. c .before .before .before .before .before .before .shared-slice-known .given i .fits) (c .before .before .before .before .before .before .before .args .g .entries + c .before .before .before .before .before .before .before .args .i * 3 + 1) 2)
+    let shared-slice-known = c .before .before .before .before .before .before in
+    omega (
+      arith,
+      c .low-first .ensures,
+      le-small (shared-slice-known .before .args .tape .now) (λ i. shared-slice-known .shared-slice-known .given i .fits)
+          (shared-slice-known .before .args .g .entries + shared-slice-known .before .args .i * 3 + 1) 2,
+    )
 
 returns-2 : tie.Need-returns-2
 unfolding entryRow entrySymbol entryRepeat
 returns-2 c =
-    let n = c .before .before .before .before .before .byte-at .result in let a = c .before .before .before .before .before .before .before .before .args in let p = c .before .before .before .before .before .before .before .before .pre in let s = a .tape .now in let g = a .g in rw (c .cycles .ensures, kept-symbol s (g .pilot) (g .npp) (g .asp) (a .a .now) (p .1) n (omega arith), c .before .low-first .ensures, ← c .before .before .before .before .before .byte-at .ensures, lt-leb _ _ (c .before .before .before .if1 .left))
+    let if1 = c .before .before .before in
+    let a = if1 .before .before .before .before .before .args in
+    let n = if1 .before .before .byte-at .result in
+    let p = if1 .before .before .before .before .before .pre in
+    let s = a .tape .now in
+    let g = a .g in
+    rw (
+      c .cycles .ensures,
+      kept-symbol s (g .pilot) (g .npp) (g .asp) (a .a .now) (p .1) n (omega arith),
+      c .before .low-first .ensures,
+      ← if1 .before .before .byte-at .ensures,
+      lt-leb _ _ (if1 .if1 .left),
+    )
 
 pub entry-row-spec : {M : Type 1} → statement M
 entry-row-spec =

@@ -28,7 +28,10 @@ part-of-requires c κs = search needs
 returns-2 : tie.Need-returns-2
 unfolding pilotOf
 returns-2 c =
-    let a = c .before .before .before .before .before .before .before .args in rw (ne-eqb _ _ (c .before .before .before .before .if1 .left), ← c .before .before .before .one-or-two .ensures, c .before .before .if2 .taken) (c .part-of .ensures (entryRow (a .tape .now) (a .g)) (c .before .entries-given .ensures))
+    let one-or-two = c .before .before .before in
+    let a = one-or-two .before .before .before .before .args in
+    rw (ne-eqb _ _ (one-or-two .before .if1 .left), ← one-or-two .one-or-two .ensures, c .before .before .if2 .taken)
+    (c .part-of .ensures (entryRow (a .tape .now) (a .g)) (c .before .entries-given .ensures))
 
 byte-at-requires : tie.Need-byte-at-requires
 byte-at-requires c κs = search needs
@@ -36,12 +39,32 @@ byte-at-requires c κs = search needs
 returns-3 : tie.Need-returns-3
 unfolding pilotOf entrySymbol judgedOf
 returns-3 c =
-    let e : c .before .before .before .before .before .before .before .before .args .g .entries + 0 * 3 ≡ c .before .before .before .before .before .before .before .before .args .g .entries = omega arith in rw (ne-eqb _ _ (c .before .before .before .before .before .if1 .left), ← c .before .before .before .before .one-or-two .ensures, c .before .before .before .if2 .left, e, ← c .before .before .byte-at .ensures, le-leb _ _ (c .if3 .taken))
+    let if2 = c .before .before .before in
+    let a = if2 .before .before .before .before .before .args in
+    let e : a .g .entries + 0 * 3 ≡ a .g .entries = omega arith in
+    rw (
+      ne-eqb _ _ (if2 .before .before .if1 .left),
+      ← if2 .before .one-or-two .ensures,
+      if2 .if2 .left,
+      e,
+      ← c .before .before .byte-at .ensures,
+      le-leb _ _ (c .if3 .taken),
+    )
 
 returns-4 : tie.Need-returns-4
 unfolding pilotOf entrySymbol judgedOf
 returns-4 c =
-    let e : c .before .before .before .before .before .before .before .before .args .g .entries + 0 * 3 ≡ c .before .before .before .before .before .before .before .before .args .g .entries = omega arith in rw (ne-eqb _ _ (c .before .before .before .before .before .if1 .left), ← c .before .before .before .before .one-or-two .ensures, c .before .before .before .if2 .left, e, ← c .before .before .byte-at .ensures, lt-leb _ _ (c .if3 .left))
+    let if2 = c .before .before .before in
+    let a = if2 .before .before .before .before .before .args in
+    let e : a .g .entries + 0 * 3 ≡ a .g .entries = omega arith in
+    rw (
+      ne-eqb _ _ (if2 .before .before .if1 .left),
+      ← if2 .before .one-or-two .ensures,
+      if2 .if2 .left,
+      e,
+      ← c .before .before .byte-at .ensures,
+      lt-leb _ _ (c .if3 .left),
+    )
 
 pub pilot-part-spec : {M : Type 1} → statement M
 pilot-part-spec =

@@ -20,15 +20,26 @@ room-for-requires c κs = search needs
 
 put-pilot-requires : tie.Need-put-pilot-requires
 put-pilot-requires c κs =
-    let a = c .before .before .before .before .before .before .args in let p = c .before .before .before .before .before .before .pre in let q = pilotOf (a .tape .now) (a .g) in let f : a .n ≤ capacityOf tone toneMost (a .tones .now) - a .used = leb-true _ _ (sym (c .before .before .room-for .ensures) ∙ c .before .if1 .taken) in (p .0, told-tones q (p .1), omega (arith, told-rows q (p .1) .1))
+    let a = c .before .before .before .before .before .before .args in
+    let p = c .before .before .before .before .before .before .pre in
+    let q = pilotOf (a .tape .now) (a .g) in
+    let f : a .n ≤ capacityOf tone toneMost (a .tones .now) - a .used =
+    leb-true _ _ (sym (c .before .before .room-for .ensures) ∙ c .before .if1 .taken) in
+    (p .0, told-tones q (p .1), omega (arith, told-rows q (p .1) .1))
 
 symbol-requires : tie.Need-symbol-requires
 symbol-requires c κs =
-    let a = c .before .before .before .before .before .before .before .before .before .args in let p = c .before .before .before .before .before .before .before .before .before .pre in let t = plain-two (a .tape .now) (a .g) (p .2) in (omega arith, omega (arith, two-inside (a .tape .now) (a .g) (p .0 .places) (t .used) (t .asd) (t .npd)))
+    let a = c .before .before .before .before .before .before .before .before .before .args in
+    let p = c .before .before .before .before .before .before .before .before .before .pre in
+    let t = plain-two (a .tape .now) (a .g) (p .2) in
+    (omega arith, omega (arith, two-inside (a .tape .now) (a .g) (p .0 .places) (t .used) (t .asd) (t .npd)))
 
 symbol-requires-2 : tie.Need-symbol-requires-2
 symbol-requires-2 c κs =
-    let a = c .before .before .before .before .before .before .before .before .before .before .args in let p = c .before .before .before .before .before .before .before .before .before .before .pre in let t = plain-two (a .tape .now) (a .g) (p .2) in (omega arith, omega (arith, two-inside (a .tape .now) (a .g) (p .0 .places) (t .used) (t .asd) (t .npd)))
+    let a = c .before .before .before .before .before .before .before .before .before .before .args in
+    let p = c .before .before .before .before .before .before .before .before .before .before .pre in
+    let t = plain-two (a .tape .now) (a .g) (p .2) in
+    (omega arith, omega (arith, two-inside (a .tape .now) (a .g) (p .0 .places) (t .used) (t .asd) (t .npd)))
 
 array-read-data-made : tie.Need-array-read-data-made
 array-read-data-made c = search needs
@@ -48,14 +59,39 @@ same-length c = search needs
 returns : tie.Need-returns
 unfolding symbolWords
 returns c =
-    let a = c .before .before .before .before .before .before .before .before .before .before .before .before .before .args in let s = a .tape .now in let g = a .g in let p = c .before .before .before .before .before .before .before .before .before .before .before .before .before .pre in let q = pilotOf s g in let o = told-rows q (p .1) in rw (c .data-made .ensures, c .before .before .before .symbol .ensures, c .before .before .symbol2 .ensures, c .before .last-bits .ensures, c .before .before .before .before .before .before .put-pilot .ensures, pilot-plain s g (partTones q) (o .0) (p .2)) (plain-fits (a .used) (a .tones .now) (partTones q) (symbolAt s (g .symbols) 2 0 .first) (symbolAt s (g .symbols) 2 1 .first) (usedBits (g .totd)) (a .n) (o .1) (sym (c .before .before .before .before .before .before .before .before .before .room-for .ensures) ∙ c .before .before .before .before .before .before .before .before .if1 .taken))
+    let symbol = c .before .before .before in
+    let put-pilot = symbol .before .before .before in
+    let room-for = put-pilot .before .before .before in
+    let a = room-for .before .before .before .before .args in
+    let s = a .tape .now in
+    let g = a .g in
+    let p = room-for .before .before .before .before .pre in
+    let q = pilotOf s g in
+    let o = told-rows q (p .1) in
+    rw (
+      c .data-made .ensures,
+      symbol .symbol .ensures,
+      c .before .before .symbol2 .ensures,
+      c .before .last-bits .ensures,
+      put-pilot .put-pilot .ensures,
+      pilot-plain s g (partTones q) (o .0) (p .2),
+    ) (plain-fits (a .used) (a .tones .now) (partTones q) (symbolAt s (g .symbols) 2 0 .first) (symbolAt s (g .symbols) 2 1 .first)
+    (usedBits (g .totd)) (a .n) (o .1) (sym (room-for .room-for .ensures) ∙ put-pilot .before .before .if1 .taken))
 
 same-length-2 : tie.Need-same-length-2
 same-length-2 c = search needs
 
 returns-2 : tie.Need-returns-2
 returns-2 c =
-    let a = c .before .before .before .before .before .args in let s = a .tape .now in let g = a .g in let p = c .before .before .before .before .before .pre in let q = pilotOf s g in let o = told-rows q (p .1) in rw (pilot-plain s g (partTones q) (o .0) (p .2)) (plain-full (a .used) (a .tones .now) (partTones q) (symbolAt s (g .symbols) 2 0 .first) (symbolAt s (g .symbols) 2 1 .first) (usedBits (g .totd)) (a .n) (o .1) (sym (c .before .room-for .ensures) ∙ c .if1 .left))
+    let a = c .before .before .before .before .before .args in
+    let s = a .tape .now in
+    let g = a .g in
+    let p = c .before .before .before .before .before .pre in
+    let q = pilotOf s g in
+    let o = told-rows q (p .1) in
+    rw (pilot-plain s g (partTones q) (o .0) (p .2))
+    (plain-full (a .used) (a .tones .now) (partTones q) (symbolAt s (g .symbols) 2 0 .first) (symbolAt s (g .symbols) 2 1 .first)
+    (usedBits (g .totd)) (a .n) (o .1) (sym (c .before .room-for .ensures) ∙ c .if1 .left))
 
 pub data-block-spec : {M : Type 1} → statement M
 data-block-spec =

@@ -21,15 +21,25 @@ enum-known-n c = search needs
 
 with-pilot-requires : tie.Need-with-pilot-requires
 with-pilot-requires c κs =
-    (c .before .before .before .before .before .before .before .pre, sym (c .before .before .before .before .pilot-part .ensures) ∙ c .before .before .n .given .1)
+    let pilot-part = c .before .before .before .before in
+    let start = pilot-part .before .before .before in
+    (start .pre, sym (pilot-part .pilot-part .ensures) ∙ c .before .before .n .given .1)
 
 returns : tie.Need-returns
 returns c =
-    let a = c .before .before .before .before .before .args in let s = a .tape .now in let g = a .g in rw (pilot-refused s g (told-refused (pilotOf s g) (sym (c .before .before .pilot-part .ensures) ∙ c .enum-told .given .1))) (done-refused (a .used) (a .tones .now))
+    let a = c .before .before .before .before .before .args in
+    let s = a .tape .now in
+    let g = a .g in
+    rw (pilot-refused s g (told-refused (pilotOf s g) (sym (c .before .before .pilot-part .ensures) ∙ c .enum-told .given .1)))
+    (done-refused (a .used) (a .tones .now))
 
 returns-2 : tie.Need-returns-2
 returns-2 c =
-    let a = c .before .before .before .before .before .args in let s = a .tape .now in let g = a .g in rw (pilot-stop s g (told-stop (pilotOf s g) (sym (c .before .before .pilot-part .ensures) ∙ c .enum-told2 .given .1))) (done-stop (a .used) (a .tones .now))
+    let a = c .before .before .before .before .before .args in
+    let s = a .tape .now in
+    let g = a .g in
+    rw (pilot-stop s g (told-stop (pilotOf s g) (sym (c .before .before .pilot-part .ensures) ∙ c .enum-told2 .given .1)))
+    (done-stop (a .used) (a .tones .now))
 
 same-length : tie.Need-same-length
 same-length c = search needs

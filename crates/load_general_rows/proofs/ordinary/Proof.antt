@@ -20,11 +20,19 @@ returns-2 c =
 returns-3 : tie.Need-returns-3
 unfolding ordinary
 returns-3 c =
-    rw (lt-ltb 0 (c .before .before .before .before .before .before .before .args .g .totd) (omega arith), eq-eqb _ _ (c .before .before .if2 .left), ne-eqb _ _ (c .if3 .taken))
+    let a = c .before .before .before .before .before .before .before .args in
+    rw (lt-ltb 0 (a .g .totd) (omega arith), eq-eqb _ _ (c .before .before .if2 .left), ne-eqb _ _ (c .if3 .taken))
 
 symbol-requires : tie.Need-symbol-requires
 symbol-requires c κs =
-    (omega arith, omega (arith, two-inside (c .before .before .before .before .before .before .before .args .tape .now) (c .before .before .before .before .before .before .before .args .g) (c .before .before .before .before .before .before .before .pre .places) (omega arith) (c .before .before .if2 .left) (c .if3 .left)))
+    let start = c .before .before .before .before .before .before .before in (
+      omega arith,
+      omega (
+        arith,
+        two-inside (start .args .tape .now) (start .args .g) (start .pre .places) (omega arith)
+            (c .before .before .if2 .left) (c .if3 .left),
+      ),
+    )
 
 equal-halves-requires : tie.Need-equal-halves-requires
 equal-halves-requires c κs = search needs
@@ -32,11 +40,27 @@ equal-halves-requires c κs = search needs
 returns-4 : tie.Need-returns-4
 unfolding ordinary
 returns-4 c =
-    rw (lt-ltb 0 (c .before .before .before .before .before .before .before .before .before .before .args .g .totd) (omega arith), eq-eqb _ _ (c .before .before .before .before .before .if2 .left), eq-eqb _ _ (c .before .before .before .if3 .left), ← symbol-back (c .before .before .symbol .ensures), failed (c .before .equal-halves .ensures) (c .if4 .taken))
+    let if3 = c .before .before .before in
+    let a = if3 .before .before .before .before .before .before .before .args in
+    rw (
+      lt-ltb 0 (a .g .totd) (omega arith),
+      eq-eqb _ _ (if3 .before .before .if2 .left),
+      eq-eqb _ _ (if3 .if3 .left),
+      ← symbol-back (c .before .before .symbol .ensures),
+      failed (c .before .equal-halves .ensures) (c .if4 .taken),
+    )
 
 symbol-requires-2 : tie.Need-symbol-requires-2
 symbol-requires-2 c κs =
-    (omega arith, omega (arith, two-inside (c .before .before .before .before .before .before .before .before .before .before .args .tape .now) (c .before .before .before .before .before .before .before .before .before .before .args .g) (c .before .before .before .before .before .before .before .before .before .before .pre .places) (omega arith) (c .before .before .before .before .before .if2 .left) (c .before .before .before .if3 .left)))
+    let if3 = c .before .before .before in
+    let start = if3 .before .before .before .before .before .before .before in (
+      omega arith,
+      omega (
+        arith,
+        two-inside (start .args .tape .now) (start .args .g) (start .pre .places) (omega arith) (if3 .before .before .if2 .left)
+            (if3 .if3 .left),
+      ),
+    )
 
 equal-halves-requires-2 : tie.Need-equal-halves-requires-2
 equal-halves-requires-2 c κs = search needs
@@ -44,7 +68,17 @@ equal-halves-requires-2 c κs = search needs
 returns-5 : tie.Need-returns-5
 unfolding ordinary
 returns-5 c =
-    rw (lt-ltb 0 (c .before .before .before .before .before .before .before .before .before .before .before .before .args .g .totd) (omega arith), eq-eqb _ _ (c .before .before .before .before .before .before .before .if2 .left), eq-eqb _ _ (c .before .before .before .before .before .if3 .left), ← symbol-back (c .before .before .before .before .symbol .ensures), passed (c .before .before .before .equal-halves .ensures) (c .before .before .if4 .left), ← symbol-back (c .before .symbol2 .ensures)) (c .equal-halves2 .ensures)
+    let equal-halves = c .before .before .before in
+    let if2 = equal-halves .before .before .before .before in
+    let a = if2 .before .before .before .before .before .args in
+    rw (
+      lt-ltb 0 (a .g .totd) (omega arith),
+      eq-eqb _ _ (if2 .if2 .left),
+      eq-eqb _ _ (equal-halves .before .before .if3 .left),
+      ← symbol-back (equal-halves .before .symbol .ensures),
+      passed (equal-halves .equal-halves .ensures) (c .before .before .if4 .left),
+      ← symbol-back (c .before .symbol2 .ensures),
+    ) (c .equal-halves2 .ensures)
 
 pub ordinary-spec : {M : Type 1} → statement M
 ordinary-spec =

@@ -18,11 +18,15 @@ abbrev μ-loop : tie.MeasureT-loop
 
 alphabet-requires : tie.Need-alphabet-requires Inv-loop μ-loop
 alphabet-requires c κs =
-    let p = c .before .before .pre in (p .0 .asp, p .2, pilot-inside (c .before .before .args .tape .now) (c .before .before .args .g) (p .0 .places) (p .1))
+    let a = c .before .before .args in
+    let p = c .before .before .pre in
+    (p .0 .asp, p .2, pilot-inside (a .tape .now) (a .g) (p .0 .places) (p .1))
 
 loop-holds : tie.Need-loop-holds Inv-loop μ-loop
 loop-holds c =
-    let a = c .before .before .before .args in writing-starts (entryRow (a .tape .now) (a .g)) (a .g .totp) (a .used) (a .tones .now) (c .before .before .before .pre .3)
+    let start = c .before .before .before in
+    let a = start .args in
+    writing-starts (entryRow (a .tape .now) (a .g)) (a .g .totp) (a .used) (a .tones .now) (start .pre .3)
 
 cast-put-row : tie.Need-cast-put-row Inv-loop μ-loop
 cast-put-row c =
@@ -34,11 +38,15 @@ add-put-row c =
 
 entry-row-requires : tie.Need-entry-row-requires Inv-loop μ-loop
 entry-row-requires c κs =
-    (c .before .before .before .before .before .before .before .before .pre .0, c .before .before .before .before .before .alphabet .ensures, omega arith)
+    let alphabet = c .before .before .before .before .before in
+    let start = alphabet .before .before .before in
+    (start .pre .0, alphabet .alphabet .ensures, omega arith)
 
 put-row-requires : tie.Need-put-row-requires Inv-loop μ-loop
 put-row-requires c κs =
-    omega (arith, c .before .before .before .before .before .loop .inv .1, c .before .before .before .before .before .before .before .before .before .pre .4)
+    let loop = c .before .before .before .before .before in
+    let start = loop .before .before .before .before in
+    omega (arith, loop .loop .inv .1, start .pre .4)
 
 add-i : tie.Need-add-i Inv-loop μ-loop
 add-i c =
@@ -50,7 +58,12 @@ loop-less c =
 
 loop-again : tie.Need-loop-again Inv-loop μ-loop
 loop-again c =
-    let a = c .before .before .before .before .before .before .before .before .before .before .before .before .args in writing-on (entryRow (a .tape .now) (a .g)) (a .g .totp) (a .used) (a .tones .now) (c .before .before .before .before .before .before .before .before .loop .tones) (c .before .before .before .before .before .before .before .before .loop .i) (omega arith) (c .before .before .before .before .before .before .before .before .loop .inv) _ (search needs) (c .before .before .put-row .ensures ∙ ap (putGiven (c .before .before .before .before .before .before .before .before .loop .tones) (a .used + c .before .before .before .before .before .before .before .before .loop .i)) (c .before .before .before .entry-row .ensures))
+    let entry-row = c .before .before .before in
+    let loop = entry-row .before .before .before .before .before in
+    let a = loop .before .before .before .before .args in
+    writing-on (entryRow (a .tape .now) (a .g)) (a .g .totp) (a .used) (a .tones .now) (loop .loop .tones) (loop .loop .i) (omega arith)
+    (loop .loop .inv) _ (search needs)
+    (c .before .before .put-row .ensures ∙ ap (putGiven (loop .loop .tones) (a .used + loop .loop .i)) (entry-row .entry-row .ensures))
 
 same-length : tie.Need-same-length Inv-loop μ-loop
 same-length c =
@@ -58,7 +71,10 @@ same-length c =
 
 returns : tie.Need-returns Inv-loop μ-loop
 returns c =
-    let a = c .before .before .before .before .before .before .args in writing-over (entryRow (a .tape .now) (a .g)) (a .g .totp) (a .used) (a .tones .now) (c .before .before .loop .tones) (c .before .before .loop .i) (omega arith) (c .before .before .loop .inv)
+    let loop = c .before .before in
+    let a = loop .before .before .before .before .args in
+    writing-over (entryRow (a .tape .now) (a .g)) (a .g .totp) (a .used) (a .tones .now) (loop .loop .tones) (loop .loop .i) (omega arith)
+    (loop .loop .inv)
 
 pub put-entries-spec : {M : Type 1} → statement M
 put-entries-spec =

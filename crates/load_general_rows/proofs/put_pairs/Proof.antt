@@ -16,7 +16,9 @@ abbrev μ-loop : tie.MeasureT-loop
 
 alphabet-requires : tie.Need-alphabet-requires Inv-loop μ-loop
 alphabet-requires c κs =
-    let p = c .before .before .pre in (p .0 .asd, p .2, data-inside (c .before .before .args .tape .now) (c .before .before .args .g) (p .0 .places) (p .1))
+    let a = c .before .before .args in
+    let p = c .before .before .pre in
+    (p .0 .asd, p .2, data-inside (a .tape .now) (a .g) (p .0 .places) (p .1))
 
 pairs-of-requires : tie.Need-pairs-of-requires Inv-loop μ-loop
 pairs-of-requires c κs =
@@ -24,7 +26,9 @@ pairs-of-requires c κs =
 
 loop-holds : tie.Need-loop-holds Inv-loop μ-loop
 loop-holds c =
-    let a = c .before .before .before .before .args in writing-starts (pairRow (a .tape .now) (a .g)) (a .g .totd / 2) (a .used) (a .tones .now) (c .before .before .before .before .pre .5)
+    let start = c .before .before .before .before in
+    let a = start .args in
+    writing-starts (pairRow (a .tape .now) (a .g)) (a .g .totd / 2) (a .used) (a .tones .now) (start .pre .5)
 
 cast-put-tone : tie.Need-cast-put-tone Inv-loop μ-loop
 cast-put-tone c =
@@ -36,11 +40,24 @@ add-put-tone c =
 
 pair-tone-requires : tie.Need-pair-tone-requires Inv-loop μ-loop
 pair-tone-requires c κs =
-    let a = c .before .before .before .before .before .before .before .before .args in let p = c .before .before .before .before .before .before .before .before .pre in let e = c .before .before .before .before .pairs-of .ensures in (p .0, c .before .before .before .before .before .alphabet .ensures, p .3 (omega (arith, e)), p .4, omega (arith, e), writing-given (pairRow (a .tape .now) (a .g)) (a .g .totd / 2) (a .used) (a .tones .now) (c .before .before .before .loop .tones) (c .before .before .before .loop .i) (omega (arith, e)) (c .before .before .before .loop .inv))
+    let loop = c .before .before .before in
+    let a = loop .before .before .before .before .before .args in
+    let p = loop .before .before .before .before .before .pre in
+    let e = loop .before .pairs-of .ensures in (
+      p .0,
+      loop .before .before .alphabet .ensures,
+      p .3 (omega (arith, e)),
+      p .4,
+      omega (arith, e),
+      writing-given (pairRow (a .tape .now) (a .g)) (a .g .totd / 2) (a .used) (a .tones .now) (loop .loop .tones) (loop .loop .i)
+          (omega (arith, e)) (loop .loop .inv),
+    )
 
 put-tone-requires : tie.Need-put-tone-requires Inv-loop μ-loop
 put-tone-requires c κs =
-    omega (arith, c .before .before .before .before .loop .inv .1, c .before .before .before .before .before .before .before .before .before .pre .6, c .before .before .before .before .before .pairs-of .ensures)
+    let loop = c .before .before .before .before in
+    let start = loop .before .before .before .before .before in
+    omega (arith, loop .loop .inv .1, start .pre .6, loop .before .pairs-of .ensures)
 
 add-i : tie.Need-add-i Inv-loop μ-loop
 add-i c =
@@ -52,7 +69,12 @@ loop-less c =
 
 loop-again : tie.Need-loop-again Inv-loop μ-loop
 loop-again c =
-    let a = c .before .before .before .before .before .before .before .before .before .before .before .before .args in writing-tone (pairRow (a .tape .now) (a .g)) (a .g .totd / 2) (a .used) (a .tones .now) (c .before .before .before .before .before .before .before .loop .tones) (c .before .before .before .before .before .before .before .loop .i) (omega (arith, c .before .before .before .before .before .before .before .before .pairs-of .ensures)) (c .before .before .before .before .before .before .before .loop .inv) _ (c .before .before .before .pair-tone .result) (search needs) (c .before .before .before .pair-tone .ensures) (c .before .before .put-tone .ensures)
+    let pair-tone = c .before .before .before in
+    let loop = pair-tone .before .before .before .before in
+    let a = loop .before .before .before .before .before .args in
+    writing-tone (pairRow (a .tape .now) (a .g)) (a .g .totd / 2) (a .used) (a .tones .now) (loop .loop .tones) (loop .loop .i)
+    (omega (arith, loop .before .pairs-of .ensures)) (loop .loop .inv) _ (pair-tone .pair-tone .result) (search needs)
+    (pair-tone .pair-tone .ensures) (c .before .before .put-tone .ensures)
 
 same-length : tie.Need-same-length Inv-loop μ-loop
 same-length c =
@@ -60,7 +82,9 @@ same-length c =
 
 returns : tie.Need-returns Inv-loop μ-loop
 returns c =
-    let a = c .before .before .before .before .before .before .args in writing-over (pairRow (a .tape .now) (a .g)) (a .g .totd / 2) (a .used) (a .tones .now) (c .before .loop .tones) (c .before .loop .i) (omega (arith, c .before .before .pairs-of .ensures)) (c .before .loop .inv)
+    let a = c .before .before .before .before .before .before .args in
+    writing-over (pairRow (a .tape .now) (a .g)) (a .g .totd / 2) (a .used) (a .tones .now) (c .before .loop .tones) (c .before .loop .i)
+    (omega (arith, c .before .before .pairs-of .ensures)) (c .before .loop .inv)
 
 pub put-pairs-spec : {M : Type 1} → statement M
 put-pairs-spec =

@@ -16,11 +16,15 @@ abbrev μ-loop : tie.MeasureT-loop
 
 alphabet-requires : tie.Need-alphabet-requires Inv-loop μ-loop
 alphabet-requires c κs =
-    let p = c .before .before .pre in (p .0 .asd, p .2, data-inside (c .before .before .args .tape .now) (c .before .before .args .g) (p .0 .places) (p .1))
+    let a = c .before .before .args in
+    let p = c .before .before .pre in
+    (p .0 .asd, p .2, data-inside (a .tape .now) (a .g) (p .0 .places) (p .1))
 
 loop-holds : tie.Need-loop-holds Inv-loop μ-loop
 loop-holds c =
-    let a = c .before .before .before .args in writing-starts (singleRow (a .tape .now) (a .g)) (a .g .totd) (a .used) (a .tones .now) (c .before .before .before .pre .5)
+    let start = c .before .before .before in
+    let a = start .args in
+    writing-starts (singleRow (a .tape .now) (a .g)) (a .g .totd) (a .used) (a .tones .now) (start .pre .5)
 
 cast-put-tone : tie.Need-cast-put-tone Inv-loop μ-loop
 cast-put-tone c =
@@ -32,11 +36,23 @@ add-put-tone c =
 
 single-tone-requires : tie.Need-single-tone-requires Inv-loop μ-loop
 single-tone-requires c κs =
-    let a = c .before .before .before .before .before .before .before .before .args in let p = c .before .before .before .before .before .before .before .before .pre in (p .0, c .before .before .before .before .before .alphabet .ensures, p .3, p .4, omega arith, writing-given (singleRow (a .tape .now) (a .g)) (a .g .totd) (a .used) (a .tones .now) (c .before .before .before .before .loop .tones) (c .before .before .before .before .loop .i) (omega arith) (c .before .before .before .before .loop .inv))
+    let loop = c .before .before .before .before in
+    let a = loop .before .before .before .before .args in
+    let p = loop .before .before .before .before .pre in (
+      p .0,
+      loop .before .alphabet .ensures,
+      p .3,
+      p .4,
+      omega arith,
+      writing-given (singleRow (a .tape .now) (a .g)) (a .g .totd) (a .used) (a .tones .now) (loop .loop .tones) (loop .loop .i)
+          (omega arith) (loop .loop .inv),
+    )
 
 put-tone-requires : tie.Need-put-tone-requires Inv-loop μ-loop
 put-tone-requires c κs =
-    omega (arith, c .before .before .before .before .before .loop .inv .1, c .before .before .before .before .before .before .before .before .before .pre .6)
+    let loop = c .before .before .before .before .before in
+    let start = loop .before .before .before .before in
+    omega (arith, loop .loop .inv .1, start .pre .6)
 
 add-i : tie.Need-add-i Inv-loop μ-loop
 add-i c =
@@ -48,7 +64,12 @@ loop-less c =
 
 loop-again : tie.Need-loop-again Inv-loop μ-loop
 loop-again c =
-    let a = c .before .before .before .before .before .before .before .before .before .before .before .before .args in writing-tone (singleRow (a .tape .now) (a .g)) (a .g .totd) (a .used) (a .tones .now) (c .before .before .before .before .before .before .before .before .loop .tones) (c .before .before .before .before .before .before .before .before .loop .i) (omega arith) (c .before .before .before .before .before .before .before .before .loop .inv) _ (c .before .before .before .single-tone .result) (search needs) (c .before .before .before .single-tone .ensures) (c .before .before .put-tone .ensures)
+    let single-tone = c .before .before .before in
+    let loop = single-tone .before .before .before .before .before in
+    let a = loop .before .before .before .before .args in
+    writing-tone (singleRow (a .tape .now) (a .g)) (a .g .totd) (a .used) (a .tones .now) (loop .loop .tones) (loop .loop .i) (omega arith)
+    (loop .loop .inv) _ (single-tone .single-tone .result) (search needs) (single-tone .single-tone .ensures)
+    (c .before .before .put-tone .ensures)
 
 same-length : tie.Need-same-length Inv-loop μ-loop
 same-length c =
@@ -56,7 +77,10 @@ same-length c =
 
 returns : tie.Need-returns Inv-loop μ-loop
 returns c =
-    let a = c .before .before .before .before .before .before .args in writing-over (singleRow (a .tape .now) (a .g)) (a .g .totd) (a .used) (a .tones .now) (c .before .before .loop .tones) (c .before .before .loop .i) (omega arith) (c .before .before .loop .inv)
+    let loop = c .before .before in
+    let a = loop .before .before .before .before .args in
+    writing-over (singleRow (a .tape .now) (a .g)) (a .g .totd) (a .used) (a .tones .now) (loop .loop .tones) (loop .loop .i) (omega arith)
+    (loop .loop .inv)
 
 pub put-singles-spec : {M : Type 1} → statement M
 put-singles-spec =

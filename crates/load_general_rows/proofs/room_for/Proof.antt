@@ -18,7 +18,9 @@ returns c =
 
 returns-2 : tie.Need-returns-2
 returns-2 c =
-    let e : capacityOf tone toneMost (c .before .before .before .args .tones .now) - c .before .before .before .args .used ≡ 0 = omega (arith, c .before .tone-capacity .ensures) in rw e (none-fits (c .before .before .before .args .rows))
+    let a = c .before .before .before .args in
+    let e : capacityOf tone toneMost (a .tones .now) - a .used ≡ 0 = omega (arith, c .before .tone-capacity .ensures) in
+    rw e (none-fits (a .rows))
 
 pub room-for-spec : {M : Type 1} → statement M
 room-for-spec = tie.close (tie.spec tone-capacity-requires returns returns-2)

@@ -8,11 +8,15 @@ use Rattle.load_general_rows.proofs.single_tone.Tie as tie
 
 mul-number-at : tie.Need-mul-number-at
 mul-number-at c =
-    let a = c .before .before .args in let p = c .before .before .pre in omega (arith, single-bit (a .i) (a .g .nb) (a .g .totd) (p .4) (p .2), p .0 .places .fits)
+    let a = c .before .before .args in
+    let p = c .before .before .pre in
+    omega (arith, single-bit (a .i) (a .g .nb) (a .g .totd) (p .4) (p .2), p .0 .places .fits)
 
 number-at-requires : tie.Need-number-at-requires
 number-at-requires c κs =
-    let a = c .before .before .args in let p = c .before .before .pre in (p .0, p .3, single-bit (a .i) (a .g .nb) (a .g .totd) (p .4) (p .2), omega arith)
+    let a = c .before .before .args in
+    let p = c .before .before .pre in
+    (p .0, p .3, single-bit (a .i) (a .g .nb) (a .g .totd) (p .4) (p .2), omega arith)
 
 cast-y : tie.Need-cast-y
 cast-y c = search needs
@@ -22,7 +26,9 @@ mul-y c = search needs
 
 element-copy-out-y : tie.Need-element-copy-out-y
 element-copy-out-y c =
-    let a = c .before .before .before .args in let p = c .before .before .before .pre in omega (arith, single-below (a .tape .now) (a .g) (a .i) (p .5), c .number-at .ensures, p .0 .asd)
+    let a = c .before .before .before .args in
+    let p = c .before .before .before .pre in
+    omega (arith, single-below (a .tape .now) (a .g) (a .i) (p .5), c .number-at .ensures, p .0 .asd)
 
 array-read-one-cycle : tie.Need-array-read-one-cycle
 array-read-one-cycle c = search needs
@@ -35,7 +41,11 @@ one-cycle-requires c κs = search needs
 
 returns : tie.Need-returns
 returns c =
-    let a = c .before .before .before .before .before .args in let p = c .before .before .before .before .before .pre in rw (c .one-cycle .ensures) (single-tone (a .tape .now) (a .g) (a .i) (p .5) (a .a .now) (p .1) (c .before .before .number-at .result) (c .before .before .number-at .ensures))
+    let number-at = c .before .before in
+    let a = number-at .before .before .before .args in
+    let p = number-at .before .before .before .pre in
+    rw (c .one-cycle .ensures)
+    (single-tone (a .tape .now) (a .g) (a .i) (p .5) (a .a .now) (p .1) (number-at .number-at .result) (number-at .number-at .ensures))
 
 pub single-tone-spec : {M : Type 1} → statement M
 single-tone-spec =

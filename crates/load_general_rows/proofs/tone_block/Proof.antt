@@ -22,29 +22,64 @@ room-for-requires c κs = search needs
 
 put-pilot-requires : tie.Need-put-pilot-requires
 put-pilot-requires c κs =
-    let a = c .before .before .before .before .before .before .args in let p = c .before .before .before .before .before .before .pre in let q = pilotOf (a .tape .now) (a .g) in let f : a .n + a .m ≤ capacityOf tone toneMost (a .tones .now) - a .used = leb-true _ _ (sym (c .before .before .room-for .ensures) ∙ c .before .if1 .taken) in (p .0, told-tones q (p .1), omega (arith, told-rows q (p .1) .1))
+    let a = c .before .before .before .before .before .before .args in
+    let p = c .before .before .before .before .before .before .pre in
+    let q = pilotOf (a .tape .now) (a .g) in
+    let f : a .n + a .m ≤ capacityOf tone toneMost (a .tones .now) - a .used =
+    leb-true _ _ (sym (c .before .before .room-for .ensures) ∙ c .before .if1 .taken) in
+    (p .0, told-tones q (p .1), omega (arith, told-rows q (p .1) .1))
 
 add-put-data : tie.Need-add-put-data
 add-put-data c =
-    let a = c .before .before .before .before .before .before .before .before .before .before .args in let f : a .n + a .m ≤ capacityOf tone toneMost (a .tones .now) - a .used = leb-true _ _ (sym (c .before .before .before .before .before .before .room-for .ensures) ∙ c .before .before .before .before .before .if1 .taken) in omega arith
+    let if1 = c .before .before .before .before .before in
+    let a = if1 .before .before .before .before .before .args in
+    let f : a .n + a .m ≤ capacityOf tone toneMost (a .tones .now) - a .used =
+    leb-true _ _ (sym (if1 .before .room-for .ensures) ∙ if1 .if1 .taken) in
+    omega arith
 
 put-data-requires : tie.Need-put-data-requires
 put-data-requires c κs =
-    let a = c .before .before .before .before .before .before .before .before .before .before .args in let p = c .before .before .before .before .before .before .before .before .before .before .pre in let q = dataPart (a .tape .now) (a .g) in let f : a .n + a .m ≤ capacityOf tone toneMost (a .tones .now) - a .used = leb-true _ _ (sym (c .before .before .before .before .before .before .room-for .ensures) ∙ c .before .before .before .before .before .if1 .taken) in (p .0, told-tones q (p .2), omega (arith, told-rows q (p .2) .1))
+    let if1 = c .before .before .before .before .before in
+    let a = if1 .before .before .before .before .before .args in
+    let p = if1 .before .before .before .before .before .pre in
+    let q = dataPart (a .tape .now) (a .g) in
+    let f : a .n + a .m ≤ capacityOf tone toneMost (a .tones .now) - a .used =
+    leb-true _ _ (sym (if1 .before .room-for .ensures) ∙ if1 .if1 .taken) in
+    (p .0, told-tones q (p .2), omega (arith, told-rows q (p .2) .1))
 
 same-length : tie.Need-same-length
 same-length c = search needs
 
 returns : tie.Need-returns
 returns c =
-    let a = c .before .before .before .before .before .before .before .before .before .before .before .before .before .args in let s = a .tape .now in let g = a .g in let p = c .before .before .before .before .before .before .before .before .before .before .before .before .before .pre in let q = told-rows (pilotOf s g) (p .1) in let d = told-rows (dataPart s g) (p .2) in rw (c .before .before .put-data .ensures, c .before .before .before .before .before .before .put-pilot .ensures, data-tones (partTones (pilotOf s g)) (partTones (dataPart s g)) (d .0)) (toned-fits (a .used) (a .tones .now) (partTones (pilotOf s g)) (partTones (dataPart s g)) (a .n) (a .m) (q .1) (d .1) (sym (c .before .before .before .before .before .before .before .before .before .room-for .ensures) ∙ c .before .before .before .before .before .before .before .before .if1 .taken))
+    let put-pilot = c .before .before .before .before .before .before in
+    let room-for = put-pilot .before .before .before in
+    let a = room-for .before .before .before .before .args in
+    let s = a .tape .now in
+    let g = a .g in
+    let p = room-for .before .before .before .before .pre in
+    let q = told-rows (pilotOf s g) (p .1) in
+    let d = told-rows (dataPart s g) (p .2) in
+    rw (
+      c .before .before .put-data .ensures,
+      put-pilot .put-pilot .ensures,
+      data-tones (partTones (pilotOf s g)) (partTones (dataPart s g)) (d .0),
+    ) (toned-fits (a .used) (a .tones .now) (partTones (pilotOf s g)) (partTones (dataPart s g)) (a .n) (a .m) (q .1) (d .1)
+    (sym (room-for .room-for .ensures) ∙ put-pilot .before .before .if1 .taken))
 
 same-length-2 : tie.Need-same-length-2
 same-length-2 c = search needs
 
 returns-2 : tie.Need-returns-2
 returns-2 c =
-    let a = c .before .before .before .before .before .args in let s = a .tape .now in let g = a .g in let p = c .before .before .before .before .before .pre in let q = told-rows (pilotOf s g) (p .1) in let d = told-rows (dataPart s g) (p .2) in rw (data-tones (partTones (pilotOf s g)) (partTones (dataPart s g)) (d .0)) (toned-full (a .used) (a .tones .now) (partTones (pilotOf s g)) (partTones (dataPart s g)) (a .n) (a .m) (q .1) (d .1) (sym (c .before .room-for .ensures) ∙ c .if1 .left))
+    let a = c .before .before .before .before .before .args in
+    let s = a .tape .now in
+    let g = a .g in
+    let p = c .before .before .before .before .before .pre in
+    let q = told-rows (pilotOf s g) (p .1) in
+    let d = told-rows (dataPart s g) (p .2) in
+    rw (data-tones (partTones (pilotOf s g)) (partTones (dataPart s g)) (d .0)) (toned-full (a .used) (a .tones .now)
+    (partTones (pilotOf s g)) (partTones (dataPart s g)) (a .n) (a .m) (q .1) (d .1) (sym (c .before .room-for .ensures) ∙ c .if1 .left))
 
 pub tone-block-spec : {M : Type 1} → statement M
 tone-block-spec =

@@ -16,7 +16,9 @@ use Rattle.load_loops.proofs.copy_bodies.Tie as tie
 abbrev Inv-loop : tie.InvT-loop
 Inv-loop blocks₀ start end times s₀ left₀ blocks s left =
     (length blocks ≡ length blocks₀)
-    × ((B N : ℕ) (tt : List ℕ) (t : Parsed) → Holds B N s₀ blocks₀ tt t → end ≤ length (t .blocks) → Going (Begins (t .blocks)) B N s blocks tt (copies (blockRoom B) left (slice start end (t .blocks))) (copies (blockRoom B) times (slice start end (t .blocks)) t))
+    × ((B N : ℕ) (tt : List ℕ) (t : Parsed) → Holds B N s₀ blocks₀ tt t → end ≤ length (t .blocks)
+    → Going (Begins (t .blocks)) B N s blocks tt (copies (blockRoom B) left (slice start end (t .blocks)))
+    (copies (blockRoom B) times (slice start end (t .blocks)) t))
 
 abbrev μ-loop : tie.MeasureT-loop
 μ-loop blocks₀ start end times s₀ left₀ blocks s left = left
@@ -45,7 +47,9 @@ returns c =
     let p = l .before .before .args in
     let g = l .loop .inv .1 B N tt t h e in
     let m = blockRoom B in
-    going-no g (copyRows m (slice (p .start) (p .end) (g .at .blocks))) (copies m (l .loop .left - 1) (slice (p .start) (p .end) (t .blocks))) (body-turn m (l .loop .left) (p .start) (p .end) (g .known) (omega arith) e)
+    going-no g (copyRows m (slice (p .start) (p .end) (g .at .blocks)))
+    (copies m (l .loop .left - 1) (slice (p .start) (p .end) (t .blocks)))
+    (body-turn m (l .loop .left) (p .start) (p .end) (g .known) (omega arith) e)
     (a .copy-body .ensures B N tt (g .at) (g .holds) (begins-length (p .end) (g .known) e)) (c .before .k .given .1)
 
 sub-left : tie.Need-sub-left Inv-loop μ-loop
@@ -64,8 +68,10 @@ loop-again c =
           let g = l .loop .inv .1 B N tt t h e in
           let m = blockRoom B in
           let rs = slice (p .start) (p .end) (g .at .blocks) in
-          going-on g (copyRows m rs) (copies m (l .loop .left - 1) (slice (p .start) (p .end) (t .blocks))) (body-turn m (l .loop .left) (p .start) (p .end) (g .known) (omega arith) e)
-          (a .copy-body .ensures B N tt (g .at) (g .holds) (begins-length (p .end) (g .known) e)) (c .before .next .given .1) (λ u q. begins-rows (t .blocks) m rs (g .known) q),
+          going-on g (copyRows m rs) (copies m (l .loop .left - 1) (slice (p .start) (p .end) (t .blocks)))
+          (body-turn m (l .loop .left) (p .start) (p .end) (g .known) (omega arith) e)
+          (a .copy-body .ensures B N tt (g .at) (g .holds) (begins-length (p .end) (g .known) e)) (c .before .next .given .1)
+          (λ u q. begins-rows (t .blocks) m rs (g .known) q),
     )
 
 same-length-2 : tie.Need-same-length-2 Inv-loop μ-loop

@@ -18,7 +18,9 @@ use Rattle.load_loops.proofs.copy_body.Tie as tie
 abbrev Inv-loop : tie.InvT-loop
 Inv-loop blocks₀ start end s₀ i₀ blocks s i =
     (length blocks ≡ length blocks₀)
-    × ((B N : ℕ) (tt : List ℕ) (t : Parsed) → Holds B N s₀ blocks₀ tt t → end ≤ length (t .blocks) → Going (Begins (t .blocks)) B N s blocks tt (copyRows (blockRoom B) (slice i end (t .blocks))) (copyRows (blockRoom B) (slice start end (t .blocks)) t))
+    × ((B N : ℕ) (tt : List ℕ) (t : Parsed) → Holds B N s₀ blocks₀ tt t → end ≤ length (t .blocks)
+    → Going (Begins (t .blocks)) B N s blocks tt (copyRows (blockRoom B) (slice i end (t .blocks)))
+    (copyRows (blockRoom B) (slice start end (t .blocks)) t))
 
 abbrev μ-loop : tie.MeasureT-loop
 μ-loop blocks₀ start end s₀ i₀ blocks s i = end - i
@@ -54,7 +56,8 @@ returns c =
     let m = blockRoom B in
     let end = l .before .before .args .end in
     let gave = rw (a .before .rename .ensures, a .before .before .block-at .ensures) at (a .add-block .ensures B N tt (g .at) (g .holds)) in
-    going-no g (addBlock m (nameless (get block (l .loop .blocks) (l .loop .i)))) (copyRows m (slice (l .loop .i + 1) end (t .blocks))) (row-turn m (l .loop .i) end (g .holds) (g .known) (omega arith) e) gave (c .before .k .given .1)
+    going-no g (addBlock m (nameless (get block (l .loop .blocks) (l .loop .i)))) (copyRows m (slice (l .loop .i + 1) end (t .blocks)))
+    (row-turn m (l .loop .i) end (g .holds) (g .known) (omega arith) e) gave (c .before .k .given .1)
 
 add-i : tie.Need-add-i Inv-loop μ-loop
 add-i c = search needs
@@ -72,8 +75,11 @@ loop-again c =
           let m = blockRoom B in
           let end = l .before .before .args .end in
           let r = nameless (get block (l .loop .blocks) (l .loop .i)) in
-          let gave = rw (a .before .rename .ensures, a .before .before .block-at .ensures) at (a .add-block .ensures B N tt (g .at) (g .holds)) in
-          going-on g (addBlock m r) (copyRows m (slice (l .loop .i + 1) end (t .blocks))) (row-turn m (l .loop .i) end (g .holds) (g .known) (omega arith) e) gave (c .before .next .given .1) (λ u q. begins-block (t .blocks) m r (g .known) q),
+          let gave = rw (a .before .rename .ensures, a .before .before .block-at .ensures)
+          at (a .add-block .ensures B N tt (g .at) (g .holds)) in
+          going-on g (addBlock m r) (copyRows m (slice (l .loop .i + 1) end (t .blocks)))
+          (row-turn m (l .loop .i) end (g .holds) (g .known) (omega arith) e) gave (c .before .next .given .1)
+          (λ u q. begins-block (t .blocks) m r (g .known) q),
     )
 
 same-length-2 : tie.Need-same-length-2 Inv-loop μ-loop

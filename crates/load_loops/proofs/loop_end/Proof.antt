@@ -24,7 +24,8 @@ returns : tie.Need-returns
 unfolding closeLoop closed
 returns c =
     λ B N tt t h.
-    let q : closed (blockRoom B) (t .body) t ≡ on t = ap (λ (l : Loop). closed (blockRoom B) l t) (sym (h .loops) ∙ c .enum-told .given .1) in
+    let q : closed (blockRoom B) (t .body) t ≡ on t =
+    ap (λ (l : Loop). closed (blockRoom B) l t) (sym (h .loops) ∙ c .enum-told .given .1) in
     rw q (goes h)
 
 same-length : tie.Need-same-length

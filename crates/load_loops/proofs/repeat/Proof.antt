@@ -35,7 +35,8 @@ same-length-2 c = search needs
 returns-3 : tie.Need-returns-3
 returns-3 c =
     λ B N tt t h.
-    let k : length (t .blocks) ≤ c .before .before .before .before .before .before .before .before .before .args .s .blocks = omega arith in
+    let a = c .before .before .before .before .before .before .before .before .before .args in
+    let k : length (t .blocks) ≤ a .s .blocks = omega arith in
     rw (take-all _ (t .blocks) k) at (c .before .before .copy-bodies .ensures B N tt t h (omega arith))
 
 pub repeat-spec : {M : Type 1} → statement M

@@ -43,7 +43,10 @@ data-row-requires c κs = search needs
 
 add-with-used : tie.Need-add-with-used
 add-with-used c =
-    omega (arith, data-fits (c .before .before .before .before .before .before .before .before .general .ensures) (c .before .before .before .before .rows .given .1), c .before .before .before .before .before .before .before .before .before .before .before .before .before .good .1 .0)
+    let rows = c .before .before .before .before in
+    let general = rows .before .before .before .before in
+    let good = general .before .before .before .before .before in
+    omega (arith, data-fits (general .general .ensures) (rows .rows .given .1), good .good .1 .0)
 
 with-used-requires : tie.Need-with-used-requires
 with-used-requires c κs = search needs
@@ -68,7 +71,10 @@ data-row-requires-2 c κs = search needs
 
 add-with-used-2 : tie.Need-add-with-used-2
 add-with-used-2 c =
-    omega (arith, tones-fit (c .before .before .before .before .before .before .before .before .before .general .ensures) (c .before .before .before .before .before .rows2 .given .1), c .before .before .before .before .before .before .before .before .before .before .before .before .before .before .good .1 .0)
+    let rows2 = c .before .before .before .before .before in
+    let general = rows2 .before .before .before .before in
+    let good = general .before .before .before .before .before in
+    omega (arith, tones-fit (general .general .ensures) (rows2 .rows2 .given .1), good .good .1 .0)
 
 with-used-requires-2 : tie.Need-with-used-requires-2
 with-used-requires-2 c κs = search needs
@@ -98,7 +104,10 @@ same-length-4 c = search needs
 
 returns-3 : tie.Need-returns-3
 returns-3 c =
-    λ model B N t h. general-stop h _ model _ (c .before .before .before .before .before .before .before .before .general .ensures) (c .before .before .before .before .enum-told3 .given .1) (c .before .before .stop-block .ensures _ B N t h)
+    let told3 = c .before .before .before .before in
+    let general = told3 .before .before .before .before in
+    λ model B N t h.
+    general-stop h _ model _ (general .general .ensures) (told3 .enum-told3 .given .1) (c .before .before .stop-block .ensures _ B N t h)
 
 same-length-5 : tie.Need-same-length-5
 same-length-5 c = search needs
@@ -108,7 +117,11 @@ same-length-6 c = search needs
 
 returns-4 : tie.Need-returns-4
 returns-4 c =
-    λ model B N t h. general-data h _ model _ (c .before .before .before .before .before .before .before .before .before .before .before .before .before .general .ensures) (c .before .before .before .before .before .before .before .before .before .rows .given .1) (c .before .before .before .before .before .before .before .before .before .before .before .before .before .general .kept .1 .1 .0) (c .before .before .before .before .with-used .ensures) (c .before .before .before .before .before .before .data-row .ensures) (c .before .before .add-block .ensures B N _)
+    let with-used = c .before .before .before .before in
+    let rows = with-used .before .before .before .before .before in
+    let general = rows .before .before .before .before in
+    λ model B N t h. general-data h _ model _ (general .general .ensures) (rows .rows .given .1) (general .general .kept .1 .1 .0)
+    (with-used .with-used .ensures) (with-used .before .before .data-row .ensures) (c .before .before .add-block .ensures B N _)
 
 same-length-7 : tie.Need-same-length-7
 same-length-7 c = search needs
@@ -118,7 +131,12 @@ same-length-8 c = search needs
 
 returns-5 : tie.Need-returns-5
 returns-5 c =
-    λ model B N t h. general-tones h _ model _ (c .before .before .before .before .before .before .before .before .before .before .before .before .before .before .general .ensures) (c .before .before .before .before .before .before .before .before .before .before .rows2 .given .1) (c .before .before .before .before .before .before .before .before .before .before .before .before .before .before .general .kept .1 .1 .0) (c .before .before .before .before .with-used2 .ensures) (rw (c .before .before .before .before .before .before .before .before .no-bits .ensures) at (c .before .before .before .before .before .before .data-row2 .ensures)) (c .before .before .add-block2 .ensures B N _)
+    let with-used2 = c .before .before .before .before in
+    let no-bits = with-used2 .before .before .before .before in
+    let general = no-bits .before .before .before .before .before .before in
+    λ model B N t h. general-tones h _ model _ (general .general .ensures) (no-bits .before .before .rows2 .given .1)
+    (general .general .kept .1 .1 .0) (with-used2 .with-used2 .ensures)
+    (rw (no-bits .no-bits .ensures) at (with-used2 .before .before .data-row2 .ensures)) (c .before .before .add-block2 .ensures B N _)
 
 pub generalized-data-block-spec : {M : Type 1} → statement M
 generalized-data-block-spec =

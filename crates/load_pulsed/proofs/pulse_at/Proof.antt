@@ -23,7 +23,8 @@ cast-result c = search needs
 returns : tie.Need-returns
 unfolding pulseAt numberAt
 returns c =
-    rw (c .before .field .ensures, field-there (c .before .before .before .args .tape .now) 2 (c .before .before .before .args .from + c .before .before .before .args .i * 2) (omega arith))
+    let a = c .before .before .before .args in
+    rw (c .before .field .ensures, field-there (a .tape .now) 2 (a .from + a .i * 2) (omega arith))
 
 pub pulse-at-spec : {M : Type 1} → statement M
 pulse-at-spec = tie.close (tie.spec mul-t5 add-t6 field-requires cast-result returns)

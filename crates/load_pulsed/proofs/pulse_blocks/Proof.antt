@@ -17,7 +17,9 @@ use Rattle.load_pulsed.proofs.pulse_blocks.Tie as tie
 abbrev Inv-loop : tie.InvT-loop
 Inv-loop tape blocks₀ tones₀ origin from n s₀ i₀ left₀ blocks tones s i left =
     (length blocks ≡ length blocks₀) × (length tones ≡ length tones₀) × (i + left * 2 ≡ n * 2)
-    × ((B N : ℕ) (t : Parsed) → Holds B N s₀ blocks₀ tones₀ t → Going Any B N s blocks tones (addSounds (lentOf B N) origin (pairSounds tape from i left)) (addSounds (lentOf B N) origin (pairSounds tape from 0 n) t))
+    × ((B N : ℕ) (t : Parsed) → Holds B N s₀ blocks₀ tones₀ t
+    → Going Any B N s blocks tones (addSounds (lentOf B N) origin (pairSounds tape from i left))
+    (addSounds (lentOf B N) origin (pairSounds tape from 0 n) t))
 
 abbrev μ-loop : tie.MeasureT-loop
 μ-loop tape blocks₀ tones₀ origin from n s₀ i₀ left₀ blocks tones s i left = left
@@ -57,16 +59,25 @@ returns : tie.Need-returns Inv-loop μ-loop
 unfolding rowOf
 returns c =
     λ B N t h.
-    let l = c .before .before .before .before .before .before .before .before .before .before .before .before .before .before .loop in
-    let a = c .before .before .before .before .before .before .before .before .before .before .before .before .before .before .before .before .before .before .args in
+    let one-tone = c .before .before .before .before .before .before .before in
+    let bare-row = one-tone .before .before .before in
+    let loop-test = bare-row .before .before .before in
+    let a = loop-test .before .before .before .before .before .args in
+    let l = loop-test .before .loop in
     let g = l .inv .3 B N t h in
     let f = addSound (lentOf B N) (a .origin) (pairSound (a .tape .now) (a .from) (l .i)) in
-    let gave = does-sound (a .origin) (pairSound (a .tape .now) (a .from) (l .i)) (c .before .before .before .before .before .before .before .before .before .before .bare-row .ensures) (rw (c .before .before .before .before .before .before .before .before .before .before .before .before .pulse-at .ensures, c .before .before .before .before .before .before .before .before .before .before .before .pulse-at2 .ensures) at (c .before .before .before .before .before .before .before .one-tone .ensures)) B N (g .at) (g .holds) in
-    going-no g f (addSounds (lentOf B N) (a .origin) (pairSounds (a .tape .now) (a .from) (l .i + 2) (l .left - 1))) (pairs-more (lentOf B N) (a .origin) (a .tape .now) (a .from) (l .i) (l .left) (g .at) (c .before .before .before .before .before .before .before .before .before .before .before .before .before .loop-test .taken)) gave (c .before .k .given .1)
+    let gave = does-sound (a .origin) (pairSound (a .tape .now) (a .from) (l .i)) (bare-row .bare-row .ensures)
+    (rw (bare-row .before .before .pulse-at .ensures, bare-row .before .pulse-at2 .ensures) at (one-tone .one-tone .ensures)) B N (g .at)
+    (g .holds) in
+    going-no g f (addSounds (lentOf B N) (a .origin) (pairSounds (a .tape .now) (a .from) (l .i + 2) (l .left - 1)))
+    (pairs-more (lentOf B N) (a .origin) (a .tape .now) (a .from) (l .i) (l .left) (g .at) (loop-test .loop-test .taken)) gave
+    (c .before .k .given .1)
 
 add-i : tie.Need-add-i Inv-loop μ-loop
 add-i c =
-    omega (arith, c .before .before .before .before .before .before .before .before .before .before .before .before .before .before .before .before .before .before .good .0, c .before .before .before .before .before .before .before .before .before .before .before .before .before .before .before .before .before .before .pre, c .before .before .before .before .before .before .before .before .before .before .before .before .before .before .loop .inv .2, c .before .before .before .before .before .before .before .before .before .before .before .before .before .loop-test .taken)
+    let loop-test = c .before .before .before .before .before .before .before .before .before .before .before .before .before in
+    let good = loop-test .before .before .before .before .before in
+    omega (arith, good .good .0, good .pre, loop-test .before .loop .inv .2, loop-test .loop-test .taken)
 
 sub-left : tie.Need-sub-left Inv-loop μ-loop
 sub-left c = search needs
@@ -77,16 +88,23 @@ loop-less c = search needs
 loop-again : tie.Need-loop-again Inv-loop μ-loop
 unfolding rowOf
 loop-again c =
-    let l = c .before .before .before .before .before .before .before .before .before .before .before .before .before .before .loop in
-    let a = c .before .before .before .before .before .before .before .before .before .before .before .before .before .before .before .before .before .before .args in (
+    let one-tone = c .before .before .before .before .before .before .before in
+    let bare-row = one-tone .before .before .before in
+    let loop-test = bare-row .before .before .before in
+    let a = loop-test .before .before .before .before .before .args in
+    let l = loop-test .before .loop in (
       search needs,
       search needs,
       omega arith,
       λ B N t h.
           let g = l .inv .3 B N t h in
           let f = addSound (lentOf B N) (a .origin) (pairSound (a .tape .now) (a .from) (l .i)) in
-          let gave = does-sound (a .origin) (pairSound (a .tape .now) (a .from) (l .i)) (c .before .before .before .before .before .before .before .before .before .before .bare-row .ensures) (rw (c .before .before .before .before .before .before .before .before .before .before .before .before .pulse-at .ensures, c .before .before .before .before .before .before .before .before .before .before .before .pulse-at2 .ensures) at (c .before .before .before .before .before .before .before .one-tone .ensures)) B N (g .at) (g .holds) in
-          going-on g f (addSounds (lentOf B N) (a .origin) (pairSounds (a .tape .now) (a .from) (l .i + 2) (l .left - 1))) (pairs-more (lentOf B N) (a .origin) (a .tape .now) (a .from) (l .i) (l .left) (g .at) (c .before .before .before .before .before .before .before .before .before .before .before .before .before .loop-test .taken)) gave (c .before .next .given .1) (λ u q. tt),
+          let gave = does-sound (a .origin) (pairSound (a .tape .now) (a .from) (l .i)) (bare-row .bare-row .ensures)
+          (rw (bare-row .before .before .pulse-at .ensures, bare-row .before .pulse-at2 .ensures) at (one-tone .one-tone .ensures)) B N
+          (g .at) (g .holds) in
+          going-on g f (addSounds (lentOf B N) (a .origin) (pairSounds (a .tape .now) (a .from) (l .i + 2) (l .left - 1)))
+          (pairs-more (lentOf B N) (a .origin) (a .tape .now) (a .from) (l .i) (l .left) (g .at) (loop-test .loop-test .taken)) gave
+          (c .before .next .given .1) (λ u q. tt),
     )
 
 same-length-3 : tie.Need-same-length-3 Inv-loop μ-loop

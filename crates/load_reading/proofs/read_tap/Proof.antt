@@ -28,7 +28,8 @@ loop-holds : tie.Need-loop-holds Inv-loop μ-loop
 loop-holds c =
     let a = c .before .before .before .before .args in
     let pre = c .before .before .before .before .pre in
-    rest-begins 0 (tap-stops (lentOf (length (a .blocks .now)) (length (a .tones .now))) (a .tape .now)) (blank-holds (pre .0) (pre .1) (c .new-state .ensures _ _))
+    rest-begins 0 (tap-stops (lentOf (length (a .blocks .now)) (length (a .tones .now))) (a .tape .now))
+    (blank-holds (pre .0) (pre .1) (c .new-state .ensures _ _))
 
 cut-tap-requires : tie.Need-cut-tap-requires Inv-loop μ-loop
 cut-tap-requires c κs =
@@ -51,7 +52,8 @@ unfolding tapOf readTap
 returns c =
     let a = c .before .before .before .before .before .before .before .before .before .args in
     let l = c .before .before .before .before .loop in
-    rest-over (l .inv) (tap-sees (lentOf (length (a .blocks .now)) (length (a .tones .now))) (a .tape .now) (l .at) (sym (c .enum-told .given .1) ∙ c .before .before .cut-tap .ensures))
+    rest-over (l .inv) (tap-sees (lentOf (length (a .blocks .now)) (length (a .tones .now))) (a .tape .now) (l .at)
+    (sym (c .enum-told .given .1) ∙ c .before .before .cut-tap .ensures))
 
 enum-told-2 : tie.Need-enum-told-2 Inv-loop μ-loop
 enum-told-2 c =
@@ -70,7 +72,8 @@ unfolding tapOf readTap
 returns-2 c =
     let a = c .before .before .before .before .before .before .before .before .before .args in
     let l = c .before .before .before .before .loop in
-    rest-over (l .inv) (tap-sees (lentOf (length (a .blocks .now)) (length (a .tones .now))) (a .tape .now) (l .at) (sym (c .enum-told2 .given .1) ∙ c .before .before .cut-tap .ensures))
+    rest-over (l .inv) (tap-sees (lentOf (length (a .blocks .now)) (length (a .tones .now))) (a .tape .now) (l .at)
+    (sym (c .enum-told2 .given .1) ∙ c .before .before .cut-tap .ensures))
 
 enum-known-from : tie.Need-enum-known-from Inv-loop μ-loop
 enum-known-from c =
@@ -94,15 +97,26 @@ enum-known-after c =
 
 loop-less : tie.Need-loop-less Inv-loop μ-loop
 loop-less c =
-    let f = tap-forward (c .before .before .before .before .before .before .before .before .before .before .before .before .before .before .before .before .before .before .before .before .before .before .args .tape .now) (c .before .before .before .before .before .before .before .before .before .before .before .before .before .before .before .before .before .loop .at) (sym (c .before .before .before .before .before .before .before .before .before .before .before .before .before .before .before .cut-tap .ensures) ∙ c .before .before .before .before .before .before .before .before .before .before .before .before .before .from .given .1) in omega (arith, f .0, f .1)
+    let from = c .before .before .before .before .before .before .before .before .before .before .before .before .before in
+    let loop = from .before .before .before .before in
+    let a = loop .before .before .before .before .before .args in
+    let f = tap-forward (a .tape .now) (loop .loop .at) (sym (from .before .before .cut-tap .ensures) ∙ from .from .given .1) in
+    omega (arith, f .0, f .1)
 
 loop-again : tie.Need-loop-again Inv-loop μ-loop
 unfolding tapOf
 loop-again c =
-    let a = c .before .before .before .before .before .before .before .before .before .before .before .before .before .before .before .before .before .before .before .before .before .before .args in
-    let l = c .before .before .before .before .before .before .before .before .before .before .before .before .before .before .before .before .before .loop in
-    let q = sym (c .before .before .before .before .before .before .before .before .before .before .before .before .before .from .given .1) ∙ c .before .before .before .before .before .before .before .before .before .before .before .before .before .before .before .cut-tap .ensures in
-    rest-on (l .inv) (tap-sees (lentOf (length (a .blocks .now)) (length (a .tones .now))) (a .tape .now) (l .at) q) (rw (c .before .before .before .before .before .before .before .before .before .before .standard-pause .ensures, c .before .before .before .before .before .before .before .before .before .before .before .is-header .ensures) at (c .before .before .before .before .before .before .before .standard-data-block .ensures _ _ (l .inv .here) (l .inv .holds))) (c .before .after .given .1) (omega (arith, tap-forward (a .tape .now) (l .at) (sym q) .0))
+    let standard-data-block = c .before .before .before .before .before .before .before in
+    let standard-pause = standard-data-block .before .before .before in
+    let from = standard-pause .before .before .before in
+    let a = from .before .before .before .before .before .before .before .before .before .args in
+    let l = from .before .before .before .before .loop in
+    let q = sym (from .from .given .1) ∙ from .before .before .cut-tap .ensures in
+    rest-on (l .inv) (tap-sees (lentOf (length (a .blocks .now)) (length (a .tones .now))) (a .tape .now) (l .at) q) (rw (
+      standard-pause .standard-pause .ensures,
+      standard-pause .before .is-header .ensures,
+    ) at (standard-data-block .standard-data-block .ensures _ _ (l .inv .here) (l .inv .holds))) (c .before .after .given .1)
+    (omega (arith, tap-forward (a .tape .now) (l .at) (sym q) .0))
 
 enum-known-k : tie.Need-enum-known-k Inv-loop μ-loop
 enum-known-k c =
@@ -114,19 +128,30 @@ halted-requires c κs =
 
 same-length-5 : tie.Need-same-length-5 Inv-loop μ-loop
 same-length-5 c =
-    c .before .before .before .before .before .before .before .before .standard-data-block .kept .1 .0 ∙ c .before .before .before .before .before .before .before .before .before .before .before .before .before .before .before .before .before .before .loop .inv .holds .lenB
+    let standard-data-block = c .before .before .before .before .before .before .before .before in
+    let loop = standard-data-block .before .before .before .before .before .before .before .before .before .before in
+    standard-data-block .standard-data-block .kept .1 .0 ∙ loop .loop .inv .holds .lenB
 
 same-length-6 : tie.Need-same-length-6 Inv-loop μ-loop
 same-length-6 c =
-    c .before .before .before .before .before .before .before .before .standard-data-block .kept .1 .1 .0 ∙ c .before .before .before .before .before .before .before .before .before .before .before .before .before .before .before .before .before .before .loop .inv .holds .lenT
+    let standard-data-block = c .before .before .before .before .before .before .before .before in
+    let loop = standard-data-block .before .before .before .before .before .before .before .before .before .before in
+    standard-data-block .standard-data-block .kept .1 .1 .0 ∙ loop .loop .inv .holds .lenT
 
 returns-3 : tie.Need-returns-3 Inv-loop μ-loop
 unfolding tapOf readTap
 returns-3 c =
-    let a = c .before .before .before .before .before .before .before .before .before .before .before .before .before .before .before .before .before .before .before .before .before .before .before .args in
-    let l = c .before .before .before .before .before .before .before .before .before .before .before .before .before .before .before .before .before .before .loop in
-    let q = sym (c .before .before .before .before .before .before .before .before .before .before .before .before .before .before .from .given .1) ∙ c .before .before .before .before .before .before .before .before .before .before .before .before .before .before .before .before .cut-tap .ensures in
-    rest-no (l .inv) (tap-sees (lentOf (length (a .blocks .now)) (length (a .tones .now))) (a .tape .now) (l .at) q) (rw (c .before .before .before .before .before .before .before .before .before .before .before .standard-pause .ensures, c .before .before .before .before .before .before .before .before .before .before .before .before .is-header .ensures) at (c .before .before .before .before .before .before .before .before .standard-data-block .ensures _ _ (l .inv .here) (l .inv .holds))) (c .before .before .k .given .1) (c .halted .ensures _ _ _ _)
+    let standard-data-block = c .before .before .before .before .before .before .before .before in
+    let standard-pause = standard-data-block .before .before .before in
+    let from = standard-pause .before .before .before in
+    let a = from .before .before .before .before .before .before .before .before .before .args in
+    let l = from .before .before .before .before .loop in
+    let q = sym (from .from .given .1) ∙ from .before .before .cut-tap .ensures in
+    rest-no (l .inv) (tap-sees (lentOf (length (a .blocks .now)) (length (a .tones .now))) (a .tape .now) (l .at) q) (rw (
+      standard-pause .standard-pause .ensures,
+      standard-pause .before .is-header .ensures,
+    ) at (standard-data-block .standard-data-block .ensures _ _ (l .inv .here) (l .inv .holds))) (c .before .before .k .given .1)
+    (c .halted .ensures _ _ _ _)
 
 enum-known-place : tie.Need-enum-known-place Inv-loop μ-loop
 enum-known-place c =
@@ -143,9 +168,11 @@ same-length-8 c =
 returns-4 : tie.Need-returns-4 Inv-loop μ-loop
 unfolding tapOf readTap
 returns-4 c =
-    let a = c .before .before .before .before .before .before .before .before .before .before .args in
-    let l = c .before .before .before .before .before .loop in
-    rest-bad (l .inv) (tap-sees (lentOf (length (a .blocks .now)) (length (a .tones .now))) (a .tape .now) (l .at) (sym (c .before .place .given .1) ∙ c .before .before .before .cut-tap .ensures))
+    let cut-tap = c .before .before .before in
+    let a = cut-tap .before .before .before .before .before .before .before .args in
+    let l = cut-tap .before .before .loop in
+    rest-bad (l .inv) (tap-sees (lentOf (length (a .blocks .now)) (length (a .tones .now))) (a .tape .now) (l .at)
+    (sym (c .before .place .given .1) ∙ cut-tap .cut-tap .ensures))
 
 same-length-9 : tie.Need-same-length-9 Inv-loop μ-loop
 same-length-9 c =

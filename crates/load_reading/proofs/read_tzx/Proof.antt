@@ -46,7 +46,13 @@ same-length-2 c = search needs
 returns : tie.Need-returns
 unfolding headed
 returns c =
-    rw (tzx-headed (lentOf (length (c .before .before .before .before .before .before .before .before .before .before .before .before .before .before .before .before .before .before .before .args .blocks .now)) (length (c .before .before .before .before .before .before .before .before .before .before .before .before .before .before .before .before .before .before .before .args .tones .now))) (c .before .before .before .before .before .before .before .before .before .before .before .before .before .before .before .before .before .before .before .args .tape .now) (c .before .before .before .before .before .before .before .before .before .before .before .before .before .before .before .before .before .before .before .args .model) (sym (c .before .before .before .before .before .before .before .before .before .before .before .before .before .enum-told .given .1) ∙ c .before .before .before .before .before .before .before .before .before .before .before .before .before .before .before .head .ensures)) (judged-seven (c .before .before .before .before .before .before .before .before .before .before .read-pieces .ensures) (c .before .before .before .before .s .given .1) (c .before .too-many-bits .ensures) (c .if1 .taken))
+    let s = c .before .before .before .before in
+    let read-pieces = s .before .before .before .before .before .before in
+    let told = read-pieces .before .before .before in
+    let a = told .before .before .before .before .before .before .args in
+    rw (tzx-headed (lentOf (length (a .blocks .now)) (length (a .tones .now))) (a .tape .now) (a .model)
+    (sym (told .enum-told .given .1) ∙ told .before .before .head .ensures))
+    (judged-seven (read-pieces .read-pieces .ensures) (s .s .given .1) (c .before .too-many-bits .ensures) (c .if1 .taken))
 
 same-length-3 : tie.Need-same-length-3
 same-length-3 c = search needs
@@ -57,7 +63,13 @@ same-length-4 c = search needs
 returns-2 : tie.Need-returns-2
 unfolding headed
 returns-2 c =
-    rw (tzx-headed (lentOf (length (c .before .before .before .before .before .before .before .before .before .before .before .before .before .before .before .before .before .before .before .args .blocks .now)) (length (c .before .before .before .before .before .before .before .before .before .before .before .before .before .before .before .before .before .before .before .args .tones .now))) (c .before .before .before .before .before .before .before .before .before .before .before .before .before .before .before .before .before .before .before .args .tape .now) (c .before .before .before .before .before .before .before .before .before .before .before .before .before .before .before .before .before .before .before .args .model) (sym (c .before .before .before .before .before .before .before .before .before .before .before .before .before .enum-told .given .1) ∙ c .before .before .before .before .before .before .before .before .before .before .before .before .before .before .before .head .ensures)) (judged-done (c .before .before .before .before .before .before .before .before .before .before .read-pieces .ensures) (c .before .before .before .before .s .given .1) (c .before .too-many-bits .ensures) (c .if1 .left))
+    let s = c .before .before .before .before in
+    let read-pieces = s .before .before .before .before .before .before in
+    let told = read-pieces .before .before .before in
+    let a = told .before .before .before .before .before .before .args in
+    rw (tzx-headed (lentOf (length (a .blocks .now)) (length (a .tones .now))) (a .tape .now) (a .model)
+    (sym (told .enum-told .given .1) ∙ told .before .before .head .ensures))
+    (judged-done (read-pieces .read-pieces .ensures) (s .s .given .1) (c .before .too-many-bits .ensures) (c .if1 .left))
 
 same-length-5 : tie.Need-same-length-5
 same-length-5 c = search needs
@@ -68,7 +80,12 @@ same-length-6 c = search needs
 returns-3 : tie.Need-returns-3
 unfolding headed
 returns-3 c =
-    rw (tzx-headed (lentOf (length (c .before .before .before .before .before .before .before .before .before .before .before .before .before .before .before .before .args .blocks .now)) (length (c .before .before .before .before .before .before .before .before .before .before .before .before .before .before .before .before .args .tones .now))) (c .before .before .before .before .before .before .before .before .before .before .before .before .before .before .before .before .args .tape .now) (c .before .before .before .before .before .before .before .before .before .before .before .before .before .before .before .before .args .model) (sym (c .before .before .before .before .before .before .before .before .before .before .enum-told .given .1) ∙ c .before .before .before .before .before .before .before .before .before .before .before .before .head .ensures)) (judged-failed (c .before .before .before .before .before .before .before .read-pieces .ensures) (c .before .f .given .1))
+    let read-pieces = c .before .before .before .before .before .before .before in
+    let told = read-pieces .before .before .before in
+    let a = told .before .before .before .before .before .before .args in
+    rw (tzx-headed (lentOf (length (a .blocks .now)) (length (a .tones .now))) (a .tape .now) (a .model)
+    (sym (told .enum-told .given .1) ∙ told .before .before .head .ensures))
+    (judged-failed (read-pieces .read-pieces .ensures) (c .before .f .given .1))
 
 same-length-7 : tie.Need-same-length-7
 same-length-7 c = search needs
@@ -79,17 +96,27 @@ same-length-8 c = search needs
 returns-4 : tie.Need-returns-4
 unfolding headed
 returns-4 c =
-    rw (tzx-headed (lentOf (length (c .before .before .before .before .before .before .before .before .before .before .before .before .before .before .before .before .args .blocks .now)) (length (c .before .before .before .before .before .before .before .before .before .before .before .before .before .before .before .before .args .tones .now))) (c .before .before .before .before .before .before .before .before .before .before .before .before .before .before .before .before .args .tape .now) (c .before .before .before .before .before .before .before .before .before .before .before .before .before .before .before .before .args .model) (sym (c .before .before .before .before .before .before .before .before .before .before .enum-told .given .1) ∙ c .before .before .before .before .before .before .before .before .before .before .before .before .head .ensures)) (judged-refused (c .before .before .before .before .before .before .before .read-pieces .ensures) (c .before .k .given .1))
+    let read-pieces = c .before .before .before .before .before .before .before in
+    let told = read-pieces .before .before .before in
+    let a = told .before .before .before .before .before .before .args in
+    rw (tzx-headed (lentOf (length (a .blocks .now)) (length (a .tones .now))) (a .tape .now) (a .model)
+    (sym (told .enum-told .given .1) ∙ told .before .before .head .ensures))
+    (judged-refused (read-pieces .read-pieces .ensures) (c .before .k .given .1))
 
 returns-5 : tie.Need-returns-5
 unfolding headed
 returns-5 c =
-    rw (tzx-headed (lentOf (length (c .before .before .before .before .before .before .args .blocks .now)) (length (c .before .before .before .before .before .before .args .tones .now))) (c .before .before .before .before .before .before .args .tape .now) (c .before .before .before .before .before .before .args .model) (sym (c .enum-told2 .given .1) ∙ c .before .before .head .ensures)) fails
+    let a = c .before .before .before .before .before .before .args in
+    rw (tzx-headed (lentOf (length (a .blocks .now)) (length (a .tones .now))) (a .tape .now) (a .model)
+    (sym (c .enum-told2 .given .1) ∙ c .before .before .head .ensures)) fails
 
 returns-6 : tie.Need-returns-6
 unfolding headed
 returns-6 c =
-    rw (tzx-headed (lentOf (length (c .before .before .before .before .before .before .before .args .blocks .now)) (length (c .before .before .before .before .before .before .before .args .tones .now))) (c .before .before .before .before .before .before .before .args .tape .now) (c .before .before .before .before .before .before .before .args .model) (sym (c .before .place .given .1) ∙ c .before .before .before .head .ensures)) fails
+    let head = c .before .before .before in
+    let a = head .before .before .before .before .args in
+    rw (tzx-headed (lentOf (length (a .blocks .now)) (length (a .tones .now))) (a .tape .now) (a .model)
+    (sym (c .before .place .given .1) ∙ head .head .ensures)) fails
 
 pub read-tzx-spec : {M : Type 1} → statement M
 read-tzx-spec =

@@ -15,7 +15,8 @@ use Rattle.load_reading.proofs.too_many_bits.Tie as tie
 
 abbrev Inv-loop : tie.InvT-loop
 Inv-loop blocks n i₀ i =
-    (i ≤ n) × ((B : ℕ) (rs : List Block) → n ≡ length rs → blocks ≡ tableOf block rs B → tooManyBits (drop i rs) ≡ tooManyBits rs)
+    (i ≤ n)
+    × ((B : ℕ) (rs : List Block) → n ≡ length rs → blocks ≡ tableOf block rs B → tooManyBits (drop i rs) ≡ tooManyBits rs)
 
 abbrev μ-loop : tie.MeasureT-loop
 μ-loop blocks n i₀ i = n - i
@@ -33,7 +34,10 @@ too-many-requires c κs = search needs
 
 returns : tie.Need-returns Inv-loop μ-loop
 returns c =
-    λ B rs k e. sym (rw (c .if1 .taken) at (bits-turn B rs (c .before .before .before .before .loop .i) e (omega (arith, k, c .before .before .before .loop-test .taken)) (c .before .before .block-at .ensures) (c .before .too-many .ensures))) ∙ c .before .before .before .before .loop .inv .1 B rs k e
+    let loop-test = c .before .before .before in
+    λ B rs k e. sym (rw (c .if1 .taken) at (bits-turn B rs (loop-test .before .loop .i) e (omega (arith, k, loop-test .loop-test .taken))
+    (c .before .before .block-at .ensures) (c .before .too-many .ensures)))
+    ∙ loop-test .before .loop .inv .1 B rs k e
 
 add-i : tie.Need-add-i Inv-loop μ-loop
 add-i c = search needs
@@ -43,7 +47,12 @@ loop-less c = search needs
 
 loop-again : tie.Need-loop-again Inv-loop μ-loop
 loop-again c =
-    (omega (arith, c .before .before .before .loop-test .taken), λ B rs k e. sym (rw (c .if1 .left) at (bits-turn B rs (c .before .before .before .before .loop .i) e (omega (arith, k, c .before .before .before .loop-test .taken)) (c .before .before .block-at .ensures) (c .before .too-many .ensures))) ∙ c .before .before .before .before .loop .inv .1 B rs k e)
+    let loop-test = c .before .before .before in (
+      omega (arith, loop-test .loop-test .taken),
+      λ B rs k e. sym (rw (c .if1 .left) at (bits-turn B rs (loop-test .before .loop .i) e (omega (arith, k, loop-test .loop-test .taken))
+          (c .before .before .block-at .ensures) (c .before .too-many .ensures)))
+          ∙ loop-test .before .loop .inv .1 B rs k e,
+    )
 
 returns-2 : tie.Need-returns-2 Inv-loop μ-loop
 returns-2 c =

@@ -9,7 +9,8 @@ use Rattle.load_state.specs.Holds.{goes}
 use Rattle.cut_grammar.proofs.Cutting.{cut-forward}
 use Rattle.load_source.specs.Source.{tzxOf, tzxSee, foldFrom}
 use Rattle.load_blocks.specs.Does.{lentOf}
-use Rattle.load_source.proofs.Rest.{Rest, rest-begins, rest-over, rest-bad, rest-refuses, rest-no, rest-on, tzx-stops, tzx-sees, sees-piece, blank-holds, cut-fit}
+use Rattle.load_source.proofs.Rest.{Rest, rest-begins, rest-over, rest-bad, rest-refuses, rest-no, rest-on, tzx-stops, tzx-sees}
+use Rattle.load_source.proofs.Rest.{sees-piece, blank-holds, cut-fit}
 use Rattle.load_run.proofs.read_pieces.Statement.{statement}
 use Rattle.load_run.proofs.read_pieces.Tie as tie
 
@@ -29,7 +30,8 @@ loop-holds : tie.Need-loop-holds Inv-loop μ-loop
 loop-holds c =
     let a = c .before .before .before .before .args in
     let pre = c .before .before .before .before .pre in
-    rest-begins 10 (tzx-stops (lentOf (length (a .blocks .now)) (length (a .tones .now))) (a .tape .now) (a .model)) (blank-holds (pre .0) (pre .1) (c .new-state .ensures _ _))
+    rest-begins 10 (tzx-stops (lentOf (length (a .blocks .now)) (length (a .tones .now))) (a .tape .now) (a .model))
+    (blank-holds (pre .0) (pre .1) (c .new-state .ensures _ _))
 
 cut-requires : tie.Need-cut-requires Inv-loop μ-loop
 cut-requires c κs =
@@ -52,7 +54,8 @@ unfolding tzxOf
 returns c =
     let a = c .before .before .before .before .before .before .before .before .before .args in
     let l = c .before .before .before .before .loop in
-    rest-over (l .inv) (tzx-sees (lentOf (length (a .blocks .now)) (length (a .tones .now))) (a .tape .now) (a .model) (l .at) (sym (c .enum-told .given .1) ∙ c .before .before .cut .ensures))
+    rest-over (l .inv) (tzx-sees (lentOf (length (a .blocks .now)) (length (a .tones .now))) (a .tape .now) (a .model) (l .at)
+    (sym (c .enum-told .given .1) ∙ c .before .before .cut .ensures))
 
 enum-known-kind : tie.Need-enum-known-kind Inv-loop μ-loop
 enum-known-kind c =
@@ -60,8 +63,12 @@ enum-known-kind c =
 
 act-requires : tie.Need-act-requires Inv-loop μ-loop
 act-requires c κs =
-    let a = c .before .before .before .before .before .before .before .before .before .before .before .before .args in
-    cut-fit (a .tape .now) (c .before .before .before .before .before .before .before .loop .at) _ (λ i. c .before .before .before .before .before .before .before .before .before .before .before .shared-slice-known .given i .fits) (sym (c .before .before .before .before .before .cut .ensures) ∙ c .before .before .before .kind .given .1)
+    let kind = c .before .before .before in
+    let loop = kind .before .before .before .before in
+    let shared-slice-known = loop .before .before .before .before in
+    let a = shared-slice-known .before .args in
+    cut-fit (a .tape .now) (loop .loop .at) _ (λ i. shared-slice-known .shared-slice-known .given i .fits)
+    (sym (kind .before .before .cut .ensures) ∙ kind .kind .given .1)
 
 enum-known-after : tie.Need-enum-known-after Inv-loop μ-loop
 enum-known-after c =
@@ -69,14 +76,22 @@ enum-known-after c =
 
 loop-less : tie.Need-loop-less Inv-loop μ-loop
 loop-less c =
-    let f = cut-forward (c .before .before .before .before .before .before .before .before .before .before .before .before .before .before .before .before .before .before .before .before .args .tape .now) (c .before .before .before .before .before .before .before .before .before .before .before .before .before .before .before .loop .at) 255 (sym (c .before .before .before .before .before .before .before .before .before .before .before .before .before .cut .ensures) ∙ c .before .before .before .before .before .before .before .before .before .before .before .kind .given .1) in omega (arith, f .0, c .before .before .before .before .before .before .before .before .before .before .before .before .before .before .loop-test .taken)
+    let kind = c .before .before .before .before .before .before .before .before .before .before .before in
+    let loop-test = kind .before .before .before in
+    let a = loop-test .before .before .before .before .before .before .args in
+    let f = cut-forward (a .tape .now) (loop-test .before .loop .at) 255
+    (sym (kind .before .before .cut .ensures) ∙ kind .kind .given .1) in
+    omega (arith, f .0, loop-test .loop-test .taken)
 
 loop-again : tie.Need-loop-again Inv-loop μ-loop
 loop-again c =
-    let a = c .before .before .before .before .before .before .before .before .before .before .before .before .before .before .before .before .before .before .before .before .args in
-    let l = c .before .before .before .before .before .before .before .before .before .before .before .before .before .before .before .loop in
-    let q = sym (c .before .before .before .before .before .before .before .before .before .before .before .kind .given .1) ∙ c .before .before .before .before .before .before .before .before .before .before .before .before .before .cut .ensures in
-    rest-on (l .inv) (sees-piece (lentOf (length (a .blocks .now)) (length (a .tones .now))) (a .tape .now) (a .model) (l .at) q) (c .before .before .before .before .before .before .before .act .ensures _ _ (l .inv .here) (l .inv .holds)) (c .before .after .given .1) (cut-forward (a .tape .now) (l .at) 255 (sym q) .0)
+    let act = c .before .before .before .before .before .before .before in
+    let kind = act .before .before .before .before in
+    let a = kind .before .before .before .before .before .before .before .before .before .args in
+    let l = kind .before .before .before .before .loop in
+    let q = sym (kind .kind .given .1) ∙ kind .before .before .cut .ensures in
+    rest-on (l .inv) (sees-piece (lentOf (length (a .blocks .now)) (length (a .tones .now))) (a .tape .now) (a .model) (l .at) q)
+    (act .act .ensures _ _ (l .inv .here) (l .inv .holds)) (c .before .after .given .1) (cut-forward (a .tape .now) (l .at) 255 (sym q) .0)
 
 enum-known-k : tie.Need-enum-known-k Inv-loop μ-loop
 enum-known-k c =
@@ -88,18 +103,25 @@ halted-requires c κs =
 
 same-length-3 : tie.Need-same-length-3 Inv-loop μ-loop
 same-length-3 c =
-    c .before .before .before .before .before .before .before .before .act .kept .1 .1 .1 .0 ∙ c .before .before .before .before .before .before .before .before .before .before .before .before .before .before .before .before .loop .inv .holds .lenB
+    let act = c .before .before .before .before .before .before .before .before in
+    let loop = act .before .before .before .before .before .before .before .before in
+    act .act .kept .1 .1 .1 .0 ∙ loop .loop .inv .holds .lenB
 
 same-length-4 : tie.Need-same-length-4 Inv-loop μ-loop
 same-length-4 c =
-    c .before .before .before .before .before .before .before .before .act .kept .1 .1 .1 .1 .0 ∙ c .before .before .before .before .before .before .before .before .before .before .before .before .before .before .before .before .loop .inv .holds .lenT
+    let act = c .before .before .before .before .before .before .before .before in
+    let loop = act .before .before .before .before .before .before .before .before in
+    act .act .kept .1 .1 .1 .1 .0 ∙ loop .loop .inv .holds .lenT
 
 returns-2 : tie.Need-returns-2 Inv-loop μ-loop
 returns-2 c =
-    let a = c .before .before .before .before .before .before .before .before .before .before .before .before .before .before .before .before .before .before .before .before .before .args in
-    let l = c .before .before .before .before .before .before .before .before .before .before .before .before .before .before .before .before .loop in
-    let q = sym (c .before .before .before .before .before .before .before .before .before .before .before .before .kind .given .1) ∙ c .before .before .before .before .before .before .before .before .before .before .before .before .before .before .cut .ensures in
-    rest-no (l .inv) (sees-piece (lentOf (length (a .blocks .now)) (length (a .tones .now))) (a .tape .now) (a .model) (l .at) q) (c .before .before .before .before .before .before .before .before .act .ensures _ _ (l .inv .here) (l .inv .holds)) (c .before .before .k .given .1) (c .halted .ensures _ _ _ _)
+    let act = c .before .before .before .before .before .before .before .before in
+    let kind = act .before .before .before .before in
+    let a = kind .before .before .before .before .before .before .before .before .before .args in
+    let l = kind .before .before .before .before .loop in
+    let q = sym (kind .kind .given .1) ∙ kind .before .before .cut .ensures in
+    rest-no (l .inv) (sees-piece (lentOf (length (a .blocks .now)) (length (a .tones .now))) (a .tape .now) (a .model) (l .at) q)
+    (act .act .ensures _ _ (l .inv .here) (l .inv .holds)) (c .before .before .k .given .1) (c .halted .ensures _ _ _ _)
 
 enum-told-2 : tie.Need-enum-told-2 Inv-loop μ-loop
 enum-told-2 c =
@@ -118,7 +140,8 @@ unfolding tzxOf
 loop-again-2 c =
     let a = c .before .before .before .before .before .before .before .before .before .args in
     let l = c .before .before .before .before .loop in
-    rest-on (l .inv) (tzx-sees (lentOf (length (a .blocks .now)) (length (a .tones .now))) (a .tape .now) (a .model) (l .at) (sym (c .enum-told2 .given .1) ∙ c .before .before .cut .ensures)) (goes (l .inv .holds)) refl (omega arith)
+    rest-on (l .inv) (tzx-sees (lentOf (length (a .blocks .now)) (length (a .tones .now))) (a .tape .now) (a .model) (l .at)
+    (sym (c .enum-told2 .given .1) ∙ c .before .before .cut .ensures)) (goes (l .inv .holds)) refl (omega arith)
 
 enum-known-kind-2 : tie.Need-enum-known-kind-2 Inv-loop μ-loop
 enum-known-kind-2 c =
@@ -135,9 +158,11 @@ same-length-6 c =
 returns-3 : tie.Need-returns-3 Inv-loop μ-loop
 unfolding tzxOf
 returns-3 c =
-    let a = c .before .before .before .before .before .before .before .before .before .before .args in
-    let l = c .before .before .before .before .before .loop in
-    rest-bad (l .inv) (tzx-sees (lentOf (length (a .blocks .now)) (length (a .tones .now))) (a .tape .now) (a .model) (l .at) (sym (c .before .kind2 .given .1) ∙ c .before .before .before .cut .ensures))
+    let cut = c .before .before .before in
+    let a = cut .before .before .before .before .before .before .before .args in
+    let l = cut .before .before .loop in
+    rest-bad (l .inv) (tzx-sees (lentOf (length (a .blocks .now)) (length (a .tones .now))) (a .tape .now) (a .model) (l .at)
+    (sym (c .before .kind2 .given .1) ∙ cut .cut .ensures))
 
 enum-told-3 : tie.Need-enum-told-3 Inv-loop μ-loop
 enum-told-3 c =
@@ -156,7 +181,8 @@ unfolding tzxOf
 returns-4 c =
     let a = c .before .before .before .before .before .before .before .before .before .args in
     let l = c .before .before .before .before .loop in
-    rest-refuses (l .inv) (tzx-sees (lentOf (length (a .blocks .now)) (length (a .tones .now))) (a .tape .now) (a .model) (l .at) (sym (c .enum-told3 .given .1) ∙ c .before .before .cut .ensures))
+    rest-refuses (l .inv) (tzx-sees (lentOf (length (a .blocks .now)) (length (a .tones .now))) (a .tape .now) (a .model) (l .at)
+    (sym (c .enum-told3 .given .1) ∙ c .before .before .cut .ensures))
 
 same-length-9 : tie.Need-same-length-9 Inv-loop μ-loop
 same-length-9 c =
@@ -170,7 +196,8 @@ returns-5 : tie.Need-returns-5 Inv-loop μ-loop
 returns-5 c =
     let a = c .before .before .before .before .before .before .args in
     let l = c .before .loop in
-    rest-over (l .inv) (tzx-stops (lentOf (length (a .blocks .now)) (length (a .tones .now))) (a .tape .now) (a .model) (l .at) (c .loop-test .left))
+    rest-over (l .inv)
+    (tzx-stops (lentOf (length (a .blocks .now)) (length (a .tones .now))) (a .tape .now) (a .model) (l .at) (c .loop-test .left))
 
 pub read-pieces-spec : {M : Type 1} → statement M
 read-pieces-spec =

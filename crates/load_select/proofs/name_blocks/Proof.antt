@@ -1,4 +1,4 @@
--- `selecting::name_blocks` meets its contract: each turn is one step of the pass. Assumes nothing.
+-- `name_blocks` meets its contract: each turn is one step of the pass. Assumes nothing.
 use Rattle.text_name.proofs.Selecting.{next, name-turn, name-all-pass}
 use Rattle.text_name.specs.Names.{nameOne}
 use Rattle.rows.proofs.Passes.{turnedRows, carried, turned-all}
@@ -49,11 +49,14 @@ loop-less c = search needs
 
 loop-again : tie.Need-loop-again Inv-loop μ-loop
 loop-again c =
-    let a = c .before .before .before .before .before .before .before .before .before .before .before .before .args in
-    let l = c .before .before .before .before .before .before .before .before .before .loop in
+    let name-row = c .before .before .before in
+    let block-at = name-row .before .before .before in
+    let a = block-at .before .before .before .before .before .before .args in
+    let l = block-at .before .before .before .loop in
     let rs = rowsOf block (a .blocks .now) (a .n) in
     let h : l .i < length rs = rw (rows-length block (a .n) (a .blocks .now)) (omega arith) in
-    let w = name-turn (a .tape .now) (l .i) rs (a .blocks .now) h (l .inv .2) (l .inv .3) (c .before .before .before .before .before .before .block-at .ensures) (c .before .before .before .before .before .is-header .ensures) (c .before .before .before .name-row .ensures) (c .before .before .put-block .ensures) in
+    let w = name-turn (a .tape .now) (l .i) rs (a .blocks .now) h (l .inv .2) (l .inv .3) (block-at .block-at .ensures)
+    (name-row .before .before .is-header .ensures) (name-row .name-row .ensures) (c .before .before .put-block .ensures) in
     (omega arith, omega arith, w .0, w .1)
 
 same-length : tie.Need-same-length Inv-loop μ-loop
@@ -65,7 +68,11 @@ returns c =
     let l = c .before .loop in
     let e : l .i ≡ a .n = omega arith in
     let rs = rowsOf block (a .blocks .now) (a .n) in
-    l .inv .3 ∙ rw (e, turned-all (nameOne (a .tape .now)) (next (a .tape .now)) false rs (a .n) (rows-length block (a .n) (a .blocks .now)), name-all-pass (a .tape .now) false rs)
+    l .inv .3 ∙ rw (
+      e,
+      turned-all (nameOne (a .tape .now)) (next (a .tape .now)) false rs (a .n) (rows-length block (a .n) (a .blocks .now)),
+      name-all-pass (a .tape .now) false rs,
+    )
 
 pub name-blocks-spec : {M : Type 1} → statement M
 name-blocks-spec =

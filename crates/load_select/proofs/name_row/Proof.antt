@@ -1,4 +1,4 @@
--- `selecting::name_row` meets its contract: each return is one rule. Assumes nothing.
+-- `name_row` meets its contract: each return is one rule. Assumes nothing.
 use Rattle.text_name.specs.Names.{unselected}
 use borrow.Author.Needs.{needs}
 use Rattle.load_select.proofs.name_row.Statement.{statement}

@@ -45,7 +45,10 @@ cast-pulse-blocks c = search needs
 
 pulse-blocks-requires : tie.Need-pulse-blocks-requires
 pulse-blocks-requires c κs =
-    let f = c .before .before .before .before .before .before .before .before .pre .pulses _ _ (c .before .before .before .piece4 .given .1) in omega (arith, f)
+    let piece4 = c .before .before .before in
+    let start = piece4 .before .before .before .before .before in
+    let f = start .pre .pulses _ _ (piece4 .piece4 .given .1) in
+    omega (arith, f)
 
 enum-known-piece-5 : tie.Need-enum-known-piece-5
 enum-known-piece-5 c = search needs
@@ -144,7 +147,10 @@ same-length-2 c = search needs
 returns : tie.Need-returns
 unfolding act deedOf
 returns c =
-    λ B N t h. rw (c .before .before .before .before .before .before .before .before .before .piece .given .1, ← c .before .before .before .before .before .before .before .is-header .ensures) (does-one _ _ _ (c .before .before .before .before .standard-data-block .ensures) B N t h)
+    let standard-data-block = c .before .before .before .before in
+    let is-header = standard-data-block .before .before .before in
+    λ B N t h. rw (is-header .before .before .piece .given .1, ← is-header .is-header .ensures)
+    (does-one _ _ _ (standard-data-block .standard-data-block .ensures) B N t h)
 
 same-length-3 : tie.Need-same-length-3
 same-length-3 c = search needs
@@ -155,7 +161,9 @@ same-length-4 c = search needs
 returns-2 : tie.Need-returns-2
 unfolding act deedOf
 returns-2 c =
-    λ B N t h. rw (c .before .before .before .before .before .before .before .before .piece2 .given .1) (does-one _ _ _ (c .before .before .before .before .turbo-data-block .ensures) B N t h)
+    let turbo-data-block = c .before .before .before .before in
+    let piece2 = turbo-data-block .before .before .before .before in
+    λ B N t h. rw (piece2 .piece2 .given .1) (does-one _ _ _ (turbo-data-block .turbo-data-block .ensures) B N t h)
 
 same-length-5 : tie.Need-same-length-5
 same-length-5 c = search needs
@@ -166,7 +174,9 @@ same-length-6 c = search needs
 returns-3 : tie.Need-returns-3
 unfolding act deedOf
 returns-3 c =
-    λ B N t h. rw (c .before .before .before .before .before .before .before .before .piece3 .given .1) (does-one _ _ _ (c .before .before .before .before .pure-tone-block .ensures) B N t h)
+    let pure-tone-block = c .before .before .before .before in
+    let piece3 = pure-tone-block .before .before .before .before in
+    λ B N t h. rw (piece3 .piece3 .given .1) (does-one _ _ _ (pure-tone-block .pure-tone-block .ensures) B N t h)
 
 same-length-7 : tie.Need-same-length-7
 same-length-7 c = search needs
@@ -177,7 +187,9 @@ same-length-8 c = search needs
 returns-4 : tie.Need-returns-4
 unfolding act deedOf does
 returns-4 c =
-    λ B N t h. rw (c .before .before .before .before .before .before .before .before .piece4 .given .1) (c .before .before .before .before .pulse-blocks .ensures B N t h)
+    let pulse-blocks = c .before .before .before .before in
+    let piece4 = pulse-blocks .before .before .before .before in
+    λ B N t h. rw (piece4 .piece4 .given .1) (pulse-blocks .pulse-blocks .ensures B N t h)
 
 same-length-9 : tie.Need-same-length-9
 same-length-9 c = search needs
@@ -188,7 +200,9 @@ same-length-10 c = search needs
 returns-5 : tie.Need-returns-5
 unfolding act deedOf
 returns-5 c =
-    λ B N t h. rw (c .before .before .before .before .before .before .before .before .piece5 .given .1) (does-one _ _ _ (c .before .before .before .before .pure-data-block .ensures) B N t h)
+    let pure-data-block = c .before .before .before .before in
+    let piece5 = pure-data-block .before .before .before .before in
+    λ B N t h. rw (piece5 .piece5 .given .1) (does-one _ _ _ (pure-data-block .pure-data-block .ensures) B N t h)
 
 same-length-11 : tie.Need-same-length-11
 same-length-11 c = search needs
@@ -199,7 +213,9 @@ same-length-12 c = search needs
 returns-6 : tie.Need-returns-6
 unfolding act deedOf
 returns-6 c =
-    λ B N t h. rw (c .before .before .before .before .before .before .before .before .piece6 .given .1) (c .before .before .before .before .generalized-data-block .ensures _ B N t h)
+    let generalized-data-block = c .before .before .before .before in
+    let piece6 = generalized-data-block .before .before .before .before in
+    λ B N t h. rw (piece6 .piece6 .given .1) (generalized-data-block .generalized-data-block .ensures _ B N t h)
 
 same-length-13 : tie.Need-same-length-13
 same-length-13 c = search needs
@@ -207,7 +223,8 @@ same-length-13 c = search needs
 returns-7 : tie.Need-returns-7
 unfolding act deedOf
 returns-7 c =
-    λ B N t h. rw (c .before .before .before .before .before .piece7 .given .1) (does-one _ _ _ (c .before .before .pause-block .ensures _) B N t h)
+    let piece7 = c .before .before .before .before .before in
+    λ B N t h. rw (piece7 .piece7 .given .1) (does-one _ _ _ (c .before .before .pause-block .ensures _) B N t h)
 
 returns-8 : tie.Need-returns-8
 unfolding act deedOf does

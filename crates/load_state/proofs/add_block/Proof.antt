@@ -26,7 +26,8 @@ add-t14 : tie.Need-add-t14
 add-t14 c =
     let a = c .before .before .before .before in
     let p = a .before .before .before .before .args in
-    let q : ltb (p .s .blocks) (capacityOf block blockMost (p .blocks .now)) ≡ true = sym (a .append-block .ensures .0) ∙ c .before .if1 .taken in
+    let q : ltb (p .s .blocks) (capacityOf block blockMost (p .blocks .now)) ≡ true =
+    sym (a .append-block .ensures .0) ∙ c .before .if1 .taken in
     omega (arith, ltb-true (p .s .blocks) (capacityOf block blockMost (p .blocks .now)) q)
 
 same-length : tie.Need-same-length
@@ -43,7 +44,8 @@ returns c =
     let q = rw (a .before .take-name .ensures, h .pends) at (a .append-block .ensures .1) in
     let r = named (t .pending) (p .r) in
     rw (lt-ltb _ _ k)
-    (goes (holds-block h r k (omega arith) (row-adds block blockMost (p .blocks .now) (t .blocks) B (p .s .blocks) (h .lenB) (h .nb) (a .append-block .ensures .0) r (h .isB) q e) (rw (h .pends) at (c .after-use .ensures))))
+    (goes (holds-block h r k (omega arith) (row-adds block blockMost (p .blocks .now) (t .blocks) B (p .s .blocks) (h .lenB) (h .nb)
+    (a .append-block .ensures .0) r (h .isB) q e) (rw (h .pends) at (c .after-use .ensures))))
 
 same-length-2 : tie.Need-same-length-2
 same-length-2 c = search needs
@@ -54,7 +56,8 @@ returns-2 c =
     λ B N tt t h.
     let a = c .before .before .before in
     let p = a .before .before .before .before .args in
-    let k = row-full block blockMost (p .blocks .now) (t .blocks) B (p .s .blocks) (h .lenB) (h .nb) (a .append-block .ensures .0) (c .if1 .left) in
+    let k = row-full block blockMost (p .blocks .now) (t .blocks) B (p .s .blocks) (h .lenB) (h .nb) (a .append-block .ensures .0)
+    (c .if1 .left) in
     rw (le-ltb _ _ k) refuses
 
 pub add-block-spec : {M : Type 1} → statement M

@@ -38,7 +38,8 @@ returns c =
     let k = row-fits tone toneMost (p .tones .now) (t .tones) N (p .s .tones) (h .lenT) (h .nt) (a .append-tone .ensures .0) e in
     let l : length (t .tones) + 1 ≤ toneRoom N = omega arith in
     rw (le-leb _ _ l)
-    (goes (holds-tone h (p .r) k (omega arith) (row-adds tone toneMost (p .tones .now) (t .tones) N (p .s .tones) (h .lenT) (h .nt) (a .append-tone .ensures .0) (p .r) (h .isT) (a .append-tone .ensures .1) e)))
+    (goes (holds-tone h (p .r) k (omega arith) (row-adds tone toneMost (p .tones .now) (t .tones) N (p .s .tones) (h .lenT) (h .nt)
+    (a .append-tone .ensures .0) (p .r) (h .isT) (a .append-tone .ensures .1) e)))
 
 same-length-2 : tie.Need-same-length-2
 same-length-2 c = search needs
@@ -49,7 +50,10 @@ returns-2 c =
     λ B N bt t h.
     let a = c .before .before .before in
     let p = a .before .before .before .args in
-    let k : toneRoom N < length (t .tones) + 1 = omega (arith, row-full tone toneMost (p .tones .now) (t .tones) N (p .s .tones) (h .lenT) (h .nt) (a .append-tone .ensures .0) (c .if1 .left)) in
+    let k : toneRoom N < length (t .tones) + 1 = omega (
+      arith,
+      row-full tone toneMost (p .tones .now) (t .tones) N (p .s .tones) (h .lenT) (h .nt) (a .append-tone .ensures .0) (c .if1 .left),
+    ) in
     rw (lt-leb _ _ k) refuses
 
 pub add-tone-spec : {M : Type 1} → statement M

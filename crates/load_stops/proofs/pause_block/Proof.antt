@@ -20,7 +20,8 @@ returns : tie.Need-returns
 unfolding pauseSound rowOf
 returns c =
     let n = c .before .before in
-    λ tt. rw (eq-eqb _ _ (n .before .before .before .if1 .taken)) (does-sound _ stopSound (n .before .stop-row .ensures) (n .no-tone .ensures tt))
+    let if1 = n .before .before .before in
+    λ tt. rw (eq-eqb _ _ (if1 .if1 .taken)) (does-sound _ stopSound (n .before .stop-row .ensures) (n .no-tone .ensures tt))
 
 mul-bare-row : tie.Need-mul-bare-row
 mul-bare-row c = search needs
@@ -38,7 +39,8 @@ returns-2 : tie.Need-returns-2
 unfolding pauseSound rowOf
 returns-2 c =
     let n = c .before .before in
-    λ tt. rw (ne-eqb _ _ (n .before .before .before .if1 .left)) (does-sound _ (silentSound _) (n .before .bare-row .ensures) (n .no-tone2 .ensures tt))
+    let if1 = n .before .before .before in
+    λ tt. rw (ne-eqb _ _ (if1 .if1 .left)) (does-sound _ (silentSound _) (n .before .bare-row .ensures) (n .no-tone2 .ensures tt))
 
 pub pause-block-spec : {M : Type 1} → statement M
 pause-block-spec =

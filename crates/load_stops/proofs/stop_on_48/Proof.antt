@@ -26,7 +26,11 @@ unfolding does stop48Deed
 returns-2 c =
     let n = c .before .before in
     let a = n .before .before .before .before .before .args in
-    λ tt B N t h. rw (eq-eqb (a .length) 0 (omega arith), eq-eqb (a .model) 0 (omega arith), one-sound (lentOf B N) (a .origin) stopSound t) (n .stop-block .ensures tt B N t h)
+    λ tt B N t h. rw (
+      eq-eqb (a .length) 0 (omega arith),
+      eq-eqb (a .model) 0 (omega arith),
+      one-sound (lentOf B N) (a .origin) stopSound t,
+    ) (n .stop-block .ensures tt B N t h)
 
 returns-3 : tie.Need-returns-3
 unfolding does stop48Deed

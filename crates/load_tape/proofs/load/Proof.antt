@@ -33,9 +33,10 @@ returns c =
 
 name-blocks-requires : tie.Need-name-blocks-requires
 name-blocks-requires c κs =
-    let a = c .before .before .before .before .before .before .before .before .before .before .before .before .before .before .args in
+    let read = c .before .before .before .before .before .before .before .before in
+    let a = read .before .before .before .before .before .before .args in
     let l = loadOf (lentOf (length (a .blocks .now)) (length (a .tones .now))) (a .tape .now) (a .model) in
-    omega (arith, named-room l (c .before .before .before .before .before .before .before .before .read .ensures) (c .before .before .loaded .given .1))
+    omega (arith, named-room l (read .read .ensures) (c .before .before .loaded .given .1))
 
 same-length-3 : tie.Need-same-length-3
 same-length-3 c = search needs
@@ -46,9 +47,11 @@ same-length-4 c = search needs
 returns-2 : tie.Need-returns-2
 unfolding loadNamed
 returns-2 c =
-    let a = c .before .before .before .before .before .before .before .before .before .before .before .before .before .before .before .before .before .args in
+    let loaded = c .before .before .before .before .before in
+    let read = loaded .before .before .before .before .before .before in
+    let a = read .before .before .before .before .before .before .args in
     let l = loadOf (lentOf (length (a .blocks .now)) (length (a .tones .now))) (a .tape .now) (a .model) in
-    named-leaves (a .tape .now) l (c .before .before .before .before .before .before .before .before .before .before .before .read .ensures) (c .before .before .before .before .before .loaded .given .1) (c .before .before .name-blocks .ensures)
+    named-leaves (a .tape .now) l (read .read .ensures) (loaded .loaded .given .1) (c .before .before .name-blocks .ensures)
 
 pub load-spec : {M : Type 1} → statement M
 load-spec =

@@ -14,7 +14,10 @@ blank-requires-2 c κs = search needs
 
 read-tap-requires : tie.Need-read-tap-requires
 read-tap-requires c κs =
-    (blanked (length (c .before .before .before .before .before .before .before .before .before .before .before .before .before .args .blocks .now)) (c .before .before .before .before .before .before .before .before .blank .ensures), blanked (length (c .before .before .before .before .before .before .before .before .before .before .before .before .before .args .tones .now)) (c .before .before .before .before .blank2 .ensures))
+    let blank2 = c .before .before .before .before in
+    let blank = blank2 .before .before .before .before in
+    let a = blank .before .before .before .before .before .args in
+    (blanked (length (a .blocks .now)) (blank .blank .ensures), blanked (length (a .tones .now)) (blank2 .blank2 .ensures))
 
 enum-known-s : tie.Need-enum-known-s
 enum-known-s c = search needs
@@ -39,7 +42,12 @@ same-length-2 c = search needs
 
 returns : tie.Need-returns
 returns c =
-    tap-leaves (finds-tap (c .before .before .before .before .before .before .before .before .before .before .before .before .before .before .before .before .blank .kept .0) (c .before .before .before .before .before .before .before .before .before .before .before .before .blank2 .kept .0) (c .before .before .before .before .before .before .before .before .before .before .before .before .before .before .before .before .before .before .before .before .before .args .tape .now) (c .before .before .before .before .before .before .before .read-tap .ensures)) (c .before .s .given .1)
+    let read-tap = c .before .before .before .before .before .before .before in
+    let blank2 = read-tap .before .before .before .before .before in
+    let blank = blank2 .before .before .before .before in
+    let a = blank .before .before .before .before .before .args in
+    tap-leaves (finds-tap (blank .blank .kept .0) (blank2 .blank2 .kept .0) (a .tape .now) (read-tap .read-tap .ensures))
+    (c .before .s .given .1)
 
 same-length-3 : tie.Need-same-length-3
 same-length-3 c = search needs
@@ -49,7 +57,15 @@ same-length-4 c = search needs
 
 returns-2 : tie.Need-returns-2
 returns-2 c =
-    rw (tap-fails (finds-tap (c .before .before .before .before .before .before .before .before .before .before .before .before .before .before .before .before .before .before .before .before .before .before .before .blank .kept .0) (c .before .before .before .before .before .before .before .before .before .before .before .before .before .before .before .before .before .before .before .blank2 .kept .0) (c .before .before .before .before .before .before .before .before .before .before .before .before .before .before .before .before .before .before .before .before .before .before .before .before .before .before .before .before .args .tape .now) (c .before .before .before .before .before .before .before .before .before .before .before .before .before .before .read-tap .ensures)) (c .before .before .before .before .before .before .before .before .-f .given .1)) (leaves-no (c .before .before .before .before .before .before .before .before .before .before .before .before .before .before .read-tap .kept .1 .0 ∙ c .before .before .before .before .before .before .before .before .before .before .before .before .before .before .before .before .before .before .before .before .before .before .before .blank .kept .0) (c .before .before .before .before .before .before .before .before .before .before .before .before .before .before .read-tap .kept .1 .1 .0 ∙ c .before .before .before .before .before .before .before .before .before .before .before .before .before .before .before .before .before .before .before .blank2 .kept .0) (c .before .before .before .before .refuse .ensures))
+    let refuse = c .before .before .before .before in
+    let f = refuse .before .before .before .before in
+    let read-tap = f .before .before .before .before .before .before in
+    let blank2 = read-tap .before .before .before .before .before in
+    let blank = blank2 .before .before .before .before in
+    let a = blank .before .before .before .before .before .args in
+    rw (tap-fails (finds-tap (blank .blank .kept .0) (blank2 .blank2 .kept .0) (a .tape .now) (read-tap .read-tap .ensures))
+    (f .-f .given .1)) (leaves-no (read-tap .read-tap .kept .1 .0 ∙ blank .blank .kept .0)
+    (read-tap .read-tap .kept .1 .1 .0 ∙ blank2 .blank2 .kept .0) (refuse .refuse .ensures))
 
 same-length-5 : tie.Need-same-length-5
 same-length-5 c = search needs
@@ -59,7 +75,15 @@ same-length-6 c = search needs
 
 returns-3 : tie.Need-returns-3
 returns-3 c =
-    rw (tap-refuses (finds-tap (c .before .before .before .before .before .before .before .before .before .before .before .before .before .before .before .before .before .before .before .before .before .before .before .blank .kept .0) (c .before .before .before .before .before .before .before .before .before .before .before .before .before .before .before .before .before .before .before .blank2 .kept .0) (c .before .before .before .before .before .before .before .before .before .before .before .before .before .before .before .before .before .before .before .before .before .before .before .before .before .before .before .before .args .tape .now) (c .before .before .before .before .before .before .before .before .before .before .before .before .before .before .read-tap .ensures)) (c .before .before .before .before .before .before .before .before .k .given .1)) (leaves-no (c .before .before .before .before .before .before .before .before .before .before .before .before .before .before .read-tap .kept .1 .0 ∙ c .before .before .before .before .before .before .before .before .before .before .before .before .before .before .before .before .before .before .before .before .before .before .before .blank .kept .0) (c .before .before .before .before .before .before .before .before .before .before .before .before .before .before .read-tap .kept .1 .1 .0 ∙ c .before .before .before .before .before .before .before .before .before .before .before .before .before .before .before .before .before .before .before .blank2 .kept .0) (c .before .before .before .before .refuse2 .ensures))
+    let refuse2 = c .before .before .before .before in
+    let k = refuse2 .before .before .before .before in
+    let read-tap = k .before .before .before .before .before .before in
+    let blank2 = read-tap .before .before .before .before .before in
+    let blank = blank2 .before .before .before .before in
+    let a = blank .before .before .before .before .before .args in
+    rw (tap-refuses (finds-tap (blank .blank .kept .0) (blank2 .blank2 .kept .0) (a .tape .now) (read-tap .read-tap .ensures))
+    (k .k .given .1)) (leaves-no (read-tap .read-tap .kept .1 .0 ∙ blank .blank .kept .0)
+    (read-tap .read-tap .kept .1 .1 .0 ∙ blank2 .blank2 .kept .0) (refuse2 .refuse2 .ensures))
 
 pub load-tap-spec : {M : Type 1} → statement M
 load-tap-spec =

@@ -21,7 +21,10 @@ same-length-2 c = search needs
 returns : tie.Need-returns
 unfolding loadOf
 returns c =
-    rw (le-leb 3 (c .before .before .before .before .before .before .before .before .before .before .before .args .model) (c .before .before .before .before .before .before .before .if1 .taken)) (c .before .before .before .before .refuse .ensures)
+    let refuse = c .before .before .before .before in
+    let if1 = refuse .before .before .before in
+    let a = if1 .before .before .before .before .args in
+    rw (le-leb 3 (a .model) (if1 .if1 .taken)) (refuse .refuse .ensures)
 
 refuse-requires-2 : tie.Need-refuse-requires-2
 refuse-requires-2 c κs = search needs
@@ -35,7 +38,10 @@ same-length-4 c = search needs
 returns-2 : tie.Need-returns-2
 unfolding loadOf
 returns-2 c =
-    rw (lt-leb 3 (c .before .before .before .before .before .before .before .before .before .before .before .before .args .model) (c .before .before .before .before .before .before .before .before .if1 .left), lt-ltb 1048576 (length (c .before .before .before .before .before .before .before .before .before .before .before .before .args .tape .now)) (c .before .before .before .before .before .before .before .if2 .taken)) (c .before .before .before .before .refuse2 .ensures)
+    let refuse2 = c .before .before .before .before in
+    let if2 = refuse2 .before .before .before in
+    let a = if2 .before .before .before .before .before .args in
+    rw (lt-leb 3 (a .model) (if2 .before .if1 .left), lt-ltb 1048576 (length (a .tape .now)) (if2 .if2 .taken)) (refuse2 .refuse2 .ensures)
 
 blank-requires : tie.Need-blank-requires
 blank-requires c κs = search needs
@@ -45,7 +51,10 @@ blank-requires-2 c κs = search needs
 
 read-tzx-requires : tie.Need-read-tzx-requires
 read-tzx-requires c κs =
-    (blanked (length (c .before .before .before .before .before .before .before .before .before .before .before .before .before .before .before .args .blocks .now)) (c .before .before .before .before .before .before .before .before .blank .ensures), blanked (length (c .before .before .before .before .before .before .before .before .before .before .before .before .before .before .before .args .tones .now)) (c .before .before .before .before .blank2 .ensures))
+    let blank2 = c .before .before .before .before in
+    let blank = blank2 .before .before .before .before in
+    let a = blank .before .before .before .before .before .before .before .args in
+    (blanked (length (a .blocks .now)) (blank .blank .ensures), blanked (length (a .tones .now)) (blank2 .blank2 .ensures))
 
 enum-known-s : tie.Need-enum-known-s
 enum-known-s c = search needs
@@ -70,7 +79,15 @@ same-length-6 c = search needs
 
 returns-3 : tie.Need-returns-3
 returns-3 c =
-    rw (load-reads (lentOf (length (c .before .before .before .before .before .before .before .before .before .before .before .before .before .before .before .before .before .before .before .before .before .before .before .args .blocks .now)) (length (c .before .before .before .before .before .before .before .before .before .before .before .before .before .before .before .before .before .before .before .before .before .before .before .args .tones .now))) (c .before .before .before .before .before .before .before .before .before .before .before .before .before .before .before .before .before .before .before .before .before .before .before .args .tape .now) (c .before .before .before .before .before .before .before .before .before .before .before .before .before .before .before .before .before .before .before .before .before .before .before .args .model) (lt-leb 3 (c .before .before .before .before .before .before .before .before .before .before .before .before .before .before .before .before .before .before .before .before .before .before .before .args .model) (c .before .before .before .before .before .before .before .before .before .before .before .before .before .before .before .before .before .before .before .if1 .left)) (le-ltb 1048576 (length (c .before .before .before .before .before .before .before .before .before .before .before .before .before .before .before .before .before .before .before .before .before .before .before .args .tape .now)) (c .before .before .before .before .before .before .before .before .before .before .before .before .before .before .before .before .before .before .if2 .left))) (tzx-leaves (finds-tzx (c .before .before .before .before .before .before .before .before .before .before .before .before .before .before .before .before .blank .kept .0) (c .before .before .before .before .before .before .before .before .before .before .before .before .blank2 .kept .0) (c .before .before .before .before .before .before .before .before .before .before .before .before .before .before .before .before .before .before .before .before .before .before .before .args .tape .now) (c .before .before .before .before .before .before .before .before .before .before .before .before .before .before .before .before .before .before .before .before .before .before .before .args .model) (c .before .before .before .before .before .before .before .read-tzx .ensures)) (readTap (lentOf (length (c .before .before .before .before .before .before .before .before .before .before .before .before .before .before .before .before .before .before .before .before .before .before .before .args .blocks .now)) (length (c .before .before .before .before .before .before .before .before .before .before .before .before .before .before .before .before .before .before .before .before .before .before .before .args .tones .now))) (c .before .before .before .before .before .before .before .before .before .before .before .before .before .before .before .before .before .before .before .before .before .before .before .args .tape .now)) (c .before .s .given .1))
+    let read-tzx = c .before .before .before .before .before .before .before in
+    let blank2 = read-tzx .before .before .before .before .before in
+    let blank = blank2 .before .before .before .before in
+    let if1 = blank .before .before .before in
+    let a = if1 .before .before .before .before .args in
+    rw (load-reads (lentOf (length (a .blocks .now)) (length (a .tones .now))) (a .tape .now) (a .model)
+    (lt-leb 3 (a .model) (if1 .if1 .left)) (le-ltb 1048576 (length (a .tape .now)) (blank .before .before .if2 .left)))
+    (tzx-leaves (finds-tzx (blank .blank .kept .0) (blank2 .blank2 .kept .0) (a .tape .now) (a .model) (read-tzx .read-tzx .ensures))
+    (readTap (lentOf (length (a .blocks .now)) (length (a .tones .now))) (a .tape .now)) (c .before .s .given .1))
 
 same-length-7 : tie.Need-same-length-7
 same-length-7 c = search needs
@@ -80,7 +97,19 @@ same-length-8 c = search needs
 
 returns-4 : tie.Need-returns-4
 returns-4 c =
-    rw (load-reads (lentOf (length (c .before .before .before .before .before .before .before .before .before .before .before .before .before .before .before .before .before .before .before .before .before .before .before .before .before .before .before .before .before .before .args .blocks .now)) (length (c .before .before .before .before .before .before .before .before .before .before .before .before .before .before .before .before .before .before .before .before .before .before .before .before .before .before .before .before .before .before .args .tones .now))) (c .before .before .before .before .before .before .before .before .before .before .before .before .before .before .before .before .before .before .before .before .before .before .before .before .before .before .before .before .before .before .args .tape .now) (c .before .before .before .before .before .before .before .before .before .before .before .before .before .before .before .before .before .before .before .before .before .before .before .before .before .before .before .before .before .before .args .model) (lt-leb 3 (c .before .before .before .before .before .before .before .before .before .before .before .before .before .before .before .before .before .before .before .before .before .before .before .before .before .before .before .before .before .before .args .model) (c .before .before .before .before .before .before .before .before .before .before .before .before .before .before .before .before .before .before .before .before .before .before .before .before .before .before .if1 .left)) (le-ltb 1048576 (length (c .before .before .before .before .before .before .before .before .before .before .before .before .before .before .before .before .before .before .before .before .before .before .before .before .before .before .before .before .before .before .args .tape .now)) (c .before .before .before .before .before .before .before .before .before .before .before .before .before .before .before .before .before .before .before .before .before .before .before .before .before .if2 .left)) ∙ tzx-fails (finds-tzx (c .before .before .before .before .before .before .before .before .before .before .before .before .before .before .before .before .before .before .before .before .before .before .before .blank .kept .0) (c .before .before .before .before .before .before .before .before .before .before .before .before .before .before .before .before .before .before .before .blank2 .kept .0) (c .before .before .before .before .before .before .before .before .before .before .before .before .before .before .before .before .before .before .before .before .before .before .before .before .before .before .before .before .before .before .args .tape .now) (c .before .before .before .before .before .before .before .before .before .before .before .before .before .before .before .before .before .before .before .before .before .before .before .before .before .before .before .before .before .before .args .model) (c .before .before .before .before .before .before .before .before .before .before .before .before .before .before .read-tzx .ensures)) (readTap (lentOf (length (c .before .before .before .before .before .before .before .before .before .before .before .before .before .before .before .before .before .before .before .before .before .before .before .before .before .before .before .before .before .before .args .blocks .now)) (length (c .before .before .before .before .before .before .before .before .before .before .before .before .before .before .before .before .before .before .before .before .before .before .before .before .before .before .before .before .before .before .args .tones .now))) (c .before .before .before .before .before .before .before .before .before .before .before .before .before .before .before .before .before .before .before .before .before .before .before .before .before .before .before .before .before .before .args .tape .now)) (c .before .before .before .before .before .before .before .before .-f .given .1)) (leaves-tap (c .before .before .before .before .before .before .before .before .before .before .before .before .before .before .read-tzx .kept .1 .1 .0 ∙ c .before .before .before .before .before .before .before .before .before .before .before .before .before .before .before .before .before .before .before .before .before .before .before .blank .kept .0) (c .before .before .before .before .before .before .before .before .before .before .before .before .before .before .read-tzx .kept .1 .1 .1 .0 ∙ c .before .before .before .before .before .before .before .before .before .before .before .before .before .before .before .before .before .before .before .blank2 .kept .0) (c .before .before .before .before .before .before .before .before .before .before .before .before .before .before .before .before .before .before .before .before .before .before .before .before .before .before .before .before .before .before .args .tape .now) (c .before .before .before .before .load-tap .ensures))
+    let load-tap = c .before .before .before .before in
+    let f = load-tap .before .before .before .before in
+    let read-tzx = f .before .before .before .before .before .before in
+    let blank2 = read-tzx .before .before .before .before .before in
+    let blank = blank2 .before .before .before .before in
+    let if1 = blank .before .before .before in
+    let a = if1 .before .before .before .before .args in
+    rw (load-reads (lentOf (length (a .blocks .now)) (length (a .tones .now))) (a .tape .now) (a .model)
+    (lt-leb 3 (a .model) (if1 .if1 .left)) (le-ltb 1048576 (length (a .tape .now)) (blank .before .before .if2 .left))
+    ∙ tzx-fails (finds-tzx (blank .blank .kept .0) (blank2 .blank2 .kept .0) (a .tape .now) (a .model) (read-tzx .read-tzx .ensures))
+    (readTap (lentOf (length (a .blocks .now)) (length (a .tones .now))) (a .tape .now)) (f .-f .given .1))
+    (leaves-tap (read-tzx .read-tzx .kept .1 .1 .0 ∙ blank .blank .kept .0)
+    (read-tzx .read-tzx .kept .1 .1 .1 .0 ∙ blank2 .blank2 .kept .0) (a .tape .now) (load-tap .load-tap .ensures))
 
 same-length-9 : tie.Need-same-length-9
 same-length-9 c = search needs
@@ -90,7 +119,19 @@ same-length-10 c = search needs
 
 returns-5 : tie.Need-returns-5
 returns-5 c =
-    rw (load-reads (lentOf (length (c .before .before .before .before .before .before .before .before .before .before .before .before .before .before .before .before .before .before .before .before .before .before .before .before .before .before .before .before .before .before .args .blocks .now)) (length (c .before .before .before .before .before .before .before .before .before .before .before .before .before .before .before .before .before .before .before .before .before .before .before .before .before .before .before .before .before .before .args .tones .now))) (c .before .before .before .before .before .before .before .before .before .before .before .before .before .before .before .before .before .before .before .before .before .before .before .before .before .before .before .before .before .before .args .tape .now) (c .before .before .before .before .before .before .before .before .before .before .before .before .before .before .before .before .before .before .before .before .before .before .before .before .before .before .before .before .before .before .args .model) (lt-leb 3 (c .before .before .before .before .before .before .before .before .before .before .before .before .before .before .before .before .before .before .before .before .before .before .before .before .before .before .before .before .before .before .args .model) (c .before .before .before .before .before .before .before .before .before .before .before .before .before .before .before .before .before .before .before .before .before .before .before .before .before .before .if1 .left)) (le-ltb 1048576 (length (c .before .before .before .before .before .before .before .before .before .before .before .before .before .before .before .before .before .before .before .before .before .before .before .before .before .before .before .before .before .before .args .tape .now)) (c .before .before .before .before .before .before .before .before .before .before .before .before .before .before .before .before .before .before .before .before .before .before .before .before .before .if2 .left)) ∙ tzx-refuses (finds-tzx (c .before .before .before .before .before .before .before .before .before .before .before .before .before .before .before .before .before .before .before .before .before .before .before .blank .kept .0) (c .before .before .before .before .before .before .before .before .before .before .before .before .before .before .before .before .before .before .before .blank2 .kept .0) (c .before .before .before .before .before .before .before .before .before .before .before .before .before .before .before .before .before .before .before .before .before .before .before .before .before .before .before .before .before .before .args .tape .now) (c .before .before .before .before .before .before .before .before .before .before .before .before .before .before .before .before .before .before .before .before .before .before .before .before .before .before .before .before .before .before .args .model) (c .before .before .before .before .before .before .before .before .before .before .before .before .before .before .read-tzx .ensures)) (readTap (lentOf (length (c .before .before .before .before .before .before .before .before .before .before .before .before .before .before .before .before .before .before .before .before .before .before .before .before .before .before .before .before .before .before .args .blocks .now)) (length (c .before .before .before .before .before .before .before .before .before .before .before .before .before .before .before .before .before .before .before .before .before .before .before .before .before .before .before .before .before .before .args .tones .now))) (c .before .before .before .before .before .before .before .before .before .before .before .before .before .before .before .before .before .before .before .before .before .before .before .before .before .before .before .before .before .before .args .tape .now)) (c .before .before .before .before .before .before .before .before .j .given .1)) (leaves-no (c .before .before .before .before .before .before .before .before .before .before .before .before .before .before .read-tzx .kept .1 .1 .0 ∙ c .before .before .before .before .before .before .before .before .before .before .before .before .before .before .before .before .before .before .before .before .before .before .before .blank .kept .0) (c .before .before .before .before .before .before .before .before .before .before .before .before .before .before .read-tzx .kept .1 .1 .1 .0 ∙ c .before .before .before .before .before .before .before .before .before .before .before .before .before .before .before .before .before .before .before .blank2 .kept .0) (c .before .before .before .before .refuse3 .ensures))
+    let refuse3 = c .before .before .before .before in
+    let j = refuse3 .before .before .before .before in
+    let read-tzx = j .before .before .before .before .before .before in
+    let blank2 = read-tzx .before .before .before .before .before in
+    let blank = blank2 .before .before .before .before in
+    let if1 = blank .before .before .before in
+    let a = if1 .before .before .before .before .args in
+    rw (load-reads (lentOf (length (a .blocks .now)) (length (a .tones .now))) (a .tape .now) (a .model)
+    (lt-leb 3 (a .model) (if1 .if1 .left)) (le-ltb 1048576 (length (a .tape .now)) (blank .before .before .if2 .left))
+    ∙ tzx-refuses (finds-tzx (blank .blank .kept .0) (blank2 .blank2 .kept .0) (a .tape .now) (a .model) (read-tzx .read-tzx .ensures))
+    (readTap (lentOf (length (a .blocks .now)) (length (a .tones .now))) (a .tape .now)) (j .j .given .1))
+    (leaves-no (read-tzx .read-tzx .kept .1 .1 .0 ∙ blank .blank .kept .0)
+    (read-tzx .read-tzx .kept .1 .1 .1 .0 ∙ blank2 .blank2 .kept .0) (refuse3 .refuse3 .ensures))
 
 pub read-spec : {M : Type 1} → statement M
 read-spec =

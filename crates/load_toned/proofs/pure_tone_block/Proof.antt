@@ -26,7 +26,8 @@ returns : tie.Need-returns
 unfolding rowOf pureToneTones
 returns c =
     let n = c .before .before .before .before in
-    rw (eq-eqb _ _ (n .before .before .before .before .if1 .taken)) (does-sound _ (toneSound _) (n .before .before .before .bare-row .ensures) (n .one-tone .ensures))
+    let bare-row = n .before .before .before in
+    rw (eq-eqb _ _ (bare-row .before .if1 .taken)) (does-sound _ (toneSound _) (bare-row .bare-row .ensures) (n .one-tone .ensures))
 
 bare-row-requires-2 : tie.Need-bare-row-requires-2
 bare-row-requires-2 c κs = search needs
@@ -44,7 +45,8 @@ returns-2 : tie.Need-returns-2
 unfolding rowOf pureToneTones
 returns-2 c =
     let n = c .before .before .before .before in
-    rw (ne-eqb _ _ (n .before .before .before .before .if1 .left)) (does-sound _ (toneSound _) (n .before .before .before .bare-row2 .ensures) (n .two-tones .ensures))
+    let bare-row2 = n .before .before .before in
+    rw (ne-eqb _ _ (bare-row2 .before .if1 .left)) (does-sound _ (toneSound _) (bare-row2 .bare-row2 .ensures) (n .two-tones .ensures))
 
 pub pure-tone-block-spec : {M : Type 1} → statement M
 pure-tone-block-spec =

@@ -59,8 +59,9 @@ returns : tie.Need-returns
 unfolding rowOf turboTones turboSound
 returns c =
     let n = c .before .before .before .before in
-    let a = c .before .before .before .before .before .before .before .before .before .before .before .before .before .before .before .before .before .before .before .before .args in
-    does-sound (a .origin) (turboSound (a .d)) (n .before .before .before .data-row .ensures) (n .two-tones .ensures)
+    let data-row = n .before .before .before in
+    let a = data-row .before .before .before .before .before .before .before .before .before .before .before .before .before .args in
+    does-sound (a .origin) (turboSound (a .d)) (data-row .data-row .ensures) (n .two-tones .ensures)
 
 pub turbo-data-block-spec : {M : Type 1} → statement M
 turbo-data-block-spec =

@@ -32,9 +32,10 @@ returns c =
 
 drop-cycles-requires : tie.Need-drop-cycles-requires
 drop-cycles-requires c κs =
-    let s = c .before .before .before .before .before .before in
+    let f = c .before .before in
+    let s = f .before .before .before .before in
     let a = s .args in
-    (s .pre .0, facts.has-by _ (a .r) (c .before .before .f .given .1 ∙ ap (Tones (c .before .before .f .given .0 .0) (c .before .before .f .given .0 .1 .0)) (c .if1 .left)) (s .pre .1))
+    (s .pre .0, facts.has-by _ (a .r) (f .f .given .1 ∙ ap (Tones (f .f .given .0 .0) (f .f .given .0 .1 .0)) (c .if1 .left)) (s .pre .1))
 
 enum-known-f-2 : tie.Need-enum-known-f-2
 enum-known-f-2 c = search needs
@@ -52,9 +53,13 @@ returns-2 c =
 
 drop-byte-requires : tie.Need-drop-byte-requires
 drop-byte-requires c κs =
-    let s = c .before .before .before .before .before .before .before in
-    let a = s .args in
-    (s .pre .0, facts.has-by _ (a .r) (c .before .before .before .f2 .given .1 ∙ ap (Data (c .before .before .before .f2 .given .0 .0) (c .before .before .before .f2 .given .0 .1 .0)) (c .before .if2 .left) ∙ ap (λ (x : ℕ). Data (c .before .before .before .f2 .given .0 .0) x false) (c .if3 .taken)) (s .pre .1))
+    let f2 = c .before .before .before in
+    let s = f2 .before .before .before .before in
+    let a = s .args in (
+      s .pre .0,
+      facts.has-by _ (a .r) (f2 .f2 .given .1 ∙ ap (Data (f2 .f2 .given .0 .0) (f2 .f2 .given .0 .1 .0)) (c .before .if2 .left)
+          ∙ ap (λ (x : ℕ). Data (f2 .f2 .given .0 .0) x false) (c .if3 .taken)) (s .pre .1),
+    )
 
 returns-3 : tie.Need-returns-3
 returns-3 c =
@@ -90,7 +95,8 @@ returns-5 c =
 returns-6 : tie.Need-returns-6
 unfolding dropOf
 returns-6 c =
-    c .drop-entry4 .ensures ∙ rw (c .before .before .before .before .f2 .given .1, c .before .before .if2 .left, ne-eqb _ _ (c .before .if3 .left))
+    let f2 = c .before .before .before .before in
+    c .drop-entry4 .ensures ∙ rw (f2 .f2 .given .1, c .before .before .if2 .left, ne-eqb _ _ (c .before .if3 .left))
 
 returns-7 : tie.Need-returns-7
 unfolding dropOf

@@ -57,7 +57,11 @@ mul-step-to c =
     let s = c .before .before .before .before .before .before .before .before .before in
     let a = s .args in
     let h = in-data (a .tones .now) (a .r) refl (s .pre .1) in
-    omega (arith, c .bits-at .ensures, bits-most (a .r) (a .pos) (row-lent (a .tape .now) (a .tones .now) (a .r) (s .pre .0) .numbers) (h .0))
+    omega (
+      arith,
+      c .bits-at .ensures,
+      bits-most (a .r) (a .pos) (row-lent (a .tape .now) (a .tones .now) (a .r) (s .pre .0) .numbers) (h .0),
+    )
 
 step-to-requires : tie.Need-step-to-requires
 step-to-requires c κs = search needs
@@ -65,7 +69,15 @@ step-to-requires c κs = search needs
 returns-3 : tie.Need-returns-3
 unfolding dropOf byteStep byteTime
 returns-3 c =
-    c .step-to .ensures ∙ rw (le-leb _ _ (c .before .before .before .before .before .before .if1 .left), le-leb _ _ (c .before .before .before .before .if2 .left), c .before .before .data-from .ensures, c .before .before .before .byte-time .ensures 0 low, c .before .bits-at .ensures)
+    let byte-time = c .before .before .before in
+    let if1 = byte-time .before .before .before in
+    c .step-to .ensures ∙ rw (
+      le-leb _ _ (if1 .if1 .left),
+      le-leb _ _ (byte-time .before .if2 .left),
+      c .before .before .data-from .ensures,
+      byte-time .byte-time .ensures 0 low,
+      c .before .bits-at .ensures,
+    )
 
 pub drop-byte-spec : {M : Type 1} → statement M
 drop-byte-spec =

@@ -16,8 +16,9 @@ use Rattle.play_ahead.proofs.drop_cycles.Tie as tie
 
 row-tone-requires : tie.Need-row-tone-requires
 row-tone-requires c κs =
-    let a = c .before .before .args in
-    (row-lent (a .tape .now) (a .tones .now) (a .r) (c .before .before .pre .0) .rows, in-tones (a .tones .now) (a .r) refl (c .before .before .pre .1) .0)
+    let start = c .before .before in
+    let a = start .args in
+    (row-lent (a .tape .now) (a .tones .now) (a .r) (start .pre .0) .rows, in-tones (a .tones .now) (a .r) refl (start .pre .1) .0)
 
 drop-entry-requires : tie.Need-drop-entry-requires
 drop-entry-requires c κs = search needs
@@ -26,7 +27,8 @@ returns : tie.Need-returns
 returns c =
     let x = c .before .before .before in
     let a = x .before .before .before .args in
-    cycles.drops-first (a .tape .now) (a .tones .now) (a .r) (a .i) (a .p) (a .d) (x .row-tone .result) (x .row-tone .ensures) _ (c .before .if1 .taken) (c .drop-entry .ensures)
+    cycles.drops-first (a .tape .now) (a .tones .now) (a .r) (a .i) (a .p) (a .d) (x .row-tone .result) (x .row-tone .ensures) _
+    (c .before .if1 .taken) (c .drop-entry .ensures)
 
 second-time-requires : tie.Need-second-time-requires
 second-time-requires c κs = search needs
@@ -39,7 +41,8 @@ returns-2 c =
     let v = c .before .before in
     let x = v .before .before .before in
     let a = x .before .before .before .args in
-    cycles.drops-second (a .tape .now) (a .tones .now) (a .r) (a .i) (a .p) (a .d) (x .row-tone .result) (x .row-tone .ensures) _ (v .before .if1 .left) (omega (arith, c .before .if2 .taken, v .second-time .ensures)) (c .drop-entry2 .ensures)
+    cycles.drops-second (a .tape .now) (a .tones .now) (a .r) (a .i) (a .p) (a .d) (x .row-tone .result) (x .row-tone .ensures) _
+    (v .before .if1 .left) (omega (arith, c .before .if2 .taken, v .second-time .ensures)) (c .drop-entry2 .ensures)
 
 cycles-of-requires : tie.Need-cycles-of-requires
 cycles-of-requires c κs = search needs
@@ -134,7 +137,10 @@ returns-3 c =
     let q = c .before .before in
     c .step-to .ensures
     ∙ rw (c .before .cycle-from .ensures)
-    (cycles.drops-cycles (a .tape .now) (a .tones .now) (a .r) (a .i) (a .p) (a .d) (x .row-tone .result) (x .row-tone .ensures) (u .cycles-of .result) (q .before .cycle-time .result) (q .cycle-pulses .result) (u .cycles-of .ensures) (q .before .cycle-time .ensures) (q .cycle-pulses .ensures) (v .before .if1 .left) (omega (arith, u .before .if2 .left, v .second-time .ensures)))
+    (cycles.drops-cycles (a .tape .now) (a .tones .now) (a .r) (a .i) (a .p) (a .d) (x .row-tone .result) (x .row-tone .ensures)
+    (u .cycles-of .result) (q .before .cycle-time .result) (q .cycle-pulses .result) (u .cycles-of .ensures)
+    (q .before .cycle-time .ensures) (q .cycle-pulses .ensures) (v .before .if1 .left)
+    (omega (arith, u .before .if2 .left, v .second-time .ensures)))
 
 pub drop-cycles-spec : {M : Type 1} → statement M
 drop-cycles-spec =

@@ -30,12 +30,15 @@ ends-requires c κs = search needs
 
 returns-2 : tie.Need-returns-2
 returns-2 c =
-    let a = c .before .before .before .before .before .before .before .args in
-    let p = c .before .before .before .before .before .before .before .pre in
+    let if1 = c .before .before .before in
+    let a = if1 .before .before .before .before .args in
+    let p = if1 .before .before .before .before .pre in
     let w = tapeOf (a .tape .now) (a .tones .now) (a .blocks .now) (a .count) in
     let q : Position = a .pos in
-    rw (ne-eqb _ _ (c .before .before .before .if1 .left))
-    (c .ends .ensures ∙ sym (source-walk w q (a .n) ∙ checks.past-ends w q (fine-so (p .0) (p .1)) (c .before .if2 .taken) _ (omega (arith, c .before .before .before .if1 .left))))
+    rw (ne-eqb _ _ (if1 .if1 .left))
+    (c .ends .ensures
+    ∙ sym
+    (source-walk w q (a .n) ∙ checks.past-ends w q (fine-so (p .0) (p .1)) (c .before .if2 .taken) _ (omega (arith, if1 .if1 .left))))
 
 ends-inside-requires : tie.Need-ends-inside-requires
 ends-inside-requires c κs = search needs
@@ -46,13 +49,15 @@ stand-inside-requires c κs =
 
 returns-3 : tie.Need-returns-3
 returns-3 c =
-    let a = c .before .before .before .before .before .before .before .before .before .args in
-    let p = c .before .before .before .before .before .before .before .before .before .pre in
+    let if2 = c .before .before .before in
+    let a = if2 .before .before .before .before .before .before .args in
+    let p = if2 .before .before .before .before .before .before .pre in
     let w = tapeOf (a .tape .now) (a .tones .now) (a .blocks .now) (a .count) in
     let q : Position = a .pos in
-    rw (ne-eqb _ _ (c .before .before .before .before .before .if1 .left))
-    (c .stand-inside .ensures w (level-below (p .0) (p .1) (c .before .before .before .if2 .left))
-    ∙ inside-source w q (a .n) (checks.fine-below w q (fine-so (p .0) (p .1)) (c .before .before .before .if2 .left)) (sym (c .before .before .ends-inside .ensures) ∙ c .before .if3 .taken))
+    rw (ne-eqb _ _ (if2 .before .before .if1 .left))
+    (c .stand-inside .ensures w (level-below (p .0) (p .1) (if2 .if2 .left))
+    ∙ inside-source w q (a .n) (checks.fine-below w q (fine-so (p .0) (p .1)) (if2 .if2 .left))
+    (sym (c .before .before .ends-inside .ensures) ∙ c .before .if3 .taken))
 
 ran-ahead-requires : tie.Need-ran-ahead-requires
 ran-ahead-requires c κs =
@@ -64,11 +69,18 @@ ran-ahead-requires c κs =
 
 add-walk : tie.Need-add-walk
 add-walk c =
-    let a = c .before .before .before .before .before .before .before .before .before .before .args in
-    let p = c .before .before .before .before .before .before .before .before .before .before .pre in
+    let if2 = c .before .before .before .before in
+    let fits = if2 .before .before .before .before .before .before in
+    let a = fits .args in
+    let p = fits .pre in
     let w = tapeOf (a .tape .now) (a .tones .now) (a .blocks .now) (a .count) in
     let q : Position = a .pos in
-    omega (arith, c .before .ran-ahead .ensures, dropped-most w q (a .n) (checks.fine-below w q (fine-so (p .0) (p .1)) (c .before .before .before .before .if2 .left)), c .before .before .before .before .before .before .before .before .before .before .fits)
+    omega (
+      arith,
+      c .before .ran-ahead .ensures,
+      dropped-most w q (a .n) (checks.fine-below w q (fine-so (p .0) (p .1)) (if2 .if2 .left)),
+      fits .fits,
+    )
 
 walk-requires : tie.Need-walk-requires
 walk-requires c κs =
@@ -80,10 +92,12 @@ walk-requires c κs =
 
 returns-4 : tie.Need-returns-4
 returns-4 c =
-    let a = c .before .before .before .before .before .before .before .before .before .before .before .args in
+    let if1 = c .before .before .before .before .before .before .before in
+    let a = if1 .before .before .before .before .args in
     let w = tapeOf (a .tape .now) (a .tones .now) (a .blocks .now) (a .count) in
     let q : Position = a .pos in
-    rw (ne-eqb _ _ (c .before .before .before .before .before .before .before .if1 .left)) (c .walk .ensures ∙ ap (λ (x : ℕ). walkFrom w q (a .n + x)) (c .before .before .ran-ahead .ensures) ∙ sym (source-walk w q (a .n)))
+    rw (ne-eqb _ _ (if1 .if1 .left)) (c .walk .ensures
+    ∙ ap (λ (x : ℕ). walkFrom w q (a .n + x)) (c .before .before .ran-ahead .ensures) ∙ sym (source-walk w q (a .n)))
 
 pub follow-spec : {M : Type 1} → statement M
 follow-spec =

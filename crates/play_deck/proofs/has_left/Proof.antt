@@ -25,7 +25,8 @@ may-remain-requires c κs = search needs
 
 returns-2 : tie.Need-returns-2
 returns-2 c =
-    rw (passed (c .before .before .before .has-entry .ensures) (c .before .before .if1 .left), ← c .before .length-at .ensures) (c .may-remain .ensures)
+    let has-entry = c .before .before .before in
+    rw (passed (has-entry .has-entry .ensures) (c .before .before .if1 .left), ← c .before .length-at .ensures) (c .may-remain .ensures)
 
 pub has-left-spec : {M : Type 1} → statement M
 has-left-spec =

@@ -26,11 +26,13 @@ ends-requires c κs = search needs
 
 returns-2 : tie.Need-returns-2
 returns-2 c =
-    let a = c .before .before .before .before .before .before .before .args in
-    let p = c .before .before .before .before .before .before .before .pre in
+    let if1 = c .before .before .before in
+    let a = if1 .before .before .before .before .args in
+    let p = if1 .before .before .before .before .pre in
     let w = tapeOf (a .tape .now) (a .tones .now) (a .blocks .now) (a .count) in
     let q : Position = a .pos in
-    rw (ne-eqb _ _ (c .before .before .before .if1 .left)) (c .ends .ensures ∙ sym (checks.past-ends w q (fine-so (p .0) (p .1)) (c .before .if2 .taken) (a .n) (omega (arith, c .before .before .before .if1 .left))))
+    rw (ne-eqb _ _ (if1 .if1 .left))
+    (c .ends .ensures ∙ sym (checks.past-ends w q (fine-so (p .0) (p .1)) (c .before .if2 .taken) (a .n) (omega (arith, if1 .if1 .left))))
 
 ends-inside-requires : tie.Need-ends-inside-requires
 ends-inside-requires c κs = search needs
@@ -41,13 +43,15 @@ stand-inside-requires c κs =
 
 returns-3 : tie.Need-returns-3
 returns-3 c =
-    let a = c .before .before .before .before .before .before .before .before .before .args in
-    let p = c .before .before .before .before .before .before .before .before .before .pre in
+    let if2 = c .before .before .before in
+    let a = if2 .before .before .before .before .before .before .args in
+    let p = if2 .before .before .before .before .before .before .pre in
     let w = tapeOf (a .tape .now) (a .tones .now) (a .blocks .now) (a .count) in
     let q : Position = a .pos in
-    rw (ne-eqb _ _ (c .before .before .before .before .before .if1 .left))
-    (c .stand-inside .ensures w (level-below (p .0) (p .1) (c .before .before .before .if2 .left))
-    ∙ inside-walk w q (a .n) (checks.fine-below w q (fine-so (p .0) (p .1)) (c .before .before .before .if2 .left)) (sym (c .before .before .ends-inside .ensures) ∙ c .before .if3 .taken))
+    rw (ne-eqb _ _ (if2 .before .before .if1 .left))
+    (c .stand-inside .ensures w (level-below (p .0) (p .1) (if2 .if2 .left))
+    ∙ inside-walk w q (a .n) (checks.fine-below w q (fine-so (p .0) (p .1)) (if2 .if2 .left))
+    (sym (c .before .before .ends-inside .ensures) ∙ c .before .if3 .taken))
 
 walk-requires : tie.Need-walk-requires
 walk-requires c κs =

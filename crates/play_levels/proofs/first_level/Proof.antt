@@ -13,7 +13,9 @@ turned-requires c κs = search needs
 
 returns : tie.Need-returns
 unfolding firstLevel
-returns c = rw (eq-eqb _ _ (c .before .before .before .if1 .taken), ← c .before .before .is-one .ensures, c .before .if2 .taken) (c .turned .ensures)
+returns c =
+    let if1 = c .before .before .before in
+    rw (eq-eqb _ _ (if1 .if1 .taken), ← c .before .before .is-one .ensures, c .before .if2 .taken) (c .turned .ensures)
 
 returns-2 : tie.Need-returns-2
 unfolding firstLevel
@@ -24,14 +26,19 @@ is-one-requires-2 c κs = search needs
 
 returns-3 : tie.Need-returns-3
 unfolding firstLevel
-returns-3 c = rw (ne-eqb _ _ (c .before .before .before .if1 .left), eq-eqb _ _ (c .before .before .if3 .taken), ← c .before .is-one2 .ensures, c .if4 .taken)
+returns-3 c =
+    let if1 = c .before .before .before in
+    rw (ne-eqb _ _ (if1 .if1 .left), eq-eqb _ _ (c .before .before .if3 .taken), ← c .before .is-one2 .ensures, c .if4 .taken)
 
 turned-requires-2 : tie.Need-turned-requires-2
 turned-requires-2 c κs = search needs
 
 returns-4 : tie.Need-returns-4
 unfolding firstLevel
-returns-4 c = rw (ne-eqb _ _ (c .before .before .before .before .if1 .left), eq-eqb _ _ (c .before .before .before .if3 .taken), ← c .before .before .is-one2 .ensures, c .before .if4 .left) (c .turned2 .ensures)
+returns-4 c =
+    let if3 = c .before .before .before in
+    rw (ne-eqb _ _ (if3 .before .if1 .left), eq-eqb _ _ (if3 .if3 .taken), ← c .before .before .is-one2 .ensures, c .before .if4 .left)
+    (c .turned2 .ensures)
 
 returns-5 : tie.Need-returns-5
 unfolding firstLevel

@@ -26,14 +26,30 @@ behind-requires c κs = search needs
 
 returns-2 : tie.Need-returns-2
 unfolding lineBefore lineAfter
-returns-2 c = let n = c .before .before .before in rw (← n .before .before .times-of .ensures, ne-eqb _ _ (n .before .if1 .left), ← n .first-level .ensures, ← c .before .before .is-one .ensures, c .before .if2 .taken) (c .behind .ensures)
+returns-2 c =
+    let n = c .before .before .before in
+    rw (
+      ← n .before .before .times-of .ensures,
+      ne-eqb _ _ (n .before .if1 .left),
+      ← n .first-level .ensures,
+      ← c .before .before .is-one .ensures,
+      c .before .if2 .taken,
+    ) (c .behind .ensures)
 
 behind-requires-2 : tie.Need-behind-requires-2
 behind-requires-2 c κs = search needs
 
 returns-3 : tie.Need-returns-3
 unfolding lineBefore lineAfter
-returns-3 c = let n = c .before .before .before in rw (← n .before .before .times-of .ensures, ne-eqb _ _ (n .before .if1 .left), ← n .first-level .ensures, ← c .before .before .is-one .ensures, c .before .if2 .left) (c .behind2 .ensures)
+returns-3 c =
+    let n = c .before .before .before in
+    rw (
+      ← n .before .before .times-of .ensures,
+      ne-eqb _ _ (n .before .if1 .left),
+      ← n .first-level .ensures,
+      ← c .before .before .is-one .ensures,
+      c .before .if2 .left,
+    ) (c .behind2 .ensures)
 
 pub line-after-spec : {M : Type 1} → statement M
 line-after-spec =

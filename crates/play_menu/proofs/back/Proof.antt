@@ -33,14 +33,17 @@ unfolding wellRow
 returns c =
     let a = c .before .before .before .before .before .before .args in
     let L = c .before .before .loop in
-    λ n. back-bad (tapeOf (a .tape .now) (a .tones .now) (a .blocks .now) n) (L .b) (failed (c .before .row-well .ensures) (c .if1 .taken)) ∙ L .inv .1 n
+    λ n. back-bad (tapeOf (a .tape .now) (a .tones .now) (a .blocks .now) n) (L .b) (failed (c .before .row-well .ensures) (c .if1 .taken))
+    ∙ L .inv .1 n
 
 returns-2 : tie.Need-returns-2 Inv-loop μ-loop
 unfolding wellRow
 returns-2 c =
     let a = c .before .before .before .before .before .before .before .args in
     let L = c .before .before .before .loop in
-    λ n. back-none (tapeOf (a .tape .now) (a .tones .now) (a .blocks .now) n) (L .b) (passed (c .before .before .row-well .ensures) (c .before .if1 .left)) (c .if2 .taken) ∙ L .inv .1 n
+    λ n. back-none (tapeOf (a .tape .now) (a .tones .now) (a .blocks .now) n) (L .b)
+    (passed (c .before .before .row-well .ensures) (c .before .if1 .left)) (c .if2 .taken)
+    ∙ L .inv .1 n
 
 block-at-requires : tie.Need-block-at-requires Inv-loop μ-loop
 block-at-requires c κs =
@@ -51,9 +54,13 @@ block-at-requires c κs =
 returns-3 : tie.Need-returns-3 Inv-loop μ-loop
 unfolding wellRow
 returns-3 c =
-    let a = c .before .before .before .before .before .before .before .before .before .before .args in
-    let L = c .before .before .before .before .before .before .loop in
-    λ n. back-here (tapeOf (a .tape .now) (a .tones .now) (a .blocks .now) n) (L .b) (passed (c .before .before .before .before .before .row-well .ensures) (c .before .before .before .before .if1 .left)) (c .before .before .before .if2 .left) (sym (ap (λ (r : Block). r .selectable) (c .before .before .block-at .ensures)) ∙ c .if3 .taken) ∙ L .inv .1 n
+    let if2 = c .before .before .before in
+    let a = if2 .before .before .before .before .before .before .before .args in
+    let L = if2 .before .before .before .loop in
+    λ n. back-here (tapeOf (a .tape .now) (a .tones .now) (a .blocks .now) n) (L .b)
+    (passed (if2 .before .before .row-well .ensures) (if2 .before .if1 .left)) (if2 .if2 .left)
+    (sym (ap (λ (r : Block). r .selectable) (c .before .before .block-at .ensures)) ∙ c .if3 .taken)
+    ∙ L .inv .1 n
 
 sub-b : tie.Need-sub-b Inv-loop μ-loop
 sub-b c =
@@ -66,9 +73,15 @@ loop-less c =
 loop-again : tie.Need-loop-again Inv-loop μ-loop
 unfolding wellRow
 loop-again c =
-    let a = c .before .before .before .before .before .before .before .before .before .before .args in
-    let L = c .before .before .before .before .before .before .loop in
-    (omega (arith, L .inv .0), λ n. back-on (tapeOf (a .tape .now) (a .tones .now) (a .blocks .now) n) (L .b) (passed (c .before .before .before .before .before .row-well .ensures) (c .before .before .before .before .if1 .left)) (c .before .before .before .if2 .left) (λ z. c .if3 .left (ap (λ (r : Block). r .selectable) (c .before .before .block-at .ensures) ∙ z)) ∙ L .inv .1 n)
+    let if2 = c .before .before .before in
+    let a = if2 .before .before .before .before .before .before .before .args in
+    let L = if2 .before .before .before .loop in (
+      omega (arith, L .inv .0),
+      λ n. back-on (tapeOf (a .tape .now) (a .tones .now) (a .blocks .now) n) (L .b)
+          (passed (if2 .before .before .row-well .ensures) (if2 .before .if1 .left)) (if2 .if2 .left)
+          (λ z. c .if3 .left (ap (λ (r : Block). r .selectable) (c .before .before .block-at .ensures) ∙ z))
+          ∙ L .inv .1 n,
+    )
 
 pub back-spec : {M : Type 1} → statement M
 back-spec =

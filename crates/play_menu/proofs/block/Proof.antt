@@ -22,9 +22,10 @@ returns c =
 
 back-requires : tie.Need-back-requires
 back-requires c κs =
-    let a = c .before .before .before .before .before .before .before .args in
+    let judge = c .before .before .before in
+    let a = judge .before .before .before .before .args in
     let w = tapeOf (a .tape .now) (a .tones .now) (a .blocks .now) (a .count) in
-    let x = checks.fine-below w (a .pos) (sym (c .before .before .before .judge .ensures) ∙ c .before .enum-told .given .1) (c .if1 .left) in
+    let x = checks.fine-below w (a .pos) (sym (judge .judge .ensures) ∙ c .before .enum-told .given .1) (c .if1 .left) in
     omega (arith, x .lent, c .if1 .left)
 
 enum-told-2 : tie.Need-enum-told-2
@@ -36,8 +37,9 @@ enum-told-3 c = search needs
 returns-2 : tie.Need-returns-2
 unfolding blockOf
 returns-2 c =
-    let a = c .before .before .before .before .before .before .before .before .args in
-    rw (← c .before .before .before .before .judge .ensures, c .before .before .enum-told .given .1, lt-leb _ _ (c .before .if1 .left)) (c .back .ensures (a .count))
+    let judge = c .before .before .before .before in
+    let a = judge .before .before .before .before .args in
+    rw (← judge .judge .ensures, c .before .before .enum-told .given .1, lt-leb _ _ (c .before .if1 .left)) (c .back .ensures (a .count))
 
 returns-3 : tie.Need-returns-3
 unfolding blockOf

@@ -38,7 +38,9 @@ returns c = rw (c .enum-told .given .1)
 
 returns-2 : tie.Need-returns-2
 unfolding hasEntry
-returns-2 c = rw (c .before .before .before .before .before .f .given .1, lt-ltb _ _ (c .before .before .if1 .taken), c .has-pulse .ensures, c .before .row-tone .ensures)
+returns-2 c =
+    let f = c .before .before .before .before .before in
+    rw (f .f .given .1, lt-ltb _ _ (c .before .before .if1 .taken), c .has-pulse .ensures, c .before .row-tone .ensures)
 
 returns-3 : tie.Need-returns-3
 unfolding hasEntry

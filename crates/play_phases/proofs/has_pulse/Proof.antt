@@ -11,7 +11,9 @@ is-single-requires : tie.Need-is-single-requires
 is-single-requires c κs = search needs
 
 returns : tie.Need-returns
-returns c = rw (← c .before .before .before .cycles-of .ensures, lt-ltb _ _ (c .before .before .if1 .taken), c .before .if2 .taken, c .is-single .ensures)
+returns c =
+    let cycles-of = c .before .before .before in
+    rw (← cycles-of .cycles-of .ensures, lt-ltb _ _ (c .before .before .if1 .taken), c .before .if2 .taken, c .is-single .ensures)
 
 returns-2 : tie.Need-returns-2
 returns-2 c = rw (← c .before .before .cycles-of .ensures, lt-ltb _ _ (c .before .if1 .taken), c .if2 .left)

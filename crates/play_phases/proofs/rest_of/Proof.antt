@@ -14,7 +14,9 @@ sub-result : tie.Need-sub-result
 sub-result c = search needs
 
 returns : tie.Need-returns
-returns c = rw (← c .before .before .before .is-edged .ensures, c .before .before .if1 .taken) (omega (arith, c .before .edge-time .ensures))
+returns c =
+    let is-edged = c .before .before .before in
+    rw (← is-edged .is-edged .ensures, c .before .before .if1 .taken) (omega (arith, c .before .edge-time .ensures))
 
 returns-2 : tie.Need-returns-2
 returns-2 c = rw (← c .before .is-edged .ensures, c .if1 .left)

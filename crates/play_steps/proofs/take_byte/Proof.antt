@@ -32,7 +32,13 @@ step-to-requires c κs = search needs
 returns : tie.Need-returns
 unfolding takeByte byteStep byteTime
 returns c =
-    λ tones. c .step-to .ensures ∙ rw (← c .before .before .before .before .byte-time .ensures 0, lt-ltb _ _ (c .before .before .before .if1 .taken), c .before .before .data-from .ensures, c .before .bits-at .ensures)
+    let if1 = c .before .before .before in
+    λ tones. c .step-to .ensures ∙ rw (
+      ← if1 .before .byte-time .ensures 0,
+      lt-ltb _ _ (if1 .if1 .taken),
+      c .before .before .data-from .ensures,
+      c .before .bits-at .ensures,
+    )
 
 bit-step-requires : tie.Need-bit-step-requires
 bit-step-requires c κs =

@@ -15,13 +15,19 @@ row-tone-requires : tie.Need-row-tone-requires
 row-tone-requires c κs = search needs
 
 cycle-time-requires : tie.Need-cycle-time-requires
-cycle-time-requires c κs = let s = c .before .before in let a = s .args in ap wellTone (c .row-tone .ensures) ∙ tones-each (a .tones .now) (a .r .tone) (a .r .tones) (a .i) (s .pre .0 .1) (s .pre .1 .0 .0)
+cycle-time-requires c κs =
+    let s = c .before .before in
+    let a = s .args in
+    ap wellTone (c .row-tone .ensures) ∙ tones-each (a .tones .now) (a .r .tone) (a .r .tones) (a .i) (s .pre .0 .1) (s .pre .1 .0 .0)
 
 cycles-of-requires : tie.Need-cycles-of-requires
 cycles-of-requires c κs = search needs
 
 sub-fits : tie.Need-sub-fits
-sub-fits c = let x = c .before .before in let s = x .before .before in omega (arith, c .cycles-of .ensures, ap (cyclesOf (s .args .r)) (x .row-tone .ensures), s .pre .1 .0 .1)
+sub-fits c =
+    let x = c .before .before in
+    let s = x .before .before in
+    omega (arith, c .cycles-of .ensures, ap (cyclesOf (s .args .r)) (x .row-tone .ensures), s .pre .1 .0 .1)
 
 fits-requires : tie.Need-fits-requires
 fits-requires c κs = search needs
@@ -39,7 +45,15 @@ add-cycle-from c =
     let a = s .args in
     let l = facts.small-of (a .tones .now) (a .r) (a .i) (x .row-tone .result) (x .row-tone .ensures) (s .pre .0 .1) (s .pre .1 .0 .0) in
     let k = facts.fit (y .cycle-time .result) (n .cycles-of .result - a .p) (a .d) (s .pre .1 .1) in
-    omega (arith, u .fits2 .ensures, k .most, n .cycles-of .ensures, ap (cyclesOf (a .r)) (x .row-tone .ensures), l .cycles, s .pre .1 .0 .1)
+    omega (
+      arith,
+      u .fits2 .ensures,
+      k .most,
+      n .cycles-of .ensures,
+      ap (cyclesOf (a .r)) (x .row-tone .ensures),
+      l .cycles,
+      s .pre .1 .0 .1,
+    )
 
 cycle-from-requires : tie.Need-cycle-from-requires
 cycle-from-requires c κs = search needs
@@ -86,7 +100,9 @@ returns c =
     let a = x .before .before .args in
     c .step-to .ensures
     ∙ rw (c .before .cycle-from .ensures)
-    (facts.takes-run (a .tones .now) (a .r) (a .i) (a .p) (a .t) (a .d) (x .row-tone .result) (n .cycles-of .result) (y .cycle-time .result) (m .cycle-pulses .result) (u .fits2 .result) (x .row-tone .ensures) (n .cycles-of .ensures) (y .cycle-time .ensures) (u .fits2 .ensures) (m .cycle-pulses .ensures) (m .before .if1 .taken))
+    (facts.takes-run (a .tones .now) (a .r) (a .i) (a .p) (a .t) (a .d) (x .row-tone .result) (n .cycles-of .result) (y .cycle-time .result)
+    (m .cycle-pulses .result) (u .fits2 .result) (x .row-tone .ensures) (n .cycles-of .ensures) (y .cycle-time .ensures) (u .fits2 .ensures)
+    (m .cycle-pulses .ensures) (m .before .if1 .taken))
 
 tone-step-requires : tie.Need-tone-step-requires
 tone-step-requires c κs = search needs
@@ -99,7 +115,9 @@ returns-2 c =
     let x = y .before in
     let a = x .before .before .args in
     c .tone-step .ensures
-    ∙ facts.takes-one (a .tones .now) (a .r) (a .i) (a .p) (a .t) (a .d) (x .row-tone .result) (n .cycles-of .result) (y .cycle-time .result) 0 (u .fits2 .result) (x .row-tone .ensures) (n .cycles-of .ensures) (y .cycle-time .ensures) (u .fits2 .ensures) (c .before .if1 .left)
+    ∙ facts.takes-one (a .tones .now) (a .r) (a .i) (a .p) (a .t) (a .d) (x .row-tone .result) (n .cycles-of .result)
+    (y .cycle-time .result) 0 (u .fits2 .result) (x .row-tone .ensures) (n .cycles-of .ensures) (y .cycle-time .ensures) (u .fits2 .ensures)
+    (c .before .if1 .left)
 
 pub take-cycles-spec : {M : Type 1} → statement M
 take-cycles-spec =

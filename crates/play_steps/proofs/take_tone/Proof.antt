@@ -20,7 +20,8 @@ tone-step-requires-2 c κs = search needs
 returns-2 : tie.Need-returns-2
 unfolding takeOf
 returns-2 c =
-    let a = c .before .before .before .before .args in λ tape. c .tone-step2 .ensures ∙ rw (not-false (a .full) (c .before .before .if1 .left), c .before .if2 .taken)
+    let a = c .before .before .before .before .args in
+    λ tape. c .tone-step2 .ensures ∙ rw (not-false (a .full) (c .before .before .if1 .left), c .before .if2 .taken)
 
 take-cycles-requires : tie.Need-take-cycles-requires
 take-cycles-requires c κs = search needs
@@ -28,7 +29,8 @@ take-cycles-requires c κs = search needs
 returns-3 : tie.Need-returns-3
 unfolding takeOf
 returns-3 c =
-    let a = c .before .before .before .before .args in λ tape. c .take-cycles .ensures ∙ rw (not-false (a .full) (c .before .before .if1 .left), c .before .if2 .left)
+    let a = c .before .before .before .before .args in
+    λ tape. c .take-cycles .ensures ∙ rw (not-false (a .full) (c .before .before .if1 .left), c .before .if2 .left)
 
 pub take-tone-spec : {M : Type 1} → statement M
 take-tone-spec =

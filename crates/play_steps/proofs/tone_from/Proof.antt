@@ -22,7 +22,8 @@ returns-2 : tie.Need-returns-2
 returns-2 c =
     let v = c .before .before .before in
     let a = v .before .before .args in
-    c .data-from .ensures ∙ sym (v .voiced-row .ensures .same ∙ facts.tone-over (a .tones .now) (a .r) (v .voiced-row .result) (c .before .if1 .left))
+    c .data-from .ensures
+    ∙ sym (v .voiced-row .ensures .same ∙ facts.tone-over (a .tones .now) (a .r) (v .voiced-row .result) (c .before .if1 .left))
 
 pub tone-from-spec : {M : Type 1} → statement M
 tone-from-spec = tie.close (tie.spec voiced-row-requires returns data-from-requires returns-2)

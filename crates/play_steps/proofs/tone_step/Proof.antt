@@ -12,7 +12,14 @@ row-tone-requires : tie.Need-row-tone-requires
 row-tone-requires c κs = search needs
 
 add-cycle-from : tie.Need-add-cycle-from
-add-cycle-from c = let s = c .before .before .before in omega (arith, s .pre .1, cycles-most (s .args .r) (c .before .row-tone .result), ap (cyclesOf (s .args .r)) (c .before .row-tone .ensures))
+add-cycle-from c =
+    let s = c .before .before .before in
+    omega (
+      arith,
+      s .pre .1,
+      cycles-most (s .args .r) (c .before .row-tone .result),
+      ap (cyclesOf (s .args .r)) (c .before .row-tone .ensures),
+    )
 
 cycle-from-requires : tie.Need-cycle-from-requires
 cycle-from-requires c κs = search needs
@@ -22,17 +29,23 @@ step-to-requires c κs = search needs
 
 returns : tie.Need-returns
 unfolding oneStep
-returns c = c .step-to .ensures ∙ rw (c .before .before .if1 .taken, c .before .cycle-from .ensures, c .before .before .before .row-tone .ensures)
+returns c =
+    let row-tone = c .before .before .before in
+    c .step-to .ensures ∙ rw (c .before .before .if1 .taken, c .before .cycle-from .ensures, row-tone .row-tone .ensures)
 
 second-from-requires : tie.Need-second-from-requires
-second-from-requires c κs = let s = c .before .before .before in (s .pre .0, omega (arith, s .pre .1, ap (cyclesOf (s .args .r)) (c .before .row-tone .ensures)))
+second-from-requires c κs =
+    let s = c .before .before .before in
+    (s .pre .0, omega (arith, s .pre .1, ap (cyclesOf (s .args .r)) (c .before .row-tone .ensures)))
 
 step-to-requires-2 : tie.Need-step-to-requires-2
 step-to-requires-2 c κs = search needs
 
 returns-2 : tie.Need-returns-2
 unfolding oneStep
-returns-2 c = c .step-to2 .ensures ∙ rw (c .before .before .if1 .left, c .before .second-from .ensures, c .before .before .before .row-tone .ensures)
+returns-2 c =
+    let row-tone = c .before .before .before in
+    c .step-to2 .ensures ∙ rw (c .before .before .if1 .left, c .before .second-from .ensures, row-tone .row-tone .ensures)
 
 pub tone-step-spec : {M : Type 1} → statement M
 tone-step-spec =

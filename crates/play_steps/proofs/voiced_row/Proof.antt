@@ -29,7 +29,11 @@ returns c =
     let n = c .before in
     let l = n .before .before .before .before in
     let r = l .before .before .args .r in
-    record { most = l .loop .inv .0; same = l .loop .inv .1; some = λ h. omega (arith, c .if2 .taken, n .cycles-of .ensures, ap (cyclesOf r) (n .before .row-tone .ensures)) }
+    record {
+      most = l .loop .inv .0;
+      same = l .loop .inv .1;
+      some = λ h. omega (arith, c .if2 .taken, n .cycles-of .ensures, ap (cyclesOf r) (n .before .row-tone .ensures));
+    }
 
 add-j : tie.Need-add-j Inv-loop μ-loop
 add-j c = omega arith
@@ -42,8 +46,12 @@ loop-again c =
     let n = c .before in
     let t = n .before .before in
     let l = t .before .before in
-    let a = l .before .before .args in
-    (omega arith, l .loop .inv .1 ∙ facts.tone-past (a .tones .now) (a .r) (l .loop .j) (t .if1 .taken) (omega (arith, c .if2 .left, n .cycles-of .ensures, ap (cyclesOf (a .r)) (n .before .row-tone .ensures))))
+    let a = l .before .before .args in (
+      omega arith,
+      l .loop .inv .1
+          ∙ facts.tone-past (a .tones .now) (a .r) (l .loop .j) (t .if1 .taken)
+          (omega (arith, c .if2 .left, n .cycles-of .ensures, ap (cyclesOf (a .r)) (n .before .row-tone .ensures))),
+    )
 
 returns-2 : tie.Need-returns-2 Inv-loop μ-loop
 returns-2 c =

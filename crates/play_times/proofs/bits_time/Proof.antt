@@ -26,7 +26,8 @@ counted-time-requires c κs =
 returns : tie.Need-returns
 returns c =
     let s = c .before in
-    λ b pos d. c .counted-time .ensures ∙ sym (bits-time b (s .args .r) d pos (s .args .v) (s .fits .v .fits) (s .args .n) (s .pre .0 .1))
+    λ b pos d. c .counted-time .ensures
+    ∙ sym (bits-time b (s .args .r) d pos (s .args .v) (s .fits .v .fits) (s .args .n) (s .pre .0 .1))
 
 pub bits-time-spec : {M : Type 1} → statement M
 bits-time-spec =

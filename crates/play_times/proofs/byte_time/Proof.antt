@@ -29,7 +29,9 @@ returns : tie.Need-returns
 unfolding byteOf
 returns c =
     let s = c .before .before .before .before .before .args in
-    λ b d. c .bits-time .ensures b (s .pos) d ∙ ap (λ (n : ℕ). time (run (bitEntries b (s .r) d (s .pos) (byteAt (s .tape .now) (s .r) (s .pos))) 0 n)) (c .before .bits-at .ensures)
+    λ b d. c .bits-time .ensures b (s .pos) d
+    ∙ ap (λ (n : ℕ). time (run (bitEntries b (s .r) d (s .pos) (byteAt (s .tape .now) (s .r) (s .pos))) 0 n))
+    (c .before .bits-at .ensures)
 
 pub byte-time-spec : {M : Type 1} → statement M
 byte-time-spec =

@@ -30,9 +30,19 @@ mul-counted-time c = search needs
 
 counted-time-requires : tie.Need-counted-time-requires
 counted-time-requires c κs =
-    let s = c .before .before .before .before .before in
-    let a = s .args in
-    ((omega (arith, c .ones .ensures, ones-most (a .tape .now) (λ i. c .before .before .before .before .shared-slice-known .given i .fits) (a .r .start) (a .r .size - 1)), omega arith), s .pre .1)
+    let shared-slice-known = c .before .before .before .before in
+    let s = shared-slice-known .before in
+    let a = s .args in (
+      (
+        omega (
+          arith,
+          c .ones .ensures,
+          ones-most (a .tape .now) (λ i. shared-slice-known .shared-slice-known .given i .fits) (a .r .start) (a .r .size - 1),
+        ),
+        omega arith,
+      ),
+      s .pre .1,
+    )
 
 byte-time-requires : tie.Need-byte-time-requires
 byte-time-requires c κs = search needs
@@ -40,20 +50,23 @@ byte-time-requires c κs = search needs
 add-result : tie.Need-add-result
 unfolding dataOf
 add-result c =
-    let s = c .before .before .before .before .before .before .before in
+    let shared-slice-known = c .before .before .before .before .before .before in
+    let s = shared-slice-known .before in
     let a = s .args in
     let n = a .r .size - 1 in
     let k = c .before .counted-time .ensures ∙ ap (λ (k : ℕ). bitsTime (a .r) k (8 * n)) (c .before .before .ones .ensures) in
-    let e = data-counted (a .tape .now) (λ i. c .before .before .before .before .before .before .shared-slice-known .given i .fits) 0 (a .r) false n (omega arith) in
+    let e = data-counted (a .tape .now) (λ i. shared-slice-known .shared-slice-known .given i .fits) 0 (a .r) false n (omega arith) in
     omega (arith, k, c .byte-time .ensures 0 false, e, bytes-most-time (a .tape .now) 0 (a .r) false (a .r .size) (s .pre .1) (omega arith))
 
 returns-2 : tie.Need-returns-2
 returns-2 c =
-    let s = c .before .before .before .before .before .before .before in
+    let shared-slice-known = c .before .before .before .before .before .before in
+    let s = shared-slice-known .before in
     let a = s .args in
     let n = a .r .size - 1 in
-    λ b d. ap₂ (λ (x y : ℕ). x + y) (c .before .counted-time .ensures ∙ ap (λ (k : ℕ). bitsTime (a .r) k (8 * n)) (c .before .before .ones .ensures)) (c .byte-time .ensures b d)
-    ∙ sym (data-counted (a .tape .now) (λ i. c .before .before .before .before .before .before .shared-slice-known .given i .fits) b (a .r) d n (omega arith))
+    λ b d. ap₂ (λ (x y : ℕ). x + y) (c .before .counted-time .ensures
+    ∙ ap (λ (k : ℕ). bitsTime (a .r) k (8 * n)) (c .before .before .ones .ensures)) (c .byte-time .ensures b d)
+    ∙ sym (data-counted (a .tape .now) (λ i. shared-slice-known .shared-slice-known .given i .fits) b (a .r) d n (omega arith))
 
 pub data-time-spec : {M : Type 1} → statement M
 data-time-spec =

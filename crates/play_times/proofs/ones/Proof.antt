@@ -31,7 +31,12 @@ add-sum c =
     let a = c .before .before .before .args in
     let l = c .before .before .loop in
     let at = a .from + l .i in
-    omega (arith, l .inv .1, ones-most (a .tape .now) (λ j. c .shared-slice-known .given j .fits) (a .from) (l .i), ones-le 8 (getD (a .tape .now) at 0) (c .shared-slice-known .given at .fits))
+    omega (
+      arith,
+      l .inv .1,
+      ones-most (a .tape .now) (λ j. c .shared-slice-known .given j .fits) (a .from) (l .i),
+      ones-le 8 (getD (a .tape .now) at 0) (c .shared-slice-known .given at .fits),
+    )
 
 add-i : tie.Need-add-i Inv-loop μ-loop
 add-i c = omega arith

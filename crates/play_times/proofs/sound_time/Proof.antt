@@ -31,12 +31,20 @@ add-result c =
     let t = s .args .tape .now in
     let n = s .args .tones .now in
     let r = s .args .r in
-    omega (arith, c .before .tones-time .ensures 0, c .data-time .ensures 0 (bitLevel n r), sound-time t n 0 r, sound-below (tapeSize t) t n 0 r (s .pre) (omega arith))
+    omega (
+      arith,
+      c .before .tones-time .ensures 0,
+      c .data-time .ensures 0 (bitLevel n r),
+      sound-time t n 0 r,
+      sound-below (tapeSize t) t n 0 r (s .pre) (omega arith),
+    )
 
 returns : tie.Need-returns
 returns c =
     let s = c .before .before .before .before in
-    λ b. ap₂ (λ (x y : ℕ). x + y) (c .before .tones-time .ensures b) (c .data-time .ensures b (bitLevel (s .args .tones .now) (s .args .r))) ∙ sym (sound-time (s .args .tape .now) (s .args .tones .now) b (s .args .r))
+    λ b.
+    ap₂ (λ (x y : ℕ). x + y) (c .before .tones-time .ensures b) (c .data-time .ensures b (bitLevel (s .args .tones .now) (s .args .r)))
+    ∙ sym (sound-time (s .args .tape .now) (s .args .tones .now) b (s .args .r))
 
 pub sound-time-spec : {M : Type 1} → statement M
 sound-time-spec = tie.close (tie.spec tones-time-requires data-time-requires add-result returns)

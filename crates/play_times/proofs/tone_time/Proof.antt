@@ -24,7 +24,8 @@ mul-result c =
     let s = c .before .before in
     let r = s .args .r in
     let t = s .args .t in
-    let e : n .result * m .result ≡ time (toneOf 0 0 r t (λ p. false)) = rw (n .ensures, m .ensures) (sym (tone-time 0 0 r t (λ p. false))) in
+    let e : n .result * m .result ≡ time (toneOf 0 0 r t (λ p. false)) =
+    rw (n .ensures, m .ensures) (sym (tone-time 0 0 r t (λ p. false))) in
     omega (arith, tone-most-time 0 0 r t (λ p. false) (s .pre))
 
 returns : tie.Need-returns

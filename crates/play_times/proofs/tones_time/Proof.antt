@@ -35,7 +35,8 @@ tone-time-requires : tie.Need-tone-time-requires Inv-loop μ-loop
 tone-time-requires c κs =
     let l = c .before .before .before in
     let a = l .before .before in
-    ap wellTone (c .row-tone .ensures) ∙ tones-each (a .args .tones .now) (a .args .r .tone) (a .args .r .tones) (l .loop .i) (a .pre .1) (c .before .if1 .taken)
+    ap wellTone (c .row-tone .ensures)
+    ∙ tones-each (a .args .tones .now) (a .args .r .tone) (a .args .r .tones) (l .loop .i) (a .pre .1) (c .before .if1 .taken)
 
 add-sum : tie.Need-add-sum Inv-loop μ-loop
 add-sum c =
@@ -44,8 +45,15 @@ add-sum c =
     let t = a .args .tones .now in
     let r = a .args .r in
     let e = c .before .row-tone .ensures in
-    let w : wellTone (c .before .row-tone .result) ≡ true = ap wellTone e ∙ tones-each t (r .tone) (r .tones) (l .loop .i) (a .pre .1) (c .before .before .if1 .taken) in
-    omega (arith, l .loop .inv .1 0, rows-most-time t 0 r (l .loop .i) (a .pre .1) (l .loop .inv .0), c .tone-time .ensures 0 0 (λ p. false), tone-most-time 0 0 r (c .before .row-tone .result) (λ p. false) w)
+    let w : wellTone (c .before .row-tone .result) ≡ true =
+    ap wellTone e ∙ tones-each t (r .tone) (r .tones) (l .loop .i) (a .pre .1) (c .before .before .if1 .taken) in
+    omega (
+      arith,
+      l .loop .inv .1 0,
+      rows-most-time t 0 r (l .loop .i) (a .pre .1) (l .loop .inv .0),
+      c .tone-time .ensures 0 0 (λ p. false),
+      tone-most-time 0 0 r (c .before .row-tone .result) (λ p. false) w,
+    )
 
 add-i : tie.Need-add-i Inv-loop μ-loop
 add-i c = omega arith
@@ -61,7 +69,13 @@ loop-again c =
     let r = a .args .r in
     let i = l .loop .i in (
       omega arith,
-      λ b. omega (arith, l .loop .inv .1 b, c .tone-time .ensures b i (cycleLevel t r i), ap (λ x. time (toneOf b i r x (cycleLevel t r i))) (c .before .row-tone .ensures), run-time-next (rowEntries t b r) (row-finite t b r) i),
+      λ b. omega (
+        arith,
+        l .loop .inv .1 b,
+        c .tone-time .ensures b i (cycleLevel t r i),
+        ap (λ x. time (toneOf b i r x (cycleLevel t r i))) (c .before .row-tone .ensures),
+        run-time-next (rowEntries t b r) (row-finite t b r) i,
+      ),
     )
 
 returns : tie.Need-returns Inv-loop μ-loop

@@ -17,7 +17,8 @@ enum-known-f c = search needs
 
 row-tone-requires : tie.Need-row-tone-requires
 row-tone-requires c κs =
-    let s = c .before .before .before .before in (s .pre .0, in-tones (s .args .tones .now) (s .args .r) (c .before .f .given .1) (s .pre .1) .0)
+    let s = c .before .before .before .before in
+    (s .pre .0, in-tones (s .args .tones .now) (s .args .r) (c .before .f .given .1) (s .pre .1) .0)
 
 begins-played-requires : tie.Need-begins-played-requires
 begins-played-requires c κs = search needs
@@ -39,7 +40,8 @@ returns c =
 returns-2 : tie.Need-returns-2
 unfolding asksPlayed
 returns-2 c =
-    rw (c .before .before .before .f .given .1) (c .begins-played .ensures ∙ ap (λ (t : Tone). eqb (beginOf t) 1) (c .before .row-tone .ensures))
+    let f = c .before .before .before in
+    rw (f .f .given .1) (c .begins-played .ensures ∙ ap (λ (t : Tone). eqb (beginOf t) 1) (c .before .row-tone .ensures))
 
 returns-3 : tie.Need-returns-3
 unfolding asksPlayed

@@ -22,10 +22,13 @@ tones-seen-requires c κs = search needs
 
 returns : tie.Need-returns
 returns c =
-    let a = c .before .before .before .before .before .args in
-    let k = c .before .before .at-most .ensures ∙ ap (λ (n : ℕ). min n (a .r .tones)) (c .before .before .before .rows-below .ensures) in
-    let s = c .tones-seen .ensures ∙ ap (λ (s : Seen). seenFrom (a .tones .now) s (a .r .tone) (c .before .before .at-most .result)) (c .before .none-seen .ensures) in
-    ap (λ (s : Seen). record { block = a .b; rows = c .before .before .at-most .result; seen = s }) s ∙ ap (heardTo (a .tones .now) (a .r) (a .b)) k
+    let at-most = c .before .before in
+    let a = at-most .before .before .before .args in
+    let k = at-most .at-most .ensures ∙ ap (λ (n : ℕ). min n (a .r .tones)) (at-most .before .rows-below .ensures) in
+    let s = c .tones-seen .ensures
+    ∙ ap (λ (s : Seen). seenFrom (a .tones .now) s (a .r .tone) (at-most .at-most .result)) (c .before .none-seen .ensures) in
+    ap (λ (s : Seen). record { block = a .b; rows = at-most .at-most .result; seen = s }) s
+    ∙ ap (heardTo (a .tones .now) (a .r) (a .b)) k
 
 pub hear-spec : {M : Type 1} → statement M
 hear-spec =

@@ -23,7 +23,8 @@ returns c =
     let a = c .before .before .before .before .before .before .before .before .args in
     let p = c .before .before .before .before .before .before .before .before .pre in
     c .seen-well .ensures
-    ∙ ap wellSeen (c .before .tones-seen .ensures ∙ seen-on (a .tones .now) (a .h .seen) (a .r .tone) (a .h .rows) (a .r .tones) (p .1) (p .0 .1))
+    ∙ ap wellSeen
+    (c .before .tones-seen .ensures ∙ seen-on (a .tones .now) (a .h .seen) (a .r .tone) (a .h .rows) (a .r .tones) (p .1) (p .0 .1))
     ∙ seen-wells (a .tones .now) (a .r .tone) (a .r .tones)
 
 pub heard-well-spec : {M : Type 1} → statement M

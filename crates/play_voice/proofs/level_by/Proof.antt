@@ -16,7 +16,8 @@ enum-known-f c = search needs
 
 row-tone-requires : tie.Need-row-tone-requires
 row-tone-requires c κs =
-    let s = c .before .before .before .before in (s .pre .0, in-tones (s .args .tones .now) (s .args .r) (c .before .f .given .1) (s .pre .1) .0)
+    let s = c .before .before .before .before in
+    (s .pre .0, in-tones (s .args .tones .now) (s .args .r) (c .before .f .given .1) (s .pre .1) .0)
 
 first-level-requires : tie.Need-first-level-requires
 first-level-requires c κs = search needs
@@ -47,7 +48,8 @@ returns c =
 returns-2 : tie.Need-returns-2
 unfolding levelBy
 returns-2 c =
-    rw (c .before .before .before .before .f .given .1, ← c .before .before .row-tone .ensures, ← c .before .first-level .ensures) (c .flip .ensures)
+    let f = c .before .before .before .before in
+    rw (f .f .given .1, ← c .before .before .row-tone .ensures, ← c .before .first-level .ensures) (c .flip .ensures)
 
 returns-3 : tie.Need-returns-3
 unfolding levelBy

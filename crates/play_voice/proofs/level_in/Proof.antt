@@ -19,7 +19,9 @@ mic-requires c κs = search needs
 returns : tie.Need-returns
 returns c =
     let a = c .before .before .before .before .before .args in
-    c .mic .ensures ∙ sym (source-levels (a .tones .now) 0 (get block (a .blocks .now) (a .b)) (sym (c .before .before .is-source .ensures) ∙ c .before .if1 .taken) (a .f))
+    c .mic .ensures
+    ∙ sym (source-levels (a .tones .now) 0 (get block (a .blocks .now) (a .b))
+    (sym (c .before .before .is-source .ensures) ∙ c .before .if1 .taken) (a .f))
 
 block-at-requires : tie.Need-block-at-requires
 block-at-requires c κs = search needs
@@ -28,7 +30,8 @@ document-level-requires : tie.Need-document-level-requires
 document-level-requires c κs =
     let a = c .before .before .before .before .before .args in
     let p = c .before .before .before .before .before .pre in
-    asks-level (a .tones .now) (a .blocks .now) (a .b) (a .f) (a .h) (p .0) (p .1) (sym (c .before .before .is-source .ensures) ∙ c .before .if1 .left) (c .block-at .result) (c .block-at .ensures)
+    asks-level (a .tones .now) (a .blocks .now) (a .b) (a .f) (a .h) (p .0) (p .1)
+    (sym (c .before .before .is-source .ensures) ∙ c .before .if1 .left) (c .block-at .result) (c .block-at .ensures)
 
 returns-2 : tie.Need-returns-2
 returns-2 c =

@@ -23,10 +23,13 @@ level-by-requires c κs = search needs
 
 returns : tie.Need-returns
 returns c =
-    let a = c .before .before .before .before .before .before .before .args in
-    let p = c .before .before .before .before .before .before .before .pre in
+    let asks-played = c .before .before .before in
+    let a = asks-played .before .before .before .before .args in
+    let p = asks-played .before .before .before .before .pre in
     let l = c .level-by .ensures ∙ ap (levelBy (a .tones .now) (a .r) (a .f)) (c .before .turned-line .ensures) in
-    l ∙ level-turned (a .tones .now) (a .r) (p .1 .0 .0) (a .f) (a .s) (p .1 .1) (sym (c .before .before .before .before .before .seen-steady .ensures) ∙ c .before .before .before .before .if1 .taken) (failed (c .before .before .before .asks-played .ensures) (c .before .before .if2 .taken))
+    l
+    ∙ level-turned (a .tones .now) (a .r) (p .1 .0 .0) (a .f) (a .s) (p .1 .1) (sym (asks-played .before .before .seen-steady .ensures)
+    ∙ asks-played .before .if1 .taken) (failed (asks-played .asks-played .ensures) (c .before .before .if2 .taken))
 
 rows-below-requires : tie.Need-rows-below-requires
 rows-below-requires c κs = search needs
@@ -44,7 +47,10 @@ returns-2 : tie.Need-returns-2
 returns-2 c =
     let a = c .before .before .before .before .before .before .args in
     let p = c .before .before .before .before .before .before .pre in
-    c .level-by2 .ensures ∙ ap (levelBy (a .tones .now) (a .r) (a .f)) (c .before .line-at .ensures ∙ ap (lineAt (a .tones .now) (a .r)) (c .before .before .rows-below .ensures)) ∙ sym (level-by (a .tones .now) (a .r) (p .1 .0 .0) (a .f))
+    c .level-by2 .ensures
+    ∙ ap (levelBy (a .tones .now) (a .r) (a .f))
+    (c .before .line-at .ensures ∙ ap (lineAt (a .tones .now) (a .r)) (c .before .before .rows-below .ensures))
+    ∙ sym (level-by (a .tones .now) (a .r) (p .1 .0 .0) (a .f))
 
 pub level-seen-spec : {M : Type 1} → statement M
 level-seen-spec =

@@ -33,10 +33,15 @@ loop-less : tie.Need-loop-less Inv-loop μ-loop
 loop-less c = omega arith
 
 loop-again : tie.Need-loop-again Inv-loop μ-loop
-loop-again c = (omega arith, line-next _ _ _ _ _ _ (c .before .before .before .loop .inv .1) (c .before .row-tone .ensures) (c .line-after .ensures))
+loop-again c =
+    let loop = c .before .before .before in
+    (omega arith, line-next _ _ _ _ _ _ (loop .loop .inv .1) (c .before .row-tone .ensures) (c .line-after .ensures))
 
 returns : tie.Need-returns Inv-loop μ-loop
-returns c = let e : c .before .loop .i ≡ c .before .before .before .before .args .n = omega arith in c .before .loop .inv .1 ∙ ap (lineAt _ _) e
+returns c =
+    let a = c .before .before .before .before .args in
+    let e : c .before .loop .i ≡ a .n = omega arith in
+    c .before .loop .inv .1 ∙ ap (lineAt _ _) e
 
 pub line-at-spec : {M : Type 1} → statement M
 line-at-spec =

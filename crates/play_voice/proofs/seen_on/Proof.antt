@@ -15,9 +15,11 @@ tones-seen-requires c κs = search needs
 
 returns : tie.Need-returns
 returns c =
-    let a = c .before .before .before .before .before .before .before .before .before .before .args in
-    let p = c .before .before .before .before .before .before .before .before .before .before .pre in
-    c .tones-seen .ensures ∙ seen-on (a .tones .now) (a .h .seen) (a .r .tone) (a .h .rows) (a .n) (p .1 (c .before .before .before .before .before .before .before .if1 .taken)) (c .before .before .before .before .before .if2 .taken)
+    let if2 = c .before .before .before .before .before in
+    let a = if2 .before .before .before .before .before .args in
+    let p = if2 .before .before .before .before .before .pre in
+    c .tones-seen .ensures
+    ∙ seen-on (a .tones .now) (a .h .seen) (a .r .tone) (a .h .rows) (a .n) (p .1 (if2 .before .before .if1 .taken)) (if2 .if2 .taken)
 
 none-seen-requires : tie.Need-none-seen-requires
 none-seen-requires c κs = search needs

@@ -18,7 +18,8 @@ returns : tie.Need-returns
 unfolding nextOf
 returns c =
     let a = c .before .before .before .before .before .before .args in
-    rw (eq-eqb _ _ (c .before .before .if1 .taken), ← c .before .rest-level .ensures (a .tape .now) (a .tones .now)) (ap Left (c .rests .ensures))
+    rw (eq-eqb _ _ (c .before .before .if1 .taken), ← c .before .rest-level .ensures (a .tape .now) (a .tones .now))
+    (ap Left (c .rests .ensures))
 
 ends-requires : tie.Need-ends-requires
 ends-requires c κs = search needs
@@ -32,11 +33,15 @@ row-well-requires c κs = search needs
 
 returns-3 : tie.Need-returns-3
 unfolding nextOf wellRow
-returns-3 c = rw (ne-eqb _ _ (c .before .before .before .if1 .left), ne-eqb _ _ (c .before .before .if2 .left), sym (c .before .row-well .ensures) ∙ c .if3 .taken)
+returns-3 c =
+    let if1 = c .before .before .before in
+    rw (ne-eqb _ _ (if1 .if1 .left), ne-eqb _ _ (c .before .before .if2 .left), sym (c .before .row-well .ensures) ∙ c .if3 .taken)
 
 returns-4 : tie.Need-returns-4
 unfolding nextOf wellRow
-returns-4 c = rw (ne-eqb _ _ (c .before .before .before .if1 .left), ne-eqb _ _ (c .before .before .if2 .left), sym (c .before .row-well .ensures) ∙ c .if3 .left)
+returns-4 c =
+    let if1 = c .before .before .before in
+    rw (ne-eqb _ _ (if1 .if1 .left), ne-eqb _ _ (c .before .before .if2 .left), sym (c .before .row-well .ensures) ∙ c .if3 .left)
 
 pub next-block-spec : {M : Type 1} → statement M
 next-block-spec =

@@ -15,7 +15,8 @@ start-level-requires c κs = search needs
 
 returns : tie.Need-returns
 unfolding restLevel
-returns c = λ tape tones. rw (lt-ltb _ _ (c .before .before .if1 .taken)) (c .start-level .ensures ∙ ap startLevel (c .before .block-at .ensures))
+returns c = λ tape tones.
+    rw (lt-ltb _ _ (c .before .before .if1 .taken)) (c .start-level .ensures ∙ ap startLevel (c .before .block-at .ensures))
 
 returns-2 : tie.Need-returns-2
 unfolding restLevel

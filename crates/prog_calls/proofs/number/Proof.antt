@@ -1,4 +1,4 @@
--- `playback::number` meets its contract. Assumes nothing.
+-- `number` meets its contract. Assumes nothing.
 use borrow.Author.Needs.{needs}
 use Rattle.prog_calls.proofs.number.Statement.{statement}
 use Rattle.prog_calls.proofs.number.Tie as tie

@@ -50,7 +50,9 @@ returns c =
 
 add-at : tie.Need-add-at Inv-loop μ-loop
 add-at c =
-    omega (arith, c .before .before .before .before .before .before .before .before .before .loop .inv, c .before .before .before .before .before .before .before .before .before .before .before .before .before .before .before .pre)
+    let loop = c .before .before .before .before .before .before .before .before .before in
+    let start = loop .before .before .before .before .before .before in
+    omega (arith, loop .loop .inv, start .pre)
 
 sub-left : tie.Need-sub-left Inv-loop μ-loop
 sub-left c =

@@ -1,4 +1,4 @@
--- `models::model_of` meets its contract: each arm is one model. Assumes nothing.
+-- `model_of` meets its contract: each arm is one model. Assumes nothing.
 use Rattle.prog_model.specs.Models.{modelOf}
 use borrow.Author.Tests.{ne-eqb}
 use Rattle.prog_model.proofs.model_of.Statement.{statement}

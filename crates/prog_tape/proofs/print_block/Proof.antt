@@ -28,8 +28,9 @@ write-all-requires c κs = search needs
 
 print-name-requires : tie.Need-print-name-requires
 print-name-requires c κs =
-    let h = row-inside (c .before .before .before .before .before .before .before .before .args .tape .now) (c .before .before .before .before .before .before .before .before .args .tones .now) (c .before .before .before .before .before .before .before .before .args .r) (c .before .before .before .before .before .before .before .before .pre .0) in
-    ((h .bytes, h .name), c .before .before .before .before .before .before .before .before .pre .1)
+    let start = c .before .before .before .before .before .before .before .before in
+    let h = row-inside (start .args .tape .now) (start .args .tones .now) (start .args .r) (start .pre .0) in
+    ((h .bytes, h .name), start .pre .1)
 
 slice-aggregate-write-all-2 : tie.Need-slice-aggregate-write-all-2
 slice-aggregate-write-all-2 c = search needs
@@ -39,7 +40,8 @@ write-all-requires-2 c κs = search needs
 
 add-print-hex : tie.Need-add-print-hex
 add-print-hex c =
-    omega (arith, row-inside (c .before .before .before .before .before .before .before .before .before .before .before .args .tape .now) (c .before .before .before .before .before .before .before .before .before .before .before .args .tones .now) (c .before .before .before .before .before .before .before .before .before .before .before .args .r) (c .before .before .before .before .before .before .before .before .before .before .before .pre .0) .bytes)
+    let start = c .before .before .before .before .before .before .before .before .before .before .before in
+    omega (arith, row-inside (start .args .tape .now) (start .args .tones .now) (start .args .r) (start .pre .0) .bytes)
 
 sub-print-hex : tie.Need-sub-print-hex
 sub-print-hex c = search needs
@@ -49,7 +51,8 @@ part-print-hex-start c = search needs
 
 part-print-hex-end : tie.Need-part-print-hex-end
 part-print-hex-end c =
-    omega (arith, row-inside (c .before .before .before .before .before .before .before .before .before .before .before .args .tape .now) (c .before .before .before .before .before .before .before .before .before .before .before .args .tones .now) (c .before .before .before .before .before .before .before .before .before .before .before .args .r) (c .before .before .before .before .before .before .before .before .before .before .before .pre .0) .bytes)
+    let start = c .before .before .before .before .before .before .before .before .before .before .before in
+    omega (arith, row-inside (start .args .tape .now) (start .args .tones .now) (start .args .r) (start .pre .0) .bytes)
 
 print-hex-requires : tie.Need-print-hex-requires
 print-hex-requires c κs = search needs
@@ -62,7 +65,8 @@ write-all-requires-3 c κs = search needs
 
 print-tones-requires : tie.Need-print-tones-requires
 print-tones-requires c κs =
-    row-inside (c .before .before .before .before .before .before .before .before .before .before .before .before .before .before .before .args .tape .now) (c .before .before .before .before .before .before .before .before .before .before .before .before .before .before .before .args .tones .now) (c .before .before .before .before .before .before .before .before .before .before .before .before .before .before .before .args .r) (c .before .before .before .before .before .before .before .before .before .before .before .before .before .before .before .pre .0) .rows
+    let start = c .before .before .before .before .before .before .before .before .before .before .before .before .before .before .before in
+    row-inside (start .args .tape .now) (start .args .tones .now) (start .args .r) (start .pre .0) .rows
 
 slice-aggregate-write-all-4 : tie.Need-slice-aggregate-write-all-4
 slice-aggregate-write-all-4 c = search needs

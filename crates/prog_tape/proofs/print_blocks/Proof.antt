@@ -26,7 +26,8 @@ block-at-requires c κs =
 
 print-block-requires : tie.Need-print-block-requires Inv-loop μ-loop
 print-block-requires c κs =
-    (rw (c .block-at .ensures) (sym (c .before .before .row-well .ensures) ∙ c .before .if1 .taken), c .before .before .before .before .before .before .before .before .pre .0)
+    let start = c .before .before .before .before .before .before .before .before in
+    (rw (c .block-at .ensures) (sym (c .before .before .row-well .ensures) ∙ c .before .if1 .taken), start .pre .0)
 
 add-i : tie.Need-add-i Inv-loop μ-loop
 add-i c =

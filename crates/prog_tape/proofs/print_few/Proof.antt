@@ -20,7 +20,8 @@ array-share-prefix-out c =
 
 slice-aggregate-write-all : tie.Need-slice-aggregate-write-all
 slice-aggregate-write-all c =
-    take-counted _ _ (hex-room _ (c .before .before .put-hex .ensures) (c .before .before .before .before .before .before .pre) (c .before .before .before .before .buffer .ensures))
+    let buffer = c .before .before .before .before in
+    take-counted _ _ (hex-room _ (c .before .before .put-hex .ensures) (buffer .before .before .pre) (buffer .buffer .ensures))
 
 write-all-requires : tie.Need-write-all-requires
 write-all-requires c κs = search needs

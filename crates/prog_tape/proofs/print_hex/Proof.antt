@@ -43,7 +43,12 @@ part-print-few-end c =
 
 print-few-requires : tie.Need-print-few-requires Inv-loop μ-loop
 print-few-requires c κs =
-    omega (arith, c .before .least .ensures, part-most (c .before .before .before .loop .i + c .before .least .result - c .before .before .before .loop .i) (c .before .before .before .loop .i) (c .before .before .before .before .before .args .s .now))
+    let loop = c .before .before .before in
+    omega (
+      arith,
+      c .before .least .ensures,
+      part-most (loop .loop .i + c .before .least .result - loop .loop .i) (loop .loop .i) (loop .before .before .args .s .now),
+    )
 
 add-i : tie.Need-add-i Inv-loop μ-loop
 add-i c =

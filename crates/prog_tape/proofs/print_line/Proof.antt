@@ -27,15 +27,33 @@ slice-aggregate-put c = search needs
 
 put-requires : tie.Need-put-requires
 put-requires c κs =
-    omega (arith, c .before .before .before .before .before .before .before .before .before .pre, c .before .before .before .before .before .put-all .ensures .count, c .before .before .put-decimal .ensures .count, decimal-length (c .before .before .before .before .before .before .before .before .before .args .n))
+    let put-all = c .before .before .before .before .before in
+    let start = put-all .before .before .before .before in
+    omega (
+      arith,
+      start .pre,
+      put-all .put-all .ensures .count,
+      c .before .before .put-decimal .ensures .count,
+      decimal-length (start .args .n),
+    )
 
 array-share-prefix-out : tie.Need-array-share-prefix-out
 array-share-prefix-out c =
-    line-room (c .before .before .before .before .before .before .before .before .before .before .before .args .word .now) (c .before .before .before .before .before .before .before .before .before .before .before .args .n) (then (then (c .before .before .before .before .before .before .before .put-all .ensures) (c .before .before .before .before .put-decimal .ensures)) (c .before .put .ensures)) (c .before .before .before .before .before .before .before .before .before .before .before .pre) (c .before .before .before .before .before .before .before .before .before .buffer .ensures)
+    let put-decimal = c .before .before .before .before in
+    let put-all = put-decimal .before .before .before in
+    let start = put-all .before .before .before .before in
+    line-room (start .args .word .now) (start .args .n)
+    (then (then (put-all .put-all .ensures) (put-decimal .put-decimal .ensures)) (c .before .put .ensures)) (start .pre)
+    (put-all .before .before .buffer .ensures)
 
 slice-aggregate-write-all : tie.Need-slice-aggregate-write-all
 slice-aggregate-write-all c =
-    take-counted _ _ (line-room (c .before .before .before .before .before .before .before .before .before .before .before .before .args .word .now) (c .before .before .before .before .before .before .before .before .before .before .before .before .args .n) (then (then (c .before .before .before .before .before .before .before .before .put-all .ensures) (c .before .before .before .before .before .put-decimal .ensures)) (c .before .before .put .ensures)) (c .before .before .before .before .before .before .before .before .before .before .before .before .pre) (c .before .before .before .before .before .before .before .before .before .before .buffer .ensures))
+    let put-decimal = c .before .before .before .before .before in
+    let put-all = put-decimal .before .before .before in
+    let start = put-all .before .before .before .before in
+    take-counted _ _ (line-room (start .args .word .now) (start .args .n)
+    (then (then (put-all .put-all .ensures) (put-decimal .put-decimal .ensures)) (c .before .before .put .ensures)) (start .pre)
+    (put-all .before .before .buffer .ensures))
 
 write-all-requires : tie.Need-write-all-requires
 write-all-requires c κs = search needs

@@ -16,11 +16,13 @@ put-tones-requires c κs = search needs
 
 array-share-prefix-out : tie.Need-array-share-prefix-out
 array-share-prefix-out c =
-    rows-room _ _ _ (c .before .put-tones .ensures) (c .before .before .before .before .before .pre .1) (c .before .before .before .buffer .ensures)
+    let buffer = c .before .before .before in
+    rows-room _ _ _ (c .before .put-tones .ensures) (buffer .before .before .pre .1) (buffer .buffer .ensures)
 
 slice-aggregate-write-all : tie.Need-slice-aggregate-write-all
 slice-aggregate-write-all c =
-    take-counted _ _ (rows-room _ _ _ (c .before .before .put-tones .ensures) (c .before .before .before .before .before .before .pre .1) (c .before .before .before .before .buffer .ensures))
+    let buffer = c .before .before .before .before in
+    take-counted _ _ (rows-room _ _ _ (c .before .before .put-tones .ensures) (buffer .before .before .pre .1) (buffer .buffer .ensures))
 
 write-all-requires : tie.Need-write-all-requires
 write-all-requires c κs = search needs

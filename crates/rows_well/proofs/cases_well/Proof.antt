@@ -1,4 +1,4 @@
--- `wells::cases_well` meets its contract: each test decides its clause. Assumes nothing.
+-- `cases_well` meets its contract: each test decides its clause. Assumes nothing.
 use borrow.Author.Needs.{needs}
 use borrow.Author.Tests.{le-leb, lt-leb}
 use Rattle.rows.specs.Well.{wellCases}
@@ -28,7 +28,12 @@ unfolding wellCases
 returns-4 c =
     let l = c .before .before in
     let f = l .before .before in
-    rw (le-leb _ _ (f .before .before .if1 .left), le-leb _ _ (f .if2 .left), passed (l .before .levels-well .ensures) (l .if3 .left), lt-leb _ _ (c .if4 .taken))
+    rw (
+      le-leb _ _ (f .before .before .if1 .left),
+      le-leb _ _ (f .if2 .left),
+      passed (l .before .levels-well .ensures) (l .if3 .left),
+      lt-leb _ _ (c .if4 .taken),
+    )
 
 returns-5 : tie.Need-returns-5
 unfolding wellCases
@@ -36,7 +41,12 @@ returns-5 c =
     let n = c .before in
     let l = n .before .before in
     let f = l .before .before in
-    rw (le-leb _ _ (f .before .before .if1 .left), le-leb _ _ (f .if2 .left), passed (l .before .levels-well .ensures) (l .if3 .left), le-leb _ _ (n .if4 .left))
+    rw (
+      le-leb _ _ (f .before .before .if1 .left),
+      le-leb _ _ (f .if2 .left),
+      passed (l .before .levels-well .ensures) (l .if3 .left),
+      le-leb _ _ (n .if4 .left),
+    )
 
 pub cases-well-spec : {M : Type 1} → statement M
 cases-well-spec = tie.close (tie.spec returns returns-2 levels-well-requires returns-3 returns-4 returns-5)

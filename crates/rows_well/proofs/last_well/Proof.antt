@@ -1,4 +1,4 @@
--- `wells::last_well` meets its contract. Assumes nothing.
+-- `last_well` meets its contract. Assumes nothing.
 use borrow.Author.Tests.{eq-eqb, ne-eqb}
 use Rattle.rows_well.proofs.last_well.Statement.{statement}
 use Rattle.rows_well.proofs.last_well.Tie as tie

@@ -1,4 +1,4 @@
--- `wells::levels_well` meets its contract. Assumes nothing.
+-- `levels_well` meets its contract. Assumes nothing.
 use borrow.Author.Tests.{le-leb, lt-leb}
 use Rattle.rows_well.proofs.levels_well.Statement.{statement}
 use Rattle.rows_well.proofs.levels_well.Tie as tie

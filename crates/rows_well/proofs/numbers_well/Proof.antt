@@ -1,4 +1,4 @@
--- `wells::numbers_well` meets its contract: each test or call decides its clause. Assumes nothing.
+-- `numbers_well` meets its contract: each test or call decides its clause. Assumes nothing.
 use borrow.Author.Tests.{le-leb, lt-leb}
 use borrow.Author.Needs.{needs}
 use Rattle.rows.specs.Well.{wellNumbers}
@@ -31,7 +31,8 @@ unfolding wellNumbers
 returns-4 c =
     let p = c .before in
     let m = p .before .before in
-    rw (le-leb _ _ (m .before .before .if1 .left), le-leb _ _ (m .if2 .left), passed (p .before .pause-well .ensures) (p .if3 .left)) (c .last-well .ensures)
+    rw (le-leb _ _ (m .before .before .if1 .left), le-leb _ _ (m .if2 .left), passed (p .before .pause-well .ensures) (p .if3 .left))
+    (c .last-well .ensures)
 
 pub numbers-well-spec : {M : Type 1} → statement M
 numbers-well-spec =

@@ -1,4 +1,4 @@
--- `wells::pause_well` meets its contract. Assumes nothing.
+-- `pause_well` meets its contract. Assumes nothing.
 use borrow.Author.Tests.{eq-eqb, ne-eqb}
 use Rattle.rows_well.proofs.pause_well.Statement.{statement}
 use Rattle.rows_well.proofs.pause_well.Tie as tie

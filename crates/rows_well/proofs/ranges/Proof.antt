@@ -1,4 +1,4 @@
--- `wells::ranges` meets its contract: the range fits where its length is at most what lies after its start. Assumes nothing.
+-- `ranges` meets its contract: the range fits where its length is at most what lies after its start. Assumes nothing.
 use Prim.Native.Nat.{ℕ, _+_, _-_, _≤_}
 use native.Mathlib.Omega.{arith}
 use mathlib.Core.Path.{_≡_, refl, sym}

@@ -1,4 +1,4 @@
--- `wells::ranges_well` meets its contract: each call decides its clause. Assumes nothing.
+-- `ranges_well` meets its contract: each call decides its clause. Assumes nothing.
 use borrow.Author.Needs.{needs}
 use Rattle.rows.specs.Well.{wellRanges}
 use Rattle.rows.proofs.Clauses.{failed, passed}
@@ -22,7 +22,11 @@ returns-2 : tie.Need-returns-2
 unfolding wellRanges
 returns-2 c =
     let t = c .before .before in
-    rw (← t .before .before .tone-capacity .ensures, passed (t .before .ranges .ensures) (t .if1 .left), failed (c .before .ranges2 .ensures) (c .if2 .taken))
+    rw (
+      ← t .before .before .tone-capacity .ensures,
+      passed (t .before .ranges .ensures) (t .if1 .left),
+      failed (c .before .ranges2 .ensures) (c .if2 .taken),
+    )
 
 ranges-requires-3 : tie.Need-ranges-requires-3
 ranges-requires-3 c κs = search needs
@@ -32,7 +36,11 @@ unfolding wellRanges
 returns-3 c =
     let d = c .before in
     let t = d .before .before in
-    rw (← t .before .before .tone-capacity .ensures, passed (t .before .ranges .ensures) (t .if1 .left), passed (d .before .ranges2 .ensures) (d .if2 .left)) (c .ranges3 .ensures)
+    rw (
+      ← t .before .before .tone-capacity .ensures,
+      passed (t .before .ranges .ensures) (t .if1 .left),
+      passed (d .before .ranges2 .ensures) (d .if2 .left),
+    ) (c .ranges3 .ensures)
 
 pub ranges-well-spec : {M : Type 1} → statement M
 ranges-well-spec =

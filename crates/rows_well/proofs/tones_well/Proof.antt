@@ -18,7 +18,8 @@ seen-well-requires c κs = search needs
 returns : tie.Need-returns
 returns c =
     let a = c .before .before .before .before .args in
-    let s = c .before .tones-seen .ensures ∙ ap (λ x. seenFrom (a .tones .now) x (a .from) (a .n)) (c .before .before .none-seen .ensures) in
+    let s = c .before .tones-seen .ensures
+    ∙ ap (λ x. seenFrom (a .tones .now) x (a .from) (a .n)) (c .before .before .none-seen .ensures) in
     c .seen-well .ensures ∙ ap wellSeen s ∙ seen-wells (a .tones .now) (a .from) (a .n)
 
 pub tones-well-spec : {M : Type 1} → statement M

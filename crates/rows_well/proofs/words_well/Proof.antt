@@ -29,7 +29,8 @@ unfolding wellWords
 returns-3 c =
     let n = c .before in
     let r = n .before .before in
-    rw (passed (r .before .ranges-well .ensures) (r .if1 .left), passed (n .before .numbers-well .ensures) (n .if2 .left)) (c .cases-well .ensures)
+    rw (passed (r .before .ranges-well .ensures) (r .if1 .left), passed (n .before .numbers-well .ensures) (n .if2 .left))
+    (c .cases-well .ensures)
 
 pub words-well-spec : {M : Type 1} → statement M
 words-well-spec =

@@ -1,4 +1,4 @@
--- `encoding::put_code` meets its contract: the part between the two offsets is the text. Assumes nothing.
+-- `put_code` meets its contract: the part between the two offsets is the text. Assumes nothing.
 use Rattle.text_codes.proofs.Codes.{part}
 use native.Mathlib.Omega.{arith}
 use borrow.Author.Needs.{needs}
@@ -16,7 +16,8 @@ start-of-requires-2 c κs = search needs
 
 put-part-requires : tie.Need-put-part-requires
 put-part-requires c κs =
-    let p = part (c .before .before .before .before .args .code) _ _ (omega arith) (c .before .before .start-of .ensures) (c .before .start-of2 .ensures) in
+    let a = c .before .before .before .before .args in
+    let p = part (a .code) _ _ (omega arith) (c .before .before .start-of .ensures) (c .before .start-of2 .ensures) in
     (p .order, p .inside, omega (arith, p .short))
 
 same-length : tie.Need-same-length
@@ -24,7 +25,9 @@ same-length c = search needs
 
 returns : tie.Need-returns
 returns c =
-    let p = part (c .before .before .before .before .before .before .before .args .code) _ _ (omega arith) (c .before .before .before .before .before .start-of .ensures) (c .before .before .before .before .start-of2 .ensures) in
+    let start-of2 = c .before .before .before .before in
+    let a = start-of2 .before .before .before .args in
+    let p = part (a .code) _ _ (omega arith) (start-of2 .before .start-of .ensures) (start-of2 .start-of2 .ensures) in
     rw (← p .is) (c .before .before .put-part .ensures)
 
 pub put-code-spec : {M : Type 1} → statement M

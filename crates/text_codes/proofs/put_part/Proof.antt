@@ -1,4 +1,4 @@
--- `encoding::put_part` meets its contract: the flat table is the 256 texts one after the other, by one computation. Assumes nothing.
+-- `put_part` meets its contract: the flat table is the 256 texts one after the other, by one computation. Assumes nothing.
 use Rattle.text_codes.specs.Encoding.{table, flatTexts}
 use borrow.Author.Needs.{needs}
 use Rattle.text_codes.proofs.put_part.Statement.{statement}

@@ -1,4 +1,4 @@
--- `encoding::start_of` meets its contract: the offsets are the sums of the lengths, by one computation. Assumes nothing.
+-- `start_of` meets its contract: the offsets are the sums of the lengths, by one computation. Assumes nothing.
 use Rattle.text_codes.specs.Encoding.{table, offsets}
 use borrow.Author.Needs.{needs}
 use Rattle.text_codes.proofs.start_of.Statement.{statement}

@@ -25,7 +25,9 @@ slice-aggregate-put-field-3 c = search needs
 
 put-field-requires-3 : tie.Need-put-field-requires-3
 put-field-requires-3 c κs =
-    omega (arith, field-next _ _ (c .before .before .before .before .before .before .before .before .before .put-field .ensures), field-next _ _ (c .before .before .before .before .put-field2 .ensures))
+    let put-field2 = c .before .before .before .before in
+    let put-field = put-field2 .before .before .before .before .before in
+    omega (arith, field-next _ _ (put-field .put-field .ensures), field-next _ _ (put-field2 .put-field2 .ensures))
 
 same-length : tie.Need-same-length
 same-length c = search needs
@@ -33,7 +35,9 @@ same-length c = search needs
 returns : tie.Need-returns
 unfolding bitsText
 returns c =
-    then (then (c .before .before .before .before .before .before .before .before .before .before .before .before .put-field .ensures) (c .before .before .before .before .before .before .before .put-field2 .ensures)) (c .before .before .put-field3 .ensures)
+    let put-field2 = c .before .before .before .before .before .before .before in
+    let put-field = put-field2 .before .before .before .before .before in
+    then (then (put-field .put-field .ensures) (put-field2 .put-field2 .ensures)) (c .before .before .put-field3 .ensures)
 
 pub put-bits-spec : {M : Type 1} → statement M
 put-bits-spec =

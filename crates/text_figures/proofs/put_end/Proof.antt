@@ -21,7 +21,9 @@ slice-aggregate-put-all-2 c = search needs
 
 put-all-requires-2 : tie.Need-put-all-requires-2
 put-all-requires-2 c κs =
-    omega (arith, c .before .before .before .before .before .before .before .before .put-all .ensures .count, pause-next _ (c .before .before .before .before .put-duration .ensures))
+    let put-duration = c .before .before .before .before in
+    let put-all = put-duration .before .before .before .before in
+    omega (arith, put-all .put-all .ensures .count, pause-next _ (put-duration .put-duration .ensures))
 
 same-length : tie.Need-same-length
 same-length c = search needs
@@ -29,7 +31,9 @@ same-length c = search needs
 returns : tie.Need-returns
 unfolding endText
 returns c =
-    then (then (c .before .before .before .before .before .before .before .before .before .before .before .put-all .ensures) (c .before .before .before .before .before .before .before .put-duration .ensures)) (c .before .before .put-all2 .ensures)
+    let put-duration = c .before .before .before .before .before .before .before in
+    let put-all = put-duration .before .before .before .before in
+    then (then (put-all .put-all .ensures) (put-duration .put-duration .ensures)) (c .before .before .put-all2 .ensures)
 
 pub put-end-spec : {M : Type 1} → statement M
 put-end-spec =

@@ -19,7 +19,9 @@ whole-pause-requires c κs = search needs
 
 put-end-requires : tie.Need-put-end-requires
 put-end-requires c κs =
-    omega (arith, mark-next _ _ (c .before .before .before .before .before .before .before .before .put-mark .ensures), bits-next _ _ _ (c .before .before .before .before .put-bits .ensures))
+    let put-bits = c .before .before .before .before in
+    let put-mark = put-bits .before .before .before .before in
+    omega (arith, mark-next _ _ (put-mark .put-mark .ensures), bits-next _ _ _ (put-bits .put-bits .ensures))
 
 same-length : tie.Need-same-length
 same-length c = search needs
@@ -27,7 +29,11 @@ same-length c = search needs
 returns : tie.Need-returns
 unfolding headText
 returns c =
-    rw (← c .before .before .before .whole-pause .ensures) (then (then (c .before .before .before .before .before .before .before .before .before .before .before .put-mark .ensures) (c .before .before .before .before .before .before .before .put-bits .ensures)) (c .before .before .put-end .ensures))
+    let whole-pause = c .before .before .before in
+    let put-bits = whole-pause .before .before .before .before in
+    let put-mark = put-bits .before .before .before .before in
+    rw (← whole-pause .whole-pause .ensures)
+    (then (then (put-mark .put-mark .ensures) (put-bits .put-bits .ensures)) (c .before .before .put-end .ensures))
 
 pub put-head-spec : {M : Type 1} → statement M
 put-head-spec =

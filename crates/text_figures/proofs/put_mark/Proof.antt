@@ -19,7 +19,9 @@ put-all-requires c κs =
 
 put-flag-requires : tie.Need-put-flag-requires
 put-flag-requires c κs =
-    omega (arith, decimal-next _ (c .before .before .before .before .before .before .before .before .put-decimal .ensures), c .before .before .before .put-all .ensures .count)
+    let put-all = c .before .before .before in
+    let put-decimal = put-all .before .before .before .before .before in
+    omega (arith, decimal-next _ (put-decimal .put-decimal .ensures), put-all .put-all .ensures .count)
 
 same-length : tie.Need-same-length
 same-length c = search needs
@@ -27,7 +29,9 @@ same-length c = search needs
 returns : tie.Need-returns
 unfolding selText
 returns c =
-    then (then (c .before .before .before .before .before .before .before .before .before .before .before .put-decimal .ensures) (c .before .before .before .before .before .before .put-all .ensures)) (c .before .before .put-flag .ensures)
+    let put-all = c .before .before .before .before .before .before in
+    let put-decimal = put-all .before .before .before .before .before in
+    then (then (put-decimal .put-decimal .ensures) (put-all .put-all .ensures)) (c .before .before .put-flag .ensures)
 
 pub put-mark-spec : {M : Type 1} → statement M
 put-mark-spec =

@@ -1,4 +1,4 @@
--- `headers::put_header` meets its contract: type, `: ` and name one after the other. Assumes nothing.
+-- `put_header` meets its contract: type, `: ` and name one after the other. Assumes nothing.
 use Rattle.text_header.proofs.Headers.{ten-bytes}
 use Prim.Native.Nat.{_+_}
 use lib.ListN.{getD}
@@ -42,15 +42,25 @@ part-put-spelled-end c = search needs
 
 put-spelled-requires : tie.Need-put-spelled-requires
 put-spelled-requires c κs =
-    let a = c .before .before .before .before .before .before .before .before .before .before .before .before .before .before .args in
-    omega (arith, ten-bytes (a .tape .now) (a .start), c .before .before .before .before .put-all .ensures .count, c .before .before .before .before .before .before .before .before .before .put-type .ensures .count, type-length (getD (a .tape .now) (a .start + 1) 0))
+    let put-all = c .before .before .before .before in
+    let put-type = put-all .before .before .before .before .before in
+    let a = put-type .before .before .before .before .before .args in
+    omega (
+      arith,
+      ten-bytes (a .tape .now) (a .start),
+      put-all .put-all .ensures .count,
+      put-type .put-type .ensures .count,
+      type-length (getD (a .tape .now) (a .start + 1) 0),
+    )
 
 same-length : tie.Need-same-length
 same-length c = search needs
 
 returns : tie.Need-returns
 returns c =
-    as-header _ _ (c .before .before .before .before .before .before .before .before .before .before .before .before .put-type .ensures) (c .before .before .before .before .before .before .before .put-all .ensures) (c .before .before .put-spelled .ensures)
+    let put-all = c .before .before .before .before .before .before .before in
+    let put-type = put-all .before .before .before .before .before in
+    as-header _ _ (put-type .put-type .ensures) (put-all .put-all .ensures) (c .before .before .put-spelled .ensures)
 
 pub put-header-spec : {M : Type 1} → statement M
 put-header-spec =

@@ -1,4 +1,4 @@
--- `headers::put_type` meets its contract: each arm is one rule. Assumes nothing.
+-- `put_type` meets its contract: each arm is one rule. Assumes nothing.
 use Rattle.text_header.proofs.Headers.{as-other}
 use Rattle.text_header.specs.Headers.{typeName}
 use Rattle.text_out.proofs.Writing.{then}

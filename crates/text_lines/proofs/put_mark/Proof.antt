@@ -1,4 +1,4 @@
--- `lines::put_mark` meets its contract: each return is one mark. Assumes nothing.
+-- `put_mark` meets its contract: each return is one mark. Assumes nothing.
 use native.Mathlib.Omega.{arith}
 use borrow.Author.Tests.{eq-eqb, ne-eqb}
 use borrow.Author.Needs.{needs}

@@ -1,4 +1,4 @@
--- `lines::put_name` meets its contract: the scratch bytes hold the whole name, so their part is the name. Assumes nothing.
+-- `put_name` meets its contract: the scratch bytes hold the whole name, so their part is the name. Assumes nothing.
 use native.Mathlib.Omega.{arith}
 use borrow.Author.Needs.{needs}
 use Rattle.text_shown.proofs.Shown.{name-part, part-length}
@@ -16,18 +16,24 @@ array-share-prefix-name c = search needs
 
 slice-aggregate-put-shown : tie.Need-slice-aggregate-put-shown
 slice-aggregate-put-shown c =
-    part-length (c .before .before .before .put-name .ensures) (omega (arith, c .before .before .before .before .before .before .before .pre))
+    let put-name = c .before .before .before in
+    let start = put-name .before .before .before .before in
+    part-length (put-name .put-name .ensures) (omega (arith, start .pre))
 
 put-shown-requires : tie.Need-put-shown-requires
 put-shown-requires c κs =
-    omega (arith, c .before .before .before .before .before .before .before .pre, part-length (c .before .before .before .put-name .ensures) (omega (arith, c .before .before .before .before .before .before .before .pre)), c .before .before .before .put-name .ensures .count)
+    let put-name = c .before .before .before in
+    let start = put-name .before .before .before .before in
+    omega (arith, start .pre, part-length (put-name .put-name .ensures) (omega (arith, start .pre)), put-name .put-name .ensures .count)
 
 same-length : tie.Need-same-length
 same-length c = search needs
 
 returns : tie.Need-returns
 returns c =
-    rw (name-part (c .before .before .before .before .before .before .put-name .ensures) (omega (arith, c .before .before .before .before .before .before .before .before .before .before .pre))) at (c .before .before .put-shown .ensures)
+    let put-name = c .before .before .before .before .before .before in
+    let start = put-name .before .before .before .before in
+    rw (name-part (put-name .put-name .ensures) (omega (arith, start .pre))) at (c .before .before .put-shown .ensures)
 
 pub put-name-spec : {M : Type 1} → statement M
 put-name-spec =

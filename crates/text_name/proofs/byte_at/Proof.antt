@@ -1,4 +1,4 @@
--- `names::byte_at` meets its contract: past the end `getD` has its default. Assumes nothing.
+-- `byte_at` meets its contract: past the end `getD` has its default. Assumes nothing.
 use mathlib.Core.Path.{sym}
 use lib.ListN.{List·getD-eq-default}
 use borrow.Author.Needs.{needs}

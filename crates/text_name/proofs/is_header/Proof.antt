@@ -1,4 +1,4 @@
--- `names::is_header` meets its contract: each test decides its clause. Assumes nothing.
+-- `is_header` meets its contract: each test decides its clause. Assumes nothing.
 use Rattle.text_name.specs.Names.{isHeader}
 use borrow.Author.Tests.{eq-eqb, ne-eqb}
 use borrow.Author.Needs.{needs}

@@ -1,4 +1,4 @@
--- `names::put_guessed` meets its contract: a header has 19 bytes, so its name lies inside the tape. Assumes nothing.
+-- `put_guessed` meets its contract: a header has 19 bytes, so its name lies inside the tape. Assumes nothing.
 use Rattle.text_name.proofs.Naming.{header-size}
 use native.Mathlib.Omega.{arith}
 use Rattle.text_name.specs.Names.{guessed}
@@ -22,7 +22,8 @@ same-length c = search needs
 returns : tie.Need-returns
 unfolding guessed
 returns c =
-    rw (sym (c .before .before .before .before .before .is-header .ensures) ∙ c .before .before .before .before .if1 .taken) (c .before .before .put-header .ensures)
+    let if1 = c .before .before .before .before in
+    rw (sym (if1 .before .is-header .ensures) ∙ if1 .if1 .taken) (c .before .before .put-header .ensures)
 
 put-size-requires : tie.Need-put-size-requires
 put-size-requires c κs = search needs
@@ -33,7 +34,8 @@ same-length-2 c = search needs
 returns-2 : tie.Need-returns-2
 unfolding guessed
 returns-2 c =
-    rw (sym (c .before .before .before .before .before .is-header .ensures) ∙ c .before .before .before .before .if1 .left) (c .before .before .put-size .ensures)
+    let if1 = c .before .before .before .before in
+    rw (sym (if1 .before .is-header .ensures) ∙ if1 .if1 .left) (c .before .before .put-size .ensures)
 
 pub put-guessed-spec : {M : Type 1} → statement M
 put-guessed-spec =

@@ -1,4 +1,4 @@
--- `names::put_name` meets its contract: each return is one rule. Assumes nothing.
+-- `put_name` meets its contract: each return is one rule. Assumes nothing.
 use Rattle.text_name.specs.Names.{nameOf}
 use native.Mathlib.Nat.{add-sub-cancel-left}
 use borrow.Author.Tests.{eq-eqb, ne-eqb}
@@ -29,7 +29,8 @@ same-length-2 c = search needs
 returns-2 : tie.Need-returns-2
 unfolding nameOf
 returns-2 c =
-    rw (ne-eqb _ _ (c .before .before .before .before .before .before .before .if1 .left), eq-eqb _ _ (c .before .before .before .before .before .if2 .taken)) (c .before .before .put-all .ensures)
+    let if2 = c .before .before .before .before .before in
+    rw (ne-eqb _ _ (if2 .before .before .if1 .left), eq-eqb _ _ (if2 .if2 .taken)) (c .before .before .put-all .ensures)
 
 add-put-latin : tie.Need-add-put-latin
 add-put-latin c = search needs
@@ -52,7 +53,10 @@ same-length-3 c = search needs
 returns-3 : tie.Need-returns-3
 unfolding nameOf
 returns-3 c =
-    rw (ne-eqb _ _ (c .before .before .before .before .before .before .before .if1 .left), ne-eqb _ _ (c .before .before .before .before .before .if2 .left), ← add-sub-cancel-left (c .before .before .before .before .before .before .before .before .before .before .before .args .r .text) (c .before .before .before .before .before .before .before .before .before .before .before .args .r .chars)) (c .before .before .put-latin .ensures)
+    let if2 = c .before .before .before .before .before in
+    let a = if2 .before .before .before .before .before .before .args in
+    rw (ne-eqb _ _ (if2 .before .before .if1 .left), ne-eqb _ _ (if2 .if2 .left), ← add-sub-cancel-left (a .r .text) (a .r .chars))
+    (c .before .before .put-latin .ensures)
 
 pub put-name-spec : {M : Type 1} → statement M
 put-name-spec =

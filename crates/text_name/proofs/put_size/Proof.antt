@@ -1,4 +1,4 @@
--- `names::put_size` meets its contract: the number, then ` bytes`. Assumes nothing.
+-- `put_size` meets its contract: the number, then ` bytes`. Assumes nothing.
 use Rattle.text_name.specs.Names.{sizeName}
 use Rattle.text_out.proofs.Writing.{then, decimal-length}
 use native.Mathlib.Omega.{arith}
@@ -17,7 +17,8 @@ slice-aggregate-put-all c = search needs
 
 put-all-requires : tie.Need-put-all-requires
 put-all-requires c κs =
-    omega (arith, c .before .before .before .before .put-decimal .ensures .count, decimal-length (c .before .before .before .before .before .size-shown .result))
+    let put-decimal = c .before .before .before .before in
+    omega (arith, put-decimal .put-decimal .ensures .count, decimal-length (put-decimal .before .size-shown .result))
 
 same-length : tie.Need-same-length
 same-length c = search needs
@@ -25,7 +26,8 @@ same-length c = search needs
 returns : tie.Need-returns
 unfolding sizeName
 returns c =
-    rw (← c .before .before .before .before .before .before .before .before .size-shown .ensures) (then (c .before .before .before .before .before .before .before .put-decimal .ensures) (c .before .before .put-all .ensures))
+    let put-decimal = c .before .before .before .before .before .before .before in
+    rw (← put-decimal .before .size-shown .ensures) (then (put-decimal .put-decimal .ensures) (c .before .before .put-all .ensures))
 
 pub put-size-spec : {M : Type 1} → statement M
 put-size-spec =

@@ -1,4 +1,4 @@
--- `names::size_shown` meets its contract: each return is one rule. Assumes nothing.
+-- `size_shown` meets its contract: each return is one rule. Assumes nothing.
 use Rattle.text_name.specs.Names.{sizeShown}
 use borrow.Author.Tests.{eq-eqb, ne-eqb}
 use Rattle.text_name.proofs.size_shown.Statement.{statement}

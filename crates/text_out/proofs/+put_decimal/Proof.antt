@@ -1,4 +1,4 @@
--- `text::put_decimal` meets its contract: the digits of n / 10, then the last one; n falls. Assumes nothing.
+-- `put_decimal` meets its contract: the digits of n / 10, then the last one; n falls. Assumes nothing.
 use mathlib.Core.Path.{_∙_}
 use native.Mathlib.Omega.{arith}
 use Rattle.text_out.proofs.Writing.{decimal-length, as-digit, as-digits}
@@ -94,7 +94,9 @@ put-decimal-put-requires-2 : (t : ℕ) → put-decimal-lts.Need-put-requires-2 (
   put-decimal.Post,
 ) (put-decimal-at t) put-decimal.Post
 put-decimal-put-requires-2 t c κs =
-    omega (arith, c .before .before .before .put-decimal .ensures .count, decimal-length (c .before .before .before .before .before .before .before .args .n / 10))
+    let at-put-decimal = c .before .before .before in
+    let a = at-put-decimal .before .before .before .before .args in
+    omega (arith, at-put-decimal .put-decimal .ensures .count, decimal-length (a .n / 10))
 
 put-decimal-same-length-2 : (t : ℕ) → put-decimal-lts.Need-same-length-2 (
   put-reads.Asked,
@@ -112,7 +114,8 @@ put-decimal-returns-2 : (t : ℕ) → put-decimal-lts.Need-returns-2 (
   put-decimal.Post,
 ) (put-decimal-at t) put-decimal.Post
 put-decimal-returns-2 t c =
-    as-digits _ (omega arith) (omega arith) (c .before .before .before .before .before .before .put-decimal .ensures) (c .before .before .put2 .ensures)
+    let at-put-decimal = c .before .before .before .before .before .before in
+    as-digits _ (omega arith) (omega arith) (at-put-decimal .put-decimal .ensures) (c .before .before .put2 .ensures)
 
 pub +put-decimal-spec : {M : Type 1} → statement M
 +put-decimal-spec = close μ-put-decimal λ t. put-decimal-lts.spec (

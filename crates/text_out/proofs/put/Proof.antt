@@ -1,4 +1,4 @@
--- `text::put` meets its contract: a store past the end would alter nothing. Assumes nothing.
+-- `put` meets its contract: a store past the end would alter nothing. Assumes nothing.
 use mathlib.Core.Path.{refl, sym, ap, _∙_}
 use mathlib.Core.Logic.{⊎-elim}
 use lib.ListN.{length, length-set}

@@ -1,4 +1,4 @@
--- `text::put_latin1` meets its contract: the two lengths of a code point below 256. Assumes nothing.
+-- `put_latin1` meets its contract: the two lengths of a code point below 256. Assumes nothing.
 use Rattle.text_out.proofs.Writing.{then, as-plain, as-high}
 use native.Mathlib.Omega.{arith}
 use borrow.Author.Needs.{needs}

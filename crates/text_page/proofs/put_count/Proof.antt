@@ -1,4 +1,4 @@
--- `page::put_count` meets its contract: five writes, one after the other. Assumes nothing.
+-- `put_count` meets its contract: five writes, one after the other. Assumes nothing.
 use native.Mathlib.Omega.{arith}
 use borrow.Author.Needs.{needs}
 use Rattle.text_out.proofs.Writing.{decimal-length, then}
@@ -21,15 +21,43 @@ slice-aggregate-put-all-2 c = search needs
 
 put-all-requires-2 : tie.Need-put-all-requires-2
 put-all-requires-2 c κs =
-    omega (arith, c .before .before .before .before .before .before .before .before .before .before .before .before .pre, c .before .before .before .before .before .before .before .before .put-all .ensures .count, c .before .before .before .before .put-format .ensures .count, format-long (c .before .before .before .before .before .before .before .before .before .before .before .before .args .format))
+    let put-format = c .before .before .before .before in
+    let put-all = put-format .before .before .before .before in
+    let start = put-all .before .before .before .before in
+    omega (arith, start .pre, put-all .put-all .ensures .count, put-format .put-format .ensures .count, format-long (start .args .format))
 
 put-decimal-requires : tie.Need-put-decimal-requires
 put-decimal-requires c κs =
-    omega (arith, c .before .before .before .before .before .before .before .before .before .before .before .before .before .before .before .before .pre, c .before .before .before .before .before .before .before .before .before .before .before .before .put-all .ensures .count, c .before .before .before .before .before .before .before .before .put-format .ensures .count, format-long (c .before .before .before .before .before .before .before .before .before .before .before .before .before .before .before .before .args .format), c .before .before .before .put-all2 .ensures .count)
+    let put-all2 = c .before .before .before in
+    let put-format = put-all2 .before .before .before .before .before in
+    let put-all = put-format .before .before .before .before in
+    let start = put-all .before .before .before .before in
+    omega (
+      arith,
+      start .pre,
+      put-all .put-all .ensures .count,
+      put-format .put-format .ensures .count,
+      format-long (start .args .format),
+      put-all2 .put-all2 .ensures .count,
+    )
 
 put-requires : tie.Need-put-requires
 put-requires c κs =
-    omega (arith, c .before .before .before .before .before .before .before .before .before .before .before .before .before .before .before .before .before .before .before .before .pre, c .before .before .before .before .before .before .before .before .before .before .before .before .before .before .before .before .put-all .ensures .count, c .before .before .before .before .before .before .before .before .before .before .before .before .put-format .ensures .count, format-long (c .before .before .before .before .before .before .before .before .before .before .before .before .before .before .before .before .before .before .before .before .args .format), c .before .before .before .before .before .before .before .put-all2 .ensures .count, c .before .before .before .put-decimal .ensures .count, decimal-length (c .before .before .before .before .before .before .before .before .before .before .before .before .before .before .before .before .before .before .before .before .args .n))
+    let put-decimal = c .before .before .before in
+    let put-all2 = put-decimal .before .before .before .before in
+    let put-format = put-all2 .before .before .before .before .before in
+    let put-all = put-format .before .before .before .before in
+    let start = put-all .before .before .before .before in
+    omega (
+      arith,
+      start .pre,
+      put-all .put-all .ensures .count,
+      put-format .put-format .ensures .count,
+      format-long (start .args .format),
+      put-all2 .put-all2 .ensures .count,
+      put-decimal .put-decimal .ensures .count,
+      decimal-length (start .args .n),
+    )
 
 same-length : tie.Need-same-length
 same-length c = search needs
@@ -37,7 +65,12 @@ same-length c = search needs
 returns : tie.Need-returns
 unfolding countText
 returns c =
-    then (then (then (then (c .before .before .before .before .before .before .before .before .before .before .before .before .before .before .before .before .before .before .before .put-all .ensures) (c .before .before .before .before .before .before .before .before .before .before .before .before .before .before .before .put-format .ensures)) (c .before .before .before .before .before .before .before .before .before .before .put-all2 .ensures)) (c .before .before .before .before .before .before .put-decimal .ensures)) (c .before .before .put .ensures)
+    let put-decimal = c .before .before .before .before .before .before in
+    let put-all2 = put-decimal .before .before .before .before in
+    let put-format = put-all2 .before .before .before .before .before in
+    let put-all = put-format .before .before .before .before in
+    then (then (then (then (put-all .put-all .ensures) (put-format .put-format .ensures)) (put-all2 .put-all2 .ensures))
+    (put-decimal .put-decimal .ensures)) (c .before .before .put .ensures)
 
 pub put-count-spec : {M : Type 1} → statement M
 put-count-spec =

@@ -1,4 +1,4 @@
--- `page::put_format` meets its contract: each arm is one format. Assumes nothing.
+-- `put_format` meets its contract: each arm is one format. Assumes nothing.
 use borrow.Author.Needs.{needs}
 use Rattle.text_page.specs.Page.{formatText}
 use Rattle.text_page.proofs.put_format.Statement.{statement}

@@ -1,4 +1,4 @@
--- `page::put_listing` meets its contract: five writes, one after the other. Assumes nothing.
+-- `put_listing` meets its contract: five writes, one after the other. Assumes nothing.
 use native.Mathlib.Omega.{arith}
 use borrow.Author.Needs.{needs}
 use Rattle.play_entries.specs.Mounted.{tapeOf}
@@ -18,27 +18,61 @@ put-model-requires c κs = search needs
 
 put-count-requires : tie.Need-put-count-requires
 put-count-requires c κs =
-    omega (arith, c .before .before .before .before .before .before .before .put-all .ensures .count, c .before .before .before .put-model .ensures .count, model-long (c .before .before .before .before .before .before .before .before .before .before .before .before .before .before .args .model))
+    let put-model = c .before .before .before in
+    let put-all = put-model .before .before .before .before in
+    let a = put-all .before .before .before .before .before .before .before .args in
+    omega (arith, put-all .put-all .ensures .count, put-model .put-model .ensures .count, model-long (a .model))
 
 put-rows-requires : tie.Need-put-rows-requires
 put-rows-requires c κs =
-    let s = c .before .before .before .before .before .before .before .before .before .before .before .before .before .before .before .before .before .before in
-    (s .pre, omega (arith, c .before .before .before .before .before .before .before .before .before .before .before .put-all .ensures .count, c .before .before .before .before .before .before .before .put-model .ensures .count, model-long (s .args .model), c .before .before .before .put-count .ensures .count, count-long (s .args .format) (s .args .n)))
+    let put-count = c .before .before .before in
+    let put-model = put-count .before .before .before .before in
+    let put-all = put-model .before .before .before .before in
+    let s = put-all .before .before .before .before .before .before .before in (
+      s .pre,
+      omega (
+        arith,
+        put-all .put-all .ensures .count,
+        put-model .put-model .ensures .count,
+        model-long (s .args .model),
+        put-count .put-count .ensures .count,
+        count-long (s .args .format) (s .args .n),
+      ),
+    )
 
 put-total-requires : tie.Need-put-total-requires
 put-total-requires c κs =
-    let s = c .before .before .before .before .before .before .before .before .before .before .before .before .before .before .before .before .before .before .before .before .before .before in
+    let put-rows = c .before .before .before in
+    let put-count = put-rows .before .before .before .before in
+    let put-model = put-count .before .before .before .before in
+    let put-all = put-model .before .before .before .before in
+    let s = put-all .before .before .before .before .before .before .before in
     let a = s .args in
-    omega (arith, c .before .before .before .before .before .before .before .before .before .before .before .before .before .before .before .put-all .ensures .count, c .before .before .before .before .before .before .before .before .before .before .before .put-model .ensures .count, model-long (a .model), c .before .before .before .before .before .before .before .put-count .ensures .count, count-long (a .format) (a .n), c .before .before .before .put-rows .ensures .0 .count, rows-most (s .pre) (a .n) (omega arith), s .pre .few)
+    omega (
+      arith,
+      put-all .put-all .ensures .count,
+      put-model .put-model .ensures .count,
+      model-long (a .model),
+      put-count .put-count .ensures .count,
+      count-long (a .format) (a .n),
+      put-rows .put-rows .ensures .0 .count,
+      rows-most (s .pre) (a .n) (omega arith),
+      s .pre .few,
+    )
 
 same-length : tie.Need-same-length
 same-length c = search needs
 
 returns : tie.Need-returns
 returns c =
-    let a = c .before .before .before .before .before .before .before .before .before .before .before .before .before .before .before .before .before .before .before .before .before .before .before .before .before .args in
+    let put-count = c .before .before .before .before .before .before .before .before .before .before in
+    let put-model = put-count .before .before .before .before in
+    let put-all = put-model .before .before .before .before in
+    let a = put-all .before .before .before .before .before .before .before .args in
     let w = c .before .before .before .before .before .before .put-rows in
-    listing-written (a .model) (a .format) (tapeOf (a .tape .now) (a .tones .now) (a .blocks .now) (a .n)) (w .result .load .sum) (w .ensures .1) (c .before .before .before .before .before .before .before .before .before .before .before .before .before .before .before .before .before .before .put-all .ensures) (c .before .before .before .before .before .before .before .before .before .before .before .before .before .before .put-model .ensures) (c .before .before .before .before .before .before .before .before .before .before .put-count .ensures) (w .ensures .0) (c .before .before .put-total .ensures)
+    listing-written (a .model) (a .format) (tapeOf (a .tape .now) (a .tones .now) (a .blocks .now) (a .n)) (w .result .load .sum)
+    (w .ensures .1) (put-all .put-all .ensures) (put-model .put-model .ensures) (put-count .put-count .ensures) (w .ensures .0)
+    (c .before .before .put-total .ensures)
 
 pub put-listing-spec : {M : Type 1} → statement M
 put-listing-spec =

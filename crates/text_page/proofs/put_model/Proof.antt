@@ -1,4 +1,4 @@
--- `page::put_model` meets its contract: each return is one model. Assumes nothing.
+-- `put_model` meets its contract: each return is one model. Assumes nothing.
 use native.Mathlib.Omega.{arith}
 use borrow.Author.Tests.{eq-eqb, ne-eqb}
 use borrow.Author.Needs.{needs}
@@ -18,7 +18,8 @@ same-length c = search needs
 returns : tie.Need-returns
 unfolding modelText
 returns c =
-    rw (eq-eqb (c .before .before .before .before .before .before .before .args .model) 0 (omega arith)) (c .before .before .put-all .ensures)
+    let a = c .before .before .before .before .before .before .before .args in
+    rw (eq-eqb (a .model) 0 (omega arith)) (c .before .before .put-all .ensures)
 
 slice-aggregate-put-all-2 : tie.Need-slice-aggregate-put-all-2
 slice-aggregate-put-all-2 c = search needs
@@ -32,7 +33,8 @@ same-length-2 c = search needs
 returns-2 : tie.Need-returns-2
 unfolding modelText
 returns-2 c =
-    rw (ne-eqb (c .before .before .before .before .before .before .before .before .args .model) 0 (omega arith), eq-eqb (c .before .before .before .before .before .before .before .before .args .model) 1 (omega arith)) (c .before .before .put-all2 .ensures)
+    let a = c .before .before .before .before .before .before .before .before .args in
+    rw (ne-eqb (a .model) 0 (omega arith), eq-eqb (a .model) 1 (omega arith)) (c .before .before .put-all2 .ensures)
 
 slice-aggregate-put-all-3 : tie.Need-slice-aggregate-put-all-3
 slice-aggregate-put-all-3 c = search needs
@@ -46,7 +48,8 @@ same-length-3 c = search needs
 returns-3 : tie.Need-returns-3
 unfolding modelText
 returns-3 c =
-    rw (ne-eqb (c .before .before .before .before .before .before .before .before .args .model) 0 (omega arith), ne-eqb (c .before .before .before .before .before .before .before .before .args .model) 1 (omega arith)) (c .before .before .put-all3 .ensures)
+    let a = c .before .before .before .before .before .before .before .before .args in
+    rw (ne-eqb (a .model) 0 (omega arith), ne-eqb (a .model) 1 (omega arith)) (c .before .before .put-all3 .ensures)
 
 pub put-model-spec : {M : Type 1} → statement M
 put-model-spec =

@@ -1,4 +1,4 @@
--- `page::put_total` meets its contract: three writes, one after the other. Assumes nothing.
+-- `put_total` meets its contract: three writes, one after the other. Assumes nothing.
 use native.Mathlib.Omega.{arith}
 use borrow.Author.Needs.{needs}
 use Rattle.text_out.proofs.Writing.{then, decimal-length}
@@ -16,14 +16,19 @@ put-decimal-requires c κs = search needs
 
 put-requires : tie.Need-put-requires
 put-requires c κs =
-    omega (arith, c .before .before .before .before .before .before .before .put-all .ensures .count, c .before .before .before .put-decimal .ensures .count, decimal-length (c .before .before .before .before .before .before .before .before .before .before .before .args .total))
+    let put-decimal = c .before .before .before in
+    let put-all = put-decimal .before .before .before .before in
+    let a = put-all .before .before .before .before .args in
+    omega (arith, put-all .put-all .ensures .count, put-decimal .put-decimal .ensures .count, decimal-length (a .total))
 
 same-length : tie.Need-same-length
 same-length c = search needs
 
 returns : tie.Need-returns
 returns c =
-    then (then (c .before .before .before .before .before .before .before .before .before .before .put-all .ensures) (c .before .before .before .before .before .before .put-decimal .ensures)) (c .before .before .put .ensures)
+    let put-decimal = c .before .before .before .before .before .before in
+    let put-all = put-decimal .before .before .before .before in
+    then (then (put-all .put-all .ensures) (put-decimal .put-decimal .ensures)) (c .before .before .put .ensures)
 
 pub put-total-spec : {M : Type 1} → statement M
 put-total-spec =

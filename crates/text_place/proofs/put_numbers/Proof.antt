@@ -12,17 +12,37 @@ put-spaced-requires c κs = search needs
 
 put-spaced-requires-2 : tie.Need-put-spaced-requires-2
 put-spaced-requires-2 c κs =
-    omega (arith, c .before .before .before .put-spaced .ensures .count, spaced-length (c .before .before .before .before .before .before .args .n))
+    let put-spaced = c .before .before .before in
+    let a = put-spaced .before .before .before .args in
+    omega (arith, put-spaced .put-spaced .ensures .count, spaced-length (a .n))
 
 put-requires : tie.Need-put-requires
 put-requires c κs =
-    let s = c .before .before .before .before .before .before .before .before .before .before in
-    omega (arith, c .before .before .before .before .before .before .before .put-spaced .ensures .count, spaced-length (s .args .n), c .before .before .before .put-spaced2 .ensures .count, spaced-length (s .args .m))
+    let put-spaced2 = c .before .before .before in
+    let put-spaced = put-spaced2 .before .before .before .before in
+    let s = put-spaced .before .before .before in
+    omega (
+      arith,
+      put-spaced .put-spaced .ensures .count,
+      spaced-length (s .args .n),
+      put-spaced2 .put-spaced2 .ensures .count,
+      spaced-length (s .args .m),
+    )
 
 put-flag-requires : tie.Need-put-flag-requires
 put-flag-requires c κs =
-    let s = c .before .before .before .before .before .before .before .before .before .before .before .before .before .before in
-    omega (arith, c .before .before .before .before .before .before .before .before .before .before .before .put-spaced .ensures .count, spaced-length (s .args .n), c .before .before .before .before .before .before .before .put-spaced2 .ensures .count, spaced-length (s .args .m), c .before .before .before .put .ensures .count)
+    let put = c .before .before .before in
+    let put-spaced2 = put .before .before .before .before in
+    let put-spaced = put-spaced2 .before .before .before .before in
+    let s = put-spaced .before .before .before in
+    omega (
+      arith,
+      put-spaced .put-spaced .ensures .count,
+      spaced-length (s .args .n),
+      put-spaced2 .put-spaced2 .ensures .count,
+      spaced-length (s .args .m),
+      put .put .ensures .count,
+    )
 
 same-length : tie.Need-same-length
 same-length c = search needs
@@ -30,7 +50,11 @@ same-length c = search needs
 returns : tie.Need-returns
 unfolding numbers
 returns c =
-    then (then (c .before .before .before .before .before .before .before .before .before .before .before .before .before .before .put-spaced .ensures) (c .before .before .before .before .before .before .before .before .before .before .put-spaced2 .ensures)) (then (c .before .before .before .before .before .before .put .ensures) (c .before .before .put-flag .ensures))
+    let put = c .before .before .before .before .before .before in
+    let put-spaced2 = put .before .before .before .before in
+    let put-spaced = put-spaced2 .before .before .before .before in
+    then (then (put-spaced .put-spaced .ensures) (put-spaced2 .put-spaced2 .ensures))
+    (then (put .put .ensures) (c .before .before .put-flag .ensures))
 
 pub put-numbers-spec : {M : Type 1} → statement M
 put-numbers-spec =

@@ -70,7 +70,9 @@ same-length-2 c = search needs
 returns-2 : tie.Need-returns-2
 unfolding phaseText
 returns-2 c =
-    rw (c .before .before .before .before .before .before .before .before .before .before .f .given .1) (then (c .before .before .before .before .before .before .put-all2 .ensures) (c .before .before .put-numbers .ensures))
+    let put-all2 = c .before .before .before .before .before .before in
+    let f = put-all2 .before .before .before .before in
+    rw (f .f .given .1) (then (put-all2 .put-all2 .ensures) (c .before .before .put-numbers .ensures))
 
 same-length-3 : tie.Need-same-length-3
 same-length-3 c = search needs
@@ -78,7 +80,9 @@ same-length-3 c = search needs
 returns-3 : tie.Need-returns-3
 unfolding phaseText
 returns-3 c =
-    rw (c .before .before .before .before .before .before .before .before .before .before .f2 .given .1) (then (c .before .before .before .before .before .before .put-all3 .ensures) (c .before .before .put-numbers2 .ensures))
+    let put-all3 = c .before .before .before .before .before .before in
+    let f2 = put-all3 .before .before .before .before in
+    rw (f2 .f2 .given .1) (then (put-all3 .put-all3 .ensures) (c .before .before .put-numbers2 .ensures))
 
 same-length-4 : tie.Need-same-length-4
 same-length-4 c = search needs

@@ -13,16 +13,31 @@ put-decimal-requires c κs = search needs
 
 put-requires : tie.Need-put-requires
 put-requires c κs =
-    omega (arith, c .before .before .before .put-decimal .ensures .count, decimal-length (c .before .before .before .before .before .before .before .args .s .position .block))
+    let put-decimal = c .before .before .before in
+    let a = put-decimal .before .before .before .before .args in
+    omega (arith, put-decimal .put-decimal .ensures .count, decimal-length (a .s .position .block))
 
 put-phase-requires : tie.Need-put-phase-requires
 put-phase-requires c κs =
-    omega (arith, c .before .before .before .before .before .before .before .put-decimal .ensures .count, decimal-length (c .before .before .before .before .before .before .before .before .before .before .before .args .s .position .block), c .before .before .before .put .ensures .count)
+    let put = c .before .before .before in
+    let put-decimal = put .before .before .before .before in
+    let a = put-decimal .before .before .before .before .args in
+    omega (arith, put-decimal .put-decimal .ensures .count, decimal-length (a .s .position .block), put .put .ensures .count)
 
 put-rest-requires : tie.Need-put-rest-requires
 put-rest-requires c κs =
-    let s = c .before .before .before .before .before .before .before .before .before .before .before .before .before .before .before in
-    omega (arith, c .before .before .before .before .before .before .before .before .before .before .before .put-decimal .ensures .count, decimal-length (s .args .s .position .block), c .before .before .before .before .before .before .before .put .ensures .count, c .before .before .before .put-phase .ensures .count, phase-length (s .args .s .position .phase))
+    let put-phase = c .before .before .before in
+    let put = put-phase .before .before .before .before in
+    let put-decimal = put .before .before .before .before in
+    let s = put-decimal .before .before .before .before in
+    omega (
+      arith,
+      put-decimal .put-decimal .ensures .count,
+      decimal-length (s .args .s .position .block),
+      put .put .ensures .count,
+      put-phase .put-phase .ensures .count,
+      phase-length (s .args .s .position .phase),
+    )
 
 same-length : tie.Need-same-length
 same-length c = search needs
@@ -30,7 +45,11 @@ same-length c = search needs
 returns : tie.Need-returns
 unfolding placeText
 returns c =
-    then (then (then (c .before .before .before .before .before .before .before .before .before .before .before .before .before .before .put-decimal .ensures) (c .before .before .before .before .before .before .before .before .before .before .put .ensures)) (c .before .before .before .before .before .before .put-phase .ensures)) (c .before .before .put-rest .ensures)
+    let put-phase = c .before .before .before .before .before .before in
+    let put = put-phase .before .before .before .before in
+    let put-decimal = put .before .before .before .before in
+    then (then (then (put-decimal .put-decimal .ensures) (put .put .ensures)) (put-phase .put-phase .ensures))
+    (c .before .before .put-rest .ensures)
 
 pub put-place-spec : {M : Type 1} → statement M
 put-place-spec =

@@ -21,11 +21,24 @@ slice-aggregate-put-all-2 c = search needs
 
 put-all-requires-2 : tie.Need-put-all-requires-2
 put-all-requires-2 c κs =
-    omega (arith, c .before .before .before .before .before .before .before .before .put-all .ensures .count, c .before .before .before .before .put-duration .ensures .count, duration-length (c .before .before .before .before .before .before .before .before .before .before .before .before .args .left))
+    let put-duration = c .before .before .before .before in
+    let put-all = put-duration .before .before .before .before in
+    let a = put-all .before .before .before .before .args in
+    omega (arith, put-all .put-all .ensures .count, put-duration .put-duration .ensures .count, duration-length (a .left))
 
 put-flag-requires : tie.Need-put-flag-requires
 put-flag-requires c κs =
-    omega (arith, c .before .before .before .before .before .before .before .before .before .before .before .before .put-all .ensures .count, c .before .before .before .before .before .before .before .before .put-duration .ensures .count, duration-length (c .before .before .before .before .before .before .before .before .before .before .before .before .before .before .before .before .args .left), c .before .before .before .put-all2 .ensures .count)
+    let put-all2 = c .before .before .before in
+    let put-duration = put-all2 .before .before .before .before .before in
+    let put-all = put-duration .before .before .before .before in
+    let a = put-all .before .before .before .before .args in
+    omega (
+      arith,
+      put-all .put-all .ensures .count,
+      put-duration .put-duration .ensures .count,
+      duration-length (a .left),
+      put-all2 .put-all2 .ensures .count,
+    )
 
 same-length : tie.Need-same-length
 same-length c = search needs
@@ -33,7 +46,11 @@ same-length c = search needs
 returns : tie.Need-returns
 unfolding leftText
 returns c =
-    then (then (then (c .before .before .before .before .before .before .before .before .before .before .before .before .before .before .before .put-all .ensures) (c .before .before .before .before .before .before .before .before .before .before .before .put-duration .ensures)) (c .before .before .before .before .before .before .put-all2 .ensures)) (c .before .before .put-flag .ensures)
+    let put-all2 = c .before .before .before .before .before .before in
+    let put-duration = put-all2 .before .before .before .before .before in
+    let put-all = put-duration .before .before .before .before in
+    then (then (then (put-all .put-all .ensures) (put-duration .put-duration .ensures)) (put-all2 .put-all2 .ensures))
+    (c .before .before .put-flag .ensures)
 
 pub put-rest-spec : {M : Type 1} → statement M
 put-rest-spec =

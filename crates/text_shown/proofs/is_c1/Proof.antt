@@ -1,4 +1,4 @@
--- `shown::is_c1` meets its contract: each return is one case of the two bytes. Assumes nothing.
+-- `is_c1` meets its contract: each return is one case of the two bytes. Assumes nothing.
 use Prim.Native.Nat.{_+_}
 use native.Mathlib.Omega.{arith}
 use lib.ListN.{length, getD}

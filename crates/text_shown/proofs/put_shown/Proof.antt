@@ -1,4 +1,4 @@
--- `shown::put_shown` meets its contract: each turn writes one code point, and what is left ends what was begun. Assumes nothing.
+-- `put_shown` meets its contract: each turn writes one code point, and what is left ends what was begun. Assumes nothing.
 use Prim.Native.Nat.{_-_}
 use native.Mathlib.Omega.{arith}
 use lib.ListN.{length}

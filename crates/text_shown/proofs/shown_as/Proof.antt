@@ -1,4 +1,4 @@
--- `shown::shown_as` meets its contract: each return is one rule. Assumes nothing.
+-- `shown_as` meets its contract: each return is one rule. Assumes nothing.
 use native.Mathlib.Omega.{arith}
 use borrow.Author.Tests.{eq-eqb, ne-eqb, lt-ltb, le-ltb}
 use Rattle.text_shown.proofs.shown_as.Statement.{statement}
@@ -14,11 +14,13 @@ returns-2 c =
 
 returns-3 : tie.Need-returns-3
 returns-3 c =
-    rw (c .before .before .if1 .left, le-ltb (c .before .before .before .args .b) 32 (omega arith), eq-eqb (c .before .before .before .args .b) 127 (omega arith))
+    let a = c .before .before .before .args in
+    rw (c .before .before .if1 .left, le-ltb (a .b) 32 (omega arith), eq-eqb (a .b) 127 (omega arith))
 
 returns-4 : tie.Need-returns-4
 returns-4 c =
-    rw (c .before .before .if1 .left, le-ltb (c .before .before .before .args .b) 32 (omega arith), ne-eqb (c .before .before .before .args .b) 127 (omega arith))
+    let a = c .before .before .before .args in
+    rw (c .before .before .if1 .left, le-ltb (a .b) 32 (omega arith), ne-eqb (a .b) 127 (omega arith))
 
 pub shown-as-spec : {M : Type 1} → statement M
 shown-as-spec = tie.close (tie.spec returns returns-2 returns-3 returns-4)

@@ -59,7 +59,9 @@ same-length c = search needs
 returns : tie.Need-returns
 unfolding measuredLine
 returns c =
-    rw (c .before .before .before .before .before .before .before .before .before .before .answer .given .1) (then (c .before .before .before .before .before .before .put-all .ensures) (c .before .before .put-told .ensures))
+    let put-all = c .before .before .before .before .before .before in
+    let answer = put-all .before .before .before .before in
+    rw (answer .answer .given .1) (then (put-all .put-all .ensures) (c .before .before .put-told .ensures))
 
 same-length-2 : tie.Need-same-length-2
 same-length-2 c = search needs
@@ -67,7 +69,9 @@ same-length-2 c = search needs
 returns-2 : tie.Need-returns-2
 unfolding measuredLine
 returns-2 c =
-    rw (c .before .before .before .before .before .before .before .before .before .before .answer2 .given .1) (then (c .before .before .before .before .before .before .put-all2 .ensures) (c .before .before .put-told2 .ensures))
+    let put-all2 = c .before .before .before .before .before .before in
+    let answer2 = put-all2 .before .before .before .before in
+    rw (answer2 .answer2 .given .1) (then (put-all2 .put-all2 .ensures) (c .before .before .put-told2 .ensures))
 
 same-length-3 : tie.Need-same-length-3
 same-length-3 c = search needs
@@ -75,7 +79,9 @@ same-length-3 c = search needs
 returns-3 : tie.Need-returns-3
 unfolding measuredLine
 returns-3 c =
-    rw (c .before .before .before .before .before .before .before .before .before .before .answer3 .given .1) (then (c .before .before .before .before .before .before .put-all3 .ensures) (c .before .before .put-told3 .ensures))
+    let put-all3 = c .before .before .before .before .before .before in
+    let answer3 = put-all3 .before .before .before .before in
+    rw (answer3 .answer3 .given .1) (then (put-all3 .put-all3 .ensures) (c .before .before .put-told3 .ensures))
 
 same-length-4 : tie.Need-same-length-4
 same-length-4 c = search needs

@@ -12,7 +12,9 @@ put-refused-requires c κs = search needs
 
 put-requires : tie.Need-put-requires
 put-requires c κs =
-    omega (arith, c .before .before .before .put-refused .ensures .count, refused-length (c .before .before .before .before .before .before .args .k))
+    let put-refused = c .before .before .before in
+    let a = put-refused .before .before .before .args in
+    omega (arith, put-refused .put-refused .ensures .count, refused-length (a .k))
 
 same-length : tie.Need-same-length
 same-length c = search needs

@@ -16,16 +16,31 @@ slice-aggregate-put-all c = search needs
 
 put-all-requires : tie.Need-put-all-requires
 put-all-requires c κs =
-    omega (arith, c .before .before .before .before .put-place .ensures .count, place-length (c .before .before .before .before .before .before .before .args .s))
+    let put-place = c .before .before .before .before in
+    let a = put-place .before .before .before .args in
+    omega (arith, put-place .put-place .ensures .count, place-length (a .s))
 
 put-selected-requires : tie.Need-put-selected-requires
 put-selected-requires c κs =
-    omega (arith, c .before .before .before .before .before .before .before .before .put-place .ensures .count, place-length (c .before .before .before .before .before .before .before .before .before .before .before .args .s), c .before .before .before .put-all .ensures .count)
+    let put-all = c .before .before .before in
+    let put-place = put-all .before .before .before .before .before in
+    let a = put-place .before .before .before .args in
+    omega (arith, put-place .put-place .ensures .count, place-length (a .s), put-all .put-all .ensures .count)
 
 put-requires : tie.Need-put-requires
 put-requires c κs =
-    let s = c .before .before .before .before .before .before .before .before .before .before .before .before .before .before .before in
-    omega (arith, c .before .before .before .before .before .before .before .before .before .before .before .before .put-place .ensures .count, place-length (s .args .s), c .before .before .before .before .before .before .before .put-all .ensures .count, c .before .before .before .put-selected .ensures .count, selected-length (s .args .b))
+    let put-selected = c .before .before .before in
+    let put-all = put-selected .before .before .before .before in
+    let put-place = put-all .before .before .before .before .before in
+    let s = put-place .before .before .before in
+    omega (
+      arith,
+      put-place .put-place .ensures .count,
+      place-length (s .args .s),
+      put-all .put-all .ensures .count,
+      put-selected .put-selected .ensures .count,
+      selected-length (s .args .b),
+    )
 
 same-length : tie.Need-same-length
 same-length c = search needs
@@ -33,7 +48,11 @@ same-length c = search needs
 returns : tie.Need-returns
 unfolding standLine
 returns c =
-    then (then (then (c .before .before .before .before .before .before .before .before .before .before .before .before .before .before .before .put-place .ensures) (c .before .before .before .before .before .before .before .before .before .before .put-all .ensures)) (c .before .before .before .before .before .before .put-selected .ensures)) (c .before .before .put .ensures)
+    let put-selected = c .before .before .before .before .before .before in
+    let put-all = put-selected .before .before .before .before in
+    let put-place = put-all .before .before .before .before .before in
+    then (then (then (put-place .put-place .ensures) (put-all .put-all .ensures)) (put-selected .put-selected .ensures))
+    (c .before .before .put .ensures)
 
 pub put-shown-spec : {M : Type 1} → statement M
 put-shown-spec =

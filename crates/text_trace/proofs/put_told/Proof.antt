@@ -21,11 +21,24 @@ slice-aggregate-put-all-2 c = search needs
 
 put-all-requires-2 : tie.Need-put-all-requires-2
 put-all-requires-2 c κs =
-    omega (arith, c .before .before .before .before .before .before .before .before .put-all .ensures .count, c .before .before .before .before .put-decimal .ensures .count, decimal-length (c .before .before .before .before .before .before .before .before .before .before .before .before .args .s .passed))
+    let put-decimal = c .before .before .before .before in
+    let put-all = put-decimal .before .before .before .before in
+    let a = put-all .before .before .before .before .args in
+    omega (arith, put-all .put-all .ensures .count, put-decimal .put-decimal .ensures .count, decimal-length (a .s .passed))
 
 put-shown-requires : tie.Need-put-shown-requires
 put-shown-requires c κs =
-    omega (arith, c .before .before .before .before .before .before .before .before .before .before .before .before .put-all .ensures .count, c .before .before .before .before .before .before .before .before .put-decimal .ensures .count, decimal-length (c .before .before .before .before .before .before .before .before .before .before .before .before .before .before .before .before .args .s .passed), c .before .before .before .put-all2 .ensures .count)
+    let put-all2 = c .before .before .before in
+    let put-decimal = put-all2 .before .before .before .before .before in
+    let put-all = put-decimal .before .before .before .before in
+    let a = put-all .before .before .before .before .args in
+    omega (
+      arith,
+      put-all .put-all .ensures .count,
+      put-decimal .put-decimal .ensures .count,
+      decimal-length (a .s .passed),
+      put-all2 .put-all2 .ensures .count,
+    )
 
 same-length : tie.Need-same-length
 same-length c = search needs
@@ -33,7 +46,11 @@ same-length c = search needs
 returns : tie.Need-returns
 unfolding passedLine
 returns c =
-    then (then (then (c .before .before .before .before .before .before .before .before .before .before .before .before .before .before .before .put-all .ensures) (c .before .before .before .before .before .before .before .before .before .before .before .put-decimal .ensures)) (c .before .before .before .before .before .before .put-all2 .ensures)) (c .before .before .put-shown .ensures)
+    let put-all2 = c .before .before .before .before .before .before in
+    let put-decimal = put-all2 .before .before .before .before .before in
+    let put-all = put-decimal .before .before .before .before in
+    then (then (then (put-all .put-all .ensures) (put-decimal .put-decimal .ensures)) (put-all2 .put-all2 .ensures))
+    (c .before .before .put-shown .ensures)
 
 pub put-told-spec : {M : Type 1} → statement M
 put-told-spec =

@@ -25,7 +25,9 @@ same-length c = search needs
 returns : tie.Need-returns
 unfolding hex
 returns c =
-    rw (← c .before .before .before .before .before .before .before .before .digit .ensures, ← c .before .before .before .digit2 .ensures) (then (c .before .before .before .before .before .before .before .put .ensures) (c .before .before .put2 .ensures))
+    let digit2 = c .before .before .before in
+    let put = digit2 .before .before .before .before in
+    rw (← put .before .digit .ensures, ← digit2 .digit2 .ensures) (then (put .put .ensures) (c .before .before .put2 .ensures))
 
 pub put-byte-spec : {M : Type 1} → statement M
 put-byte-spec =

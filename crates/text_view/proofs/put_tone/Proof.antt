@@ -11,23 +11,68 @@ put-decimal-requires c κs = search needs
 
 put-requires : tie.Need-put-requires
 put-requires c κs =
-    omega (arith, c .before .before .before .put-decimal .ensures .count, decimal-length (c .before .before .before .before .before .before .args .t .num))
+    let put-decimal = c .before .before .before in
+    let a = put-decimal .before .before .before .args in
+    omega (arith, put-decimal .put-decimal .ensures .count, decimal-length (a .t .num))
 
 put-decimal-requires-2 : tie.Need-put-decimal-requires-2
 put-decimal-requires-2 c κs =
-    omega (arith, c .before .before .before .put .ensures .count, c .before .before .before .before .before .before .before .put-decimal .ensures .count, decimal-length (c .before .before .before .before .before .before .before .before .before .before .args .t .num))
+    let put = c .before .before .before in
+    let put-decimal = put .before .before .before .before in
+    let a = put-decimal .before .before .before .args in
+    omega (arith, put .put .ensures .count, put-decimal .put-decimal .ensures .count, decimal-length (a .t .num))
 
 put-requires-2 : tie.Need-put-requires-2
 put-requires-2 c κs =
-    omega (arith, c .before .before .before .put-decimal2 .ensures .count, decimal-length (c .before .before .before .before .before .before .before .before .before .before .before .before .before .before .args .t .len1), c .before .before .before .before .before .before .before .put .ensures .count, c .before .before .before .before .before .before .before .before .before .before .before .put-decimal .ensures .count, decimal-length (c .before .before .before .before .before .before .before .before .before .before .before .before .before .before .args .t .num))
+    let put-decimal2 = c .before .before .before in
+    let put = put-decimal2 .before .before .before .before in
+    let put-decimal = put .before .before .before .before in
+    let a = put-decimal .before .before .before .args in
+    omega (
+      arith,
+      put-decimal2 .put-decimal2 .ensures .count,
+      decimal-length (a .t .len1),
+      put .put .ensures .count,
+      put-decimal .put-decimal .ensures .count,
+      decimal-length (a .t .num),
+    )
 
 put-decimal-requires-3 : tie.Need-put-decimal-requires-3
 put-decimal-requires-3 c κs =
-    omega (arith, c .before .before .before .put2 .ensures .count, c .before .before .before .before .before .before .before .put-decimal2 .ensures .count, decimal-length (c .before .before .before .before .before .before .before .before .before .before .before .before .before .before .before .before .before .before .args .t .len1), c .before .before .before .before .before .before .before .before .before .before .before .put .ensures .count, c .before .before .before .before .before .before .before .before .before .before .before .before .before .before .before .put-decimal .ensures .count, decimal-length (c .before .before .before .before .before .before .before .before .before .before .before .before .before .before .before .before .before .before .args .t .num))
+    let put2 = c .before .before .before in
+    let put-decimal2 = put2 .before .before .before .before in
+    let put = put-decimal2 .before .before .before .before in
+    let put-decimal = put .before .before .before .before in
+    let a = put-decimal .before .before .before .args in
+    omega (
+      arith,
+      put2 .put2 .ensures .count,
+      put-decimal2 .put-decimal2 .ensures .count,
+      decimal-length (a .t .len1),
+      put .put .ensures .count,
+      put-decimal .put-decimal .ensures .count,
+      decimal-length (a .t .num),
+    )
 
 put-requires-3 : tie.Need-put-requires-3
 put-requires-3 c κs =
-    omega (arith, c .before .before .before .put-decimal3 .ensures .count, decimal-length (c .before .before .before .before .before .before .before .before .before .before .before .before .before .before .before .before .before .before .before .before .before .before .args .t .len2), c .before .before .before .before .before .before .before .put2 .ensures .count, c .before .before .before .before .before .before .before .before .before .before .before .put-decimal2 .ensures .count, decimal-length (c .before .before .before .before .before .before .before .before .before .before .before .before .before .before .before .before .before .before .before .before .before .before .args .t .len1), c .before .before .before .before .before .before .before .before .before .before .before .before .before .before .before .put .ensures .count, c .before .before .before .before .before .before .before .before .before .before .before .before .before .before .before .before .before .before .before .put-decimal .ensures .count, decimal-length (c .before .before .before .before .before .before .before .before .before .before .before .before .before .before .before .before .before .before .before .before .before .before .args .t .num))
+    let put-decimal3 = c .before .before .before in
+    let put2 = put-decimal3 .before .before .before .before in
+    let put-decimal2 = put2 .before .before .before .before in
+    let put = put-decimal2 .before .before .before .before in
+    let put-decimal = put .before .before .before .before in
+    let a = put-decimal .before .before .before .args in
+    omega (
+      arith,
+      put-decimal3 .put-decimal3 .ensures .count,
+      decimal-length (a .t .len2),
+      put2 .put2 .ensures .count,
+      put-decimal2 .put-decimal2 .ensures .count,
+      decimal-length (a .t .len1),
+      put .put .ensures .count,
+      put-decimal .put-decimal .ensures .count,
+      decimal-length (a .t .num),
+    )
 
 same-length : tie.Need-same-length
 same-length c = search needs
@@ -35,7 +80,13 @@ same-length c = search needs
 returns : tie.Need-returns
 unfolding toneText
 returns c =
-    then (then (then (then (then (c .before .before .before .before .before .before .before .before .before .before .before .before .before .before .before .before .before .before .before .before .before .before .put-decimal .ensures) (c .before .before .before .before .before .before .before .before .before .before .before .before .before .before .before .before .before .before .put .ensures)) (c .before .before .before .before .before .before .before .before .before .before .before .before .before .before .put-decimal2 .ensures)) (c .before .before .before .before .before .before .before .before .before .before .put2 .ensures)) (c .before .before .before .before .before .before .put-decimal3 .ensures)) (c .before .before .put3 .ensures)
+    let put-decimal3 = c .before .before .before .before .before .before in
+    let put2 = put-decimal3 .before .before .before .before in
+    let put-decimal2 = put2 .before .before .before .before in
+    let put = put-decimal2 .before .before .before .before in
+    let put-decimal = put .before .before .before .before in
+    then (then (then (then (then (put-decimal .put-decimal .ensures) (put .put .ensures)) (put-decimal2 .put-decimal2 .ensures))
+    (put2 .put2 .ensures)) (put-decimal3 .put-decimal3 .ensures)) (c .before .before .put3 .ensures)
 
 pub put-tone-spec : {M : Type 1} → statement M
 put-tone-spec =

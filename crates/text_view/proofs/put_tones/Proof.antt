@@ -31,7 +31,9 @@ tone-at-requires c κs =
 
 put-tone-requires : tie.Need-put-tone-requires Inv-loop μ-loop
 put-tone-requires c κs =
-    omega (arith, c .before .before .before .loop .inv .1 .count, tones-length (c .before .before .before .before .before .before .args .tones .now) (c .before .before .before .before .before .before .args .from) (c .before .before .before .loop .i))
+    let loop = c .before .before .before in
+    let a = loop .before .before .before .args in
+    omega (arith, loop .loop .inv .1 .count, tones-length (a .tones .now) (a .from) (loop .loop .i))
 
 add-i : tie.Need-add-i Inv-loop μ-loop
 add-i c =
@@ -43,7 +45,13 @@ loop-less c =
 
 loop-again : tie.Need-loop-again Inv-loop μ-loop
 loop-again c =
-    (omega arith, rw (tones-next (c .before .before .before .before .before .before .before .before .before .args .tones .now) (c .before .before .before .before .before .before .before .before .before .args .from) (c .before .before .before .before .before .before .loop .i), ← c .before .before .before .tone-at .ensures) (then (c .before .before .before .before .before .before .loop .inv .1) (c .before .before .put-tone .ensures)))
+    let tone-at = c .before .before .before in
+    let loop = tone-at .before .before .before in
+    let a = loop .before .before .before .args in (
+      omega arith,
+      rw (tones-next (a .tones .now) (a .from) (loop .loop .i), ← tone-at .tone-at .ensures)
+          (then (loop .loop .inv .1) (c .before .before .put-tone .ensures)),
+    )
 
 same-length : tie.Need-same-length Inv-loop μ-loop
 same-length c =

@@ -8,17 +8,14 @@ use refusals::TAPE_LONG;
 use rows::BLOCK_TABLE;
 use rows::TONE_TABLE;
 
-// What is printed of the input, and whether more input followed.
-fn dump(input: &[u8], more: usize, blocks: &mut [u64], tones: &mut [u64]) {
+// What is printed of the input.
+fn dump(input: &[u8], blocks: &mut [u64], tones: &mut [u64]) {
     if input.len() == 0 {
         return print_refused(BAD_MODEL);
     }
     let model = model_of(input[0]);
     if model == 3 {
         return print_refused(BAD_MODEL);
-    }
-    if 0 < more {
-        return print_refused(TAPE_LONG);
     }
     let tape = &input[1..];
     if 65535 < tape.len() {
@@ -28,12 +25,11 @@ fn dump(input: &[u8], more: usize, blocks: &mut [u64], tones: &mut [u64]) {
     print_loaded(tape, tones, blocks, loaded);
 }
 
+// One byte more than a tape may have, so that a longer one is told.
 fn main() {
-    let mut input = io::large_buffer();
+    let mut input = [0u8; 65537];
     let n = io::read_full(0, &mut input);
-    let mut one = [0u8; 1];
-    let more = io::read_full(0, &mut one);
     let mut blocks = [0u64; BLOCK_TABLE];
     let mut tones = [0u64; TONE_TABLE];
-    dump(&input[..n], more, &mut blocks, &mut tones);
+    dump(&input[..n], &mut blocks, &mut tones);
 }

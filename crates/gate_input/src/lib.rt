@@ -1,34 +1,16 @@
-// What the gate's programs read from standard input: numbers, little-endian, and bytes behind their count.
+// The numbers that the gate's programs read.
 use cut_fields::Cursor;
 use cut_fields::field;
-ghost use Prim.Native.Nat.{_≤_};
-ghost use Rattle.io.specs.Counts.{Counts};
+ghost use mathlib.Core.Path.{_≡_};
+ghost use Prim.Native.Nat.{min};
+ghost use Rattle.cut_fields.specs.declared.Cursor.the-variants.{At};
+ghost use Rattle.cut_fields.specs.Field.{fieldAt};
 
-// The largest number of 4 bytes.
-pub const LARGEST: usize = 4294967295;
-
-// The next number, of at most 4 bytes, if it is at most `most`; else `most`. Our programs alone call it.
-pub fn read_number(width: usize, most: usize) -> usize
-    requires { ⌜ width ≤ 4 ⌝ }
-    ensures { λ n. ⌜ n ≤ most ⌝ }
+// The number of the field at a place, at most `most`; 0 where it is not all there.
+pub fn number_up_to(tape: &[u8], at: u64, width: u64, most: usize) -> usize
+    ensures { λ r. ⌜ r ≡ min (fieldAt (now (tape .entry)) (At at) width .value) most ⌝ }
 {
-    let mut four = [0u8; 4];
-    io::read_full(0, &mut four[..width]);
-    let read = field(&four, Cursor::At(0), 4);
+    let read = field(tape, Cursor::At(at), width);
     let n = read.value as usize;
     if n <= most { n } else { most }
-}
-
-// How many records follow.
-pub fn read_count() -> usize {
-    read_number(4, 1000000)
-}
-
-// How many bytes follow (4 bytes), and these, as many as `bytes` holds, into its front.
-pub fn read_bytes(bytes: &mut [u8]) -> usize
-    ensures { λ n. ⌜ Counts n (now (bytes .exit)) ⌝ }
-{
-    let n = read_number(4, bytes.len());
-    io::read_full(0, &mut bytes[..n]);
-    n
 }

@@ -166,6 +166,7 @@ module _ (s : List ℕ) where
 
   abbrev headOf : ℕ → GeneralHead
   headOf at = record {
+    length = leAt s (at + 1) 4;
     pause = leAt s (at + 5) 2;
     totp = leAt s (at + 7) 4;
     npp = leAt s (at + 11) 1;
@@ -280,14 +281,17 @@ module _ (s : List ℕ) where
 
   abbrev dataIn : GeneralHead → GeneralizedData
   dataIn h = record {
+    length = h .length;
     pause = h .pause;
     totp = h .totp;
     npp = h .npp;
+    asp0 = h .asp;
     asp = orFull full (h .asp);
     pilot = placeOf (h .cursor);
     entries = placeOf (pastPilot h);
     totd = h .totd;
     npd = h .npd;
+    asd0 = h .asd;
     asd = orFull full (h .asd);
     nb = bitsIn h;
     symbols = placeOf (pastEntries h);

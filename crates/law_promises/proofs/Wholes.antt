@@ -34,14 +34,14 @@ use Rattle.play_walk.specs.declared.Position.{Position}
 use Rattle.play_walk.specs.declared.Stand.{Stand}
 use Rattle.play_walk.specs.declared.Reached.{Reached}
 use Rattle.play_walk.specs.declared.Reached.the-variants as reached
-use Rattle.play_walk.specs.Heads.{reachedNo, placed, stand, positionOf, ahead, levelHere, restLevel, toldAs, toldReached}
+use Rattle.play_walk.specs.Heads.{reachedNo, placed, stand, positionOf, ahead, levelHere, restLevel, toldAs, toldReached, endedIn}
 use Rattle.play_deck.specs.declared.Check.the-variants.{NotValid}
 use Rattle.play_deck.specs.declared.Head.{Head}
 use Rattle.play_deck.specs.declared.Played.{Played}
 use Rattle.play_deck.specs.declared.Selected.the-variants.{Block}
 use Rattle.play_deck.specs.Deck.{validAt, judged, unless, stays, playMeasured, sourceAnswer, playSource, backTo, numberFor, blockOf}
 use Rattle.play_deck.specs.Deck.{blockAt, headAfter, playMounted}
-use Rattle.play_deck.specs.Calls.{positionIn, passedIn, counting, endedIn, runCalls, runSources, outcomeIn}
+use Rattle.play_deck.specs.Calls.{positionIn, passedIn, counting, runCalls, runSources, outcomeIn}
 use Rattle.play_deck.proofs.Answers.{told-position}
 use Rattle.play_deck.proofs.Checks.{fine-start, fine-none}
 use Rattle.play_deck.proofs.Whole.{whole-fine}

@@ -15,7 +15,7 @@ use Rattle.play_walk.specs.declared.Position.{Position}
 use Rattle.play_walk.specs.declared.Reached.{Reached}
 use Rattle.play_walk.specs.Heads.{ahead, endedIn, toldReached}
 use Rattle.play_deck.specs.Deck.{validAt}
-use Rattle.play_deck.specs.Calls.{positionIn, endedIn, runCalls, runSources, outcomeIn}
+use Rattle.play_deck.specs.Calls.{positionIn, runCalls, runSources, outcomeIn}
 use Rattle.play_deck.proofs.Answers.{told-ended}
 use Rattle.play_deck.proofs.Plays.{play-place, calls-told, cut-at-will}
 use Rattle.play_deck.proofs.Sources.{sources-told, sources-place}

@@ -8,8 +8,8 @@ use Rattle.play_entries.specs.Entries.{Label}
 use Rattle.play_entries.specs.Places.{Tape}
 use Rattle.play_walk.specs.declared.Position.{Position}
 use Rattle.play_walk.specs.declared.Stand.{Stand}
-use Rattle.play_walk.specs.Heads.{levelHere, restLevel, toldAs, toldReached}
-use Rattle.play_deck.specs.Calls.{positionIn, passedIn, passedMore, counting, answerLevel, endedIn}
+use Rattle.play_walk.specs.Heads.{levelHere, restLevel, toldAs, toldReached, endedIn}
+use Rattle.play_deck.specs.Calls.{positionIn, passedIn, passedMore, counting, answerLevel}
 
 pub told-position : (q : Position) (st : Status) (s : Stand) → positionIn q (toldAs st s) ≡ s .position
 unfolding toldAs positionIn

@@ -16,7 +16,7 @@ use Rattle.play_walk.specs.declared.Position.{Position}
 use Rattle.play_walk.specs.declared.Reached.{Reached}
 use Rattle.play_walk.specs.Heads.{ahead, endedIn, toldReached}
 use Rattle.play_deck.specs.Deck.{validAt, unless, playMeasured, sourceAnswer, sourceFrom, playSource}
-use Rattle.play_deck.specs.Calls.{positionIn, endedIn, runSources}
+use Rattle.play_deck.specs.Calls.{positionIn, runSources}
 use Rattle.play_deck.proofs.Sourced.{source-answer}
 use Rattle.play_deck.proofs.Answers.{told-position, told-ended}
 use Rattle.play_deck.proofs.Whole.{all-walked, whole-fine}

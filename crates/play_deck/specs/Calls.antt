@@ -1,6 +1,5 @@
 -- What an answer holds, and runs of calls, each from where the last one left the head. Definitions alone; assumes nothing.
 use Prim.Native.Nat.{ℕ, _+_}
-use mathlib.Core.Bool.{Bool, true, false}
 use mathlib.Core.List.{List, [], _∷_}
 use Rattle.law_pulses.specs.Play.{Level, low}
 use Rattle.law_pulses.specs.Source.{Outcome}
@@ -8,7 +7,7 @@ use Rattle.play_walk.specs.declared.Position.{Position}
 use Rattle.play_walk.specs.declared.Stand.{Stand}
 use Rattle.play_walk.specs.declared.Reached.{Reached}
 use Rattle.play_walk.specs.declared.Reached.the-variants.{At, Stopped, Ended, NotValid, NotFormed}
-use Rattle.play_walk.specs.Heads.{stand, ahead}
+use Rattle.play_walk.specs.Heads.{stand, ahead, endedIn}
 use Rattle.play_entries.specs.Places.{Tape}
 use Rattle.play_entries.specs.Entries.{Label}
 use Rattle.play_deck.specs.Deck.{playMeasured, playSource}
@@ -46,14 +45,6 @@ answerLevel (Stopped s) = s .level
 answerLevel (Ended s) = s .level
 answerLevel NotValid = low
 answerLevel NotFormed = low
-
--- whether an answer is the end
-unfoldable pub endedIn : Reached → Bool
-endedIn (At s) = false
-endedIn (Stopped s) = false
-endedIn (Ended s) = true
-endedIn NotValid = false
-endedIn NotFormed = false
 
 -- a call of n and then of each of ms, each from where the head then stands: the last's answer, the entries passed added up
 unfoldable pub runCalls : Tape → Position → ℕ → List ℕ → Reached

@@ -1,4 +1,4 @@
--- `list_all` meets its contract: each turn lists one tape. Assumes nothing.
+-- `listings::list_all` meets its contract: each turn lists one tape. Assumes nothing.
 use native.Mathlib.Omega.{arith}
 use mathlib.Core.Path.{_≡_}
 use lib.ListN.{length}

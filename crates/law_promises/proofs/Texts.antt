@@ -20,7 +20,8 @@ use Rattle.text_shown.specs.Shown.{shown}
 use Rattle.text_shown.specs.Points.{bytesOf, isScalar, areScalars, Utf8, shownPoint}
 use Rattle.text_shown.proofs.Utf8.{utf8-none, utf8-join, utf8-rule, utf8-one, utf8-plain}
 use Rattle.text_shown.proofs.Points.{shown-points}
-use Rattle.law_promises.specs.Texts.{Bytes, codePoints, headerPoints, namePoints}
+use Rattle.law_every_load.specs.Sizes.{Bytes}
+use Rattle.law_promises.specs.Texts.{codePoints, headerPoints, namePoints}
 
 -- a part of a tape's bytes
 bytes-drop : (n : ℕ) (s : List ℕ) → Bytes s → Bytes (drop n s)

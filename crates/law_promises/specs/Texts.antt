@@ -1,5 +1,5 @@
 -- The code points of a block's name (rules 84, 86, 87), part by part as `nameOf` has its bytes. Definitions alone; assumes nothing.
-use Prim.Native.Nat.{ℕ, _+_, _<_}
+use Prim.Native.Nat.{ℕ, _+_}
 use mathlib.Core.List.{List, _++_}
 use lib.ListN.{getD, take, drop}
 use lib.Dec.{eqb}
@@ -9,10 +9,6 @@ use Rattle.text_codes.specs.Encoding.{codeTexts}
 use Rattle.text_header.specs.Headers.{typeName}
 use Rattle.rows.specs.declared.Block.{Block}
 use Rattle.text_name.specs.Names.{isHeader, sizeName}
-
--- a tape's bytes
-abbrev pub Bytes : List ℕ → Type 0
-Bytes s = (i : ℕ) → getD s i 0 < 256
 
 -- the code points of a code's text in SPECTRUM_ENCODING
 unfoldable pub codePoints : ℕ → List ℕ

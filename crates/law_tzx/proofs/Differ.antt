@@ -37,7 +37,8 @@ use Rattle.law_tzx.specs.Kept.{evenCount, kept11, kept12, kept13, firstP
 use Rattle.law_tzx.specs.Kept.{keptPilot, keptSymbol, keptPairs, keptData, kept19, kept, lengthOf, entriesFrom}
 use Rattle.law_tzx.specs.Format.{again}
 use Rattle.law_tzx.specs.Cut.{formatCut}
-use Rattle.law_tzx.specs.Heard.{Heard, plays, refused, errs, nothing, most, heardIn, playedBy, formatOn, sourceOn, keptOn, formatAt}
+use Rattle.law_tzx.specs.Heard.{HeardOn, plays, refused, errs, nothing, most, heardIn, playedBy, formatOn, sourceOn}
+use Rattle.law_tzx.specs.Heard.{keptOn, formatAt}
 use Rattle.law_tzx.specs.Heard.{sourceHeard, keptAt, sameLength, sameLengths, sameHeard}
 use Rattle.law_tzx.proofs.Examples.{Example, row}
 
@@ -261,7 +262,7 @@ unfolding leAt numberAt fieldAt placeOf times eachAt groupsAt run tableOver entr
 chances-same = refl
 
 -- so many lengths
-unfoldable pub countOf : Heard → ℕ
+unfoldable pub countOf : HeardOn → ℕ
 countOf (plays ls) = length ls
 countOf (refused k) = 0
 countOf errs = 0
@@ -313,7 +314,7 @@ pub record Order : Type 0 where
 abbrev order : List ℕ → List ℕ → List PulseLength → List PulseLength → Order
 order tape places format source = record { tape = tape; places = places; format = format; source = source }
 
-unfoldable pub lengthsIn : Heard → List PulseLength
+unfoldable pub lengthsIn : HeardOn → List PulseLength
 lengthsIn (plays ls) = ls
 lengthsIn (refused k) = []
 lengthsIn errs = []

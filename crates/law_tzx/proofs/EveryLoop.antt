@@ -36,7 +36,7 @@ use Rattle.load_source.specs.Meaning.{deedOf}
 use Rattle.load_source.specs.Source.{act, full, See, theEnd, bad, refuses, thing, tzxOf, tzxSee}
 use Rattle.law_tzx.specs.Format.{PulseLength}
 use Rattle.law_tzx.specs.Kept.{Plays}
-use Rattle.law_tzx.specs.Departs.{repeated, sourceTimes, Between, nothing-more, one-more}
+use Rattle.law_tzx.specs.Departs.{repeatedLengths, sourceTimes, Between, nothing-more, one-more}
 use Rattle.law_tzx.proofs.Loops.{loop-plays}
 
 -- a step that leaves the loop as it is
@@ -147,7 +147,7 @@ opens {start} {n} e = ap (opened start n) e
 pub every-loop : (lent : Lent) (s : List ℕ) (model n next end : ℕ) (first last : Origin) (ls : List PulseLength) (t t₀ u : Parsed)
     → t .body ≡ Closed → act lent s model first (LoopStart n) t ≡ on t₀ → Between lent s model next t₀ end u
     → Plays s ls t₀ u
-    → Sure (Plays s (repeated (sourceTimes n) ls) t₀) (act lent s model last LoopEnd u)
+    → Sure (Plays s (repeatedLengths (sourceTimes n) ls) t₀) (act lent s model last LoopEnd u)
 unfolding act deedOf does openLoop
 every-loop lent s model n next end first last ls t t₀ u c e b p =
     let i : withBody (opened (length (t .blocks)) n (t .body)) t ≡ t₀ = cc in

@@ -31,17 +31,17 @@ use Rattle.law_tzx.specs.Format.{groupAt, dataNumber, symbolPulses, ever
 use Rattle.law_tzx.specs.Format.{lengthsOf, lasting}
 use Rattle.law_tzx.specs.Kept.{evenCount, kept11, kept12, kept13, firstPulse, secondPulse, wholeWave, keptTimes, keptEntry}
 use Rattle.law_tzx.specs.Kept.{keptPilot, keptSymbol, keptPairs, keptData, kept19, kept, lengthOf, entriesFrom}
-use Rattle.law_tzx.specs.Heard.{Heard, plays, heardIn, playedBy, formatOn, sourceOn, keptOn, formatAt, sourceHeard, keptAt}
+use Rattle.law_tzx.specs.Heard.{HeardOn, plays, heardIn, playedBy, formatOn, sourceOn, keptOn, formatAt, sourceHeard, keptAt}
 use Rattle.law_tzx.specs.Heard.{sameLength, sameLengths, sameHeard}
 use Rattle.law_tzx.specs.Tapes.{noneOpen, keptThen, keptFrom, saidOf, saidThen, formatFrom}
 
 pub record Example : Type 0 where
   pub tape : List ℕ
   pub kept : Bool
-  pub format : Heard
-  pub source : Heard
+  pub format : HeardOn
+  pub source : HeardOn
 
-abbrev pub row : List ℕ → Bool → Heard → Heard → Example
+abbrev pub row : List ℕ → Bool → HeardOn → HeardOn → Example
 row tape kept format source = record { tape = tape; kept = kept; format = format; source = source }
 
 unfoldable pub kepts : List Example

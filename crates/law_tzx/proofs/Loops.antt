@@ -30,7 +30,7 @@ use Rattle.load_source.specs.Meaning.{deedOf}
 use Rattle.load_source.specs.Source.{act}
 use Rattle.law_tzx.specs.Format.{PulseLength, lasting}
 use Rattle.law_tzx.specs.Kept.{lengths, entriesFrom, Plays}
-use Rattle.law_tzx.specs.Departs.{repeated, sourceTimes}
+use Rattle.law_tzx.specs.Departs.{repeatedLengths, sourceTimes}
 use Rattle.law_tzx.proofs.Adds.{list-append, plays-none, plays-then, plays-as}
 use Rattle.law_tzx.proofs.Unheard.{copy-same}
 
@@ -98,8 +98,8 @@ module _ (s : List ℕ) (ls : List PulseLength) (rs : List Block) where
             ∙ h more N b;
       }
 
-  copies-play : (most n : ℕ) (t : Parsed) → Heard (t .tones) → Sure (Plays s (repeated n ls) t) (copies most n rs t)
-  unfolding copies repeated lasting
+  copies-play : (most n : ℕ) (t : Parsed) → Heard (t .tones) → Sure (Plays s (repeatedLengths n ls) t) (copies most n rs t)
+  unfolding copies repeatedLengths lasting
   copies-play most zero t h = sure (plays-none refl refl refl)
   copies-play most (suc n) t h =
       sure-then (copies most n rs) (copied-rows s most rs t) (λ u p.
@@ -108,22 +108,22 @@ module _ (s : List ℕ) (ls : List PulseLength) (rs : List Block) where
 -- WHAT A LOOP'S END ADDS: n further copies of the body, which stands from block `start` on
 pub end-plays : (lent : Lent) (origin : Origin) (s : List ℕ) (model start n : ℕ) (ls : List PulseLength) (u : Parsed)
     → u .body ≡ Open start n
-    → Heard s ls (drop start (u .blocks)) (u .tones) → Sure (Plays s (repeated n ls) u) (act lent s model origin LoopEnd u)
+    → Heard s ls (drop start (u .blocks)) (u .tones) → Sure (Plays s (repeatedLengths n ls) u) (act lent s model origin LoopEnd u)
 unfolding act deedOf does closeLoop closed
 end-plays lent origin s model start n ls u e h =
-    subst (Sure (Plays s (repeated n ls) u)) (sym (ap (λ (l : Loop). closed (lent .blocks) l u) e))
+    subst (Sure (Plays s (repeatedLengths n ls) u)) (sym (ap (λ (l : Loop). closed (lent .blocks) l u) e))
     (sure-also (λ v p. record { blocks = p .blocks; tones = p .tones; added = p .added; under = p .under; plays = p .plays })
     (copies-play s ls (drop start (u .blocks)) (lent .blocks) n (withBody Closed u) h))
 
 -- A LOOP OF n, which began at the tape t: what was played since, one body, is played n + 1 times when the loop has ended
 pub loop-plays : (lent : Lent) (origin : Origin) (s : List ℕ) (model n : ℕ) (ls : List PulseLength) (t u : Parsed)
     → u .body ≡ Open (length (t .blocks)) n → Plays s ls t u
-    → Sure (Plays s (repeated (sourceTimes n) ls) t) (act lent s model origin LoopEnd u)
-unfolding repeated sourceTimes
+    → Sure (Plays s (repeatedLengths (sourceTimes n) ls) t) (act lent s model origin LoopEnd u)
+unfolding repeatedLengths sourceTimes
 loop-plays lent origin s model n ls t u e p =
     let d : drop (length (t .blocks)) (u .blocks) ≡ p .blocks =
     ap (drop (length (t .blocks))) (p .added) ∙ drop-at (t .blocks) (p .blocks) (length (t .blocks)) refl in
     let m : sourceTimes n ≡ suc n = omega arith in
-    sure-also (λ v q. plays-as (ap (λ (k : ℕ). lasting (repeated k ls)) (sym m)) (plays-then p q))
+    sure-also (λ v q. plays-as (ap (λ (k : ℕ). lasting (repeatedLengths k ls)) (sym m)) (plays-then p q))
     (end-plays lent origin s model (length (t .blocks)) n ls u e
     (subst (λ (rs : List Block). Heard s ls rs (u .tones)) (sym d) (p .plays)))

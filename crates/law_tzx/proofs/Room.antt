@@ -38,7 +38,7 @@ use Rattle.load_source.specs.Source.{act, Verdict, done, failed, refused, readO
 use Rattle.load_source.specs.Source.{bitsJudged, headed, readTzx, readTap, orElse, loadOf}
 use Rattle.load_source.specs.Source as source
 use Rattle.law_tzx.specs.Kept.{keptPilot, keptData, lengthRight, kept19, kept, Tables, Answers, goes, no-tones, no-blocks}
-use Rattle.law_tzx.specs.Tapes.{Open, noneOpen, opened, nests, keptThen, keptFrom, keptTape}
+use Rattle.law_tzx.specs.Tapes.{Open, noneOpen, loopOpened, nests, keptThen, keptFrom, keptTape}
 use Rattle.law_tzx.proofs.Waves.{differ}
 use Rattle.law_tzx.proofs.Generals.{pilot-part, DataClauses, data-clauses, data-part}
 use Rattle.law_tzx.proofs.Symbols.{Parts}
@@ -153,7 +153,7 @@ module _ (lent : Lent) (s : List ℕ) (model : ℕ) where
   unfolding keptThen seeing tzxOf
   piece-ends n at o t taken.End q e later = reads
   piece-ends n at o t (taken.Whole kind from next piece) q e later =
-      let p = opened kind o in
+      let p = loopOpened kind o in
       let k = first (kept s piece && not (nests kind o)) (keptFrom s n next p) e in
       let tables : Tables s piece =
       λ g i. cut-places s at source.full (q ∙ ap (λ (x : Piece). taken.Whole kind from next x) i) .places in

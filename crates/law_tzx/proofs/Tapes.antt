@@ -31,7 +31,7 @@ use Rattle.load_source.specs.declared.Failure.the-variants as failure
 use Rattle.law_tzx.specs.Format.{Said, formatOf, lasting}
 use Rattle.law_tzx.specs.Cut.{layoutOf, formatCut}
 use Rattle.law_tzx.specs.Kept.{kept, Plays, Keeps, as-said}
-use Rattle.law_tzx.specs.Tapes.{Open, noneOpen, opened, nests, keptThen, keptFrom, keptTape, saidOf, saidThen}
+use Rattle.law_tzx.specs.Tapes.{Open, noneOpen, loopOpened, nests, keptThen, keptFrom, keptTape, saidOf, saidThen}
 use Rattle.law_tzx.specs.Tapes.{formatFrom, formatTape}
 use Rattle.law_tzx.proofs.Adds.{plays-none, plays-then}
 use Rattle.law_tzx.proofs.Cuts.{cut-keeps}
@@ -94,7 +94,7 @@ module _ (lent : Lent) (s : List ℕ) (model : ℕ) where
   unfolding keptThen seeing tzxOf saidThen
   piece-then n at o t u taken.End q e f later = rw (end-same s at q) (done-none f)
   piece-then n at o t u (taken.Whole kind from next piece) q e f later =
-      let p = opened kind o in
+      let p = loopOpened kind o in
       let k = first (kept s piece && not (nests kind o)) (keptFrom s n next p) e in
       let c = cut-keeps lent (originAt kind from) s model at t q (first (kept s piece) (not (nests kind o)) k) in
       let w = went (foldFrom (tzxSee lent s model) n next) (c .plays) f in

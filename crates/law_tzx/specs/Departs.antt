@@ -15,9 +15,9 @@ unfoldable pub pulseMore : PulseTrain → List PulseLength
 pulseMore x = lasts 2168 ∷ lengthsOf x
 
 -- so many times, one after the other
-unfoldable pub repeated : ℕ → List PulseLength → List PulseLength
-repeated zero ls = []
-repeated (suc n) ls = ls ++ repeated n ls
+unfoldable pub repeatedLengths : ℕ → List PulseLength → List PulseLength
+repeatedLengths zero ls = []
+repeatedLengths (suc n) ls = ls ++ repeatedLengths n ls
 
 -- 24, 25: a loop's pieces are played that many times in all; by the source reading once more
 unfoldable pub sourceTimes : ℕ → ℕ

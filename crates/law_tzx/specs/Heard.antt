@@ -19,17 +19,17 @@ use Rattle.law_tzx.specs.Cut.{formatCut}
 use Rattle.law_tzx.specs.Kept.{kept, lengths, entriesFrom}
 
 -- lengths; a refusal; an error; or nothing that is said
-pub data Heard : Type 0 where
-  plays : List PulseLength → Heard
-  refused : ℕ → Heard
-  errs : Heard
-  nothing : Heard
+pub data HeardOn : Type 0 where
+  plays : List PulseLength → HeardOn
+  refused : ℕ → HeardOn
+  errs : HeardOn
+  nothing : HeardOn
 
-unfoldable pub heardIn : Said → Heard
+unfoldable pub heardIn : Said → HeardOn
 heardIn (sounds x) = plays (lasting (lengthsOf x))
 heardIn unsaid = nothing
 
-unfoldable pub playedBy : List ℕ → Out → Heard
+unfoldable pub playedBy : List ℕ → Out → HeardOn
 playedBy s (on t) = plays (lasting (lengths (entriesFrom s (tableOf tone (t .tones) 0) 0 (t .blocks))))
 playedBy s (halt (Refusal k)) = refused k
 playedBy s (halt (Length n)) = errs
@@ -38,14 +38,14 @@ abbrev pub most : Lent
 most = record { blocks = 4096; tones = 65536 }
 
 -- what the format says of a piece, and what the source reading plays, on 48K
-unfoldable pub formatOn : List ℕ → Taken → Heard
+unfoldable pub formatOn : List ℕ → Taken → HeardOn
 formatOn s taken.End = nothing
 formatOn s (taken.Whole kind at next piece) = heardIn (formatOf true s piece)
 formatOn s (taken.Unknown kind described) = nothing
 formatOn s (taken.Short kind p w) = nothing
 formatOn s (taken.Overflow kind p) = nothing
 
-unfoldable pub sourceOn : List ℕ → Taken → Heard
+unfoldable pub sourceOn : List ℕ → Taken → HeardOn
 sourceOn s taken.End = nothing
 sourceOn s (taken.Whole kind at next piece) = playedBy s (source.act most s 0 (originAt kind at) piece empty)
 sourceOn s (taken.Unknown kind described) = nothing
@@ -59,10 +59,10 @@ keptOn s (taken.Unknown kind described) = false
 keptOn s (taken.Short kind p w) = false
 keptOn s (taken.Overflow kind p) = false
 
-abbrev pub formatAt : List ℕ → Heard
+abbrev pub formatAt : List ℕ → HeardOn
 formatAt s = formatOn s (formatCut s 0)
 
-abbrev pub sourceHeard : List ℕ → Heard
+abbrev pub sourceHeard : List ℕ → HeardOn
 sourceHeard s = sourceOn s (cutAt s 0 source.full)
 
 abbrev pub keptAt : List ℕ → Bool
@@ -81,7 +81,7 @@ sameLengths [] (m ∷ ms) = false
 sameLengths (l ∷ ls) [] = false
 sameLengths (l ∷ ls) (m ∷ ms) = sameLength l m && sameLengths ls ms
 
-unfoldable pub sameHeard : Heard → Heard → Bool
+unfoldable pub sameHeard : HeardOn → HeardOn → Bool
 sameHeard (plays ls) (plays ms) = sameLengths ls ms
 sameHeard (plays ls) (refused k) = false
 sameHeard (plays ls) errs = false

@@ -22,8 +22,8 @@ abbrev pub noneOpen : Open
 noneOpen = record { group = false; loop = false }
 
 -- a 21 opens a group, a 24 a loop; groups don't nest, nor do loops. What ends them, 22 and 25, is not kept
-abbrev pub opened : ℕ → Open → Open
-opened kind o = record { group = o .group || eqb kind 0x21; loop = o .loop || eqb kind 0x24 }
+abbrev pub loopOpened : ℕ → Open → Open
+loopOpened kind o = record { group = o .group || eqb kind 0x21; loop = o .loop || eqb kind 0x24 }
 
 abbrev pub nests : ℕ → Open → Bool
 nests kind o = (o .group && eqb kind 0x21) || (o .loop && eqb kind 0x24)
@@ -31,7 +31,7 @@ nests kind o = (o .group && eqb kind 0x21) || (o .loop && eqb kind 0x24)
 -- a piece that is kept, and what is asked of the place past it; of a loop without an end nothing is said
 unfoldable pub keptThen : List ℕ → Open → Taken → (ℕ → Open → Bool) → Bool
 keptThen s o taken.End k = not (o .loop)
-keptThen s o (taken.Whole kind at next piece) k = (kept s piece && not (nests kind o)) && k next (opened kind o)
+keptThen s o (taken.Whole kind at next piece) k = (kept s piece && not (nests kind o)) && k next (loopOpened kind o)
 keptThen s o (taken.Unknown kind described) k = false
 keptThen s o (taken.Short kind p w) k = false
 keptThen s o (taken.Overflow kind p) k = false

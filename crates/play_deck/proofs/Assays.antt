@@ -32,7 +32,7 @@ use Rattle.play_walk.specs.declared.Reached.the-variants.{At, Stopped}
 use Rattle.play_walk.specs.Heads.{stand}
 use Rattle.play_deck.specs.declared.Check.{Check}
 use Rattle.play_deck.specs.declared.Check.the-variants.{Fine, NotValid, NotFormed}
-use Rattle.play_deck.specs.declared.Verdict.{Verdict}
+use Rattle.play_deck.specs.declared.Finding.{Finding}
 use Rattle.play_deck.specs.Deck.{atStart, judged, stays}
 use Rattle.play_deck.specs.Assay.{fineIf, verdictOf, readyRow, levelThere, Assayed, Lending, Sounded}
 use Rattle.play_deck.proofs.Checks.{judged-over, judged-start, judged-past, judged-bad, judged-not, judged-fine, fine-none}
@@ -93,12 +93,12 @@ module _ (tape : ℕ) (tones : List ℕ) (r : Block) where
 
 module _ (w : Tape) (q : Position) where
   -- a check that tells no level
-  pub assayed-silent : (c : Check) → judged w q ≡ c → (c ≡ Fine → levelThere w q ≡ low) → (a : Verdict)
+  pub assayed-silent : (c : Check) → judged w q ≡ c → (c ≡ Fine → levelThere w q ≡ low) → (a : Finding)
       → a ≡ verdictOf c low silence → Assayed w q a
   assayed-silent c j l a e =
       subst (Assayed w q) (sym e) (record { check = sym j; level = λ f. sym (l f); told = told-silence (w .tones) (w .blocks) })
 
-  pub assayed-over : capacityOf block blockMost (w .blocks) < w .count → (a : Verdict) → a ≡ verdictOf NotFormed low silence
+  pub assayed-over : capacityOf block blockMost (w .blocks) < w .count → (a : Finding) → a ≡ verdictOf NotFormed low silence
       → Assayed w q a
   assayed-over h a e = assayed-silent NotFormed (judged-over w q h) (λ f. absurd (unformed f)) a e
 
@@ -107,7 +107,7 @@ module _ (w : Tape) (q : Position) where
     judged-beyond h true e = judged-start w q fits h e
     judged-beyond h false e = judged-past w q fits h e
 
-    pub assayed-past : w .count ≤ q .block → (a : Verdict) → a ≡ verdictOf (fineIf (atStart q)) low silence → Assayed w q a
+    pub assayed-past : w .count ≤ q .block → (a : Finding) → a ≡ verdictOf (fineIf (atStart q)) low silence → Assayed w q a
     assayed-past h a e =
         assayed-silent (fineIf (atStart q)) (judged-beyond h (atStart q) refl) (λ f. rw (le-ltb (q .block) (w .count) h)) a e
 
@@ -120,7 +120,7 @@ module _ (w : Tape) (q : Position) where
       judged-entry e true f = judged-fine w q fits h e f
       judged-entry e false f = judged-not w q fits h e f
 
-      pub assayed-bad : readyRow (tapeSize (w .bytes)) (w .tones) (blockIn w (q .block)) ≡ false → (a : Verdict)
+      pub assayed-bad : readyRow (tapeSize (w .bytes)) (w .tones) (blockIn w (q .block)) ≡ false → (a : Finding)
           → a ≡ verdictOf NotFormed low silence → Assayed w q a
       unfolding wellRow
       assayed-bad e a f =
@@ -130,7 +130,7 @@ module _ (w : Tape) (q : Position) where
       -- a source row
       pub assayed-source : wellRow w (q .block) ≡ true → (has : Bool) → hasLeft (blockIn w (q .block)) ≡ has → (v : Level)
           → v ≡ levelIn w (q .block) (q .phase)
-          → (a : Verdict) → a ≡ verdictOf (fineIf has) v silence → Assayed w q a
+          → (a : Finding) → a ≡ verdictOf (fineIf has) v silence → Assayed w q a
       assayed-source e has f v l a z =
           subst (Assayed w q) (sym z)
           (record {
@@ -142,7 +142,7 @@ module _ (w : Tape) (q : Position) where
       -- a document row
       pub assayed-document : wellWords (tapeSize (w .bytes)) (w .tones) (blockIn w (q .block)) ≡ true → (has : Bool)
           → hasLeft (blockIn w (q .block)) ≡ has
-          → (a : Verdict) → Sounded (w .tones) (w .blocks) (q .block) (q .phase) has a → Assayed w q a
+          → (a : Finding) → Sounded (w .tones) (w .blocks) (q .block) (q .phase) has a → Assayed w q a
       unfolding wellRow
       assayed-document e has f a s =
           record {
@@ -211,7 +211,7 @@ module _ (tones blocks : List ℕ) (b : ℕ) (f : Phase) where
         (subst (Judging (rowAt blocks b)) (sym heard-of) ((x .rows, omega arith), refl))
 
   -- how it comes out
-  module _ (has : Bool) (a : Verdict) where
+  module _ (has : Bool) (a : Finding) where
     abbrev rowsWell : Bool
     rowsWell = wellTones tones (rowAt blocks b .tone) (rowAt blocks b .tones)
 
@@ -253,7 +253,7 @@ words-lent tape tones r e =
     record { bytes = omega arith; rows = x .rows; numbers = c .numbers }
 
 -- WHAT A FINE VERDICT TELLS
-module _ {w : Tape} {q : Position} {a : Verdict} (x : Assayed w q a) (e : a .check ≡ Fine) where
+module _ {w : Tape} {q : Position} {a : Finding} (x : Assayed w q a) (e : a .check ≡ Fine) where
   pub fine-so : judged w q ≡ Fine
   fine-so = sym (x .check) ∙ e
 

@@ -20,14 +20,14 @@ use Rattle.play_voice.specs.Voice.{Told, rowAt}
 use Rattle.play_walk.specs.declared.Position.{Position}
 use Rattle.play_deck.specs.declared.Check.{Check}
 use Rattle.play_deck.specs.declared.Check.the-variants.{Fine, NotValid, NotFormed}
-use Rattle.play_deck.specs.declared.Verdict.{Verdict}
+use Rattle.play_deck.specs.declared.Finding.{Finding}
 use Rattle.play_deck.specs.Deck.{judged}
 
 abbrev pub fineIf : Bool → Check
 fineIf true = Fine
 fineIf false = NotValid
 
-abbrev pub verdictOf : Check → Level → Heard → Verdict
+abbrev pub verdictOf : Check → Level → Heard → Finding
 verdictOf c v h = record { check = c; level = v; heard = h }
 
 -- a row that may be gone on with: a document row's tone rows are judged with the level
@@ -39,7 +39,7 @@ abbrev pub levelThere : Tape → Position → Level
 levelThere w q = ltb (q .block) (w .count) ⇒ levelIn w (q .block) (q .phase) ∣ low
 
 -- WHAT IT COMES TO: the checks; where they are fine, the level there; and what was heard is so
-pub record Assayed (w : Tape) (q : Position) (a : Verdict) : Type 0 where
+pub record Assayed (w : Tape) (q : Position) (a : Finding) : Type 0 where
   pub check : a .check ≡ judged w q
   pub level : a .check ≡ Fine → a .level ≡ levelThere w q
   pub told : Told (w .tones) (w .blocks) (a .heard)
@@ -50,7 +50,7 @@ pub record Lending (tones blocks : List ℕ) (b : ℕ) : Type 0 where
   pub rows : rowAt blocks b .tone + rowAt blocks b .tones ≤ capacityOf tone toneMost tones
 
 -- a document row, well formed but for its tone rows: these, and whether so much may be left of its entry, decide
-pub record Sounded (tones blocks : List ℕ) (b : ℕ) (f : Phase) (has : Bool) (a : Verdict) : Type 0 where
+pub record Sounded (tones blocks : List ℕ) (b : ℕ) (f : Phase) (has : Bool) (a : Finding) : Type 0 where
   pub check : a .check ≡ (wellTones tones (rowAt blocks b .tone) (rowAt blocks b .tones) ⇒ fineIf has ∣ NotFormed)
   pub level : a .check ≡ Fine → a .level ≡ levelAt tones (rowAt blocks b) f
   pub told : Told tones blocks (a .heard)

@@ -95,17 +95,17 @@ fn row_ready(tape: &[u8], tones: &[u64], r: Block) -> bool
 }
 
 // What a position comes to: its checks; where they are fine the level there; and what was heard on the way.
-pub struct Verdict {
+pub struct Finding {
     pub check: Check,
     pub level: bool,
     pub heard: Heard,
 }
 
 // A check that tells no level.
-fn silent(c: Check) -> Verdict
+fn silent(c: Check) -> Finding
     ensures { λ a. ⌜ a ≡ verdictOf c low silence ⌝ }
 {
-    Verdict {
+    Finding {
         check: c,
         level: false,
         heard: unheard(),
@@ -130,7 +130,7 @@ fn check_left(has: bool) -> Check
 }
 
 // A position in block b, a document row, by one pass over its tone rows; its callers know the row to be well formed but for them.
-fn assay_document(tones: &[u64], blocks: &[u64], b: u64, f: Phase, has: bool) -> Verdict
+fn assay_document(tones: &[u64], blocks: &[u64], b: u64, f: Phase, has: bool) -> Finding
     requires { ⌜ Lending (now tones) (now blocks) b ⌝ }
     requires { ⌜ (has ≡ true → hasEntry (now tones) (rowAt (now blocks) b) f ≡ true) ⌝ }
     ensures { λ a. ⌜ Sounded (now (tones .entry)) (now (blocks .entry)) b f has a ⌝ }
@@ -142,7 +142,7 @@ fn assay_document(tones: &[u64], blocks: &[u64], b: u64, f: Phase, has: bool) ->
     if !has {
         return silent(Check::NotValid);
     }
-    Verdict {
+    Finding {
         check: Check::Fine,
         level: level_in(tones, blocks, b, f, h),
         heard: h,
@@ -150,7 +150,7 @@ fn assay_document(tones: &[u64], blocks: &[u64], b: u64, f: Phase, has: bool) ->
 }
 
 // The checks of a position, in the order of rule 37, and the level there: a document row's tone rows are gone through once for both.
-pub fn assay(tape: &[u8], tones: &[u64], blocks: &[u64], count: u64, pos: Position) -> Verdict
+pub fn assay(tape: &[u8], tones: &[u64], blocks: &[u64], count: u64, pos: Position) -> Finding
     ensures { λ a. ⌜ Assayed (tapeOf (now (tape .entry)) (now (tones .entry)) (now (blocks .entry)) count) pos a ⌝ }
 {
     if (block_capacity(blocks) as u64) < count {
@@ -167,7 +167,7 @@ pub fn assay(tape: &[u8], tones: &[u64], blocks: &[u64], count: u64, pos: Positi
     let left = pos.left;
     let has = has_left(tape, tones, block_at(blocks, b as usize), f, left);
     if is_source(blocks, b) {
-        return Verdict {
+        return Finding {
             check: check_left(has),
             level: mic(f),
             heard: unheard(),
@@ -248,7 +248,7 @@ fn measure(
     count: u64,
     pos: Position,
     n: u64,
-    a: Verdict,
+    a: Finding,
 ) -> Reached
     requires { ⌜ Assayed (tapeOf (now tape) (now tones) (now blocks) count) pos a ⌝ }
     requires { ⌜ a .check ≡ Fine ⌝ }
@@ -297,7 +297,7 @@ fn follow(
     count: u64,
     pos: Position,
     n: u32,
-    a: Verdict,
+    a: Finding,
 ) -> Reached
     requires { ⌜ Assayed (tapeOf (now tape) (now tones) (now blocks) count) pos a ⌝ }
     requires { ⌜ a .check ≡ Fine ⌝ }

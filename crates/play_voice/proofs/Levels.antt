@@ -19,7 +19,7 @@ use Rattle.play_entries.specs.declared.Phase.the-variants.{Start, Tones, Data, 
 use Rattle.play_entries.specs.Entries.{toneAt, isSource, lineAt, startLevel, cycleLevel, bitLevel, pauseLevel}
 use Rattle.play_entries.specs.Places.{hasEntry, levelAt}
 use Rattle.play_entries.proofs.Valid.{tone-entry}
-use Rattle.play_voice.specs.Voice.{rowsBelow, levelBy, asksPlayed, turnedLine, Told, rowAt, Standing}
+use Rattle.play_voice.specs.Voice.{rowsBelow, levelBy, asksPlayed, turnedLine, ToldSeen, rowAt, Standing}
 use Rattle.play_voice.specs.declared.Heard.{Heard}
 use Rattle.play_voice.proofs.Turned.{current-turned}
 
@@ -87,7 +87,7 @@ Asked tones b f h r =
     (r .tone + r .tones ≤ capacityOf tone toneMost tones)
     × (((isSource r ≡ false) × (hasEntry tones r f ≡ true)) × (h .block ≡ b → h .seen ≡ seenOf tones (r .tone) (h .rows)))
 
-pub asks-level : (tones blocks : List ℕ) (b : ℕ) (f : Phase) (h : Heard) → Standing tones blocks b f → Told tones blocks h
+pub asks-level : (tones blocks : List ℕ) (b : ℕ) (f : Phase) (h : Heard) → Standing tones blocks b f → ToldSeen tones blocks h
     → isSource (rowAt blocks b) ≡ false → (r : Block) → r ≡ rowAt blocks b → Asked tones b f h r
 asks-level tones blocks b f h x told d r e =
     subst (Asked tones b f h) (sym e)

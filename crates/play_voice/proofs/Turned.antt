@@ -15,7 +15,7 @@ use Rattle.rows.specs.Rows.{tone}
 use Rattle.rows.specs.declared.Tone.{Tone}
 use Rattle.rows.specs.declared.Block.{Block}
 use Rattle.rows_well.specs.declared.Seen.{Seen}
-use Rattle.rows_well.specs.Seen.{unseen, seeing, seenFrom, seenOf, steadySeen}
+use Rattle.rows_well.specs.Seen.{unseen, seeingRow, seenFrom, seenOf, steadySeen}
 use Rattle.rows_well.proofs.Gathered.{steady-more}
 use Rattle.play_levels.specs.declared.Line.{Line}
 use Rattle.play_levels.specs.Voiced.{behind}

@@ -64,8 +64,8 @@ abbrev pub heardTo : List ℕ → Block → ℕ → ℕ → Heard
 heardTo tones r b n = record { block = b; rows = n; seen = seenOf tones (r .tone) n }
 
 -- what was heard is of the rows that it says
-abbrev pub Told : List ℕ → List ℕ → Heard → Type 0
-Told tones blocks h = h .seen ≡ seenOf tones (get block blocks (h .block) .tone) (h .rows)
+abbrev pub ToldSeen : List ℕ → List ℕ → Heard → Type 0
+ToldSeen tones blocks h = h .seen ≡ seenOf tones (get block blocks (h .block) .tone) (h .rows)
 
 -- block b's row
 abbrev pub rowAt : List ℕ → ℕ → Block

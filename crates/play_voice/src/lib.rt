@@ -26,7 +26,8 @@ ghost use Rattle.play_levels.specs.Closed.{beginOf, flipped};
 ghost use Rattle.play_entries.specs.Entries.{isSource, lineStart, lineAt, startLevel};
 ghost use Rattle.play_entries.specs.Signals.{lineData, lineBehind};
 ghost use Rattle.play_entries.specs.Places.{hasEntry, levelAt};
-ghost use Rattle.play_voice.specs.Voice.{pauseBelow, rowsBelow, pauseBy, levelBy, asksPlayed, turnedLine, silence, heardTo, Told};
+ghost use Rattle.play_voice.specs.Voice.{pauseBelow, rowsBelow, pauseBy, levelBy, asksPlayed, turnedLine, silence};
+ghost use Rattle.play_voice.specs.Voice.{heardTo, ToldSeen};
 ghost use Rattle.play_voice.specs.Voice.{rowAt, Standing};
 
 // What was seen of a block's first tone rows.
@@ -227,7 +228,7 @@ fn document_level(tones: &[u64], r: Block, b: u64, f: Phase, h: Heard) -> bool
 // The level of an entry of block b. Our crates alone call it: its row and tone rows are lent, the entry one of it, and what was heard told.
 pub fn level_in(tones: &[u64], blocks: &[u64], b: u64, f: Phase, h: Heard) -> bool
     requires { ⌜ Standing (now tones) (now blocks) b f ⌝ }
-    requires { ⌜ Told (now tones) (now blocks) h ⌝ }
+    requires { ⌜ ToldSeen (now tones) (now blocks) h ⌝ }
     ensures { λ v. ⌜ v ≡ levelAt (now (tones .entry)) (rowAt (now (blocks .entry)) b) f ⌝ }
 {
     if is_source(blocks, b) {

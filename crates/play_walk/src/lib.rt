@@ -17,7 +17,7 @@ ghost use Prim.Native.Nat.{ℕ, _+_, _≤_};
 ghost use Rattle.rows.specs.Table.{capacityOf};
 ghost use Rattle.rows.specs.Rows.{block, blockMost};
 ghost use Rattle.play_entries.specs.Places.{levelAt};
-ghost use Rattle.play_voice.specs.Voice.{Told, rowAt, Standing};
+ghost use Rattle.play_voice.specs.Voice.{ToldSeen, rowAt, Standing};
 ghost use Rattle.play_entries.specs.Source.{levelOf};
 ghost use Rattle.play_entries.specs.Mounted.{tapeOf};
 ghost use Rattle.play_walk.specs.Heads.{placed, startAt, stand, restLevel, nextOf, Walkable, walkFrom};
@@ -96,7 +96,7 @@ fn stands(
     h: Heard,
 ) -> Reached
     requires { ⌜ Standing (now tones) (now blocks) block phase ⌝ }
-    requires { ⌜ Told (now tones) (now blocks) h ⌝ }
+    requires { ⌜ ToldSeen (now tones) (now blocks) h ⌝ }
     ensures { λ x. ⌜ x
         ≡ At (stand (placed block phase (T left)) passed (levelAt (now (tones .entry)) (rowAt (now (blocks .entry)) block) phase)) ⌝ }
 {
@@ -114,7 +114,7 @@ fn stands(
 // The head stands at an endless pause, which its callers know to be one of a block whose row and tone rows are lent.
 fn stops(tones: &[u64], blocks: &[u64], block: u64, phase: Phase, passed: u64, h: Heard) -> Reached
     requires { ⌜ Standing (now tones) (now blocks) block phase ⌝ }
-    requires { ⌜ Told (now tones) (now blocks) h ⌝ }
+    requires { ⌜ ToldSeen (now tones) (now blocks) h ⌝ }
     ensures { λ x. ⌜ x
         ≡ Stopped
         (stand (placed block phase Endless) passed (levelAt (now (tones .entry)) (rowAt (now (blocks .entry)) block) phase)) ⌝ }
@@ -206,7 +206,7 @@ pub fn walk(
     h: Heard,
 ) -> Reached
     requires { ⌜ Walkable (tapeOf (now tape) (now tones) (now blocks) count) pos ⌝ }
-    requires { ⌜ Told (now tones) (now blocks) h ⌝ }
+    requires { ⌜ ToldSeen (now tones) (now blocks) h ⌝ }
     ensures { λ r. ⌜ r ≡ walkFrom (tapeOf (now (tape .entry)) (now (tones .entry)) (now (blocks .entry)) count) pos n ⌝ }
 {
     let mut block = pos.block;

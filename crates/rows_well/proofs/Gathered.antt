@@ -15,7 +15,7 @@ use Rattle.rows.specs.Well.{wellTone, wellTones}
 use Rattle.rows.specs.declared.Tone.{Tone}
 use Rattle.rows.proofs.WellLaws.{tone-most}
 use Rattle.rows_well.specs.declared.Seen.{Seen}
-use Rattle.rows_well.specs.Seen.{unseen, seeing, seenFrom, seenOf, wellSeen, steadySeen}
+use Rattle.rows_well.specs.Seen.{unseen, seeingRow, seenFrom, seenOf, wellSeen, steadySeen}
 
 -- bits joined stay below a power of two exactly where both do
 pub or-within : (k a b : ℕ) → bitOr a b < 2 ^ k → (a < 2 ^ k) × (b < 2 ^ k)
@@ -44,7 +44,7 @@ record Within (t : Tone) (s : Seen) : Type 0 where
   pub len2 : t .len2 ≤ 65535
   pub wave : t .wave ≤ 65535
 
-words-within : (t : Tone) (s : Seen) → seeing t s .words ≤ 65535 → Within t s
+words-within : (t : Tone) (s : Seen) → seeingRow t s .words ≤ 65535 → Within t s
 words-within t s h =
     let x = bitOr (s .words) (t .num) in
     let y = bitOr x (t .len1) in
@@ -55,7 +55,7 @@ words-within t s h =
     let a = or-within 16 (s .words) (t .num) (b .0) in
     record { words = omega arith; num = omega arith; len1 = omega arith; len2 = omega arith; wave = omega arith }
 
-words-joined : (t : Tone) (s : Seen) → Within t s → seeing t s .words ≤ 65535
+words-joined : (t : Tone) (s : Seen) → Within t s → seeingRow t s .words ≤ 65535
 words-joined t s w =
     let x = bitOr (s .words) (t .num) in
     let y = bitOr x (t .len1) in
@@ -80,27 +80,27 @@ limits-hold : (s : Seen) (m n : ℕ) → s .words ≤ 65535 → m ≤ n → (leb
 limits-hold s m n a b = rw (le-leb (s .words) 65535 a, le-leb m n b)
 
 -- one row more
-well-more : (t : Tone) (s : Seen) → wellSeen (seeing t s) ≡ (wellSeen s && wellTone t)
+well-more : (t : Tone) (s : Seen) → wellSeen (seeingRow t s) ≡ (wellSeen s && wellTone t)
 well-more t s = same-test _ _ on back
   where
-    on : wellSeen (seeing t s) ≡ true → (wellSeen s && wellTone t) ≡ true
+    on : wellSeen (seeingRow t s) ≡ true → (wellSeen s && wellTone t) ≡ true
     on e =
-        let l = limits-of (seeing t s) (seeing t s .tops) 15 e in
+        let l = limits-of (seeingRow t s) (seeingRow t s .tops) 15 e in
         let w = words-within t s (l .words) in
         let p = or-within 4 (s .tops) ((t .wave + 4) % 2 ^ 64) (omega (arith, l .other)) in
         rw (limits-hold s (s .tops) 15 (w .words) (omega arith)) (most-tone t (w .num) (w .len1) (w .len2) (omega arith))
 
-    back : (wellSeen s && wellTone t) ≡ true → wellSeen (seeing t s) ≡ true
+    back : (wellSeen s && wellTone t) ≡ true → wellSeen (seeingRow t s) ≡ true
     back e =
         let l = limits-of s (s .tops) 15 (first (wellSeen s) (wellTone t) e) in
         let h = tone-most t (second (wellSeen s) (wellTone t) e) in
         let w : Within t s = record { words = l .words; num = h .num; len1 = h .len1; len2 = h .len2; wave = omega arith } in
         let p = or-lt 4 (s .tops) ((t .wave + 4) % 2 ^ 64) (omega arith) (omega arith) in
-        limits-hold (seeing t s) (seeing t s .tops) 15 (words-joined t s w) (omega arith)
+        limits-hold (seeingRow t s) (seeingRow t s .tops) 15 (words-joined t s w) (omega arith)
 
-pub steady-more : (t : Tone) (s : Seen) → steadySeen (seeing t s) ≡ true → (steadySeen s ≡ true) × (t .wave ≤ 2)
+pub steady-more : (t : Tone) (s : Seen) → steadySeen (seeingRow t s) ≡ true → (steadySeen s ≡ true) × (t .wave ≤ 2)
 steady-more t s e =
-    let l = limits-of (seeing t s) (seeing t s .lows) 3 e in
+    let l = limits-of (seeingRow t s) (seeingRow t s .lows) 3 e in
     let w = words-within t s (l .words) in
     let p = or-within 2 (s .lows) ((t .wave + 1) % 2 ^ 64) (omega (arith, l .other)) in
     (limits-hold s (s .lows) 3 (w .words) (omega arith), omega arith)
@@ -132,7 +132,7 @@ module _ (tones : List ℕ) where
 
   -- one turn over the rows
   pub seen-turn : (s : Seen) (from i : ℕ) → from ≤ i
-      → seenFrom tones s from (i + 1 - from) ≡ seeing (get tone tones i) (seenFrom tones s from (i - from))
+      → seenFrom tones s from (i + 1 - from) ≡ seeingRow (get tone tones i) (seenFrom tones s from (i - from))
   unfolding seenFrom
   seen-turn s from i h =
       let k : i + 1 - from ≡ suc (i - from) = omega arith in
@@ -145,7 +145,7 @@ module _ (tones : List ℕ) where
   seen-joins s from a zero = rw add-zero
   seen-joins s from a (suc b) =
       rw (add-suc a b)
-      (ap₂ (λ (i : ℕ) (x : Seen). seeing (get tone tones i) x) (add-assoc from a b) (seen-joins s from a b))
+      (ap₂ (λ (i : ℕ) (x : Seen). seeingRow (get tone tones i) x) (add-assoc from a b) (seen-joins s from a b))
 
   -- on from the first k rows to the first n
   pub seen-on : (s : Seen) (from k n : ℕ) → s ≡ seenOf tones from k → k ≤ n

@@ -14,8 +14,8 @@ abbrev pub unseen : Seen
 unseen = record { words = 0; tops = 0; lows = 0; turns = 0 }
 
 -- a row more: its words; its wave and 4, below 16 up to 11; its wave and 1, below 4 up to 2; its count, where the wave is odd
-abbrev pub seeing : Tone → Seen → Seen
-seeing t s =
+abbrev pub seeingRow : Tone → Seen → Seen
+seeingRow t s =
     record {
       words = bitOr (bitOr (bitOr (bitOr (s .words) (t .num)) (t .len1)) (t .len2)) (t .wave);
       tops = bitOr (s .tops) ((t .wave + 4) % 2 ^ 64);
@@ -26,7 +26,7 @@ seeing t s =
 -- n rows from row `from` on behind what was seen before, the last row last
 unfoldable pub seenFrom : List ℕ → Seen → ℕ → ℕ → Seen
 seenFrom tones s from zero = s
-seenFrom tones s from (suc n) = seeing (get tone tones (from + n)) (seenFrom tones s from n)
+seenFrom tones s from (suc n) = seeingRow (get tone tones (from + n)) (seenFrom tones s from n)
 
 abbrev pub seenOf : List ℕ → ℕ → ℕ → Seen
 seenOf tones from n = seenFrom tones unseen from n

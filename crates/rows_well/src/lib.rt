@@ -9,7 +9,7 @@ ghost use Prim.Native.Nat.{_+_, _*_, _≤_};
 ghost use lib.ListN.{length};
 ghost use Rattle.rows.specs.Rows.{tone};
 ghost use Rattle.rows.specs.Well.{inside, wellTones, wellRanges, wellPause, wellLast, wellNumbers, wellLevels, wellCases, wellBlock};
-ghost use Rattle.rows_well.specs.Seen.{unseen, seeing, seenFrom, wellSeen, steadySeen};
+ghost use Rattle.rows_well.specs.Seen.{unseen, seeingRow, seenFrom, wellSeen, steadySeen};
 ghost use Rattle.rows_well.specs.Words.{wellWords};
 
 // Whether `n` places from `from` on lie among the first `most`.
@@ -41,7 +41,7 @@ pub fn none_seen() -> Seen
 
 // A tone row more. A limit of all the rows is a limit of the bits gathered, so no row needs a test of its own.
 fn see(t: Tone, s: Seen) -> Seen
-    ensures { λ r. ⌜ r ≡ seeing t s ⌝ }
+    ensures { λ r. ⌜ r ≡ seeingRow t s ⌝ }
 {
     Seen {
         words: s.words | t.num | t.len1 | t.len2 | t.wave,

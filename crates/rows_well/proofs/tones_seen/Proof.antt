@@ -3,7 +3,7 @@ use Prim.Native.Nat.{_+_, _-_, _≤_}
 use native.Mathlib.Omega.{arith}
 use mathlib.Core.Path.{_≡_, refl, sym, ap₂, _∙_}
 use borrow.Author.Needs.{needs}
-use Rattle.rows_well.specs.Seen.{seeing, seenFrom}
+use Rattle.rows_well.specs.Seen.{seeingRow, seenFrom}
 use Rattle.rows_well.proofs.Gathered.{seen-turn}
 use Rattle.rows_well.proofs.tones_seen.Statement.{statement}
 use Rattle.rows_well.proofs.tones_seen.Tie as tie
@@ -44,7 +44,7 @@ loop-again c =
       omega arith,
       omega arith,
       c .see .ensures
-          ∙ ap₂ seeing (t .ensures) (l .inv .2)
+          ∙ ap₂ seeingRow (t .ensures) (l .inv .2)
           ∙ sym (seen-turn (a .tones .now) (a .past) (a .from) (l .i) (l .inv .0)),
     )
 

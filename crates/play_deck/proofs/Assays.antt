@@ -25,7 +25,7 @@ use Rattle.play_entries.specs.Entries.{isSource}
 use Rattle.play_entries.specs.Places.{Tape, blockIn, hasEntry, lengthAt, remains, levelAt, levelIn, hasIn, lengthIn}
 use Rattle.play_entries.specs.Mounted.{tapeSize, wellRow}
 use Rattle.play_voice.specs.declared.Heard.{Heard}
-use Rattle.play_voice.specs.Voice.{rowsBelow, silence, heardTo, Told, rowAt}
+use Rattle.play_voice.specs.Voice.{rowsBelow, silence, heardTo, ToldSeen, rowAt}
 use Rattle.play_walk.specs.declared.Position.{Position}
 use Rattle.play_walk.specs.declared.Reached.{Reached}
 use Rattle.play_walk.specs.declared.Reached.the-variants.{At, Stopped}
@@ -39,7 +39,7 @@ use Rattle.play_deck.proofs.Checks.{judged-over, judged-start, judged-p
 use Rattle.play_deck.proofs.Checks.{stays-at, stays-past, stays-endless}
 
 -- nothing heard is told
-told-silence : (tones blocks : List ℕ) → Told tones blocks silence
+told-silence : (tones blocks : List ℕ) → ToldSeen tones blocks silence
 unfolding seenFrom
 told-silence tones blocks = refl
 
@@ -197,8 +197,8 @@ module _ (tones blocks : List ℕ) (b : ℕ) (f : Phase) where
     heard-of : h ≡ heardTo tones (rowAt blocks b) b (min (rowsBelow (rowAt blocks b) f) (rowAt blocks b .tones))
     heard-of = g ∙ ap (λ (y : Block). heardTo tones y b (min (rowsBelow y f) (y .tones))) e
 
-    pub told-heard : Told tones blocks h
-    told-heard = subst (Told tones blocks) (sym heard-of) refl
+    pub told-heard : ToldSeen tones blocks h
+    told-heard = subst (ToldSeen tones blocks) (sym heard-of) refl
 
     -- what is asked of the row and of what was heard, to judge all tone rows
     abbrev Judging : Block → Heard → Type 0
@@ -226,7 +226,7 @@ module _ (tones blocks : List ℕ) (b : ℕ) (f : Phase) where
         (record { check = rw (t, n); level = λ z. absurd (invalid z); told = told-silence tones blocks })
 
     pub sounded-fine : rowsWell ≡ true → has ≡ true → (v : Level) → v ≡ levelAt tones (rowAt blocks b) f → (h : Heard)
-        → Told tones blocks h → a ≡ verdictOf Fine v h
+        → ToldSeen tones blocks h → a ≡ verdictOf Fine v h
         → Sounded tones blocks b f has a
     sounded-fine t n v l h k e =
         subst (Sounded tones blocks b f has) (sym e) (record { check = rw (t, n); level = λ z. l; told = k })

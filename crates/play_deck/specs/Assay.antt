@@ -16,7 +16,7 @@ use Rattle.play_entries.specs.declared.Phase.{Phase}
 use Rattle.play_entries.specs.Entries.{isSource}
 use Rattle.play_entries.specs.Places.{Tape, levelAt, levelIn}
 use Rattle.play_voice.specs.declared.Heard.{Heard}
-use Rattle.play_voice.specs.Voice.{Told, rowAt}
+use Rattle.play_voice.specs.Voice.{ToldSeen, rowAt}
 use Rattle.play_walk.specs.declared.Position.{Position}
 use Rattle.play_deck.specs.declared.Check.{Check}
 use Rattle.play_deck.specs.declared.Check.the-variants.{Fine, NotValid, NotFormed}
@@ -42,7 +42,7 @@ levelThere w q = ltb (q .block) (w .count) ⇒ levelIn w (q .block) (q .phase) �
 pub record Assayed (w : Tape) (q : Position) (a : Finding) : Type 0 where
   pub check : a .check ≡ judged w q
   pub level : a .check ≡ Fine → a .level ≡ levelThere w q
-  pub told : Told (w .tones) (w .blocks) (a .heard)
+  pub told : ToldSeen (w .tones) (w .blocks) (a .heard)
 
 -- block b's row and its tone rows are lent
 pub record Lending (tones blocks : List ℕ) (b : ℕ) : Type 0 where
@@ -53,4 +53,4 @@ pub record Lending (tones blocks : List ℕ) (b : ℕ) : Type 0 where
 pub record Sounded (tones blocks : List ℕ) (b : ℕ) (f : Phase) (has : Bool) (a : Finding) : Type 0 where
   pub check : a .check ≡ (wellTones tones (rowAt blocks b .tone) (rowAt blocks b .tones) ⇒ fineIf has ∣ NotFormed)
   pub level : a .check ≡ Fine → a .level ≡ levelAt tones (rowAt blocks b) f
-  pub told : Told tones blocks (a .heard)
+  pub told : ToldSeen tones blocks (a .heard)

@@ -121,10 +121,10 @@ module _ (s : List ℕ) (h : GeneralHead) (asd : ℕ) where
       .any (Generalized (generalWith b n))
 
 -- a 19 is its head and its tables
-general-body : (formatFull : ℕ) (s : List ℕ) (c : Cursor)
+general-body : (full : ℕ) (s : List ℕ) (c : Cursor)
     → (let h = head19 s c in
-    readAt (kind19 formatFull) s c
-    ≡ bodyWith s h (orFull formatFull (h .asd)) (orFull formatFull (h .asp)) (heldIf (h .totp) (orFull formatFull (h .asp))))
+    readAt (kind19 full) s c
+    ≡ bodyWith s h (orFull full (h .asd)) (orFull full (h .asp)) (heldIf (h .totp) (orFull full (h .asp))))
 unfolding readAt kind19 stream19 passAt head19 bodyWith
 general-body full s c = refl
 

@@ -9,6 +9,7 @@ use play_phases::mic;
 use play_phases::size_of;
 use play_voice::Heard;
 use play_voice::hear;
+use play_voice::hear_on;
 use play_voice::heard_well;
 use play_voice::is_source;
 use play_voice::level_in;
@@ -27,16 +28,17 @@ ghost use mathlib.Core.Path.{_≡_};
 ghost use mathlib.Core.Bool.{true, _&&_};
 ghost use Rattle.rows_well.specs.Words.{wellWords};
 ghost use Rattle.law_pulses.specs.Play.{low};
-ghost use Rattle.play_entries.specs.Places.{Tape, hasEntry, lengthAt, levelIn, isNone, remains};
+ghost use Rattle.play_entries.specs.Places.{Tape, hasEntry, lengthAt, levelIn, isNone, isStart, remains};
 ghost use Rattle.play_entries.specs.Mounted.{tapeSize, tapeOf};
 ghost use lib.Dec.{eqb};
 ghost use Rattle.law_base.specs.Rules.{_⇒_, _∣_};
-ghost use Rattle.play_voice.specs.Voice.{silence, rowAt};
-ghost use Rattle.play_walk.specs.Heads.{walkFrom};
+ghost use Rattle.play_voice.specs.Voice.{silence, rowAt, ToldSeen};
+ghost use Rattle.play_walk.specs.Heads.{walkFrom, GoesOn, Landed, Lands};
 ghost use Rattle.play_deck.specs.declared.Check.the-variants.{Fine};
 ghost use Rattle.play_deck.specs.Assay.{fineIf, verdictOf, readyRow, levelThere, Assayed, Lending, Sounded};
 ghost use Rattle.play_deck.specs.Inside.{endsInside, lessBy, inPlace};
 ghost use Rattle.play_deck.specs.Deck.{atStart, judged, stays, playMeasured, sourceFrom, playSource};
+ghost use Rattle.play_deck.specs.Calls.{positionIn};
 
 // What the checks of a position come to.
 pub enum Check {
@@ -254,6 +256,7 @@ fn measure(
     requires { ⌜ a .check ≡ Fine ⌝ }
     ensures { λ r. ⌜ r ≡ (eqb n 0 ⇒ stays (tapeOf (now (tape .entry)) (now (tones .entry)) (now (blocks .entry)) count) pos
         ∣ walkFrom (tapeOf (now (tape .entry)) (now (tones .entry)) (now (blocks .entry)) count) pos n) ⌝ }
+    ensures { λ r. ⌜ Lands (tapeOf (now (tape .entry)) (now (tones .entry)) (now (blocks .entry)) count) r ⌝ }
 {
     if n == 0 {
         return stay(pos, a.level);
@@ -269,6 +272,28 @@ fn measure(
     walk(tape, tones, blocks, count, pos, n, h)
 }
 
+// The measured player's call of n T-states from a position, by what it came to; our crates alone call it.
+pub fn measured_by(
+    tape: &[u8],
+    tones: &[u64],
+    blocks: &[u64],
+    count: u64,
+    pos: Position,
+    n: u32,
+    a: Finding,
+) -> Reached
+    requires { ⌜ Assayed (tapeOf (now tape) (now tones) (now blocks) count) pos a ⌝ }
+    ensures { λ r. ⌜ r ≡ playMeasured (tapeOf (now (tape .entry)) (now (tones .entry)) (now (blocks .entry)) count) pos n ⌝ }
+    ensures { λ r. ⌜ Lands (tapeOf (now (tape .entry)) (now (tones .entry)) (now (blocks .entry)) count) r ⌝ }
+{
+    let c = a.check;
+    match c {
+        Check::Fine => measure(tape, tones, blocks, count, pos, n as u64, a),
+        Check::NotValid => Reached::NotValid,
+        Check::NotFormed => Reached::NotFormed,
+    }
+}
+
 // The measured player: a call of n T-states from a position.
 pub fn play_measured(
     tape: &[u8],
@@ -281,12 +306,7 @@ pub fn play_measured(
     ensures { λ r. ⌜ r ≡ playMeasured (tapeOf (now (tape .entry)) (now (tones .entry)) (now (blocks .entry)) count) pos n ⌝ }
 {
     let a = assay(tape, tones, blocks, count, pos);
-    let c = a.check;
-    match c {
-        Check::Fine => measure(tape, tones, blocks, count, pos, n as u64, a),
-        Check::NotValid => Reached::NotValid,
-        Check::NotFormed => Reached::NotFormed,
-    }
+    measured_by(tape, tones, blocks, count, pos, n, a)
 }
 
 // The source's play of n from a position that its callers know to be fine, by what it came to.
@@ -303,6 +323,7 @@ fn follow(
     requires { ⌜ a .check ≡ Fine ⌝ }
     ensures { λ r. ⌜ r ≡ (eqb n 0 ⇒ stays (tapeOf (now (tape .entry)) (now (tones .entry)) (now (blocks .entry)) count) pos
         ∣ sourceFrom (tapeOf (now (tape .entry)) (now (tones .entry)) (now (blocks .entry)) count) pos n) ⌝ }
+    ensures { λ r. ⌜ Lands (tapeOf (now (tape .entry)) (now (tones .entry)) (now (blocks .entry)) count) r ⌝ }
 {
     if n == 0 {
         return stay(pos, a.level);
@@ -319,6 +340,28 @@ fn follow(
     walk(tape, tones, blocks, count, pos, n as u64 + more, h)
 }
 
+// The source's play's call of n T-states from a position, by what it came to; our crates alone call it.
+pub fn followed_by(
+    tape: &[u8],
+    tones: &[u64],
+    blocks: &[u64],
+    count: u64,
+    pos: Position,
+    n: u32,
+    a: Finding,
+) -> Reached
+    requires { ⌜ Assayed (tapeOf (now tape) (now tones) (now blocks) count) pos a ⌝ }
+    ensures { λ r. ⌜ r ≡ playSource (tapeOf (now (tape .entry)) (now (tones .entry)) (now (blocks .entry)) count) pos n ⌝ }
+    ensures { λ r. ⌜ Lands (tapeOf (now (tape .entry)) (now (tones .entry)) (now (blocks .entry)) count) r ⌝ }
+{
+    let c = a.check;
+    match c {
+        Check::Fine => follow(tape, tones, blocks, count, pos, n, a),
+        Check::NotValid => Reached::NotValid,
+        Check::NotFormed => Reached::NotFormed,
+    }
+}
+
 // The source's play: a call of n T-states from a position.
 pub fn play(
     tape: &[u8],
@@ -331,11 +374,94 @@ pub fn play(
     ensures { λ r. ⌜ r ≡ playSource (tapeOf (now (tape .entry)) (now (tones .entry)) (now (blocks .entry)) count) pos n ⌝ }
 {
     let a = assay(tape, tones, blocks, count, pos);
-    let c = a.check;
-    match c {
-        Check::Fine => follow(tape, tones, blocks, count, pos, n, a),
-        Check::NotValid => Reached::NotValid,
-        Check::NotFormed => Reached::NotFormed,
+    followed_by(tape, tones, blocks, count, pos, n, a)
+}
+
+// Whether a phase is a block's start.
+fn is_start(f: Phase) -> bool
+    ensures { λ v. ⌜ v ≡ isStart f ⌝ }
+{
+    match f {
+        Phase::Start => true,
+        Phase::Tones { .. } => false,
+        Phase::Data { .. } => false,
+        Phase::Edge => false,
+        Phase::Pause => false,
+    }
+}
+
+// What the position of a stand inside a block comes to, known to be fine; on from what was heard.
+fn assay_inside(
+    tape: &[u8],
+    tones: &[u64],
+    blocks: &[u64],
+    count: u64,
+    s: Stand,
+    h: Heard,
+) -> Finding
+    requires { ⌜ GoesOn (tapeOf (now tape) (now tones) (now blocks) count) s ⌝ }
+    requires { ⌜ ToldSeen (now tones) (now blocks) h ⌝ }
+    ensures { λ a. ⌜ Assayed (tapeOf (now (tape .entry)) (now (tones .entry)) (now (blocks .entry)) count) (s .position) a ⌝ }
+{
+    let pos = s.position;
+    let b = pos.block;
+    if is_source(blocks, b) {
+        return Finding {
+            check: Check::Fine,
+            level: s.level,
+            heard: h,
+        };
+    }
+    let f = pos.phase;
+    Finding {
+        check: Check::Fine,
+        level: s.level,
+        heard: hear_on(tones, block_at(blocks, b as usize), b, f, h),
+    }
+}
+
+// What the position of a stand comes to: at a block's start its row is judged.
+fn assay_stand(
+    tape: &[u8],
+    tones: &[u64],
+    blocks: &[u64],
+    count: u64,
+    s: Stand,
+    h: Heard,
+) -> Finding
+    requires { ⌜ Landed (tapeOf (now tape) (now tones) (now blocks) count) s ⌝ }
+    requires { ⌜ ToldSeen (now tones) (now blocks) h ⌝ }
+    ensures { λ a. ⌜ Assayed (tapeOf (now (tape .entry)) (now (tones .entry)) (now (blocks .entry)) count) (s .position) a ⌝ }
+{
+    let pos = s.position;
+    let f = pos.phase;
+    if is_start(f) {
+        return assay(tape, tones, blocks, count, pos);
+    }
+    assay_inside(tape, tones, blocks, count, s, h)
+}
+
+// What the position comes to where an answer leaves the head: nothing is judged twice. Our crates alone call it.
+pub fn assay_after(
+    tape: &[u8],
+    tones: &[u64],
+    blocks: &[u64],
+    count: u64,
+    pos: Position,
+    a: Finding,
+    r: Reached,
+) -> Finding
+    requires { ⌜ Assayed (tapeOf (now tape) (now tones) (now blocks) count) pos a ⌝ }
+    requires { ⌜ Lands (tapeOf (now tape) (now tones) (now blocks) count) r ⌝ }
+    ensures { λ f. ⌜ Assayed (tapeOf (now (tape .entry)) (now (tones .entry)) (now (blocks .entry)) count) (positionIn pos r) f ⌝ }
+{
+    let h = a.heard;
+    match r {
+        Reached::At(s) => assay_stand(tape, tones, blocks, count, s, h),
+        Reached::Stopped(s) => assay_stand(tape, tones, blocks, count, s, h),
+        Reached::Ended(s) => assay_stand(tape, tones, blocks, count, s, h),
+        Reached::NotValid => a,
+        Reached::NotFormed => a,
     }
 }
 

@@ -244,17 +244,27 @@ fn at_most(n: u64, m: u64) -> u64
     if n <= m { n } else { m }
 }
 
-// The tone rows of block b below an entry, heard; the entry may be none of its row r, whose tone rows its callers know to be lent.
-pub fn hear(tones: &[u64], r: Block, b: u64, f: Phase) -> Heard
+// The tone rows of block b below an entry, on from what was heard where that is of them; the entry may be none of its row r, whose tone
+// rows its callers know to be lent.
+pub fn hear_on(tones: &[u64], r: Block, b: u64, f: Phase, h: Heard) -> Heard
     requires { ⌜ r .tone + r .tones ≤ capacityOf tone toneMost (now tones) ⌝ }
-    ensures { λ h. ⌜ h ≡ heardTo (now (tones .entry)) r b (min (rowsBelow r f) (r .tones)) ⌝ }
+    requires { ⌜ (h .block ≡ b → h .seen ≡ seenOf (now tones) (r .tone) (h .rows)) ⌝ }
+    ensures { λ x. ⌜ x ≡ heardTo (now (tones .entry)) r b (min (rowsBelow r f) (r .tones)) ⌝ }
 {
     let k = at_most(rows_below(r, f), r.tones);
     Heard {
         block: b,
         rows: k,
-        seen: tones_seen(tones, none_seen(), r.tone, k),
+        seen: seen_on(tones, r, b, k, h),
     }
+}
+
+// The tone rows of block b below an entry, heard anew.
+pub fn hear(tones: &[u64], r: Block, b: u64, f: Phase) -> Heard
+    requires { ⌜ r .tone + r .tones ≤ capacityOf tone toneMost (now tones) ⌝ }
+    ensures { λ h. ⌜ h ≡ heardTo (now (tones .entry)) r b (min (rowsBelow r f) (r .tones)) ⌝ }
+{
+    hear_on(tones, r, b, f, unheard())
 }
 
 // Whether a row's tone rows are well formed, on from those heard; its callers know them to be lent.

@@ -185,7 +185,7 @@ into-by false true c x y z e = let i : _≡_ {A = ℕ} 0 1 = cc in absurd (omega
 into-by false false true x y z e = (refl, (refl, refl))
 into-by false false false x y z e = let i : _≡_ {A = ℕ} 0 1 = cc in absurd (omega arith)
 
-left-by : (P : Reached → Type 0) (a b c : Bool) (x y z r : Reached)
+pub left-by : (P : Reached → Type 0) (a b c : Bool) (x y z r : Reached)
     → (a ⇒ Left x ∣ b ⇒ Left y ∣ c ⇒ Into ∣ Left z) ≡ Left r
     → (a ≡ true → P x) → (a ≡ false → b ≡ true → P y) → (a ≡ false → b ≡ false → c ≡ false → P z) → P r
 left-by P true b c x y z r e f g h = let i : x ≡ r = cc in subst P i (f refl)

@@ -15,7 +15,7 @@ use Rattle.play_entries.specs.declared.Phase.the-variants.{Start}
 use Rattle.play_entries.specs.declared.Duration.{Duration}
 use Rattle.play_entries.specs.declared.Duration.the-variants.{T}
 use Rattle.play_entries.specs.Entries.{Label, startLevel}
-use Rattle.play_entries.specs.Places.{Tape, blockIn, leftAt, valid, headOf, leftOf}
+use Rattle.play_entries.specs.Places.{Tape, blockIn, leftAt, valid, headOf, leftOf, isStart, levelIn}
 use Rattle.play_entries.specs.Mounted.{wellRow, formed}
 use Rattle.play_walk.specs.declared.Position.{Position}
 use Rattle.play_walk.specs.declared.Stand.{Stand}
@@ -107,3 +107,20 @@ pub record Walkable (w : Tape) (q : Position) : Type 0 where
   pub below : q .block < w .count
   pub row : wellRow w (q .block) ≡ true
   pub stands : valid w (q .block) (q .phase) (q .left) ≡ true
+
+-- where a head stands inside a block the next call goes on: at an entry of a well-formed row, at this level
+pub record GoesOn (w : Tape) (s : Stand) : Type 0 where
+  pub there : Walkable w (s .position)
+  pub level : s .level ≡ levelIn w (s .position .block) (s .position .phase)
+
+-- .. but not from a block's start, whose row is judged only when it is reached
+abbrev pub Landed : Tape → Stand → Type 0
+Landed w s = isStart (s .position .phase) ≡ false → GoesOn w s
+
+-- of an answer
+unfoldable pub Lands : Tape → Reached → Type 0
+Lands w (At s) = Landed w s
+Lands w (Stopped s) = Landed w s
+Lands w (Ended s) = Landed w s
+Lands w NotValid = Unit {0}
+Lands w NotFormed = Unit {0}

@@ -20,7 +20,7 @@ ghost use Rattle.play_entries.specs.Places.{levelAt};
 ghost use Rattle.play_voice.specs.Voice.{ToldSeen, rowAt, Standing};
 ghost use Rattle.play_entries.specs.Source.{levelOf};
 ghost use Rattle.play_entries.specs.Mounted.{tapeOf};
-ghost use Rattle.play_walk.specs.Heads.{placed, startAt, stand, restLevel, nextOf, Walkable, walkFrom};
+ghost use Rattle.play_walk.specs.Heads.{placed, startAt, stand, restLevel, nextOf, Walkable, walkFrom, Lands};
 ghost use Rattle.play_entries.specs.declared.Duration.the-variants.{T, Endless};
 ghost use Rattle.play_walk.specs.declared.Reached.the-variants.{At, Stopped, Ended};
 
@@ -208,6 +208,7 @@ pub fn walk(
     requires { ⌜ Walkable (tapeOf (now tape) (now tones) (now blocks) count) pos ⌝ }
     requires { ⌜ ToldSeen (now tones) (now blocks) h ⌝ }
     ensures { λ r. ⌜ r ≡ walkFrom (tapeOf (now (tape .entry)) (now (tones .entry)) (now (blocks .entry)) count) pos n ⌝ }
+    ensures { λ r. ⌜ Lands (tapeOf (now (tape .entry)) (now (tones .entry)) (now (blocks .entry)) count) r ⌝ }
 {
     let mut block = pos.block;
     let mut phase = pos.phase;

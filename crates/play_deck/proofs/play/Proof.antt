@@ -1,5 +1,4 @@
 -- `play` meets its contract. Assumes nothing.
-use Rattle.play_deck.specs.Deck.{unless, playSource}
 use borrow.Author.Needs.{needs}
 use Rattle.play_deck.proofs.play.Statement.{statement}
 use Rattle.play_deck.proofs.play.Tie as tie
@@ -7,42 +6,11 @@ use Rattle.play_deck.proofs.play.Tie as tie
 assay-requires : tie.Need-assay-requires
 assay-requires c κs = search needs
 
-enum-told : tie.Need-enum-told
-enum-told c = search needs
-
-follow-requires : tie.Need-follow-requires
-follow-requires c κs = search needs
-
-enum-told-2 : tie.Need-enum-told-2
-enum-told-2 c = search needs
-
-enum-told-3 : tie.Need-enum-told-3
-enum-told-3 c = search needs
+followed-by-requires : tie.Need-followed-by-requires
+followed-by-requires c κs = c .assay .ensures
 
 returns : tie.Need-returns
-unfolding playSource unless
-returns c =
-    rw (← c .before .before .before .assay .ensures .check, c .before .enum-told .given .1) (c .follow .ensures)
-
-returns-2 : tie.Need-returns-2
-unfolding playSource unless
-returns-2 c =
-    rw (← c .before .before .assay .ensures .check, c .enum-told2 .given .1)
-
-returns-3 : tie.Need-returns-3
-unfolding playSource unless
-returns-3 c =
-    rw (← c .before .before .assay .ensures .check, c .enum-told3 .given .1)
+returns c = c .followed-by .ensures .0
 
 pub play-spec : {M : Type 1} → statement M
-play-spec =
-    tie.close
-    (tie.spec
-    assay-requires
-    enum-told
-    follow-requires
-    enum-told-2
-    enum-told-3
-    returns
-    returns-2
-    returns-3)
+play-spec = tie.close (tie.spec assay-requires followed-by-requires returns)

@@ -3,18 +3,21 @@ use borrow.Author.Needs.{needs}
 use Rattle.play_entries.proofs.Lent.{row-lent}
 use Prim.Native.Nat.{ℕ, _+_, _-_, _≤_}
 use native.Mathlib.Omega.{arith}
-use mathlib.Core.Path.{_≡_, sym, ap, _∙_}
+use mathlib.Core.Path.{_≡_, sym, ap, subst, _∙_}
 use mathlib.Core.Logic.{inl, inr}
 use lib.ListN.{length}
 use Rattle.law_pulses.proofs.Lead.{Leads, lead-here, lead-on}
 use Rattle.rows.specs.declared.Block.{Block}
+use Rattle.play_entries.specs.declared.Duration.{Duration}
+use Rattle.play_entries.specs.declared.Duration.the-variants.{T, Endless}
 use Rattle.play_entries.specs.Places.{leftAt, lengthAt}
 use Rattle.play_walk.specs.declared.Position.{Position}
 use Rattle.play_walk.proofs.Needed.{well-before}
+use Rattle.play_walk.proofs.Landing.{on-walkable, walkable-less, lands-at, lands-stopped, lands-next}
 use Rattle.play_walk.proofs.Turns.{cutOf, rows-of, On, on-has, stands-there, on-first, on-start, asks, asks-has, leaves-at}
 use Rattle.play_walk.proofs.Turns.{leaves-stopped, less-none, step-most, step-few, step-has, turn-lead, turn-on, turn-less}
 use Rattle.play_walk.proofs.Turns.{turn-out, next-into, next-left}
-use Rattle.play_walk.specs.Heads.{walkFrom}
+use Rattle.play_walk.specs.Heads.{placed, Walkable, walkFrom}
 use Rattle.play_entries.specs.Mounted.{firstBad, cutTo, formed, tapeOf}
 use Rattle.play_walk.proofs.walk.Statement.{statement}
 use Rattle.play_walk.proofs.walk.Tie as tie
@@ -307,9 +310,13 @@ returns c =
     let B = c .before .before .before .before .before .blocks2 in
     let E = c .before .before .before .entries in
     let i = E .inv k (B .inv .1 .0) in
-    c .stops .ensures
-    ∙ sym (leaves-stopped w k (B .block) (E .phase) (E .left) (E .full) (E .passed) (i .1) (lead-on (B .inv .0) (i .0))
-    (c .before .enum-told .given .1))
+    let e = c .before .enum-told .given .1 in
+    let o = on-walkable (rows-of w (a .pos) (s .pre .0)) (s .pre .0 .lent) (B .inv .1 .1) (i .1) in (
+      c .stops .ensures ∙ sym
+          (leaves-stopped w k (B .block) (E .phase) (E .left) (E .full) (E .passed) (i .1) (lead-on (B .inv .0) (i .0)) e),
+      lands-stopped w (placed (B .block) (E .phase) Endless) (E .passed) (c .stops .ensures)
+          (subst (λ (d : Duration). Walkable w (placed (B .block) (E .phase) d)) e o),
+    )
 
 returns-2 : tie.Need-returns-2 Inv-entries μ-entries Inv-blocks2 μ-blocks2
 unfolding walkFrom formed
@@ -322,9 +329,14 @@ returns-2 c =
     let B = left .before .before .before .before .blocks2 in
     let E = left .before .before .entries in
     let i = E .inv k (B .inv .1 .0) in
+    let e = left .left .given .1 in
+    let o = on-walkable (rows-of w (a .pos) (s .pre .0)) (s .pre .0 .lent) (B .inv .1 .1) (i .1) in
     let z : _ ≡ _ = leaves-at w k (B .block) (E .phase) (E .left) (E .full) (E .passed) (i .1) (lead-on (B .inv .0) (i .0)) _
-    (left .left .given .1) (inl (c .before .if1 .taken)) in
-    c .stands .ensures ∙ less-none _ _ _ _ (c .before .if1 .taken) ∙ sym z
+    e (inl (c .before .if1 .taken)) in (
+      c .stands .ensures ∙ less-none _ _ _ _ (c .before .if1 .taken) ∙ sym z,
+      lands-at w (placed (B .block) (E .phase) (T (left .left .given .0 .0))) (E .passed) (c .stands .ensures)
+          (subst (λ (d : Duration). Walkable w (placed (B .block) (E .phase) d)) e o),
+    )
 
 returns-3 : tie.Need-returns-3 Inv-entries μ-entries Inv-blocks2 μ-blocks2
 unfolding walkFrom formed
@@ -337,9 +349,16 @@ returns-3 c =
     let B = left .before .before .before .before .blocks2 in
     let E = left .before .before .entries in
     let i = E .inv k (B .inv .1 .0) in
-    c .stands2 .ensures
-    ∙ sym (leaves-at w k (B .block) (E .phase) (E .left) (E .full) (E .passed) (i .1) (lead-on (B .inv .0) (i .0)) _
-    (left .left .given .1) (inr (c .before .if2 .taken)))
+    let e = left .left .given .1 in
+    let l = c .before .if2 .taken in
+    let t : ℕ = left .left .given .0 .0 in
+    let o = on-walkable (rows-of w (a .pos) (s .pre .0)) (s .pre .0 .lent) (B .inv .1 .1) (i .1) in (
+      c .stands2 .ensures ∙ sym
+          (leaves-at w k (B .block) (E .phase) (E .left) (E .full) (E .passed) (i .1) (lead-on (B .inv .0) (i .0)) _ e (inr l)),
+      lands-at w (placed (B .block) (E .phase) (T (t - E .d))) (E .passed) (c .stands2 .ensures)
+          (walkable-less w (B .block) (E .phase) t (t - E .d)
+          (subst (λ (d : Duration). Walkable w (placed (B .block) (E .phase) d)) e o) (omega arith) (omega arith)),
+    )
 
 returns-4 : tie.Need-returns-4 Inv-entries μ-entries Inv-blocks2 μ-blocks2
 unfolding walkFrom formed
@@ -359,8 +378,10 @@ returns-4 c =
     let l = turn-out w k (B .block) (E .phase) (E .left) (E .full) (E .passed) (i .1) (E .d) _ (left .left .given .1)
     (omega (arith, take .before .before .if1 .left)) (omega (arith, take .before .if2 .left)) (block-at .block-at .result)
     (block-at .block-at .ensures) (take .take .result) (take .take .ensures) (next-block .before .if3 .taken) in
-    next-left x (B .block) _ _ _ (sym (next-block .next-block .ensures) ∙ c .before .next .given .1)
-    (lead-on (lead-on (B .inv .0) (i .0)) l) (B .inv .1 .1) (i .1 .below)
+    let g = sym (next-block .next-block .ensures) ∙ c .before .next .given .1 in (
+      next-left x (B .block) _ _ _ g (lead-on (lead-on (B .inv .0) (i .0)) l) (B .inv .1 .1) (i .1 .below),
+      lands-next w (B .block + 1) _ _ _ g,
+    )
 
 pub walk-spec : {M : Type 1} → statement M
 walk-spec =

@@ -20,7 +20,7 @@ use Rattle.load_blocks.specs.Sounds.{rowOf}
 use Rattle.load_blocks.specs.Does.{lentOf}
 use Rattle.load_source.specs.Source.{loadOf}
 use Rattle.text_name.specs.Names.{isHeader, sizeShown, sizeName, guessed, nameOf, unselected, nameAll}
-use Rattle.text_header.proofs.Headers.{either, header-length}
+use Rattle.text_name.proofs.Headers.{either, header-length}
 use Rattle.text_name.proofs.Selecting.{name-all-length}
 use Rattle.law_every_load.specs.Sizes.{Bytes}
 use Rattle.law_every_load.specs.OfSource.{Everywhere, Reads}

@@ -13,7 +13,7 @@ use Rattle.law_base.specs.Rules.{_⇒_, _∣_}
 use Rattle.law_base.proofs.Tests.{first, second}
 use Rattle.text_out.specs.Out.{ascii, utf8Of, utf8, digits, decimal, latin1, eachByte, latin}
 use Rattle.text_codes.specs.Encoding.{codeTexts, table, encoded, spelled}
-use Rattle.text_header.specs.Headers.{typeName, headerName}
+use Rattle.text_name.specs.Headers.{typeName, headerName}
 use Rattle.rows.specs.declared.Block.{Block}
 use Rattle.text_name.specs.Names.{isHeader, sizeShown, sizeName, guessed, nameOf}
 use Rattle.text_shown.specs.Shown.{shown}

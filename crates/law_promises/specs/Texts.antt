@@ -6,7 +6,7 @@ use lib.Dec.{eqb}
 use Rattle.law_base.specs.Rules.{_⇒_, _∣_}
 use Rattle.text_out.specs.Out.{ascii, eachByte}
 use Rattle.text_codes.specs.Encoding.{codeTexts}
-use Rattle.text_header.specs.Headers.{typeName}
+use Rattle.text_name.specs.Headers.{typeName}
 use Rattle.rows.specs.declared.Block.{Block}
 use Rattle.text_name.specs.Names.{isHeader, sizeName}
 

@@ -26,7 +26,7 @@ use Rattle.load_source.specs.Source.{act, readOn, seeing, foldFrom, halted, too
 use Rattle.load_source.specs.Source.{tapSee, readTap, orTap, orElse, loadOf}
 use Rattle.text_out.specs.Out.{ascii, decimal, digits, latin1, eachByte}
 use Rattle.text_codes.specs.Encoding.{table, encoded}
-use Rattle.text_header.specs.Headers.{typeName, headerName}
+use Rattle.text_name.specs.Headers.{typeName, headerName}
 use Rattle.text_name.specs.Names.{isHeader, sizeShown, sizeName, guessed, nameOf, unselected, nameOne, nameAll}
 use Rattle.play_entries.specs.Entries.{entryOf, cyclesOf, isSingle, startLevel, cycleLevel, bitLevel, edged, pauseLevel, toneOf, tonesOf}
 use Rattle.play_entries.specs.Entries.{bitsAt, halfOf, byteOf, dataOf, pauseOf, soundOf, entriesOf, lastsOf}

@@ -29,7 +29,7 @@ use Rattle.load_source.specs.Source.{act, readOn, seeing, foldFrom, halted, too
 use Rattle.load_source.specs.Source.{tapSee, readTap, Load, tzx, tapped, no, orTap, orElse, loadOf}
 use Rattle.text_out.specs.Out.{decimal, digits, latin1, eachByte}
 use Rattle.text_codes.specs.Encoding.{table, encoded}
-use Rattle.text_header.specs.Headers.{typeName, headerName as namedAs}
+use Rattle.text_name.specs.Headers.{typeName, headerName as namedAs}
 use Rattle.text_name.specs.Names.{isHeader, sizeShown, sizeName, guessed, nameOf, unselected, nameOne, nameAll}
 use Rattle.rows.specs.Table.{tableOver}
 use Rattle.load_tape.specs.declared.Format.the-variants.{Tap}

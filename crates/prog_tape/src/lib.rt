@@ -82,7 +82,7 @@ fn print_block(tape: &[u8], tones: &[u64], i: u64, r: Block)
     requires { ⌜ length (now tape) ≤ 1048576 ⌝ }
 {
     let mut out = io::buffer();
-    let k = text_figures::put_head(&mut out, 0, i, r);
+    let k = text_view::put_head(&mut out, 0, i, r);
     io::write_all(1, &out[..k]);
     print_name(tape, r);
     io::write_all(1, b" data=");

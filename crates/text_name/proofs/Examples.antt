@@ -8,7 +8,7 @@ use Rattle.rows.specs.declared.Block.{Block}
 use Rattle.rows.specs.Rows.{decodeBlock}
 use Rattle.text_out.specs.Out.{decimal, digits, latin1, eachByte}
 use Rattle.text_codes.specs.Encoding.{table, encoded}
-use Rattle.text_header.specs.Headers.{typeName, headerName}
+use Rattle.text_name.specs.Headers.{typeName, headerName}
 use Rattle.text_name.specs.Names.{isHeader, sizeShown, sizeName, guessed, nameOf, unselected, nameOne, nameAll}
 
 -- a selectable row of `tones` tone rows, with its data's and its given name's places

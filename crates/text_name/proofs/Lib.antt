@@ -1,3 +1,4 @@
+pub mod Headers
 pub mod Examples
 pub mod Naming
 pub mod Selecting

@@ -13,7 +13,7 @@ use Rattle.rows.specs.declared.Block.{Block}
 use Rattle.rows.specs.Table.{capacityOf}
 use Rattle.rows.specs.Rows.{tone, toneMost}
 use Rattle.rows.specs.Well.{inside, wellRanges, wellNumbers, wellCases, wellTones, wellBlock}
-use Rattle.text_header.proofs.Headers.{either, header-length}
+use Rattle.text_name.proofs.Headers.{either, header-length}
 use Rattle.text_name.specs.Names.{isHeader, sizeShown, sizeName, guessed, nameOf}
 use Rattle.rows.proofs.WellLaws.{block-clauses}
 use Rattle.rows.proofs.WellLaws.{ranges-inside}

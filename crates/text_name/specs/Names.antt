@@ -8,7 +8,7 @@ use Rattle.law_base.specs.Rules.{_⇒_, _∣_}
 use Rattle.text_out.specs.Out.{ascii, decimal, latin}
 use Rattle.rows.specs.declared.Block.{Block}
 use Rattle.rows.specs.Rows.{withMark}
-use Rattle.text_header.specs.Headers.{headerName}
+use Rattle.text_name.specs.Headers.{headerName}
 
 -- 19 data bytes with first byte 0 is a header
 unfoldable pub isHeader : List ℕ → Block → Bool

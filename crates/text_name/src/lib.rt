@@ -1,4 +1,6 @@
-// A block's name as text.
+// A block's name as text; a header's is in `header`.
+mod header;
+
 ghost use mathlib.Core.Path.{_≡_};
 ghost use Prim.Native.Nat.{_+_, _*_, _^_, _≤_, _<_};
 ghost use lib.ListN.{length, getD};
@@ -52,7 +54,7 @@ fn put_guessed(out: &mut [u8], at: usize, tape: &[u8], r: Block) -> usize
     ensures { λ n. ⌜ Wrote (now (out .entry)) at (guessed (now (tape .entry)) r) (now (out .exit)) n ⌝ }
 {
     if is_header(tape, r) {
-        return text_header::put_header(out, at, tape, r.start as usize);
+        return header::put_header(out, at, tape, r.start as usize);
     }
     put_size(out, at, r)
 }

@@ -23,7 +23,7 @@ use Rattle.play_deck.specs.Calls.{positionIn}
 use Rattle.text_trace.specs.Lines as lines
 use Rattle.text_trace.specs.Lines.{selectedText, sourceLine, measuredLine, lineOf}
 use Rattle.text_value.specs.Values.{flag, durationText}
-use Rattle.text_place.specs.Places.{spaced, numbers, phaseText, leftText, placeText}
+use Rattle.text_trace.specs.Places.{spaced, numbers, phaseText, leftText, placeText}
 
 -- the lines of calls, each from where the head then stands: of the source's play, of the measured player
 unfoldable sources : Tape → Position → List ℕ → List ℕ

@@ -10,7 +10,7 @@ use Rattle.play_walk.specs.declared.Reached.{Reached}
 use Rattle.play_walk.specs.declared.Reached.the-variants.{At, Stopped, Ended, NotValid, NotFormed}
 use Rattle.play_deck.specs.declared.Selected.{Selected}
 use Rattle.play_deck.specs.declared.Selected.the-variants.{Block, BadPosition, BadRow}
-use Rattle.text_place.proofs.Lengths.{place-length}
+use Rattle.text_trace.proofs.PlaceLengths.{place-length}
 use Rattle.text_trace.specs.Lines.{refusedText, refusedLine, selectedText, standLine, passedLine, sourceLine, measuredLine, lineOf}
 
 pub refused-length : (k : ℕ) → length (refusedText k) ≤ 28

@@ -1,2 +1,3 @@
+pub mod PlaceLengths
 pub mod Lengths
 pub mod Examples

@@ -9,7 +9,7 @@ use Rattle.play_walk.specs.declared.Reached.{Reached}
 use Rattle.play_walk.specs.declared.Reached.the-variants.{At, Stopped, Ended, NotValid, NotFormed}
 use Rattle.play_deck.specs.declared.Selected.{Selected}
 use Rattle.play_deck.specs.declared.Selected.the-variants.{Block, BadPosition, BadRow}
-use Rattle.text_place.specs.Places.{placeText}
+use Rattle.text_trace.specs.Places.{placeText}
 
 -- `refused n`
 unfoldable pub refusedText : ℕ → List ℕ

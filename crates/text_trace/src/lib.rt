@@ -1,4 +1,7 @@
-// The text of a call's answer, a line each, as a trace prints it.
+// The text of a call's answer, a line each, as a trace prints it; where the head is left is in `place`.
+mod place;
+
+use place::put_place;
 use play_deck::Selected;
 use play_walk::Reached;
 use play_walk::Stand;
@@ -7,7 +10,6 @@ use refusals::NO_POSITION;
 use text_out::put;
 use text_out::put_all;
 use text_out::put_decimal;
-use text_place::put_place;
 ghost use Prim.Native.Nat.{_+_, _^_, _<_};
 ghost use Rattle.text_out.specs.Out.{Wrote};
 ghost use Rattle.text_trace.specs.Lines.{refusedText, refusedLine, selectedText, standLine, passedLine, sourceLine};

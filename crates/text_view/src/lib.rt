@@ -1,5 +1,8 @@
-// The parts of a view's line behind its numbers, each written into lent bytes: a program prints them one after the other.
-// Our programs alone call them.
+// The line that shows a view, part by part, each written into lent bytes: a program prints them one after the other.
+// Its numbers are in `figures`, what stands behind them is here. Our programs alone call them.
+mod figures;
+
+pub use figures::put_head;
 use rows::Tone;
 use rows::tone_at;
 use text_out::put;

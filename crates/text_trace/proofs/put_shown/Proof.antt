@@ -1,6 +1,6 @@
 -- `put_shown` meets its contract. Assumes nothing.
 use Rattle.text_trace.specs.Lines.{standLine}
-use Rattle.text_place.proofs.Lengths.{place-length}
+use Rattle.text_trace.proofs.PlaceLengths.{place-length}
 use Rattle.text_trace.proofs.Lengths.{selected-length}
 use native.Mathlib.Omega.{arith}
 use Rattle.text_out.proofs.Writing.{then}

@@ -1,9 +1,9 @@
 -- A RUN GOES ON: by the calls that end inside an entry, and by one call. Assumes nothing.
-use Prim.Native.Nat.{ℕ, zero, suc, _+_, _-_, _*_, _≤_, _<_}
+use Prim.Native.Nat.{ℕ, zero, suc, _+_, _-_, _*_, _/_, _≤_, _<_}
 use native.Mathlib.Omega.{arith}
 use native.Mathlib.Nat.{eq-zero-or-pos}
 use native.Mathlib.Numerals.{add-one}
-use borrow.Author.Tests.{lt-ltb, ltb-true, ltb-false, eq-eqb, ne-eqb}
+use borrow.Author.Tests.{lt-ltb, le-ltb, ltb-true, ltb-false, eq-eqb, ne-eqb}
 use mathlib.Core.Path.{_≡_, refl, sym, ap, subst, _∙_}
 use mathlib.Core.Bool.{Bool, true, false}
 use mathlib.Core.Logic.{⊎-elim}
@@ -24,7 +24,8 @@ use Rattle.play_walk.specs.declared.Reached.{Reached}
 use Rattle.play_walk.specs.declared.Reached.the-variants.{At}
 use Rattle.play_walk.specs.Heads.{placed, stand, Walkable}
 use Rattle.play_walk.proofs.Landing.{walkable-less}
-use Rattle.play_deck.specs.declared.Check.the-variants.{Fine}
+use Rattle.play_deck.specs.declared.Check.{Check}
+use Rattle.play_deck.specs.declared.Check.the-variants.{Fine, NotValid, NotFormed}
 use Rattle.play_deck.specs.declared.Finding.{Finding}
 use Rattle.play_deck.specs.Deck.{judged, unless, stays, playMeasured, playSource}
 use Rattle.play_deck.specs.Assay.{Assayed}
@@ -38,8 +39,10 @@ use Rattle.host_words.specs.Words.{spanOf}
 use Rattle.host_run.specs.declared.AnswerRow.{AnswerRow}
 use Rattle.host_run.specs.declared.Going.{Going}
 use Rattle.host_run.specs.Rows.{answerRow, howOf, standRow, rowFor}
-use Rattle.host_run.specs.Runs.{playerOf, runRows}
-use Rattle.host_run.specs.Inside.{withLeft, insideRows, insideLeft, leadsTo, Known}
+use Rattle.refusals.specs.Refusals.{noRoom}
+use Rattle.host_run.specs.Runs.{playerOf, runRows, roomNo}
+use Rattle.host_run.specs.Inside.{withLeft, insideRows, insideLeft, passes, leadsTo, Known}
+use Rattle.host_run.proofs.Insides.{drop-end}
 
 -- a call that ends inside its entry, of either player
 module _ (w : Tape) (q : Position) (n t : ℕ) (a : Walkable w q) (e : q .left ≡ T t) (l : n < t) where
@@ -194,3 +197,48 @@ module _ (m : Bool) (w : Tape) (ns table : List ℕ) (g : Going) (t : ℕ) (know
             ∙ on .1
             ∙ ap (λ (d : Duration). putAll answerRow table (g .next) (runRows (playerOf m w) (placed b f d) xs)) (sym left),
       )
+
+-- A TURN BY ONE CALL, as the code takes it
+module _ (m : Bool) (w : Tape) (ns table : List ℕ) (g : Going) (in-calls : g .next < length ns) where
+  pub gone-on : (n : ℕ) → n ≡ getD ns (g .next) 0 → (r : Reached) → r ≡ playerOf m w (g .position) n
+      → (row : AnswerRow) → row ≡ rowFor (g .position) r
+      → (after : List ℕ) → after ≡ put answerRow table (g .next) row
+      → (h : Going) → h .position ≡ positionIn (g .position) r → h .next ≡ g .next + 1
+      → leadsTo m w ns after h ≡ leadsTo m w ns table g
+  unfolding runRows putAll
+  gone-on n e r er row ew after ea h ep en =
+      let i = g .next in
+      let q = g .position in
+      let P = playerOf m w in
+      let xs = drop (i + 1) ns in
+      let here : drop i ns ≡ n ∷ xs =
+      drop-cons ns i 0 in-calls ∙ ap (λ (k : ℕ). getD ns i 0 ∷ drop k ns) (sym (add-one i)) ∙ ap (λ (k : ℕ). k ∷ xs) (sym e) in
+      ap (λ (y : List ℕ). putAll answerRow y (h .next) (runRows P (h .position) (drop (h .next) ns)))
+      (ea ∙ ap (put answerRow table i) (ew ∙ ap (rowFor q) er))
+      ∙ ap (λ (k : ℕ). putAll answerRow (put answerRow table i (rowFor q (P q n))) k (runRows P (h .position) (drop k ns))) en
+      ∙ ap (λ (y : Position). putAll answerRow (put answerRow table i (rowFor q (P q n))) (i + 1) (runRows P y xs))
+      (ep ∙ ap (positionIn q) er)
+      ∙ sym (ap (λ (zs : List ℕ). putAll answerRow table i (runRows P q zs)) here)
+
+-- behind the last call a run leads nowhere else
+pub gone-all : (m : Bool) (w : Tape) (ns table : List ℕ) (g : Going) → length ns ≤ g .next → leadsTo m w ns table g ≡ table
+unfolding runRows putAll
+gone-all m w ns table g h = ap (λ (zs : List ℕ). putAll answerRow table (g .next) (runRows (playerOf m w) (g .position) zs)) (drop-end ns (g .next) h)
+
+never : false ≡ true → ⊥
+never e = let y : _≡_ {A = ℕ} 1 0 = ap (λ (c : Bool). c ⇒ 0 ∣ 1) e in absurd (omega arith)
+
+-- room for every row
+pub no-room : (ns table : List ℕ) → length table / 10 < length ns → roomNo ns table ≡ noRoom
+unfolding roomNo
+no-room ns table h = rw (lt-ltb (length table) (length ns * answerRow .width) (omega arith))
+
+pub room : (ns table : List ℕ) → length ns ≤ length table / 10 → roomNo ns table ≡ 0
+unfolding roomNo
+room ns table h = rw (le-ltb (length table) (length ns * answerRow .width) (omega arith))
+
+pub fine-of : (c : Check) → passes c ≡ true → c ≡ Fine
+unfolding passes
+fine-of Fine e = refl
+fine-of NotValid e = absurd (never e)
+fine-of NotFormed e = absurd (never e)

@@ -33,8 +33,11 @@ checkNo Fine k = k
 checkNo NotValid k = noPosition
 checkNo NotFormed k = badRow
 
+unfoldable pub roomNo : List ℕ → List ℕ → ℕ
+roomNo ns table = ltb (length table) (length ns * answerRow .width) ⇒ noRoom ∣ 0
+
 unfoldable pub runNo : Tape → Position → List ℕ → List ℕ → ℕ
-runNo w q ns table = checkNo (judged w q) (ltb (length table) (length ns * answerRow .width) ⇒ noRoom ∣ 0)
+runNo w q ns table = checkNo (judged w q) (roomNo ns table)
 
 -- WHAT IS LEFT OF THE TABLE: a row for each call from row 0 on, then the words that were there; all of them where the run is refused
 unfoldable pub runTable : Bool → Tape → Position → List ℕ → List ℕ → List ℕ

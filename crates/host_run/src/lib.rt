@@ -21,15 +21,17 @@ ghost use mathlib.Core.Bool.{false};
 ghost use Rattle.play_entries.specs.declared.Duration.the-variants.{T};
 ghost use Rattle.play_deck.specs.declared.Check.the-variants.{Fine};
 ghost use Prim.Native.Nat.{_+_, _*_, _<_, _≤_};
+ghost use lib.Dec.{eqb};
 ghost use lib.ListN.{length, drop};
+ghost use Rattle.law_base.specs.Rules.{_⇒_, _∣_};
 ghost use Rattle.rows.specs.Table.{put, putAll};
 ghost use Rattle.play_entries.specs.Mounted.{tapeOf};
 ghost use Rattle.play_walk.specs.Heads.{Lands};
 ghost use Rattle.play_deck.specs.Assay.{Assayed};
 ghost use Rattle.play_deck.specs.Calls.{positionIn};
 ghost use Rattle.host_run.specs.Rows.{answerRow, standRow, rowFor};
-ghost use Rattle.host_run.specs.Runs.{playerOf, runRows, runNo, runTable};
-ghost use Rattle.host_run.specs.Inside.{withLeft, insideRows, insideLeft, leadsTo, Known, Holds};
+ghost use Rattle.host_run.specs.Runs.{playerOf, runRows, roomNo, runNo, runTable};
+ghost use Rattle.host_run.specs.Inside.{withLeft, insideRows, insideLeft, passes, leadsTo, Known, Holds};
 
 // The words of a call's answer: how it came out, the entries passed, the level, and the position.
 pub struct AnswerRow {
@@ -242,5 +244,189 @@ fn go_inside(
         },
         finding: a,
         next: ran.next,
+    }
+}
+
+// The next call, whatever it meets; its callers know that there is one.
+fn go_on(
+    tape: &[u8],
+    tones: &[u64],
+    blocks: &[u64],
+    count: u64,
+    measured: bool,
+    counts: &[u32],
+    answers: &mut [u64],
+    g: Going,
+) -> Going
+    requires { ⌜ Known (tapeOf (now tape) (now tones) (now blocks) count) g ⌝ }
+    requires { ⌜ Holds (now counts) (now answers) × (g .next < length (now counts)) ⌝ }
+    ensures { λ h. ⌜ Known (tapeOf (now (tape .entry)) (now (tones .entry)) (now (blocks .entry)) count) h ⌝ }
+    ensures { λ h. ⌜ h .next ≡ g .next + 1 ⌝ }
+    ensures { λ h. ⌜ leadsTo measured (tapeOf (now (tape .entry)) (now (tones .entry)) (now (blocks .entry)) count)
+        (now (counts .entry)) (now (answers .exit)) h
+        ≡ leadsTo measured (tapeOf (now (tape .entry)) (now (tones .entry)) (now (blocks .entry)) count)
+        (now (counts .entry)) (now (answers .entry)) g ⌝ }
+    ensures { λ _. ⌜ length (now (answers .exit)) ≡ length (now (answers .entry)) ⌝ }
+{
+    let pos = g.position;
+    let a = g.finding;
+    let i = g.next;
+    let r = call_by(tape, tones, blocks, count, measured, pos, counts[i], a);
+    put_answer(answers, i, row_of(pos, r));
+    Going {
+        position: position_in(pos, r),
+        finding: assay_after(tape, tones, blocks, count, pos, a, r),
+        next: i + 1,
+    }
+}
+
+// Whether a check is passed.
+fn is_fine(c: Check) -> bool
+    ensures { λ v. ⌜ v ≡ passes c ⌝ }
+{
+    match c {
+        Check::Fine => true,
+        Check::NotValid => false,
+        Check::NotFormed => false,
+    }
+}
+
+// As far as calls end inside the entry where the run stands.
+fn go_far(
+    tape: &[u8],
+    tones: &[u64],
+    blocks: &[u64],
+    count: u64,
+    measured: bool,
+    counts: &[u32],
+    answers: &mut [u64],
+    g: Going,
+) -> Going
+    requires { ⌜ Known (tapeOf (now tape) (now tones) (now blocks) count) g ⌝ }
+    requires { ⌜ Holds (now counts) (now answers) × (g .next ≤ length (now counts)) ⌝ }
+    ensures { λ h. ⌜ Known (tapeOf (now (tape .entry)) (now (tones .entry)) (now (blocks .entry)) count) h ⌝ }
+    ensures { λ h. ⌜ (g .next ≤ h .next) × (h .next ≤ length (now (counts .entry))) ⌝ }
+    ensures { λ h. ⌜ leadsTo measured (tapeOf (now (tape .entry)) (now (tones .entry)) (now (blocks .entry)) count)
+        (now (counts .entry)) (now (answers .exit)) h
+        ≡ leadsTo measured (tapeOf (now (tape .entry)) (now (tones .entry)) (now (blocks .entry)) count)
+        (now (counts .entry)) (now (answers .entry)) g ⌝ }
+    ensures { λ _. ⌜ length (now (answers .exit)) ≡ length (now (answers .entry)) ⌝ }
+{
+    let a = g.finding;
+    let c = a.check;
+    let pos = g.position;
+    let left = pos.left;
+    if !is_fine(c) {
+        return g;
+    }
+    match left {
+        Duration::T(t) => { go_inside(tape, tones, blocks, count, measured, counts, answers, g, t) }
+        Duration::Endless => g,
+    }
+}
+
+// Every call of a run from a position that its callers know to be fine, into a table that they know to hold their rows.
+fn run(
+    tape: &[u8],
+    tones: &[u64],
+    blocks: &[u64],
+    count: u64,
+    measured: bool,
+    pos: Position,
+    a: Finding,
+    counts: &[u32],
+    answers: &mut [u64],
+)
+    requires { ⌜ Assayed (tapeOf (now tape) (now tones) (now blocks) count) pos a ⌝ }
+    requires { ⌜ Holds (now counts) (now answers) ⌝ }
+    ensures { λ _. ⌜ now (answers .exit)
+        ≡ putAll answerRow (now (answers .entry)) 0
+        (runRows (playerOf measured (tapeOf (now (tape .entry)) (now (tones .entry)) (now (blocks .entry)) count)) pos
+        (now (counts .entry))) ⌝ }
+{
+    let mut g = Going {
+        position: pos,
+        finding: a,
+        next: 0,
+    };
+    while g.next < counts.len() {
+        g = go_far(tape, tones, blocks, count, measured, counts, answers, g);
+        if g.next < counts.len() {
+            g = go_on(tape, tones, blocks, count, measured, counts, answers, g);
+        }
+    }
+}
+
+// The same, or 10 where the table does not hold their rows.
+fn run_fitting(
+    tape: &[u8],
+    tones: &[u64],
+    blocks: &[u64],
+    count: u64,
+    measured: bool,
+    pos: Position,
+    a: Finding,
+    counts: &[u32],
+    answers: &mut [u64],
+) -> u32
+    requires { ⌜ Assayed (tapeOf (now tape) (now tones) (now blocks) count) pos a ⌝ }
+    ensures { λ k. ⌜ k ≡ roomNo (now (counts .entry)) (now (answers .entry)) ⌝ }
+    ensures { λ _. ⌜ now (answers .exit)
+        ≡ (eqb (roomNo (now (counts .entry)) (now (answers .entry))) 0 ⇒ putAll answerRow (now (answers .entry)) 0
+        (runRows (playerOf measured (tapeOf (now (tape .entry)) (now (tones .entry)) (now (blocks .entry)) count)) pos
+        (now (counts .entry))) ∣ now (answers .entry)) ⌝ }
+{
+    if answers.len() / ANSWER_WORDS < counts.len() {
+        return NO_ROOM;
+    }
+    run(
+        tape,
+        tones,
+        blocks,
+        count,
+        measured,
+        pos,
+        a,
+        counts,
+        answers,
+    );
+    0
+}
+
+// A run of calls of the measured player, or of the source's play, from a position: the position is judged once, and each row as it is
+// reached.
+pub fn play_run(
+    tape: &[u8],
+    tones: &[u64],
+    blocks: &[u64],
+    count: u64,
+    pos: Position,
+    measured: bool,
+    counts: &[u32],
+    answers: &mut [u64],
+) -> u32
+    ensures { λ k. ⌜ k
+        ≡ runNo (tapeOf (now (tape .entry)) (now (tones .entry)) (now (blocks .entry)) count) pos (now (counts .entry))
+        (now (answers .entry)) ⌝ }
+    ensures { λ _. ⌜ now (answers .exit)
+        ≡ runTable measured (tapeOf (now (tape .entry)) (now (tones .entry)) (now (blocks .entry)) count) pos (now (counts .entry))
+        (now (answers .entry)) ⌝ }
+{
+    let a = assay(tape, tones, blocks, count, pos);
+    let c = a.check;
+    match c {
+        Check::Fine => run_fitting(
+            tape,
+            tones,
+            blocks,
+            count,
+            measured,
+            pos,
+            a,
+            counts,
+            answers,
+        ),
+        Check::NotValid => NO_POSITION,
+        Check::NotFormed => BAD_ROW,
     }
 }

@@ -1,6 +1,8 @@
 -- An answer as a C host gets it (rules 134, 137): number, values, and what is left of the lent row. Definitions alone; assumes nothing.
-use Prim.Native.Nat.{ℕ}
+use Prim.Native.Nat.{ℕ, _-_}
+use mathlib.Core.Bool.{Bool}
 use mathlib.Core.List.{List, [], _∷_}
+use lib.ListN.{getD}
 use Rattle.law_base.specs.Rules.{_⇒_, _∣_}
 use Rattle.refusals.specs.Refusals.{noPosition, noRoom, badRow}
 use Rattle.text_out.specs.Out.{fits, told}
@@ -78,6 +80,11 @@ ofReached (reached.Stopped s) = given (standWords 1 s)
 ofReached (reached.Ended s) = given (standWords 2 s)
 ofReached reached.NotValid = refusedBy noPosition
 ofReached reached.NotFormed = refusedBy badRow
+
+-- where a call of n ends inside its entry, on the position's own words: a shortcut of the code, which no public contract cites
+unfoldable pub insideWords : List ℕ → ℕ → Bool → List ℕ
+insideWords ws n v =
+    0 ∷ 0 ∷ flagOf v ∷ getD ws 0 0 ∷ getD ws 1 0 ∷ getD ws 2 0 ∷ getD ws 3 0 ∷ getD ws 4 0 ∷ getD ws 5 0 ∷ (getD ws 6 0 - n) ∷ []
 
 -- a tape's format: 0 TAP, 1 TZX
 unfoldable pub formatNumber : Format → ℕ

@@ -24,8 +24,7 @@ use Rattle.play_walk.specs.declared.Reached.{Reached}
 use Rattle.play_walk.specs.declared.Reached.the-variants.{At}
 use Rattle.play_walk.specs.Heads.{placed, stand, Walkable}
 use Rattle.play_walk.proofs.Landing.{walkable-less}
-use Rattle.play_deck.specs.declared.Check.{Check}
-use Rattle.play_deck.specs.declared.Check.the-variants.{Fine, NotValid, NotFormed}
+use Rattle.play_deck.specs.declared.Check.the-variants.{Fine}
 use Rattle.play_deck.specs.declared.Finding.{Finding}
 use Rattle.play_deck.specs.Deck.{judged, unless, stays, playMeasured, playSource}
 use Rattle.play_deck.specs.Assay.{Assayed}
@@ -41,7 +40,7 @@ use Rattle.host_run.specs.declared.Going.{Going}
 use Rattle.host_run.specs.Rows.{answerRow, howOf, standRow, rowFor}
 use Rattle.refusals.specs.Refusals.{noRoom}
 use Rattle.host_run.specs.Runs.{playerOf, runRows, roomNo}
-use Rattle.host_run.specs.Inside.{withLeft, insideRows, insideLeft, passes, leadsTo, Known}
+use Rattle.host_run.specs.Inside.{withLeft, insideRows, insideLeft, leadsTo, Known}
 use Rattle.host_run.proofs.Insides.{drop-end}
 
 -- a call that ends inside its entry, of either player
@@ -225,9 +224,6 @@ pub gone-all : (m : Bool) (w : Tape) (ns table : List ℕ) (g : Going) → lengt
 unfolding runRows putAll
 gone-all m w ns table g h = ap (λ (zs : List ℕ). putAll answerRow table (g .next) (runRows (playerOf m w) (g .position) zs)) (drop-end ns (g .next) h)
 
-never : false ≡ true → ⊥
-never e = let y : _≡_ {A = ℕ} 1 0 = ap (λ (c : Bool). c ⇒ 0 ∣ 1) e in absurd (omega arith)
-
 -- room for every row
 pub no-room : (ns table : List ℕ) → length table / 10 < length ns → roomNo ns table ≡ noRoom
 unfolding roomNo
@@ -236,9 +232,3 @@ no-room ns table h = rw (lt-ltb (length table) (length ns * answerRow .width) (o
 pub room : (ns table : List ℕ) → length ns ≤ length table / 10 → roomNo ns table ≡ 0
 unfolding roomNo
 room ns table h = rw (le-ltb (length table) (length ns * answerRow .width) (omega arith))
-
-pub fine-of : (c : Check) → passes c ≡ true → c ≡ Fine
-unfolding passes
-fine-of Fine e = refl
-fine-of NotValid e = absurd (never e)
-fine-of NotFormed e = absurd (never e)

@@ -60,6 +60,12 @@ use Rattle.export.proofs.glyvrask_play.Kinds as c-play-kinds
 use Rattle.export.proofs.glyvrask_play.Reads as c-play
 use Rattle.export.proofs.glyvrask_play_measured.Kinds as c-play-measured-kinds
 use Rattle.export.proofs.glyvrask_play_measured.Reads as c-play-measured
+use Rattle.host_run.proofs.play_run.Kinds as play-run-kinds
+use Rattle.host_run.proofs.play_run.Reads as play-run
+use Rattle.export.proofs.glyvrask_play_run.Kinds as c-play-run-kinds
+use Rattle.export.proofs.glyvrask_play_run.Reads as c-play-run
+use Rattle.export.proofs.glyvrask_play_head.Kinds as c-play-head-kinds
+use Rattle.export.proofs.glyvrask_play_head.Reads as c-play-head
 use Rattle.play_entries.specs.Places.{Tape}
 use Rattle.play_walk.specs.declared.Reached.{Reached}
 use Rattle.play_deck.specs.declared.Head.{Head}
@@ -97,6 +103,10 @@ play-determined κs a z z′ e e′ p q = p ∙ sym q
 
 pub block-determined : Answered 3 block-kinds.ps block-kinds.r block.Post
 block-determined κs a z z′ e e′ p q = p ∙ sym q
+
+-- a run: its number, and every word of the table
+pub play-run-determined : Determined 5 play-run-kinds.ps play-run-kinds.r play-run.Post (λ κs e. now (e .1 .1 .1 .1 .1 .1 .1 .0))
+play-run-determined κs a z z′ e e′ p q = (p .0 ∙ sym (q .0), p .1 ∙ sym (q .1))
 
 -- positions
 pub new-at-block-determined : Answered 0 new-at-block-kinds.ps new-at-block-kinds.r new-at-block.Post
@@ -170,6 +180,17 @@ play-once κs a z z′ e e′ p q = (p .0 ∙ sym (q .0), p .1 ∙ sym (q .1))
 pub play-measured-once : Determined 5 c-play-measured-kinds.ps c-play-measured-kinds.r c-play-measured.Post
     (λ κs e. now (e .1 .1 .1 .1 .1 .1 .0))
 play-measured-once κs a z z′ e e′ p q = (p .0 ∙ sym (q .0), p .1 ∙ sym (q .1))
+
+pub play-run-once : Determined 6 c-play-run-kinds.ps c-play-run-kinds.r c-play-run.Post
+    (λ κs e. now (e .1 .1 .1 .1 .1 .1 .1 .0))
+play-run-once κs a z z′ e e′ p q = (p .0 ∙ sym (q .0), p .1 ∙ sym (q .1))
+
+pub play-head-once-head : Determined 5 c-play-head-kinds.ps c-play-head-kinds.r c-play-head.Post (λ κs e. now (e .1 .1 .1 .1 .0))
+play-head-once-head κs a z z′ e e′ p q = (p .0 ∙ sym (q .0), p .1 .0 ∙ sym (q .1 .0))
+
+pub play-head-once-answer : Determined 5 c-play-head-kinds.ps c-play-head-kinds.r c-play-head.Post
+    (λ κs e. now (e .1 .1 .1 .1 .1 .1 .0))
+play-head-once-answer κs a z z′ e e′ p q = (p .0 ∙ sym (q .0), p .1 .1 ∙ sym (q .1 .1))
 
 -- the listing: its number, and every output byte
 pub listing-once : Determined 2 c-listing-kinds.ps c-listing-kinds.r c-listing.Post (λ κs e. now (e .1 .1 .0))

@@ -1,6 +1,6 @@
 -- `go_far` meets its contract. Assumes nothing.
 use borrow.Author.Needs.{needs}
-use Rattle.host_run.proofs.Runs.{fine-of}
+use Rattle.play_deck.proofs.Assays.{fine-of}
 use native.Mathlib.Omega.{arith}
 use mathlib.Core.Path.{refl, sym, _∙_}
 use borrow.Author.Tests.{not-false}

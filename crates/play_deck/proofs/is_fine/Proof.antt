@@ -1,8 +1,8 @@
 -- `is_fine` meets its contract. Assumes nothing.
 use borrow.Author.Needs.{needs}
-use Rattle.host_run.specs.Inside.{passes}
-use Rattle.host_run.proofs.is_fine.Statement.{statement}
-use Rattle.host_run.proofs.is_fine.Tie as tie
+use Rattle.play_deck.specs.Assay.{passes}
+use Rattle.play_deck.proofs.is_fine.Statement.{statement}
+use Rattle.play_deck.proofs.is_fine.Tie as tie
 
 enum-told : tie.Need-enum-told
 enum-told c = search needs

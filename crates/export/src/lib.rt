@@ -378,12 +378,14 @@ fn move_head(
         (now (answer .entry)) ⌝ }
 {
     let p = play_once(tape, tones, blocks, count, Head { position: pos }, n);
-    let k = tell_reached(p.answer, answer);
+    let r = p.answer;
+    let k = tell_reached(r, answer);
     if k != 0 {
         return k;
     }
     let h = p.head;
-    tell_position(h.position, head)
+    let there = h.position;
+    tell_position(there, head)
 }
 
 // A run of calls of the source's play (measured is 0) or of the measured player, a row of `answers` for each.

@@ -67,7 +67,7 @@ module _ (w : Tape) (q : Position) (n t : ℕ) (a : Walkable w q) (e : q .left �
       rw (walkable-fine w q a)
       (⊎-elim (λ z. rw (eq-eqb n 0 z) (none z)) (λ p. rw (ne-eqb n 0 (omega arith)) (sym (inside-source w q n a ends))) (eq-zero-or-pos n))
 
-never-none : (t : ℕ) → T t ≡ T 0 → 0 < t → ⊥
+pub never-none : (t : ℕ) → T t ≡ T 0 → 0 < t → ⊥
 never-none t e h =
     let u : _≡_ {A = ℕ} 0 1 = ap (λ (c : Bool). c ⇒ 0 ∣ 1) (sym (ap isNone e) ∙ ne-eqb t 0 (omega arith)) in
     absurd (omega arith)

@@ -107,18 +107,10 @@ pub fn act(
             let chars = size as u64;
             Step::On(pend(s, Pending::Text { text: from, chars }))
         }
-        Piece::Message {
-            seconds: _,
-            from: _,
-            size: _,
-        } => Step::On(s),
-        Piece::Archive { count: _, from: _ } => Step::On(s),
-        Piece::Hardware { count: _, from: _ } => Step::On(s),
-        Piece::Custom {
-            id: _,
-            from: _,
-            size: _,
-        } => Step::On(s),
+        Piece::Message => Step::On(s),
+        Piece::Archive => Step::On(s),
+        Piece::Hardware => Step::On(s),
+        Piece::Custom => Step::On(s),
         Piece::Glue => Step::On(s),
     }
 }

@@ -10,7 +10,7 @@ use Rattle.refusals.specs.Refusals.{noPosition, noRoom, badRow}
 use Rattle.play_entries.specs.Places.{Tape}
 use Rattle.play_entries.specs.Mounted.{overfull, wellRow}
 use Rattle.play_walk.specs.declared.Position.{Position}
-use Rattle.ask_block.specs.Queries.{nameBytes}
+use Rattle.ask.specs.Queries.{nameBytes}
 use Rattle.play_deck.specs.Deck.{playMeasured, playSource, playMounted, blockAt}
 use Rattle.text_out.specs.Out.{told}
 use Rattle.load_blocks.specs.Does.{lentOf}

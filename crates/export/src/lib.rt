@@ -1,6 +1,6 @@
 // Thin functions that a C host calls over tables of its own: include/glyvrask.h says what each takes and which words it answers.
-use ask_block::overfull;
-use ask_block::refusal;
+use ask::overfull;
+use ask::refusal;
 use host_answers::tell_inside;
 use host_answers::tell_loaded;
 use host_answers::tell_mark;
@@ -33,7 +33,7 @@ ghost use Prim.Native.Nat.{ℕ};
 ghost use lib.ListN.{length};
 ghost use Rattle.play_entries.specs.Mounted.{tapeOf};
 ghost use Rattle.play_walk.specs.Heads.{startAt};
-ghost use Rattle.ask_block.specs.Queries.{lenOf, sizeOf, selectableOf, timeOf, nameAnswer, loadingOf};
+ghost use Rattle.ask.specs.Queries.{lenOf, sizeOf, selectableOf, timeOf, nameAnswer, loadingOf};
 ghost use Rattle.load_tape.specs.Load.{answerOf, blockTable, toneTable};
 ghost use Rattle.host_answers.specs.Answers.{numberOf, valuesOf, ofNumber, ofMark, ofTime, ofPosition, ofLoaded};
 ghost use Rattle.play_deck.specs.Assay.{passes, Assayed};
@@ -98,7 +98,7 @@ pub extern "C" fn glyvrask_len(blocks: &[u64], count: u64, answer: &mut [u64]) -
     ensures { λ _. ⌜ ((bytes tones : List ℕ)
         → now (answer .exit) ≡ valuesOf (ofNumber (lenOf (tapeOf bytes tones (now (blocks .entry)) count))) (now (answer .entry))) ⌝ }
 {
-    tell_number(ask_block::len(blocks, count), answer)
+    tell_number(ask::len(blocks, count), answer)
 }
 
 // A block's name as UTF-8 into `out`; answers its length.
@@ -125,12 +125,9 @@ pub extern "C" fn glyvrask_block_name(
         (now (answer .entry)) ⌝ }
 {
     if answer.len() < 1 {
-        return tell_number(ask_block::block_size(tape, tones, blocks, count, i), answer); // the name's refusals, and no byte written
+        return tell_number(ask::block_size(tape, tones, blocks, count, i), answer); // the name's refusals, and no byte written
     }
-    tell_number(
-        ask_name::block_name(tape, tones, blocks, count, i, out),
-        answer,
-    )
+    tell_number(ask::block_name(tape, tones, blocks, count, i, out), answer)
 }
 
 // A block's data size.
@@ -150,7 +147,7 @@ pub extern "C" fn glyvrask_block_size(
         ≡ valuesOf (ofNumber (sizeOf (tapeOf (now (tape .entry)) (now (tones .entry)) (now (blocks .entry)) count) i))
         (now (answer .entry)) ⌝ }
 {
-    tell_number(ask_block::block_size(tape, tones, blocks, count, i), answer)
+    tell_number(ask::block_size(tape, tones, blocks, count, i), answer)
 }
 
 // Its selectable mark.
@@ -170,10 +167,7 @@ pub extern "C" fn glyvrask_block_selectable(
         ≡ valuesOf (ofMark (selectableOf (tapeOf (now (tape .entry)) (now (tones .entry)) (now (blocks .entry)) count) i))
         (now (answer .entry)) ⌝ }
 {
-    tell_mark(
-        ask_block::block_selectable(tape, tones, blocks, count, i),
-        answer,
-    )
+    tell_mark(ask::block_selectable(tape, tones, blocks, count, i), answer)
 }
 
 // What it lasts, with its pause.
@@ -193,7 +187,7 @@ pub extern "C" fn glyvrask_block_time(
         ≡ valuesOf (ofTime (timeOf (tapeOf (now (tape .entry)) (now (tones .entry)) (now (blocks .entry)) count) i))
         (now (answer .entry)) ⌝ }
 {
-    tell_time(ask_block::block_time(tape, tones, blocks, count, i), answer)
+    tell_time(ask::block_time(tape, tones, blocks, count, i), answer)
 }
 
 // T-states of all entries up to the first stop or the end.
@@ -212,7 +206,7 @@ pub extern "C" fn glyvrask_loading_time(
         ≡ valuesOf (ofNumber (loadingOf (tapeOf (now (tape .entry)) (now (tones .entry)) (now (blocks .entry)) count)))
         (now (answer .entry)) ⌝ }
 {
-    tell_number(ask_time::loading_time(tape, tones, blocks, count), answer)
+    tell_number(ask::loading_time(tape, tones, blocks, count), answer)
 }
 
 // A block's start, as a position's words.

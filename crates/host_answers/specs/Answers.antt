@@ -12,12 +12,12 @@ use Rattle.play_walk.specs.declared.Reached.{Reached}
 use Rattle.play_walk.specs.declared.Reached.the-variants as reached
 use Rattle.play_deck.specs.declared.Selected.{Selected}
 use Rattle.play_deck.specs.declared.Selected.the-variants as selected
-use Rattle.ask_block.specs.declared.Number.{Number}
-use Rattle.ask_block.specs.declared.Number.the-variants as number
-use Rattle.ask_block.specs.declared.Mark.{Mark}
-use Rattle.ask_block.specs.declared.Mark.the-variants as mark
-use Rattle.ask_block.specs.declared.Time.{Time}
-use Rattle.ask_block.specs.declared.Time.the-variants as lasting
+use Rattle.ask.specs.declared.Number.{Number}
+use Rattle.ask.specs.declared.Number.the-variants as number
+use Rattle.ask.specs.declared.Mark.{Mark}
+use Rattle.ask.specs.declared.Mark.the-variants as mark
+use Rattle.ask.specs.declared.Time.{Time}
+use Rattle.ask.specs.declared.Time.the-variants as lasting
 use Rattle.load_tape.specs.declared.Format.{Format}
 use Rattle.load_tape.specs.declared.Format.the-variants.{Tap, Tzx}
 use Rattle.load_tape.specs.declared.Loaded.{Loaded}

@@ -1,7 +1,7 @@
 // Each answer of the load, the queries and the players as words, told into a lent row.
-use ask_block::Mark;
-use ask_block::Number;
-use ask_block::Time;
+use ask::Mark;
+use ask::Number;
+use ask::Time;
 use host_words::flag;
 use host_words::span_of;
 use host_words::spot_of;

@@ -28,8 +28,8 @@ use Rattle.law_every_load.proofs.Well.{table-length, loaded-well}
 use Rattle.law_every_load.proofs.Left.{mounted-same}
 use Rattle.law_every_load.proofs.Names.{loaded-names}
 use Rattle.load_tape.specs.declared.Loaded.the-variants as loaded
-use Rattle.text_lines.specs.Inner.{Ready}
-use Rattle.text_page.specs.Page.{listingText}
+use Rattle.text_listing.specs.Inner.{Ready}
+use Rattle.text_listing.specs.Page.{listingText}
 use Rattle.listing.specs.Listing.{blockWords, toneWords, loadedOf, text, refused, mounted as mountedOf, listed, Listing, listingOf}
 use Rattle.listing.specs.Listing.{answerTo, bytesAfter}
 

@@ -1,15 +1,15 @@
 // The queries of a mounted tape: what each answers, its refusals, the count, and of a block its size, mark and time.
-mod name;
-mod time;
+mod loading;
+mod naming;
 
-pub use name::block_name;
+pub use loading::loading_time;
+pub use naming::block_name;
 use play_entries::Duration;
 use play_phases::row_well;
 use refusals::BAD_ROW;
 use refusals::NO_BLOCK;
 use rows::block_at;
 use rows::block_capacity;
-pub use time::loading_time;
 ghost use mathlib.Core.Path.{_≡_};
 ghost use mathlib.Core.List.{List};
 ghost use Prim.Native.Nat.{ℕ};

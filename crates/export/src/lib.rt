@@ -286,7 +286,8 @@ fn call_words(
     answer: &mut [u64],
 ) -> u32
     requires { ⌜ positionFrom (now position) ≡ Is pos ⌝ }
-    ensures { λ k. ⌜ k ≡ numberOf (ofReached (playerOf measured (tapeOf (now (tape .entry)) (now (tones .entry)) (now (blocks .entry)) count) pos n))
+    ensures { λ k. ⌜ k
+        ≡ numberOf (ofReached (playerOf measured (tapeOf (now (tape .entry)) (now (tones .entry)) (now (blocks .entry)) count) pos n))
         (now (answer .entry)) ⌝ }
     ensures { λ _. ⌜ now (answer .exit)
         ≡ valuesOf (ofReached (playerOf measured (tapeOf (now (tape .entry)) (now (tones .entry)) (now (blocks .entry)) count) pos n))
@@ -362,7 +363,8 @@ fn move_head(
     answer: &mut [u64],
 ) -> u32
     requires { ⌜ positionFrom (now head) ≡ Is pos ⌝ }
-    ensures { λ k. ⌜ k ≡ numberOf (ofReached (playMeasured (tapeOf (now (tape .entry)) (now (tones .entry)) (now (blocks .entry)) count) pos n))
+    ensures { λ k. ⌜ k
+        ≡ numberOf (ofReached (playMeasured (tapeOf (now (tape .entry)) (now (tones .entry)) (now (blocks .entry)) count) pos n))
         (now (answer .entry)) ⌝ }
     ensures { λ _. ⌜ now (head .exit)
         ≡ movedTo (tapeOf (now (tape .entry)) (now (tones .entry)) (now (blocks .entry)) count) pos n (now (answer .entry))
@@ -398,8 +400,8 @@ pub extern "C" fn glyvrask_play_run(
         ≡ runNumber (tapeOf (now (tape .entry)) (now (tones .entry)) (now (blocks .entry)) count) (now (position .entry))
         (now (counts .entry)) (now (answers .entry)) ⌝ }
     ensures { λ _. ⌜ now (answers .exit)
-        ≡ runLeft (not (eqb measured 0)) (tapeOf (now (tape .entry)) (now (tones .entry)) (now (blocks .entry)) count) (now (position .entry))
-        (now (counts .entry)) (now (answers .entry)) ⌝ }
+        ≡ runLeft (not (eqb measured 0)) (tapeOf (now (tape .entry)) (now (tones .entry)) (now (blocks .entry)) count)
+        (now (position .entry)) (now (counts .entry)) (now (answers .entry)) ⌝ }
 {
     match position_from(position) {
         Placed::Is(pos) => play_run(

@@ -127,7 +127,8 @@ module _ (m : Bool) (w : Tape) (b : ℕ) (f : Phase) (a : Finding) (fine : a .ch
             → Assayed w (at (c ⇒ insideLeft (t - n) ns ∣ t)) a
             × (putAll answerRow (putAll answerRow x i (c ⇒ withLeft r (t - n) ∷ insideRows r (t - n) ns ∣ []))
             (i + length (c ⇒ withLeft r (t - n) ∷ insideRows r (t - n) ns ∣ []))
-            (runRows Play (at (c ⇒ insideLeft (t - n) ns ∣ t)) (drop (length (c ⇒ withLeft r (t - n) ∷ insideRows r (t - n) ns ∣ [])) (n ∷ ns)))
+            (runRows Play (at (c ⇒ insideLeft (t - n) ns ∣ t))
+            (drop (length (c ⇒ withLeft r (t - n) ∷ insideRows r (t - n) ns ∣ [])) (n ∷ ns)))
             ≡ putAll answerRow x i (runRows Play (at t) (n ∷ ns)))
         by-test true e go =
             let l = ltb-true n t e in
@@ -135,7 +136,8 @@ module _ (m : Bool) (w : Tape) (b : ℕ) (f : Phase) (a : Finding) (fine : a .ch
             let j = length (insideRows r (t - n) ns) in
             let z : i + suc j ≡ i + 1 + j = omega arith in (
               y .0,
-              ap (λ (u : ℕ). putAll answerRow (putAll answerRow (put answerRow x i (withLeft r (t - n))) (i + 1) (insideRows r (t - n) ns)) u
+              ap (λ (u : ℕ). putAll answerRow
+                  (putAll answerRow (put answerRow x i (withLeft r (t - n))) (i + 1) (insideRows r (t - n) ns)) u
                   (runRows Play (at (insideLeft (t - n) ns)) (drop j ns))) z
                   ∙ y .1
                   ∙ ap (λ (s : AnswerRow). putAll answerRow (put answerRow x i s) (i + 1) (runRows Play (at (t - n)) ns)) (same (t - n))
@@ -151,7 +153,8 @@ unfolding insideRows
 inside-few r t [] = omega arith
 inside-few r t (n ∷ ns) = by-test (ltb n t) (inside-few r (t - n) ns)
   where
-    by-test : (c : Bool) → length (insideRows r (t - n) ns) ≤ length ns → length (c ⇒ withLeft r (t - n) ∷ insideRows r (t - n) ns ∣ []) ≤ suc (length ns)
+    by-test : (c : Bool) → length (insideRows r (t - n) ns) ≤ length ns
+        → length (c ⇒ withLeft r (t - n) ∷ insideRows r (t - n) ns ∣ []) ≤ suc (length ns)
     by-test true h = omega arith
     by-test false h = omega arith
 
@@ -222,7 +225,8 @@ module _ (m : Bool) (w : Tape) (ns table : List ℕ) (g : Going) (in-calls : g .
 -- behind the last call a run leads nowhere else
 pub gone-all : (m : Bool) (w : Tape) (ns table : List ℕ) (g : Going) → length ns ≤ g .next → leadsTo m w ns table g ≡ table
 unfolding runRows putAll
-gone-all m w ns table g h = ap (λ (zs : List ℕ). putAll answerRow table (g .next) (runRows (playerOf m w) (g .position) zs)) (drop-end ns (g .next) h)
+gone-all m w ns table g h =
+    ap (λ (zs : List ℕ). putAll answerRow table (g .next) (runRows (playerOf m w) (g .position) zs)) (drop-end ns (g .next) h)
 
 -- room for every row
 pub no-room : (ns table : List ℕ) → length table / 10 < length ns → roomNo ns table ≡ noRoom

@@ -1,4 +1,5 @@
--- CALLS THAT END INSIDE ONE ENTRY, and a turn of a run: shortcuts of the code, which no public contract cites. Definitions alone; assumes nothing.
+-- CALLS THAT END INSIDE ONE ENTRY, and a turn of a run: shortcuts of the code, which no public contract cites.
+-- Definitions alone; assumes nothing.
 use Prim.Native.Nat.{ℕ, _-_, _*_, _≤_}
 use mathlib.Core.Path.{_≡_}
 use mathlib.Core.Bool.{Bool}

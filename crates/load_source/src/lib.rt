@@ -1,6 +1,6 @@
 // The source reading: what the Rust makes of each piece. Its definitions are of the whole run, over a TZX or a TAP.
-mod reading;
 mod run;
+mod whole;
 
 use cut_grammar::Piece;
 use load_blocks::Bits;
@@ -22,9 +22,9 @@ use load_stops::stop_on_48;
 use load_toned::pure_data_block;
 use load_toned::pure_tone_block;
 use load_toned::turbo_data_block;
-pub use reading::read_tap;
-pub use reading::read_tzx;
 pub use run::read_pieces;
+pub use whole::read_tap;
+pub use whole::read_tzx;
 ghost use mathlib.Core.List.{List};
 ghost use Prim.Native.Nat.{ℕ};
 ghost use Rattle.load_source.specs.Source.{act, halted};

@@ -49,7 +49,8 @@ returns-2 c =
     let w = tapeOf (a .tape .now) (a .tones .now) (a .blocks .now) (a .count) in
     let e = c .before .before .before .before .position-from .ensures in
     let z = c .before .before .enum-told .given .1 in
-    let t = tell-misplaced w (λ (q : Position). ofReached (playMeasured w q (a .n))) (a .head .now) (a .answer .now) (c .misplaced .ensures) in
+    let f = λ (q : Position). ofReached (playMeasured w q (a .n)) in
+    let t = tell-misplaced w f (a .head .now) (a .answer .now) (c .misplaced .ensures) in
     (rw (← e, z) (t .0), (rw (← e, z), rw (← e, z) (t .1)))
 
 pub glyvrask-play-head-spec : {M : Type 1} → statement M

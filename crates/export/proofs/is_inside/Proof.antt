@@ -14,7 +14,9 @@ ends-inside-requires : tie.Need-ends-inside-requires
 ends-inside-requires c κs = search needs
 
 returns-2 : tie.Need-returns-2
-returns-2 c = rw (← c .before .before .is-fine .ensures, not-false (c .before .before .is-fine .result) (c .before .if1 .left)) (c .ends-inside .ensures)
+returns-2 c =
+    let fine = c .before .before .is-fine in
+    rw (← fine .ensures, not-false (fine .result) (c .before .if1 .left)) (c .ends-inside .ensures)
 
 pub is-inside-spec : {M : Type 1} → statement M
 is-inside-spec = tie.close (tie.spec is-fine-requires returns ends-inside-requires returns-2)

@@ -49,10 +49,10 @@ same-length-3 c = search needs
 returns-2 : tie.Need-returns-2
 unfolding playMounted
 returns-2 c =
-    let s = c .before .before .before .before .before .before .before .before .before .before .before .before .before .before .before .before .before in
+    let told = c .before .before .before .before .before .before .before .before .before in
+    let s = told .before .before .before .before .before .before .before .before in
     let a = s .args in
     let w = tapeOf (a .tape .now) (a .tones .now) (a .blocks .now) (a .count) in
-    let told = c .before .before .before .before .before .before .before .before .before in
     let p = told .before .before .play-once in
     let e = ap (λ (p : Played). p .answer) (p .ensures) in
     let k = told .tell-reached .ensures .0 ∙ ap (λ (r : Reached). numberOf (ofReached r) (a .answer .now)) e in

@@ -42,7 +42,9 @@ same-length c = search needs
 
 returns : tie.Need-returns
 unfolding insideWords
-returns c = rw (← c .before .before .before .before .before .before .before .before .before .before .before .before .flag .ensures) (c .before .before .tell .ensures)
+returns c =
+    let read = c .before .before .before .before .before .before in
+    rw (← read .before .before .before .before .before .before .flag .ensures) (c .before .before .tell .ensures)
 
 pub tell-inside-spec : {M : Type 1} → statement M
 tell-inside-spec =

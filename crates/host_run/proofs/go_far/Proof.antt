@@ -21,10 +21,12 @@ enum-known-left c = search needs
 go-inside-requires : tie.Need-go-inside-requires
 go-inside-requires c κs =
     let s = c .before .before .before .before .before .before .before .before .before .before .before .before .before in
-    let told = c .before .before in (
+    let told = c .before .before in
+    let tested = c .before .before .before .before in
+    let e = sym (tested .before .is-fine .ensures) ∙ not-false (tested .before .is-fine .result) (tested .if1 .left) in (
       s .pre .0,
       (
-        (fine-of (s .args .g .finding .check) (sym (c .before .before .before .before .before .is-fine .ensures) ∙ not-false _ (c .before .before .before .before .if1 .left)), told .left .given .1),
+        (fine-of (s .args .g .finding .check) e, told .left .given .1),
         (s .pre .1 .0, s .pre .1 .1),
       ),
     )

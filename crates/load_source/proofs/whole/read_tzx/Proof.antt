@@ -6,8 +6,8 @@ use Rattle.load_source.specs.Source.{headed}
 use lib.ListN.{length}
 use mathlib.Core.Path.{sym, _∙_}
 use borrow.Author.Needs.{needs}
-use Rattle.load_source.proofs.reading.read_tzx.Statement.{statement}
-use Rattle.load_source.proofs.reading.read_tzx.Tie as tie
+use Rattle.load_source.proofs.whole.read_tzx.Statement.{statement}
+use Rattle.load_source.proofs.whole.read_tzx.Tie as tie
 
 head-requires : tie.Need-head-requires
 head-requires c κs = search needs

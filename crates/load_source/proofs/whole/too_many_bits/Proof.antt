@@ -10,8 +10,8 @@ use native.Mathlib.Omega.{arith}
 use mathlib.Core.List.{List}
 use Prim.Native.Nat.{ℕ, _-_, _≤_}
 use mathlib.Core.Path.{_≡_, refl, sym, _∙_}
-use Rattle.load_source.proofs.reading.too_many_bits.Statement.{statement}
-use Rattle.load_source.proofs.reading.too_many_bits.Tie as tie
+use Rattle.load_source.proofs.whole.too_many_bits.Statement.{statement}
+use Rattle.load_source.proofs.whole.too_many_bits.Tie as tie
 
 abbrev Inv-loop : tie.InvT-loop
 Inv-loop blocks n i₀ i =

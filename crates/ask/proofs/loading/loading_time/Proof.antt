@@ -10,8 +10,8 @@ use Rattle.rows.proofs.Clauses.{failed, passed}
 use Rattle.play_entries.specs.Mounted.{tapeOf, wellRow}
 use Rattle.ask.specs.Queries.{loadingOf}
 use Rattle.ask.proofs.Loads.{Loads, loads-stop, loads-over, loads-bad, row-well, sounds, summable, loads-on}
-use Rattle.ask.proofs.time.loading_time.Statement.{statement}
-use Rattle.ask.proofs.time.loading_time.Tie as tie
+use Rattle.ask.proofs.loading.loading_time.Statement.{statement}
+use Rattle.ask.proofs.loading.loading_time.Tie as tie
 
 abbrev Inv-loop : tie.InvT-loop
 Inv-loop tape tones blocks count s₀ b₀ s b =

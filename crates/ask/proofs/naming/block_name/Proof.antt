@@ -4,8 +4,8 @@ use borrow.Author.Needs.{needs}
 use Rattle.play_entries.specs.Mounted.{tapeOf}
 use Rattle.ask.proofs.Refusals.{asked}
 use Rattle.ask.proofs.Named.{row-inside, name-refused, name-short, name-told}
-use Rattle.ask.proofs.name.block_name.Statement.{statement}
-use Rattle.ask.proofs.name.block_name.Tie as tie
+use Rattle.ask.proofs.naming.block_name.Statement.{statement}
+use Rattle.ask.proofs.naming.block_name.Tie as tie
 
 refusal-requires : tie.Need-refusal-requires
 refusal-requires c κs = search needs

@@ -1,8 +1,8 @@
 -- `too_many` meets its contract. Assumes nothing.
 use borrow.Author.Tests.{lt-ltb, le-ltb}
 use native.Mathlib.Omega.{arith}
-use Rattle.load_source.proofs.reading.too_many.Statement.{statement}
-use Rattle.load_source.proofs.reading.too_many.Tie as tie
+use Rattle.load_source.proofs.whole.too_many.Statement.{statement}
+use Rattle.load_source.proofs.whole.too_many.Tie as tie
 
 returns : tie.Need-returns
 returns c =

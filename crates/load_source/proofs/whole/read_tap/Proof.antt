@@ -9,8 +9,8 @@ use Rattle.cut_grammar.proofs.CuttingTap.{tap-forward}
 use Rattle.load_source.specs.Source.{tapOf, tapSee, foldFrom, readTap}
 use Rattle.load_blocks.specs.Does.{lentOf}
 use Rattle.load_source.proofs.Rest.{Rest, rest-begins, rest-over, rest-bad, rest-no, rest-on, tap-stops, tap-sees, blank-holds}
-use Rattle.load_source.proofs.reading.read_tap.Statement.{statement}
-use Rattle.load_source.proofs.reading.read_tap.Tie as tie
+use Rattle.load_source.proofs.whole.read_tap.Statement.{statement}
+use Rattle.load_source.proofs.whole.read_tap.Tie as tie
 
 abbrev Inv-loop : tie.InvT-loop
 Inv-loop tape blocks₀ tones₀ s₀ at₀ blocks tones s at =

@@ -3,7 +3,7 @@
 // many calls (2 bytes, at most 1,000), the tape's length (4 bytes), each call's count (4 bytes),
 // the words of the block rows and of the tone rows (4 bytes each), and the tape. Numbers are little-endian.
 use gate_input::number_up_to;
-use prog_calls::print_calls;
+use prog_calls::say_calls;
 use rows::BLOCK_TABLE;
 use rows::BLOCK_WORDS;
 use rows::TONE_TABLE;
@@ -46,7 +46,8 @@ fn run(
     read_words(blocks);
     read_words(tones);
     io::read_full(0, tape);
-    print_calls(
+    let mut out = [0u8; 256000];
+    let k = say_calls(
         tape,
         tones,
         blocks,
@@ -54,8 +55,10 @@ fn run(
         measured,
         from as u64,
         counts,
-        calls as u64,
+        calls,
+        &mut out,
     );
+    io::write_all(1, &out[..k]);
 }
 
 // One run.

@@ -1,1 +1,5 @@
-mod Room
+mod ReadBack
+mod Rows
+mod Runs
+mod Saying
+mod Describing

@@ -1,1 +1,4 @@
+pub mod Answers
 pub mod Playback
+pub mod Trace
+pub mod Inner

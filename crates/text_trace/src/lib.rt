@@ -24,8 +24,8 @@ fn put_refused(out: &mut [u8], at: usize, k: u32) -> usize
     put_decimal(out, x, k as u64)
 }
 
-// The same, to the end of the line.
-fn put_refusal(out: &mut [u8], at: usize, k: u32) -> usize
+// The same, to the end of the line; our crates alone call it.
+pub fn put_refusal(out: &mut [u8], at: usize, k: u32) -> usize
     requires { ⌜ at + 32 < 2 ^ 63 ⌝ }
     ensures { λ r. ⌜ Wrote (now (out .entry)) at (refusedLine k) (now (out .exit)) r ⌝ }
 {

@@ -30,12 +30,6 @@ run-requires c κs = search needs
 same-length : tie.Need-same-length
 same-length c = search needs
 
-same-length-2 : tie.Need-same-length-2
-same-length-2 c = search needs
-
-same-length-3 : tie.Need-same-length-3
-same-length-3 c = search needs
-
 returns : tie.Need-returns
 returns c = search needs
 
@@ -51,6 +45,4 @@ retrace-spec =
     slice-aggregate-run
     run-requires
     same-length
-    same-length-2
-    same-length-3
     returns)

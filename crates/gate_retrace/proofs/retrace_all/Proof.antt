@@ -7,11 +7,10 @@ use Rattle.gate_retrace.proofs.retrace_all.Statement.{statement}
 use Rattle.gate_retrace.proofs.retrace_all.Tie as tie
 
 abbrev Inv-loop : tie.InvT-loop
-Inv-loop bytes₀ blocks₀ tones₀ n left₀ bytes blocks tones left =
-    ((length bytes ≡ length bytes₀) × (length blocks ≡ length blocks₀)) × (length tones ≡ length tones₀)
+Inv-loop bytes₀ n left₀ bytes left = length bytes ≡ length bytes₀
 
 abbrev μ-loop : tie.MeasureT-loop
-μ-loop bytes₀ blocks₀ tones₀ n left₀ bytes blocks tones left = left
+μ-loop bytes₀ n left₀ bytes left = left
 
 loop-holds : tie.Need-loop-holds Inv-loop μ-loop
 loop-holds c =
@@ -37,14 +36,6 @@ same-length : tie.Need-same-length Inv-loop μ-loop
 same-length c =
     search needs
 
-same-length-2 : tie.Need-same-length-2 Inv-loop μ-loop
-same-length-2 c =
-    search needs
-
-same-length-3 : tie.Need-same-length-3 Inv-loop μ-loop
-same-length-3 c =
-    search needs
-
 returns : tie.Need-returns Inv-loop μ-loop
 returns c =
     search needs
@@ -61,6 +52,4 @@ retrace-all-spec =
     loop-less
     loop-again
     same-length
-    same-length-2
-    same-length-3
     returns)

@@ -1,7 +1,7 @@
--- `replay` meets its contract. Assumes nothing.
+-- `replay` meets its contract: parts of what is lent. Assumes nothing.
+use borrow.Author.Needs.{needs}
 use Rattle.law_base.proofs.Parts.{take-counted}
 use native.Mathlib.Omega.{arith}
-use borrow.Author.Needs.{needs}
 use Rattle.gate_replay.proofs.replay.Statement.{statement}
 use Rattle.gate_replay.proofs.replay.Tie as tie
 
@@ -61,14 +61,16 @@ slice-aggregate-answer-3 c =
 
 answer-requires : tie.Need-answer-requires
 answer-requires c κs =
-    let number-up-to2 = c .before .before .before in
-    let start =
-    number-up-to2 .before .before .before .before .before .before .before .before .before .before .before .before .before .before in
+    let number-up-to2 = c .before .before .before .before in
+    let lent2 = number-up-to2 .before .before in
+    let start = lent2 .before .before .before .before .before .before .before .before .before .before .before .before .before in
     omega (
       arith,
       start .pre,
       number-up-to2 .number-up-to2 .ensures,
+      lent2 .lent2 .ensures,
       take-counted (start .args .bytes .now) (number-up-to2 .number-up-to2 .result) (omega (arith, number-up-to2 .number-up-to2 .ensures)),
+      take-counted (start .args .tones .now) (lent2 .lent2 .result) (omega (arith, lent2 .lent2 .ensures)),
     )
 
 same-length : tie.Need-same-length
@@ -79,6 +81,9 @@ same-length-2 c = search needs
 
 same-length-3 : tie.Need-same-length-3
 same-length-3 c = search needs
+
+same-length-4 : tie.Need-same-length-4
+same-length-4 c = search needs
 
 returns : tie.Need-returns
 returns c = search needs
@@ -108,4 +113,5 @@ replay-spec =
     same-length
     same-length-2
     same-length-3
+    same-length-4
     returns)

@@ -19,7 +19,7 @@ use Rattle.law_every_load.specs.Sizes.{Bytes}
 use Rattle.listing.specs.Listing.{blockWords, toneWords, loadedOf, Listing, text, refused, mounted, listed, listingOf}
 use Rattle.listing.specs.Listing.{answerTo, bytesAfter}
 use Rattle.listing.specs.Printed.{printedNo, printedOf, Says}
-use Rattle.text_listing.proofs.Shown.{name-part}
+use Rattle.text_listing.proofs.Showing.{name-part}
 use Rattle.text_listing.proofs.Texts.{decimal-long}
 use Rattle.text_listing.proofs.PageTexts.{text-most}
 use Rattle.listing.proofs.Mounting.{load-ready}

@@ -1,5 +1,5 @@
 pub mod PageTexts
-pub mod Shown
+pub mod Showing
 pub mod Utf8
 pub mod Points
 pub mod Texts

@@ -14,7 +14,7 @@ use Rattle.law_base.proofs.Tests.{first, second}
 use Rattle.text_out.specs.Out.{eachByte}
 use Rattle.text_listing.specs.Shown.{shown, printed, width}
 use Rattle.text_listing.specs.Points.{bytesOf, isScalar, areScalars, Utf8, isControl, shownPoint}
-use Rattle.text_listing.proofs.Shown.{shown-at}
+use Rattle.text_listing.proofs.Showing.{shown-at}
 use Rattle.text_listing.proofs.Utf8.{one, two, three, four}
 
 -- what a first byte prints as, by the byte behind it

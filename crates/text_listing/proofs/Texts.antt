@@ -22,7 +22,7 @@ use Rattle.play_entries.specs.Mounted.{tapeOf}
 use Rattle.text_listing.specs.Inner.{rowHeadText, rowTailText, Ready}
 use Rattle.text_listing.specs.Shown.{shown}
 use Rattle.text_listing.specs.Lines.{timeText, markText, rowText, rowsText}
-use Rattle.text_listing.proofs.Shown.{shown-length}
+use Rattle.text_listing.proofs.Showing.{shown-length}
 
 -- at least so long, and at most
 pub record Long (from to : ℕ) (t : List ℕ) : Type 0 where

@@ -1,7 +1,7 @@
 -- `glyvrask_play_head` meets its contract. Assumes nothing.
 use Rattle.export.specs.Export.{withPlace, fromPlace}
 use Rattle.export.proofs.Placing.{tell-misplaced}
-use Rattle.host_answers.specs.Answers.{ofReached}
+use Rattle.host_answers.specs.Answers.{Reply, ofReached}
 use Rattle.play_deck.specs.Deck.{playMeasured}
 use Rattle.play_walk.specs.declared.Position.{Position}
 use Rattle.play_entries.specs.Mounted.{tapeOf}
@@ -49,7 +49,7 @@ returns-2 c =
     let w = tapeOf (a .tape .now) (a .tones .now) (a .blocks .now) (a .count) in
     let e = c .before .before .before .before .position-from .ensures in
     let z = c .before .before .enum-told .given .1 in
-    let f = λ (q : Position). ofReached (playMeasured w q (a .n)) in
+    let f : Position → Reply = λ q. ofReached (playMeasured w q (a .n)) in
     let t = tell-misplaced w f (a .head .now) (a .answer .now) (c .misplaced .ensures) in
     (rw (← e, z) (t .0), (rw (← e, z), rw (← e, z) (t .1)))
 

@@ -49,8 +49,7 @@ returns c =
     let a = s .args in
     let w = tapeOf (a .tape .now) (a .tones .now) (a .blocks .now) (a .count) in
     let put = c .before .before .before .before .put-answer in
-    let row = c .before .before .before .before .before .row-of in
-    let call = c .before .before .before .before .before .before .before .call-by in (
+    let row = c .before .before .before .before .before .row-of in (
       subst (λ (q : Position). Assayed w q (c .assay-after .result)) (sym (c .before .position-in .ensures)) (c .assay-after .ensures),
       (
         refl,

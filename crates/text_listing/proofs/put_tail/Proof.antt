@@ -3,7 +3,7 @@ use native.Mathlib.Omega.{arith}
 use borrow.Author.Needs.{needs}
 use Rattle.text_name.specs.Names.{nameOf}
 use Rattle.text_out.proofs.Writing.{then}
-use Rattle.text_listing.proofs.Shown.{shown-length}
+use Rattle.text_listing.proofs.Showing.{shown-length}
 use Rattle.text_listing.specs.Lines.{timeText}
 use Rattle.text_listing.proofs.Texts.{time-next}
 use Rattle.text_listing.proofs.put_tail.Statement.{statement}

@@ -4,7 +4,7 @@ use native.Mathlib.Omega.{arith}
 use lib.ListN.{length}
 use borrow.Author.Needs.{needs}
 use Rattle.text_out.proofs.Writing.{same-len}
-use Rattle.text_listing.proofs.Shown.{Shows, shows-none, shows-on, shows-over, width-some}
+use Rattle.text_listing.proofs.Showing.{Shows, shows-none, shows-on, shows-over, width-some}
 use Rattle.text_listing.proofs.shown.put_shown.Statement.{statement}
 use Rattle.text_listing.proofs.shown.put_shown.Tie as tie
 

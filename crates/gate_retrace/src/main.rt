@@ -1,22 +1,15 @@
 // Prints the runs on standard input one after the other: 4 bytes give how many there are;
 // each has its length (4 bytes) and its description.
-use gate_input::number_up_to;
+use gate_input::read_count;
+use gate_input::read_counted;
 use prog_calls::print_trace;
 use rows::BLOCK_TABLE;
 use rows::TONE_TABLE;
 
-// A run that fills `input`.
-fn run(input: &mut [u8], blocks: &mut [u64], tones: &mut [u64]) {
-    io::read_full(0, input);
-    print_trace(input, blocks, tones);
-}
-
 // One run.
 fn retrace(bytes: &mut [u8], blocks: &mut [u64], tones: &mut [u64]) {
-    let mut head = [0u8; 4];
-    io::read_full(0, &mut head);
-    let n = number_up_to(&head, 0, 4, bytes.len());
-    run(&mut bytes[..n], blocks, tones);
+    let n = read_counted(bytes);
+    print_trace(&bytes[..n], blocks, tones);
 }
 
 // n runs.
@@ -29,9 +22,7 @@ fn retrace_all(bytes: &mut [u8], blocks: &mut [u64], tones: &mut [u64], n: usize
 }
 
 fn main() {
-    let mut head = [0u8; 4];
-    io::read_full(0, &mut head);
-    let n = number_up_to(&head, 0, 4, 1000000);
+    let n = read_count();
     let mut bytes = io::large_buffer();
     let mut blocks = [0u64; BLOCK_TABLE];
     let mut tones = [0u64; TONE_TABLE];

@@ -16,17 +16,8 @@ room : (bytes : List ℕ) (t o : ℕ) → 65536 ≡ length bytes → 1200 + 2 * 
     → 1200 + 2 * length bytes + 5 * length (replicate {A = ℕ} t 0) ≤ length (replicate {A = ℕ} o 0)
 room bytes t o e h = omega (arith, counted t, counted o)
 
-slice-aggregate-read-full : tie.Need-slice-aggregate-read-full
-slice-aggregate-read-full c = search needs
-
-read-full-requires : tie.Need-read-full-requires
-read-full-requires c κs = search needs
-
-slice-aggregate-number-up-to : tie.Need-slice-aggregate-number-up-to
-slice-aggregate-number-up-to c = search needs
-
-number-up-to-requires : tie.Need-number-up-to-requires
-number-up-to-requires c κs = search needs
+read-count-requires : tie.Need-read-count-requires
+read-count-requires c κs = search needs
 
 large-buffer-requires : tie.Need-large-buffer-requires
 large-buffer-requires c κs = search needs
@@ -55,10 +46,7 @@ pub main-spec : {M : Type 1} → statement M
 main-spec =
     tie.close
     (tie.spec
-    slice-aggregate-read-full
-    read-full-requires
-    slice-aggregate-number-up-to
-    number-up-to-requires
+    read-count-requires
     large-buffer-requires
     slice-aggregate-replay-all
     slice-aggregate-replay-all-2

@@ -4,8 +4,8 @@ use native.Mathlib.Omega.{arith}
 use Prim.Native.Nat.{_-_}
 use lib.ListN.{length, length-set}
 use mathlib.Core.Path.{_≡_}
-use Rattle.gate_rehear.proofs.read_words.Statement.{statement}
-use Rattle.gate_rehear.proofs.read_words.Tie as tie
+use Rattle.gate_input.proofs.read_words.Statement.{statement}
+use Rattle.gate_input.proofs.read_words.Tie as tie
 
 abbrev Inv-loop : tie.InvT-loop
 Inv-loop words₀ i₀ words i = length words ≡ length words₀
@@ -16,8 +16,8 @@ abbrev μ-loop : tie.MeasureT-loop
 loop-holds : tie.Need-loop-holds Inv-loop μ-loop
 loop-holds c = search needs
 
-read-word-requires : tie.Need-read-word-requires Inv-loop μ-loop
-read-word-requires c κs = search needs
+read-number-requires : tie.Need-read-number-requires Inv-loop μ-loop
+read-number-requires c κs = search needs
 
 mul-words : tie.Need-mul-words Inv-loop μ-loop
 mul-words c = search needs
@@ -47,7 +47,7 @@ read-words-spec =
     Inv-loop
     μ-loop
     loop-holds
-    read-word-requires
+    read-number-requires
     mul-words
     slice-write-words
     add-i

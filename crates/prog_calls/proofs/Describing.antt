@@ -96,10 +96,10 @@ module _ (measured : Bool) (model : ℕ) (s : List ℕ) (from : ℕ) (ns : List 
       → runText measured (tapeOf s tt bt n) (startAt from) ns ≡ tapeText measured model s from ns
   unfolding tapeText loadedText
   text-run {n = n} e =
+      let N = 2048 * tone .width in
       rw (sym (l .answer) ∙ e)
       (ap (λ (x : List ℕ). runText measured (tapeOf s x bt n) (startAt from) ns) (l .tones)
-      ∙ ap (λ (x : List ℕ). runText measured (tapeOf s (toneTable (2048 * tone .width) (loadNamed traceLent s model)) x n) (startAt from) ns)
-      (l .blocks))
+      ∙ ap (λ (x : List ℕ). runText measured (tapeOf s (toneTable N (loadNamed traceLent s model)) x n) (startAt from) ns) (l .blocks))
 
   pub text-refused : {k : ℕ} → a ≡ loaded.Refused k → refusedLine k ≡ tapeText measured model s from ns
   unfolding tapeText loadedText

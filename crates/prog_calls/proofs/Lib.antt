@@ -3,3 +3,4 @@ mod Rows
 mod Runs
 mod Saying
 mod Describing
+mod Enough

@@ -5,7 +5,7 @@ use native.Mathlib.Omega.{arith}
 use mathlib.Core.Path.{_≡_, refl, sym, ap, _∙_}
 use mathlib.Core.Bool.{Bool, true, false}
 use mathlib.Core.List.{List, [], _∷_, _++_}
-use lib.ListN.{length, length-append, drop}
+use lib.ListN.{length, length-append}
 use borrow.Author.Tests.{le-ltb}
 use Rattle.law_base.specs.Rules.{_⇒_, _∣_}
 use Rattle.refusals.specs.Refusals.{noPosition, badRow}
@@ -19,12 +19,11 @@ use Rattle.play_deck.specs.declared.Check.{Check}
 use Rattle.play_deck.specs.declared.Check.the-variants.{Fine, NotValid, NotFormed}
 use Rattle.play_deck.specs.Deck.{judged, unless, playMeasured, playSource, blockAt}
 use Rattle.play_deck.specs.Calls.{positionIn}
-use Rattle.host_run.specs.declared.AnswerRow.{AnswerRow}
 use Rattle.host_run.specs.Rows.{answerRow, rowFor}
 use Rattle.host_run.specs.Runs.{playerOf, runRows, checkNo, roomNo, runNo, runTable}
 use Rattle.text_trace.specs.Lines.{refusedLine, measuredLine, sourceLine, lineOf}
 use Rattle.text_trace.proofs.Lengths.{line-length}
-use Rattle.prog_calls.specs.Answers.{placeIn, reachedIn}
+use Rattle.prog_calls.specs.Answers.{placeIn}
 use Rattle.prog_calls.specs.Trace.{endsRun, runText}
 use Rattle.prog_calls.specs.Inner.{lineIn, linesIn, sameLines}
 use Rattle.prog_calls.proofs.ReadBack.{place-back, reached-back}
@@ -57,7 +56,8 @@ module _ (m : Bool) (w : Tape) where
   run-most q (n ∷ ns) =
       let r = Play q n in
       let rest = runText m w (positionIn q r) ns in
-      simp (length-append, mul-suc) (omega (arith, line-length m r (blockAt w (positionIn q r)), fewer (endsRun m r) rest, run-most (positionIn q r) ns))
+      simp (length-append, mul-suc)
+      (omega (arith, line-length m r (blockAt w (positionIn q r)), fewer (endsRun m r) rest, run-most (positionIn q r) ns))
     where
       fewer : (b : Bool) (t : List ℕ) → length (b ⇒ [] ∣ t) ≤ length t
       fewer true t = omega arith
@@ -96,35 +96,41 @@ unfolding playerOf playMeasured playSource unless
 never-formed true w q e n = rw e
 never-formed false w q e n = rw e
 
--- A START THAT IS REFUSED: so is each call
-pub refused-said : (m : Bool) (w : Tape) (q : Position) (ns table : List ℕ) (k : ℕ) → length ns * answerRow .width ≤ length table
-    → k ≡ runNo w q ns table → (k ≡ 0 → ⊥) → sameLines (length ns) (refusedLine k) ≡ runText m w q ns
-unfolding runNo checkNo roomNo positionIn
-refused-said m w q ns table k h e some = by-check (judged w q) refl
-  where
-    room : roomNo ns table ≡ 0
-    room = rw (le-ltb (length table) (length ns * answerRow .width) h)
+-- WHAT A RUN LEFT, from the position q that the code made of p
+module _ (m : Bool) (w : Tape) (q p : Position) (made : q ≡ p) (ns table : List ℕ) (k : ℕ)
+    (h : length ns * answerRow .width ≤ length table) (e : k ≡ runNo w q ns table) where
+  from : runText m w q ns ≡ runText m w p ns
+  from = ap (λ (x : Position). runText m w x ns) made
 
-    by-check : (c : Check) → judged w q ≡ c → sameLines (length ns) (refusedLine k) ≡ runText m w q ns
-    by-check Fine j = absurd (some (e ∙ ap (λ (c : Check). checkNo c (roomNo ns table)) j ∙ room))
-    by-check NotValid j =
-        ap (λ (x : ℕ). sameLines (length ns) (refusedLine x)) (e ∙ ap (λ (c : Check). checkNo c (roomNo ns table)) j)
-        ∙ ap (sameLines (length ns)) (sym (refused-line m w q .0))
-        ∙ sym (all-same m w q reached.NotValid (never-valid m w q j) refl (refused-on m .0) ns)
-    by-check NotFormed j =
-        ap (λ (x : ℕ). sameLines (length ns) (refusedLine x)) (e ∙ ap (λ (c : Check). checkNo c (roomNo ns table)) j)
-        ∙ ap (sameLines (length ns)) (sym (refused-line m w q .1))
-        ∙ sym (all-same m w q reached.NotFormed (never-formed m w q j) refl (refused-on m .1) ns)
+  number : (c : Check) → judged w q ≡ c → k ≡ checkNo c 0
+  unfolding runNo roomNo
+  number c j = e ∙ ap (λ (x : Check). checkNo x (roomNo ns table)) j ∙ rw (le-ltb (length table) (length ns * answerRow .width) h)
 
--- ROWS THAT WERE PLAYED: the table's lines are the run's
-pub played-said : (m : Bool) (w : Tape) (q : Position) (ns table after : List ℕ) (k : ℕ) → length ns * answerRow .width ≤ length table
-    → k ≡ runNo w q ns table → k ≡ 0 → after ≡ runTable m w q ns table
-    → linesIn m w (rowsOf answerRow after (length ns)) ≡ runText m w q ns
-unfolding runTable
-played-said m w q ns table after k room e none x =
-    let z : runNo w q ns table ≡ 0 = sym e ∙ none in
-    let rs = runRows (playerOf m w) q ns in
-    let y : after ≡ putAll answerRow table 0 rs = x ∙ rw z in
-    ap (λ (t : List ℕ). linesIn m w (rowsOf answerRow t (length ns))) y
-    ∙ ap (linesIn m w) (put-read answerRow rs table (length ns) (run-length m w q ns) room)
-    ∙ rows-said m w q ns
+  -- a start that is refused: so is each call
+  pub refused-said : (k ≡ 0 → ⊥) → sameLines (length ns) (refusedLine k) ≡ runText m w p ns
+  unfolding checkNo positionIn
+  refused-said some = by-check (judged w q) refl ∙ from
+    where
+      by-check : (c : Check) → judged w q ≡ c → sameLines (length ns) (refusedLine k) ≡ runText m w q ns
+      by-check Fine j = absurd (some (number Fine j))
+      by-check NotValid j =
+          ap (λ (x : ℕ). sameLines (length ns) (refusedLine x)) (number NotValid j)
+          ∙ ap (sameLines (length ns)) (sym (refused-line m w q .0))
+          ∙ sym (all-same m w q reached.NotValid (never-valid m w q j) refl (refused-on m .0) ns)
+      by-check NotFormed j =
+          ap (λ (x : ℕ). sameLines (length ns) (refusedLine x)) (number NotFormed j)
+          ∙ ap (sameLines (length ns)) (sym (refused-line m w q .1))
+          ∙ sym (all-same m w q reached.NotFormed (never-formed m w q j) refl (refused-on m .1) ns)
+
+  -- rows that were played: the table's lines are the run's
+  pub played-said : (after : List ℕ) → k ≡ 0 → after ≡ runTable m w q ns table
+      → linesIn m w (rowsOf answerRow after (length ns)) ≡ runText m w p ns
+  unfolding runTable
+  played-said after none x =
+      let z : runNo w q ns table ≡ 0 = sym e ∙ none in
+      let rs = runRows (playerOf m w) q ns in
+      let y : after ≡ putAll answerRow table 0 rs = x ∙ rw z in
+      ap (λ (t : List ℕ). linesIn m w (rowsOf answerRow t (length ns))) y
+      ∙ ap (linesIn m w) (put-read answerRow rs table (length ns) (run-length m w q ns) h)
+      ∙ rows-said m w q ns
+      ∙ from

@@ -1,9 +1,9 @@
 -- WHAT IS PRINTED: a text that was written from the front on; the loops that write a run's lines. Assumes nothing.
-use Prim.Native.Nat.{ℕ, zero, suc, _+_, _-_, _*_, _≤_, _<_}
+use Prim.Native.Nat.{ℕ, zero, suc, _+_, _-_, _≤_, _<_}
 use native.Mathlib.Omega.{arith}
 use mathlib.Core.Path.{_≡_, refl, sym, ap, subst, _∙_}
 use mathlib.Core.Bool.{Bool, true, false}
-use mathlib.Core.List.{List, [], _∷_, _++_, append-nil}
+use mathlib.Core.List.{List, [], _++_, append-nil}
 use lib.ListN.{length, length-append, take, drop, drop-of-length-le}
 use lib.Seq.{length-take-le, take-append-seam}
 use Rattle.law_base.specs.Rules.{_⇒_, _∣_}
@@ -14,7 +14,7 @@ use Rattle.host_run.specs.declared.AnswerRow.{AnswerRow}
 use Rattle.host_run.specs.Rows.{answerRow}
 use Rattle.text_out.specs.Out.{Wrote}
 use Rattle.text_out.proofs.Writing.{same-len, wrote-whole, wrote-counted}
-use Rattle.text_out.proofs.Loops.{Goes, goes-none, goes-on, goes-over}
+use Rattle.text_out.proofs.Loops.{Goes, goes-on, goes-over}
 use Rattle.play_deck.specs.Deck.{blockAt}
 use Rattle.text_trace.specs.Lines.{refusedLine}
 use Rattle.text_trace.proofs.Lengths.{refused-length, line-length}
@@ -33,7 +33,9 @@ pub prints : {d d1 t : List ℕ} {r : ℕ} → Wrote d 0 t d1 r → length t ≤
 prints {d} {d1} {t} {r} p h =
     let n : r ≡ length t = wrote-counted p in
     let k : r ≤ length d1 = omega (arith, same-len p) in
-    ((k, sym (length-take-le r d1 k)), ap (λ (m : ℕ). take m d1) n ∙ ap (take (length t)) (wrote-whole p h) ∙ take-append-seam t (drop (length t) d))
+    let f : take r d1 ≡ t =
+    ap (λ (m : ℕ). take m d1) n ∙ ap (take (length t)) (wrote-whole p h) ∙ take-append-seam t (drop (length t) d) in
+    ((k, sym (length-take-le r d1 k)), f)
 
 pub line-in-most : (m : Bool) (w : Tape) (a : AnswerRow) → length (lineIn m w a) ≤ 256
 unfolding lineIn

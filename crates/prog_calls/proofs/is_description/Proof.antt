@@ -22,7 +22,8 @@ is-player-requires c κs = search needs
 returns-2 : tie.Need-returns-2
 unfolding isDescription
 returns-2 c =
-    rw (le-leb 8 (length (c .before .before .before .before .before .args .s .now)) (omega arith), failed (c .before .is-player .ensures) (c .if2 .taken))
+    let s = c .before .before .before .before .before .args .s .now in
+    rw (le-leb 8 (length s) (omega arith), failed (c .before .is-player .ensures) (c .if2 .taken))
 
 number-requires : tie.Need-number-requires
 number-requires c κs = search needs

@@ -25,9 +25,11 @@ same-length-3 c = search needs
 
 returns : tie.Need-returns
 returns c =
-    let a = c .before .before .before .before .before .before .before .before .before .before .before .before .before .before .before .before .before .before .before .args in
+    let run = c .before .before .before .before in
+    let read = run .before .before .before .before .before .before in
+    let a = read .before .before .before .before .before .before .before .before .before .args in
     let w = tapeOf (a .tape .now) (a .tones .now) (a .blocks .now) (a .count) in
-    wrote-as (ap (runText (a .measured) w (startAt (a .from))) (c .before .before .before .before .before .before .before .before .before .before .read-counts .ensures)) (c .before .before .before .before .put-run .ensures)
+    wrote-as (ap (runText (a .measured) w (startAt (a .from))) (read .read-counts .ensures)) (run .put-run .ensures)
 
 pub put-counted-spec : {M : Type 1} → statement M
 put-counted-spec =

@@ -30,10 +30,12 @@ loop-less c = omega arith
 
 loop-again : tie.Need-loop-again Inv-loop μ-loop
 loop-again c =
-    let L = c .before .before .before .before .before .loop in
-    let a = c .before .before .before .before .before .before .before .args in
+    let put = c .before .before in
+    let L = put .before .before .before .loop in
+    let a = put .before .before .before .before .before .args in
     let h : L .i < a .n = omega arith in
-    (omega arith, goes-on 1 (L .inv .1) (same-next (refusedLine (a .k)) (a .n) (L .i) h) (omega (arith, refused-most (a .k))) (c .before .before .put-refusal .ensures))
+    let line = same-next (refusedLine (a .k)) (a .n) (L .i) h in
+    (omega arith, goes-on 1 (L .inv .1) line (omega (arith, refused-most (a .k))) (put .put-refusal .ensures))
 
 same-length : tie.Need-same-length Inv-loop μ-loop
 same-length c =

@@ -22,7 +22,11 @@ same-length c = search needs
 returns : tie.Need-returns
 unfolding lineIn
 returns c =
-    rw (← c .before .before .before .reached-in .ensures, ← c .before .before .before .before .before .before .place-in .ensures, ← c .before .before .before .before .before .block .ensures) (c .before .before .put-line .ensures)
+    let put = c .before .before in
+    let read = put .before in
+    let block = read .before .before in
+    let place = block .before in
+    rw (← read .reached-in .ensures, ← place .place-in .ensures, ← block .block .ensures) (put .put-line .ensures)
 
 pub put-row-spec : {M : Type 1} → statement M
 put-row-spec =

@@ -25,30 +25,35 @@ answer-at-requires c κs = search needs
 
 put-row-requires : tie.Need-put-row-requires Inv-loop μ-loop
 put-row-requires c κs =
-    omega (arith, c .before .before .before .loop .inv .1 .few, c .before .before .before .before .before .before .before .before .before .pre .1)
+    let L = c .before .before .before in
+    let start = L .before .before .before .before .before .before in
+    omega (arith, L .loop .inv .1 .few, start .pre .1)
 
 ends-run-requires : tie.Need-ends-run-requires Inv-loop μ-loop
 ends-run-requires c κs = search needs
 
 same-length : tie.Need-same-length Inv-loop μ-loop
 same-length c =
-    let read = c .before .before .before .before .before .before .answer-at in
-    let L = c .before .before .before .before .before .before .before .before .loop in
-    let a = c .before .before .before .before .before .before .before .before .before .before .before .before .before .before .args in
+    let put = c .before .before .before .before in
+    let read = put .before .before in
+    let L = read .before .before .loop in
+    let a = read .before .before .before .before .before .before .before .before .args in
     let w = tapeOf (a .tape .now) (a .tones .now) (a .blocks .now) (a .count) in
     let h : L .i < a .n = omega arith in
-    let ends = c .before .ends-run .ensures in
-    same-len (rows-end (a .measured) w (a .answers .now) (a .n) (L .i) h (read .result) (read .ensures) (L .inv .1) (c .before .before .before .before .put-row .ensures) (sym ends ∙ c .if1 .taken))
+    same-len
+    (rows-end (a .measured) w (a .answers .now) (a .n) (L .i) h (read .answer-at .result) (read .answer-at .ensures) (L .inv .1)
+    (put .put-row .ensures) (sym (c .before .ends-run .ensures) ∙ c .if1 .taken))
 
 returns : tie.Need-returns Inv-loop μ-loop
 returns c =
-    let read = c .before .before .before .before .before .before .answer-at in
-    let L = c .before .before .before .before .before .before .before .before .loop in
-    let a = c .before .before .before .before .before .before .before .before .before .before .before .before .before .before .args in
+    let put = c .before .before .before .before in
+    let read = put .before .before in
+    let L = read .before .before .loop in
+    let a = read .before .before .before .before .before .before .before .before .args in
     let w = tapeOf (a .tape .now) (a .tones .now) (a .blocks .now) (a .count) in
     let h : L .i < a .n = omega arith in
-    let ends = c .before .ends-run .ensures in
-    rows-end (a .measured) w (a .answers .now) (a .n) (L .i) h (read .result) (read .ensures) (L .inv .1) (c .before .before .before .before .put-row .ensures) (sym ends ∙ c .if1 .taken)
+    rows-end (a .measured) w (a .answers .now) (a .n) (L .i) h (read .answer-at .result) (read .answer-at .ensures) (L .inv .1)
+    (put .put-row .ensures) (sym (c .before .ends-run .ensures) ∙ c .if1 .taken)
 
 add-i : tie.Need-add-i Inv-loop μ-loop
 add-i c = search needs
@@ -58,13 +63,15 @@ loop-less c = omega arith
 
 loop-again : tie.Need-loop-again Inv-loop μ-loop
 loop-again c =
-    let read = c .before .before .before .before .before .before .answer-at in
-    let L = c .before .before .before .before .before .before .before .before .loop in
-    let a = c .before .before .before .before .before .before .before .before .before .before .before .before .before .before .args in
+    let put = c .before .before .before .before in
+    let read = put .before .before in
+    let L = read .before .before .loop in
+    let a = read .before .before .before .before .before .before .before .before .args in
     let w = tapeOf (a .tape .now) (a .tones .now) (a .blocks .now) (a .count) in
     let h : L .i < a .n = omega arith in
-    let ends = c .before .ends-run .ensures in
-    (omega arith, rows-on (a .measured) w (a .answers .now) (a .n) (L .i) h (read .result) (read .ensures) (L .inv .1) (c .before .before .before .before .put-row .ensures) (sym ends ∙ c .if1 .left))
+    let on = rows-on (a .measured) w (a .answers .now) (a .n) (L .i) h (read .answer-at .result) (read .answer-at .ensures) (L .inv .1)
+    (put .put-row .ensures) (sym (c .before .ends-run .ensures) ∙ c .if1 .left) in
+    (omega arith, on)
 
 same-length-2 : tie.Need-same-length-2 Inv-loop μ-loop
 same-length-2 c =

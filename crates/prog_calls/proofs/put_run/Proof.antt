@@ -1,9 +1,6 @@
 -- `put_run` meets its contract. Assumes nothing.
-use mathlib.Core.Path.{_≡_, ap, _∙_}
 use Rattle.play_entries.specs.Mounted.{tapeOf}
-use Rattle.play_walk.specs.declared.Position.{Position}
 use Rattle.play_walk.specs.Heads.{startAt}
-use Rattle.prog_calls.specs.Trace.{runText}
 use Rattle.prog_calls.proofs.Runs.{refused-said, played-said}
 use Rattle.prog_calls.proofs.Saying.{wrote-as}
 use borrow.Author.Needs.{needs}
@@ -27,16 +24,15 @@ same-length-2 c = search needs
 
 returns : tie.Need-returns
 returns c =
-    let start = c .before .before .before .before .before .before .before .before .before .before .before .before .before .before .before .before in
+    let if1 = c .before .before .before .before in
+    let play = if1 .before .before .before in
+    let new = play .before .before in
+    let start = new .before .before .before .before .before .before .before in
     let a = start .args in
     let w = tapeOf (a .tape .now) (a .tones .now) (a .blocks .now) (a .count) in
-    let new = c .before .before .before .before .before .before .before .before .before .new-at-block in
-    let play = c .before .before .before .before .before .before .before .play-run in
-    let from : runText (a .measured) w (new .result) (a .counts .now) ≡ runText (a .measured) w (startAt (a .from)) (a .counts .now) =
-    ap (λ (q : Position). runText (a .measured) w q (a .counts .now)) (new .ensures) in
     wrote-as
-    (refused-said (a .measured) w (new .result) (a .counts .now) (a .answers .now) (play .result) (start .pre .0) (play .ensures .0)
-    (c .before .before .before .before .if1 .taken) ∙ from)
+    (refused-said (a .measured) w (new .new-at-block .result) (startAt (a .from)) (new .new-at-block .ensures) (a .counts .now)
+    (a .answers .now) (play .play-run .result) (start .pre .0) (play .play-run .ensures .0) (if1 .if1 .taken))
     (c .before .before .put-refusals .ensures)
 
 put-rows-requires : tie.Need-put-rows-requires
@@ -50,16 +46,15 @@ same-length-4 c = search needs
 
 returns-2 : tie.Need-returns-2
 returns-2 c =
-    let start = c .before .before .before .before .before .before .before .before .before .before .before .before .before .before .before .before .before in
+    let if1 = c .before .before .before .before .before in
+    let play = if1 .before .before .before in
+    let new = play .before .before in
+    let start = new .before .before .before .before .before .before .before in
     let a = start .args in
     let w = tapeOf (a .tape .now) (a .tones .now) (a .blocks .now) (a .count) in
-    let new = c .before .before .before .before .before .before .before .before .before .before .new-at-block in
-    let play = c .before .before .before .before .before .before .before .before .play-run in
-    let from : runText (a .measured) w (new .result) (a .counts .now) ≡ runText (a .measured) w (startAt (a .from)) (a .counts .now) =
-    ap (λ (q : Position). runText (a .measured) w q (a .counts .now)) (new .ensures) in
     wrote-as
-    (played-said (a .measured) w (new .result) (a .counts .now) (a .answers .now) _ (play .result) (start .pre .0) (play .ensures .0)
-    (c .before .before .before .before .before .if1 .left) (play .ensures .1) ∙ from)
+    (played-said (a .measured) w (new .new-at-block .result) (startAt (a .from)) (new .new-at-block .ensures) (a .counts .now)
+    (a .answers .now) (play .play-run .result) (start .pre .0) (play .play-run .ensures .0) _ (if1 .if1 .left) (play .play-run .ensures .1))
     (c .before .before .put-rows .ensures)
 
 pub put-run-spec : {M : Type 1} → statement M

@@ -20,12 +20,14 @@ add-tape c = search needs
 
 sub-tape : tie.Need-sub-tape
 sub-tape c =
-    let d = described (c .before .before .before .args .input .now) (c .before .before .before .pre .0) in
+    let start = c .before .before .before in
+    let d = described (start .args .input .now) (start .pre .0) in
     omega (arith, d .behind, c .number .ensures)
 
 part-tape-start : tie.Need-part-tape-start
 part-tape-start c =
-    let d = described (c .before .before .before .args .input .now) (c .before .before .before .pre .0) in
+    let start = c .before .before .before in
+    let d = described (start .args .input .now) (start .pre .0) in
     omega (arith, d .behind, c .number .ensures)
 
 part-tape-end : tie.Need-part-tape-end
@@ -39,10 +41,10 @@ same-length c = search needs
 
 returns : tie.Need-returns
 returns c =
-    let a = c .before .before .before .before .before .before .before .before .before .args in
-    let n = c .before .before .before .before .before .before .number in
+    let n = c .before .before .before .before .before .before in
+    let a = n .before .before .before .args in
     let p = c .before .before .say-refused .ensures in
-    (p .0, p .1 ∙ sym (text-long (a .input .now) (a .model) (n .result) (n .ensures) (omega arith)))
+    (p .0, p .1 ∙ sym (text-long (a .input .now) (a .model) (n .number .result) (n .number .ensures) (omega arith)))
 
 number-requires-2 : tie.Need-number-requires-2
 number-requires-2 c κs = search needs
@@ -52,35 +54,45 @@ cast-from c = search needs
 
 shared-slice-read-say-tape : tie.Need-shared-slice-read-say-tape
 shared-slice-read-say-tape c =
-    let d = described (c .before .before .before .before .before .before .before .args .input .now) (c .before .before .before .before .before .before .before .pre .0) in
+    let start = c .before .before .before .before .before .before .before in
+    let d = described (start .args .input .now) (start .pre .0) in
     omega (arith, d .head)
 
 sub-say-tape : tie.Need-sub-say-tape
 sub-say-tape c =
-    described (c .before .before .before .before .before .before .before .args .input .now) (c .before .before .before .before .before .before .before .pre .0) .head
+    let start = c .before .before .before .before .before .before .before in
+    let d = described (start .args .input .now) (start .pre .0) in
+    omega (arith, d .head)
 
 part-say-tape-start : tie.Need-part-say-tape-start
 part-say-tape-start c =
-    described (c .before .before .before .before .before .before .before .args .input .now) (c .before .before .before .before .before .before .before .pre .0) .head
+    let start = c .before .before .before .before .before .before .before in
+    let d = described (start .args .input .now) (start .pre .0) in
+    omega (arith, d .head)
 
 part-say-tape-end : tie.Need-part-say-tape-end
 part-say-tape-end c = search needs
 
 say-tape-requires : tie.Need-say-tape-requires
 say-tape-requires c κs =
-    let d = described (c .before .before .before .before .before .before .before .before .before .args .input .now) (c .before .before .before .before .before .before .before .before .before .pre .0) in
-    (omega (arith, d .few, c .before .before .before .before .before .before .number .ensures), c .before .before .before .before .before .before .before .before .before .pre .1)
+    let n = c .before .before .before .before .before .before in
+    let start = n .before .before .before in
+    let d = described (start .args .input .now) (start .pre .0) in
+    (omega (arith, d .few, n .number .ensures), start .pre .1)
 
 same-length-2 : tie.Need-same-length-2
 same-length-2 c = search needs
 
 returns-2 : tie.Need-returns-2
 returns-2 c =
-    let a = c .before .before .before .before .before .before .before .before .before .before .before .before .args in
-    let n = c .before .before .before .before .before .before .before .before .before .number in
-    let from = c .before .before .before .before .before .before .number2 in
-    let p = c .before .before .say-tape .ensures in
-    (p .0, p .1 ∙ text-tape (a .input .now) (a .model) (n .result) (n .ensures) (from .result) (from .ensures) (omega arith))
+    let from = c .before .before .before .before .before .before in
+    let n = from .before .before .before in
+    let a = n .before .before .before .args in
+    let p = c .before .before .say-tape .ensures in (
+      p .0,
+      p .1 ∙ text-tape (a .input .now) (a .model) (n .number .result) (n .number .ensures) (from .number2 .result)
+          (from .number2 .ensures) (omega arith),
+    )
 
 pub say-described-spec : {M : Type 1} → statement M
 say-described-spec =

@@ -13,7 +13,8 @@ same-length c = search needs
 
 returns : tie.Need-returns
 returns c =
-    prints (c .before .before .put-refusal .ensures) (omega (arith, refused-most (c .before .before .before .before .before .args .k), c .before .before .before .before .before .pre))
+    let start = c .before .before .before .before .before in
+    prints (c .before .before .put-refusal .ensures) (omega (arith, refused-most (start .args .k), start .pre))
 
 pub say-refused-spec : {M : Type 1} → statement M
 say-refused-spec = tie.close (tie.spec put-refusal-requires same-length returns)

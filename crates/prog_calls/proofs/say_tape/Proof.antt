@@ -38,22 +38,24 @@ same-length c = search needs
 
 returns : tie.Need-returns
 returns c =
-    let a = c .before .before .before .before .before .before .before .before .before .before .before .before .before .before .before .before .before .args in
+    let told = c .before .before .before .before .before .before .before in
+    let load = told .before .before .before .before in
+    let a = load .before .before .before .before .before .before .args in
     let ns = countsIn (a .counts .now) (a .calls) in
-    let load = c .before .before .before .before .before .before .before .before .before .before .before .load .ensures in
     let p = c .before .before .say-calls .ensures in
-    (p .0, p .1 ∙ text-run (a .measured) (a .model) (a .tape .now) (a .from) ns load (c .before .before .before .before .before .before .before .n .given .1))
+    (p .0, p .1 ∙ text-run (a .measured) (a .model) (a .tape .now) (a .from) ns (load .load .ensures) (told .n .given .1))
 
 same-length-2 : tie.Need-same-length-2
 same-length-2 c = search needs
 
 returns-2 : tie.Need-returns-2
 returns-2 c =
-    let a = c .before .before .before .before .before .before .before .before .before .before .before .before .before .before .before .args in
+    let told = c .before .before .before .before .before in
+    let load = told .before .before .before .before in
+    let a = load .before .before .before .before .before .before .args in
     let ns = countsIn (a .counts .now) (a .calls) in
-    let load = c .before .before .before .before .before .before .before .before .before .load .ensures in
     let p = c .before .before .say-refused .ensures in
-    (p .0, p .1 ∙ text-refused (a .measured) (a .model) (a .tape .now) (a .from) ns load (c .before .before .before .before .before .k .given .1))
+    (p .0, p .1 ∙ text-refused (a .measured) (a .model) (a .tape .now) (a .from) ns (load .load .ensures) (told .k .given .1))
 
 pub say-tape-spec : {M : Type 1} → statement M
 say-tape-spec =

@@ -32,9 +32,11 @@ same-length-2 c = search needs
 
 returns-2 : tie.Need-returns-2
 returns-2 c =
+    let if2 = c .before .before .before .before in
+    let m = if2 .before in
+    let s = m .before .before .before .before .before .args .input .now in
     let p = c .before .before .say-refused2 .ensures in
-    let m = c .before .before .before .before .before .model-of in
-    (p .0, p .1 ∙ sym (text-model (c .before .before .before .before .before .before .before .before .before .before .args .input .now) (m .result) (omega arith) (m .ensures) (c .before .before .before .before .if2 .taken)))
+    (p .0, p .1 ∙ sym (text-model s (m .model-of .result) (omega arith) (m .model-of .ensures) (if2 .if2 .taken)))
 
 is-description-requires : tie.Need-is-description-requires
 is-description-requires c κs = search needs
@@ -47,24 +49,32 @@ same-length-3 c = search needs
 
 returns-3 : tie.Need-returns-3
 returns-3 c =
+    let told = c .before .before .before .before .before in
+    let if2 = told .before in
+    let m = if2 .before in
+    let s = m .before .before .before .before .before .args .input .now in
+    let d = failed (told .is-description .ensures) (c .before .before .before .before .if3 .taken) in
     let p = c .before .before .say-refused3 .ensures in
-    let m = c .before .before .before .before .before .before .before .model-of in
-    let d = failed (c .before .before .before .before .before .is-description .ensures) (c .before .before .before .before .if3 .taken) in
-    (p .0, p .1 ∙ sym (text-undescribed (c .before .before .before .before .before .before .before .before .before .before .before .before .args .input .now) (m .result) (omega arith) (m .ensures) (c .before .before .before .before .before .before .if2 .left) d))
+    (p .0, p .1 ∙ sym (text-undescribed s (m .model-of .result) (omega arith) (m .model-of .ensures) (if2 .if2 .left) d))
 
 say-described-requires : tie.Need-say-described-requires
 say-described-requires c κs =
-    (passed (c .before .before .is-description .ensures) (c .before .if3 .left), c .before .before .before .before .before .before .before .before .before .pre)
+    let told = c .before .before in
+    let start = told .before .before .before .before .before .before .before in
+    (passed (told .is-description .ensures) (c .before .if3 .left), start .pre)
 
 same-length-4 : tie.Need-same-length-4
 same-length-4 c = search needs
 
 returns-4 : tie.Need-returns-4
 returns-4 c =
+    let told = c .before .before .before .before .before in
+    let if2 = told .before in
+    let m = if2 .before in
+    let s = m .before .before .before .before .before .args .input .now in
+    let d = passed (told .is-description .ensures) (c .before .before .before .before .if3 .left) in
     let p = c .before .before .say-described .ensures in
-    let m = c .before .before .before .before .before .before .before .model-of in
-    let d = passed (c .before .before .before .before .before .is-description .ensures) (c .before .before .before .before .if3 .left) in
-    (p .0, p .1 ∙ sym (text-described (c .before .before .before .before .before .before .before .before .before .before .before .before .args .input .now) (m .result) (omega arith) (m .ensures) (c .before .before .before .before .before .before .if2 .left) d))
+    (p .0, p .1 ∙ sym (text-described s (m .model-of .result) (omega arith) (m .model-of .ensures) (if2 .if2 .left) d))
 
 pub say-trace-spec : {M : Type 1} → statement M
 say-trace-spec =

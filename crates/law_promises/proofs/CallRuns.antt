@@ -39,7 +39,7 @@ module _ (w : Tape) (q : Position) (ns table : List ℕ) where
   room-ways : (roomNo ns table ≡ 0) ⊎ ((roomNo ns table ≡ noRoom) × Short)
   unfolding roomNo
   room-ways =
-      ⊎-elim (λ h. inr (rw (lt-ltb _ _ h), h)) (λ h. inl (rw (le-ltb _ _ h))) (lt-or-ge (length table) (length ns * answerRow .width))
+      ⊎-elim (λ h. inr (rw (lt-ltb (length table) (length ns * answerRow .width) h), h)) (λ h. inl (rw (le-ltb (length table) (length ns * answerRow .width) h))) (lt-or-ge (length table) (length ns * answerRow .width))
 
   run-9 : (c : Check) → (checkNo c (roomNo ns table) ≡ noPosition) ↔ (c ≡ NotValid)
   unfolding checkNo
@@ -63,7 +63,7 @@ module _ (w : Tape) (q : Position) (ns table : List ℕ) where
   unfolding checkNo roomNo
   run-10 Fine = (
     λ e. ⊎-elim (λ z. absurd (omega (arith, e, z))) (λ z. (refl, z .1)) room-ways,
-    λ h. rw (lt-ltb _ _ (h .1)),
+    λ h. rw (lt-ltb (length table) (length ns * answerRow .width) (h .1)),
   )
   run-10 NotValid = (λ e. absurd (omega arith), λ h. let e = h .0 in let z : _≡_ {A = ℕ} 0 1 = cc in absurd (omega arith))
   run-10 NotFormed = (λ e. absurd (omega arith), λ h. let e = h .0 in let z : _≡_ {A = ℕ} 0 1 = cc in absurd (omega arith))

@@ -14,10 +14,10 @@ use Rattle.ask.proofs.block_selectable.Kinds as block-selectable-kinds
 use Rattle.ask.proofs.block_selectable.Reads as block-selectable
 use Rattle.ask.proofs.block_time.Kinds as block-time-kinds
 use Rattle.ask.proofs.block_time.Reads as block-time
-use Rattle.ask_name.proofs.block_name.Kinds as block-name-kinds
-use Rattle.ask_name.proofs.block_name.Reads as block-name
-use Rattle.ask_time.proofs.loading_time.Kinds as loading-time-kinds
-use Rattle.ask_time.proofs.loading_time.Reads as loading-time
+use Rattle.ask.proofs.block_name.Kinds as block-name-kinds
+use Rattle.ask.proofs.block_name.Reads as block-name
+use Rattle.ask.proofs.loading_time.Kinds as loading-time-kinds
+use Rattle.ask.proofs.loading_time.Reads as loading-time
 use Rattle.play_deck.proofs.play_measured.Kinds as play-measured-kinds
 use Rattle.play_deck.proofs.play_measured.Reads as play-measured
 use Rattle.play_deck.proofs.play.Kinds as play-kinds

@@ -368,11 +368,11 @@ static void refusals(void) {
     static word rows[31];
     rows[30] = 77;
     is(glyvrask_play_run(tape, used, blocks, LENT_BLOCKS, tones, LENT_TONES, count, position, 7, 1, on, 3, rows, 30), 0, "a run goes on from there");
-    is(rows[0], 0, "  it stands at the bad row's start");
-    is(rows[13], 1, "  block 1's");
-    is(rows[10], 11, "  where a call of 0 is refused 11");
-    is(rows[20], 11, "  and so is one of 1");
-    is(rows[23], 1, "  and the head stays");
+    is(rows[0], 0, "  it stands");
+    is(rows[4], 3, "  at block 0's pause of no length");
+    is(rows[10], 0, "  where a call of 0 stays");
+    is(rows[20], 11, "  and one of 1 is refused 11 by the next row");
+    is(rows[24], 3, "  and leaves the head there");
     is(rows[30], 77, "  and words past the rows");
     is(glyvrask_play_run(tape, used, blocks, LENT_BLOCKS, tones, LENT_TONES, count, position, 7, 1, on, 3, rows, 29), 10, "three rows are refused 10 in 29 words");
     is(glyvrask_play_run(tape, used, blocks, LENT_BLOCKS, tones, LENT_TONES, count, position, 7, 1, on, 0, rows, 0), 0, "and no call needs none");

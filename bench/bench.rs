@@ -9,6 +9,7 @@ pub mod bench {
         fn glyvrask_load(tape: *const u8, n: usize, model: u32, blocks: *mut u64, bn: usize, tones: *mut u64, tn: usize, answer: *mut u64, an: usize) -> u32;
         fn glyvrask_play(tape: *const u8, n: usize, blocks: *const u64, bn: usize, tones: *const u64, tn: usize, count: u64, at: *const u64, pn: usize, d: u32, answer: *mut u64, an: usize) -> u32;
         fn glyvrask_play_measured(tape: *const u8, n: usize, blocks: *const u64, bn: usize, tones: *const u64, tn: usize, count: u64, at: *const u64, pn: usize, d: u32, answer: *mut u64, an: usize) -> u32;
+        fn glyvrask_play_run(tape: *const u8, n: usize, blocks: *const u64, bn: usize, tones: *const u64, tn: usize, count: u64, at: *const u64, pn: usize, measured: u32, counts: *const u32, cn: usize, answers: *mut u64, an: usize) -> u32;
         fn glyvrask_listing(tape: *const u8, n: usize, model: u32, out: *mut u8, on: usize) -> u32;
     }
 
@@ -17,6 +18,9 @@ pub mod bench {
     const MOST_TONES: usize = 65536 * TONE_WORDS;
     const POSITION_WORDS: usize = 7;
     const ENDED: u64 = 2;
+    // a run's calls and a call's words
+    const CALLS: usize = 1000;
+    const ANSWER_WORDS: usize = 10;
 
     // A tape loaded by ours.
     struct Ours {
@@ -54,6 +58,25 @@ pub mod bench {
                     return calls;
                 }
                 at.copy_from_slice(&answer[FIRST..FIRST + POSITION_WORDS]);
+            }
+        }
+        // The same in runs of calls; the table of answers is lent.
+        fn run(&self, measured: bool, d: u32, answers: &mut [u64]) -> u64 {
+            let counts = [d; CALLS];
+            let mut at = [0u64; POSITION_WORDS];
+            let mut calls = 0;
+            loop {
+                let k = unsafe {
+                    glyvrask_play_run(self.bytes.as_ptr(), self.bytes.len(), self.blocks.as_ptr(), self.blocks.len(), self.tones.as_ptr(), self.tones.len(), self.count, at.as_ptr(), POSITION_WORDS, measured as u32, counts.as_ptr(), CALLS, answers.as_mut_ptr(), answers.len())
+                };
+                assert_eq!(k, 0);
+                let last = &answers[(CALLS - 1) * ANSWER_WORDS..];
+                if last[0] == ENDED {
+                    let first = (0..CALLS).find(|&i| answers[i * ANSWER_WORDS] == ENDED).unwrap();
+                    return calls + first as u64 + 1;
+                }
+                calls += CALLS as u64;
+                at.copy_from_slice(&last[FIRST..FIRST + POSITION_WORDS]);
             }
         }
         fn list(&self, out: &mut [u8]) -> u32 {
@@ -201,6 +224,10 @@ pub mod bench {
         let r = best(|| rust_play(&rust, d));
         row(&format!("{what}, calls of {d}: the source's play"), r, best(|| ours.play(false, d)));
         row(&format!("{what}, calls of {d}: the measured player against the Rust's play"), r, best(|| ours.play(true, d)));
+        let mut answers = vec![0u64; CALLS * ANSWER_WORDS];
+        assert_eq!(rust_play(&rust, d), ours.run(false, d, &mut answers));
+        row(&format!("{what}, runs of {CALLS} calls of {d}: the source's play"), r, best(|| ours.run(false, d, &mut answers)));
+        row(&format!("{what}, runs of {CALLS} calls of {d}: the measured player against the Rust's play"), r, best(|| ours.run(true, d, &mut answers)));
     }
 
     pub fn main() {

@@ -1,8 +1,8 @@
 /* A host that hands each parameter of include/glyvrask.h the variable of its name: calls.h, made of the header by tests/built/header.sh,
  * has a call of each function.
- *   header list|dump|trace|listing < INPUT
+ *   header list|dump|trace|run|head|listing < INPUT
  * Reads what the programs `list`, `dump` and `trace` read, and prints what they print: `listing` as the library writes it, `list` by the
- * queries. Each length lent is the least that will do, and what may be written is marked before a call, so that no two arguments can be
+ * queries, `trace` by single calls, `run` by one run of calls, `head` over a lent head where the player is the measured one. Each length lent is the least that will do, and what may be written is marked before a call, so that no two arguments can be
  * exchanged unseen. */
 #include "glyvrask.h"
 
@@ -15,17 +15,19 @@ extern void exit(int);
 typedef unsigned char byte;
 typedef glyvrask_word word;
 
-enum { INPUT = 69544, BLOCKS = 512, TONES = 2048, ANSWER = 16, OUT = 300000, MARK = 0x5A };
+enum { INPUT = 69544, BLOCKS = 512, TONES = 2048, CALLS = 1000, ANSWER = 16, OUT = 300000, MARK = 0x5A };
 
 /* ---- every parameter that the header names */
 
 static const byte *tape;
 static byte out[OUT];
 static word blocks[BLOCKS * GLYVRASK_BLOCK_WORDS], tones[TONES * GLYVRASK_TONE_WORDS];
-static word position[GLYVRASK_POS_WORDS], answer[ANSWER];
+static word position[GLYVRASK_POS_WORDS], head[GLYVRASK_POS_WORDS], answer[ANSWER], answers[CALLS * GLYVRASK_PLAYED_WORDS + 1];
+static unsigned counts[CALLS];
 static glyvrask_size tape_len, out_len, blocks_len, tones_len, position_len = GLYVRASK_POS_WORDS, answer_len;
+static glyvrask_size head_len = GLYVRASK_POS_WORDS, counts_len, answers_len;
 static word count, i, block;
-static unsigned model, n;
+static unsigned model, n, measured;
 
 #include "calls.h"
 
@@ -146,15 +148,12 @@ static word number(const byte *from, unsigned width) {
     return k;
 }
 
-/* one call of a player and its line; whether the run goes on */
-static int play(int measured) {
+/* the line of a call's ten words; whether the run goes on */
+static int line(const word *told) {
     static const char *const how[] = {"stands", "stopped", "ended"};
     static const char *const phases[] = {"start", "tone", "data", "pause", "edge"};
-    lend(GLYVRASK_PLAYED_WORDS);
-    unsigned no = measured ? call_glyvrask_play_measured() : call_glyvrask_play();
-    given(no, "play");
-    word state = answer[GLYVRASK_HOW], passed = answer[GLYVRASK_PASSED], level = answer[GLYVRASK_LEVEL];
-    for (unsigned k = 0; k < GLYVRASK_POS_WORDS; k++) position[k] = answer[GLYVRASK_AT + k];
+    word state = told[GLYVRASK_HOW], passed = told[GLYVRASK_PASSED], level = told[GLYVRASK_LEVEL];
+    for (unsigned k = 0; k < GLYVRASK_POS_WORDS; k++) position[k] = told[GLYVRASK_AT + k];
     if (!measured && state == 2) {
         printf("ended\n");
         return 0;
@@ -170,18 +169,52 @@ static int play(int measured) {
     return 1;
 }
 
-/* a run as crates/prog_calls/src/lib.rt has it, its first byte taken off */
-static void trace(void) {
+/* a run as crates/prog_calls/src/lib.rt has it, its first byte taken off: the tape loaded, the counts, and the block's start; whether it loads */
+static int begin(void) {
     const byte *run = tape;
-    word calls = number(run + 5, 2);
-    tape += 7 + 4 * calls, tape_len -= 7 + 4 * calls;
-    if (!load()) return;
+    counts_len = number(run + 5, 2);
+    for (word k = 0; k < counts_len; k++) counts[k] = number(run + 7 + 4 * k, 4);
+    tape += 7 + 4 * counts_len, tape_len -= 7 + 4 * counts_len;
+    if (!load()) return 0;
+    measured = run[0] == 'm';
     block = number(run + 1, 4);
     lend(GLYVRASK_POS_WORDS), given(call_glyvrask_new_at_block(), "start of a block");
-    for (unsigned k = 0; k < GLYVRASK_POS_WORDS; k++) position[k] = answer[k];
-    for (word k = 0; k < calls; k++) {
-        n = number(run + 7 + 4 * k, 4);
-        if (!play(run[0] == 'm')) return;
+    for (unsigned k = 0; k < GLYVRASK_POS_WORDS; k++) position[k] = head[k] = answer[k];
+    return 1;
+}
+
+/* call by call */
+static void trace(void) {
+    if (!begin()) return;
+    for (word k = 0; k < counts_len; k++) {
+        n = counts[k];
+        lend(GLYVRASK_PLAYED_WORDS);
+        given(measured ? call_glyvrask_play_measured() : call_glyvrask_play(), "play");
+        if (!line(answer)) return;
+    }
+}
+
+/* all calls at once, into just so many words */
+static void run(void) {
+    if (!begin()) return;
+    answers_len = counts_len * GLYVRASK_PLAYED_WORDS;
+    answers[answers_len] = MARK;
+    lend(0), given(call_glyvrask_play_run(), "run");
+    if (answers[answers_len] != MARK) fail("run: a word too many", 0);
+    for (word k = 0; k < counts_len; k++)
+        if (!line(answers + k * GLYVRASK_PLAYED_WORDS)) return;
+}
+
+/* over the lent head; the source's play has none */
+static void heads(void) {
+    if (!begin()) return;
+    for (word k = 0; k < counts_len; k++) {
+        n = counts[k];
+        lend(GLYVRASK_PLAYED_WORDS);
+        given(measured ? call_glyvrask_play_head() : call_glyvrask_play(), "head");
+        for (unsigned j = 0; measured && j < GLYVRASK_POS_WORDS; j++)
+            if (head[j] != answer[GLYVRASK_AT + j]) fail("head: not where the answer says", j);
+        if (!line(answer)) return;
     }
 }
 
@@ -206,13 +239,13 @@ int main(int args, char **arg) {
     static const struct {
         const char *name;
         void (*does)(void);
-    } ways[] = {{"list", list}, {"dump", dump}, {"trace", trace}, {"listing", listing}};
+    } ways[] = {{"list", list}, {"dump", dump}, {"trace", trace}, {"run", run}, {"head", heads}, {"listing", listing}};
     long used = 0, more = 1;
     while (more > 0 && used < INPUT) more = read(0, input + used, INPUT - used), used += more > 0 ? more : 0;
     if (args != 2 || more != 0 || used == 0) fail("no way or no input", args);
     tape = input + 1, tape_len = used - 1;
     model = input[0] == '4' ? 0 : input[0] == '1' ? 1 : input[0] == '3' ? 2 : 3;
-    for (unsigned k = 0; k < 4; k++)
+    for (unsigned k = 0; k < sizeof ways / sizeof *ways; k++)
         if (strcmp(arg[1], ways[k].name) == 0) return ways[k].does(), 0;
     fail("no such way", args);
     return 1;

@@ -206,13 +206,23 @@ static void refused_loads(void) {
 
 /* ---- the queries and the players: each call is a line of the table below, over the tape that was loaded last */
 
-enum call { LEN, NAME, SIZE, MARK, TIME, LOADING, AT_BLOCK, POSITION, PLAY, MEASURED };
+enum call { LEN, NAME, SIZE, MARK, TIME, LOADING, AT_BLOCK, POSITION, PLAY, MEASURED, HEAD, RUN };
 
-static const word values[] = {1, 1, 1, 1, 2, 1, 7, 1, 10, 10};
+static const word values[] = {1, 1, 1, 1, 2, 1, 7, 1, 10, 10, 10, 10};
 
 static word position[GLYVRASK_POS_WORDS];
 static glyvrask_size position_len = GLYVRASK_POS_WORDS, out_len = sizeof out;
-static unsigned t_states;
+static unsigned t_states, kept_head = 1;
+
+/* a call over a head, which is lent: whether it stays is noted, and the words of `position` are then as they were */
+static unsigned head_call(word n, glyvrask_size room) {
+    word head[GLYVRASK_POS_WORDS];
+    for (unsigned k = 0; k < GLYVRASK_POS_WORDS; k++) head[k] = position[k];
+    unsigned no = glyvrask_play_head(tape, used, blocks, LENT_BLOCKS, tones, LENT_TONES, n, head, position_len, t_states, answer, room);
+    kept_head = 1;
+    for (unsigned k = 0; k < GLYVRASK_POS_WORDS; k++) kept_head = kept_head && head[k] == (no ? position[k] : answer[GLYVRASK_AT + k]);
+    return no;
+}
 
 static unsigned call(enum call c, word n, word i, glyvrask_size room) {
     keep_all();
@@ -227,19 +237,21 @@ static unsigned call(enum call c, word n, word i, glyvrask_size room) {
     case POSITION: return glyvrask_position_block(tape, used, blocks, LENT_BLOCKS, tones, LENT_TONES, n, position, position_len, answer, room);
     case PLAY: return glyvrask_play(tape, used, blocks, LENT_BLOCKS, tones, LENT_TONES, n, position, position_len, t_states, answer, room);
     case MEASURED: return glyvrask_play_measured(tape, used, blocks, LENT_BLOCKS, tones, LENT_TONES, n, position, position_len, t_states, answer, room);
+    case HEAD: return head_call(n, room);
+    case RUN: return glyvrask_play_run(tape, used, blocks, LENT_BLOCKS, tones, LENT_TONES, n, position, position_len, 1, &t_states, 1, answer, room);
     }
     return 99;
 }
 
 static void refused(enum call c, word n, word i, glyvrask_size room, unsigned k, const char *what) {
     is(call(c, n, i, room), k, what);
-    check(answer_kept(0) && out_kept(0) && tables_kept(0, 0), "  and alters nothing");
+    check(answer_kept(0) && out_kept(0) && tables_kept(0, 0) && kept_head, "  and alters nothing");
 }
 
 static void answers(enum call c, word i, const word *wanted, const char *what) {
     is(call(c, count, i, values[c]), 0, what);
     for (word k = 0; k < values[c]; k++) is(answer[k], wanted[k], "  its words");
-    check(answer_kept(values[c]) && tables_kept(0, 0), "  and words past them stay");
+    check(answer_kept(values[c]) && tables_kept(0, 0) && kept_head, "  and words past them stay");
 }
 
 static void at(word block, word phase, word item, word part, word half, word endless, word left) {
@@ -273,6 +285,8 @@ static void players(void) {
     t_states = 99;
     answers(PLAY, 0, WORDS(0, 1, 0, 0, 1, 0, 0, 0, 0, 1), "99 leaves the source's play in the first half with 1 left");
     answers(MEASURED, 0, WORDS(0, 1, 0, 0, 1, 0, 0, 0, 0, 1), "and the measured player");
+    answers(HEAD, 0, WORDS(0, 1, 0, 0, 1, 0, 0, 0, 0, 1), "and it over a lent head");
+    answers(RUN, 0, WORDS(0, 1, 0, 0, 1, 0, 0, 0, 0, 1), "and a run of this call");
     t_states = 100;
     answers(MEASURED, 0, WORDS(0, 2, 1, 0, 1, 0, 0, 1, 0, 100), "100 leaves the measured player at the high half, full");
     answers(PLAY, 0, WORDS(2, 6, 0, 1, 0, 0, 0, 0, 0, 0), "and the source's play ended");
@@ -289,7 +303,8 @@ static void players(void) {
 
 /* over the example's tables */
 static void refusals(void) {
-    static const enum call of_block[] = {NAME, SIZE, MARK, TIME}, of_place[] = {POSITION, PLAY, MEASURED};
+    static const enum call of_block[] = {NAME, SIZE, MARK, TIME}, of_place[] = {POSITION, PLAY, MEASURED, HEAD, RUN};
+    static const unsigned places = sizeof of_place / sizeof *of_place;
     at(0, 0, 0, 0, 0, 0, 0);
     out_len = sizeof out;
     for (unsigned c = 0; c < 4; c++) {
@@ -298,7 +313,7 @@ static void refusals(void) {
         refused(of_block[c], 4097, 4097, values[of_block[c]], 11, "  but for a count of 4,097, which is 11");
         refused(of_block[c], count, 0, values[of_block[c]] - 1, 10, "one word too few is refused 10");
     }
-    for (unsigned c = 0; c < 3; c++) {
+    for (unsigned c = 0; c < places; c++) {
         word last = values[of_place[c]];
         refused(of_place[c], count, 0, last - 1, 10, "one word too few is refused 10");
         refused(of_place[c], 4097, 0, last, 11, "a count of 4,097 is refused 11");
@@ -330,8 +345,8 @@ static void refusals(void) {
     for (unsigned c = 0; c < 4; c++) refused(of_block[c], count, 1, values[of_block[c]], 11, "a bad row is refused 11");
     refused(LOADING, count, 0, 1, 11, "a bad row is refused 11");
     at(1, 0, 0, 0, 0, 0, 0);
-    for (unsigned c = 0; c < 3; c++) refused(of_place[c], count, 0, values[of_place[c]], 11, "a position in a bad row is refused 11");
-    for (unsigned c = 0; c < 3; c++) {
+    for (unsigned c = 0; c < places; c++) refused(of_place[c], count, 0, values[of_place[c]], 11, "a position in a bad row is refused 11");
+    for (unsigned c = 0; c < places; c++) {
         word last = values[of_place[c]];
         at(1, 5, 0, 0, 0, 0, 0), refused(of_place[c], count, 0, last, 11, "phase 5 in a bad row is refused 11");
         for (position_len = 6; position_len > 0; position_len--) refused(of_place[c], count, 0, last, 11, "  in fewer words too");
@@ -345,9 +360,22 @@ static void refusals(void) {
     }
     at(0, 0, 0, 0, 0, 0, 0);
     t_states = 401;
-    for (unsigned c = 1; c < 3; c++) refused(of_place[c], count, 0, 10, 11, "a walk that reaches a bad row is refused 11");
+    for (unsigned c = 1; c < 4; c++) refused(of_place[c], count, 0, 10, 11, "a walk that reaches a bad row is refused 11");
+    answers(RUN, 0, WORDS(11, 0, 0, 0, 0, 0, 0, 0, 0, 0), "in a run its row says 11, and the head is where it was");
     t_states = 400;
     is(call(MEASURED, count, 0, 10), 0, "  but not one that only comes to its start");
+    static const unsigned on[] = {400, 0, 1};
+    static word rows[31];
+    rows[30] = 77;
+    is(glyvrask_play_run(tape, used, blocks, LENT_BLOCKS, tones, LENT_TONES, count, position, 7, 1, on, 3, rows, 30), 0, "a run goes on from there");
+    is(rows[0], 0, "  it stands at the bad row's start");
+    is(rows[13], 1, "  block 1's");
+    is(rows[10], 11, "  where a call of 0 is refused 11");
+    is(rows[20], 11, "  and so is one of 1");
+    is(rows[23], 1, "  and the head stays");
+    is(rows[30], 77, "  and words past the rows");
+    is(glyvrask_play_run(tape, used, blocks, LENT_BLOCKS, tones, LENT_TONES, count, position, 7, 1, on, 3, rows, 29), 10, "three rows are refused 10 in 29 words");
+    is(glyvrask_play_run(tape, used, blocks, LENT_BLOCKS, tones, LENT_TONES, count, position, 7, 1, on, 0, rows, 0), 0, "and no call needs none");
 }
 
 int main(void) {

@@ -192,6 +192,30 @@ unsigned glyvrask_play_measured(const unsigned char *tape, glyvrask_size tape_le
                                 const glyvrask_word *position, glyvrask_size position_len, unsigned n,
                                 glyvrask_word *answer, glyvrask_size answer_len);
 
+/* A run of calls: of the source's play where `measured` is 0, else of the measured player. Call k, of counts[k] T-states, begins
+ * where call k - 1 left the head; its ten words are row k of `answers`, words 10 * k on. A call that is refused (11, at a row that
+ * its walk reaches) has the number in GLYVRASK_HOW, 0 passed, level 0, and the head where it was; the run goes on from there.
+ * Each row is as the single calls answer it, but the position is judged once, and each block row as it is reached. Refusals of
+ * the run, which alter nothing: 11 for the count, 9, 11 for the row, 9 where it begins, 10 where `answers` has fewer than
+ * 10 * counts_len words. Words past the last row stay. */
+unsigned glyvrask_play_run(const unsigned char *tape, glyvrask_size tape_len,
+                           const glyvrask_word *blocks, glyvrask_size blocks_len,
+                           const glyvrask_word *tones, glyvrask_size tones_len,
+                           glyvrask_word count,
+                           const glyvrask_word *position, glyvrask_size position_len, unsigned measured,
+                           const unsigned *counts, glyvrask_size counts_len,
+                           glyvrask_word *answers, glyvrask_size answers_len);
+
+/* The measured player's call of n T-states over a head that you lend: `head` has a position's seven words, which become those
+ * where the call leaves it, so that the next call goes on. A refusal, 10 too, leaves them as they were. Otherwise as
+ * glyvrask_play_measured; `head` and `answer` must not overlap. */
+unsigned glyvrask_play_head(const unsigned char *tape, glyvrask_size tape_len,
+                            const glyvrask_word *blocks, glyvrask_size blocks_len,
+                            const glyvrask_word *tones, glyvrask_size tones_len,
+                            glyvrask_word count,
+                            glyvrask_word *head, glyvrask_size head_len, unsigned n,
+                            glyvrask_word *answer, glyvrask_size answer_len);
+
 #ifdef __cplusplus
 }
 #endif

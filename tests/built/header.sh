@@ -58,6 +58,8 @@ for file in tapes/*.t[az][px]; do
                 cat "$file"
             } > "$room/in"
             alike trace trace
+            alike run trace
+            alike head trace
         done
     done
 done

@@ -188,18 +188,9 @@ pub fn text(tape: &[u8], c: Cursor) -> Body
 pub fn message(tape: &[u8], c: Cursor) -> Body
     ensures { λ r. ⌜ r ≡ readAt kind31 (now (tape .entry)) c ⌝ }
 {
-    let seconds = field(tape, c, 1);
-    let rest = seconds.cursor;
-    let text = counted(tape, rest, 1);
+    let text = counted(tape, pass(tape, c, 1), 1);
     let end = text.cursor;
-    whole(
-        Piece::Message {
-            seconds: seconds.value,
-            from: text.from,
-            size: text.size,
-        },
-        end,
-    )
+    whole(Piece::Message, end)
 }
 
 // The texts of 32: an id, a length and as many bytes each. A text at least is passed in two bytes, so n costs no more than the tape.
@@ -223,14 +214,8 @@ fn info(tape: &[u8], c: Cursor) -> Body
     ensures { λ r. ⌜ r ≡ readAt info32 (now (tape .entry)) c ⌝ }
 {
     let count = field(tape, c, 1);
-    let from = count.cursor;
-    whole(
-        Piece::Archive {
-            count: count.value,
-            from: place(from),
-        },
-        texts(tape, from, count.value),
-    )
+    let rest = count.cursor;
+    whole(Piece::Archive, texts(tape, rest, count.value))
 }
 
 // 32
@@ -253,13 +238,10 @@ pub fn hardware(tape: &[u8], c: Cursor) -> Body
     ensures { λ r. ⌜ r ≡ readAt kind33 (now (tape .entry)) c ⌝ }
 {
     let count = field(tape, c, 1);
-    let from = count.cursor;
+    let rest = count.cursor;
     whole(
-        Piece::Hardware {
-            count: count.value,
-            from: place(from),
-        },
-        groups(tape, from, count.value as u64, 1, 2, 1),
+        Piece::Hardware,
+        groups(tape, rest, count.value as u64, 1, 2, 1),
     )
 }
 
@@ -269,12 +251,5 @@ pub fn custom(tape: &[u8], c: Cursor) -> Body
 {
     let body = counted(tape, pass(tape, c, 16), 4);
     let end = body.cursor;
-    whole(
-        Piece::Custom {
-            id: place(c),
-            from: body.from,
-            size: body.size,
-        },
-        end,
-    )
+    whole(Piece::Custom, end)
 }

@@ -26,10 +26,10 @@ sortOf (piece.LoopStart a) = 0
 sortOf piece.LoopEnd = 0
 sortOf (piece.Stop48 a) = 0
 sortOf (piece.Text a b) = 0
-sortOf (piece.Message a b d) = 0
-sortOf (piece.Archive a b) = 0
-sortOf (piece.Hardware a b) = 0
-sortOf (piece.Custom a b d) = 0
+sortOf piece.Message = 0
+sortOf piece.Archive = 0
+sortOf piece.Hardware = 0
+sortOf piece.Custom = 0
 sortOf piece.Glue = 0
 
 abbrev pub isPulses : Piece → Bool
@@ -67,10 +67,10 @@ each-row full =
     other unread tt &
     other kind30 (λ _ _. refl) &
     other kind31 (λ _ _ _. refl) &
-    other kind32 (λ _ _ _. refl) &
-    other kind33 (λ _ _. refl) &
+    other kind32 (λ _ _. refl) &
+    other kind33 (λ _. refl) &
     other unread tt &
-    other kind35 (λ _ _ _. refl) &
+    other kind35 (λ _ _. refl) &
     other unread tt &
     other kind5A refl &
     no-more

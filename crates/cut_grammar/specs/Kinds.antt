@@ -120,22 +120,22 @@ kind30 = counted 1 λ from size. whole (Text from size)
 
 -- 31: seconds 1, length 1, text
 unfoldable pub kind31 : Layout
-kind31 = number 1 λ seconds. counted 1 λ from size. whole (Message seconds from size)
+kind31 = number 1 λ seconds. counted 1 λ from size. whole Message
 
 -- 32: length 2 (of what follows), number 1, then id 1, length 1, text each
 unfoldable pub info32 : Layout
-info32 = number 1 λ count. here λ from. pass (texts count) (whole (Archive count from))
+info32 = number 1 λ count. pass (texts count) (whole Archive)
 
 unfoldable pub kind32 : Layout
 kind32 = number 2 λ length. within length info32
 
 -- 33: number 1, then type 1, id 1, info 1 each
 unfoldable pub kind33 : Layout
-kind33 = number 1 λ count. here λ from. pass (groups count 1 2 1) (whole (Hardware count from))
+kind33 = number 1 λ count. pass (groups count 1 2 1) (whole Hardware)
 
 -- 35: identification 16, length 4, body
 unfoldable pub kind35 : Layout
-kind35 = here λ id. pass (bytes 16) (counted 4 λ from size. whole (Custom id from size))
+kind35 = pass (bytes 16) (counted 4 λ from size. whole Custom)
 
 -- 5A: 9 bytes
 unfoldable pub kind5A : Layout

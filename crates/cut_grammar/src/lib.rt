@@ -46,7 +46,7 @@ pub struct GeneralizedData {
     pub size: u64,
 }
 
-// One piece: its numbers as they are, and the places of what it holds.
+// One piece: its numbers as they are, and the places of what it holds; what neither code nor law reads is passed over and not kept.
 pub enum Piece {
     Standard {
         pause: u32,
@@ -90,24 +90,10 @@ pub enum Piece {
         from: u64,
         size: u32,
     },
-    Message {
-        seconds: u32,
-        from: u64,
-        size: u32,
-    },
-    Archive {
-        count: u32,
-        from: u64,
-    },
-    Hardware {
-        count: u32,
-        from: u64,
-    },
-    Custom {
-        id: u64,
-        from: u64,
-        size: u32,
-    },
+    Message,
+    Archive,
+    Hardware,
+    Custom,
     Glue,
 }
 

@@ -10,9 +10,9 @@ use Rattle.law_base.specs.Rules.{_⇒_, _∣_}
 use Rattle.refusals.specs.Refusals.{noRoom}
 use Rattle.text_out.specs.Out.{fits, told}
 use Rattle.play_entries.specs.Places.{Tape, blockIn}
-use Rattle.ask_block.specs.declared.Number.{Number}
-use Rattle.ask_block.specs.declared.Number.the-variants.{Is, Refused}
-use Rattle.ask_block.specs.Queries.{refusalOf, numberUnless, sizeOf, nameIn, lengthOrNoRoom, nameAnswer, nameBytes}
+use Rattle.ask.specs.declared.Number.{Number}
+use Rattle.ask.specs.declared.Number.the-variants.{Is, Refused}
+use Rattle.ask.specs.Queries.{refusalOf, numberUnless, sizeOf, nameIn, lengthOrNoRoom, nameAnswer, nameBytes}
 use Rattle.host_answers.specs.Answers.{numberOf, valuesOf, ofNumber}
 use Rattle.export.specs.Export.{nameLeft}
 use Rattle.host_answers.proofs.Telling.{tell-refused}

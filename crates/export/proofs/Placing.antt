@@ -10,7 +10,7 @@ use Rattle.law_base.specs.Rules.{_⇒_, _∣_}
 use Rattle.refusals.specs.Refusals.{noBlock, noPosition, badRow}
 use Rattle.play_entries.specs.Places.{Tape}
 use Rattle.play_entries.specs.Mounted.{overfull, wellRow}
-use Rattle.ask_block.specs.Queries.{refusalOf}
+use Rattle.ask.specs.Queries.{refusalOf}
 use Rattle.play_walk.specs.declared.Position.{Position}
 use Rattle.host_words.specs.declared.Placed.the-variants.{Not}
 use Rattle.host_answers.specs.Answers.{Reply, numberOf, valuesOf}

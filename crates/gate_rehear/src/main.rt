@@ -2,7 +2,11 @@
 // measured player) or `s` (the source's), how many block rows and tone rows (2 bytes each), the block that is started from (4 bytes), how
 // many calls (2 bytes, at most 1,000), the tape's length (4 bytes), each call's count (4 bytes),
 // the words of the block rows and of the tone rows (4 bytes each), and the tape. Numbers are little-endian.
-use gate_input::number_up_to;
+use gate_input::LARGEST;
+use gate_input::read_bytes;
+use gate_input::read_count;
+use gate_input::read_number;
+use gate_input::read_words;
 use prog_calls::say_calls;
 use rows::BLOCK_TABLE;
 use rows::BLOCK_WORDS;
@@ -10,28 +14,8 @@ use rows::TONE_TABLE;
 use rows::TONE_WORDS;
 ghost use Prim.Native.Nat.{_≤_};
 
-// The largest number of 4 bytes.
-const LARGEST: usize = 4294967295;
-
-// The next word.
-fn read_word() -> u64 {
-    let mut four = [0u8; 4];
-    io::read_full(0, &mut four);
-    number_up_to(&four, 0, 4, LARGEST) as u64
-}
-
-// The words of a table's rows.
-fn read_words(words: &mut [u64]) {
-    let mut i = 0;
-    while i < words.len() {
-        words[i] = read_word();
-        i += 1;
-    }
-}
-
-// A run over the counts, rows and tape that fill what is lent.
+// A run over the counts, rows and tape that are read next; rows and tape fill what is lent.
 fn run(
-    counts: &mut [u8],
     tape: &mut [u8],
     blocks: &mut [u64],
     tones: &mut [u64],
@@ -42,7 +26,8 @@ fn run(
 )
     requires { ⌜ calls ≤ 1000 ⌝ }
 {
-    io::read_full(0, counts);
+    let mut counts = io::buffer();
+    read_bytes(&mut counts, 4 * calls);
     read_words(blocks);
     read_words(tones);
     io::read_full(0, tape);
@@ -54,7 +39,7 @@ fn run(
         count as u64,
         measured,
         from as u64,
-        counts,
+        &counts[..4 * calls],
         calls,
         &mut out,
     );
@@ -63,21 +48,18 @@ fn run(
 
 // One run.
 fn rehear(bytes: &mut [u8], blocks: &mut [u64], tones: &mut [u64]) {
-    let mut counts = io::buffer();
-    let mut head = [0u8; 15];
-    io::read_full(0, &mut head);
-    let count = number_up_to(&head, 1, 2, blocks.len() / BLOCK_WORDS);
-    let others = number_up_to(&head, 3, 2, tones.len() / TONE_WORDS);
-    let from = number_up_to(&head, 5, 4, LARGEST);
-    let calls = number_up_to(&head, 9, 2, 1000);
-    let n = number_up_to(&head, 11, 4, bytes.len());
+    let player = read_number(1, 255);
+    let count = read_number(2, blocks.len() / BLOCK_WORDS);
+    let others = read_number(2, tones.len() / TONE_WORDS);
+    let from = read_number(4, LARGEST);
+    let calls = read_number(2, 1000);
+    let n = read_number(4, bytes.len());
     run(
-        &mut counts[..4 * calls],
         &mut bytes[..n],
         &mut blocks[..BLOCK_WORDS * count],
         &mut tones[..TONE_WORDS * others],
         count,
-        head[0] == b'm',
+        player == b'm' as usize,
         from,
         calls,
     );
@@ -93,9 +75,7 @@ fn rehear_all(bytes: &mut [u8], blocks: &mut [u64], tones: &mut [u64], n: usize)
 }
 
 fn main() {
-    let mut head = [0u8; 4];
-    io::read_full(0, &mut head);
-    let n = number_up_to(&head, 0, 4, 1000000);
+    let n = read_count();
     let mut bytes = io::large_buffer();
     let mut blocks = [0u64; BLOCK_TABLE];
     let mut tones = [0u64; TONE_TABLE];

@@ -2,12 +2,14 @@
 // (1 byte), what is lent of the block table and of the tone table (rows, 4 bytes, and words of a broken row, 1 byte, of each), the tape's
 // length (4 bytes), and the tape. Numbers are little-endian.
 // Rows are counted, not words, so that the input stays as it is when a row grows.
-use gate_input::number_up_to;
-use load_tape::load;
-use prog_tape::print_loaded;
+use gate_input::read_count;
+use gate_input::read_counted;
+use gate_input::read_number;
+use prog_tape::begin;
+use prog_tape::block_line;
 use rows::BLOCK_WORDS;
 use rows::TONE_WORDS;
-ghost use Prim.Native.Nat.{_≤_, _<_};
+ghost use Prim.Native.Nat.{_+_, _*_, _≤_, _<_};
 ghost use lib.ListN.{length};
 
 // More rows than 4,096 and 65,536, so that a table may be longer than its limit.
@@ -15,55 +17,58 @@ const LONG_BLOCK_TABLE: usize = 4101 * BLOCK_WORDS;
 
 const LONG_TONE_TABLE: usize = 65566 * TONE_WORDS;
 
-// A tape that fills `tape`, and its answer.
-fn answer(tape: &mut [u8], model: u32, blocks: &mut [u64], tones: &mut [u64])
-    requires { ⌜ length (now tape) ≤ 1048576 ⌝ }
+// Every line of a tape; that each is written once and in order is all that no contract says.
+fn print(tape: &[u8], model: u32, blocks: &mut [u64], tones: &mut [u64], out: &mut [u8])
+    requires { ⌜ 1200 + 2 * length (now tape) + 5 * length (now tones) ≤ length (now out) ⌝ }
 {
-    io::read_full(0, tape);
-    let loaded = load(tape, model, blocks, tones);
-    print_loaded(tape, tones, blocks, loaded);
+    let opening = begin(tape, model, blocks, tones, out);
+    let size = opening.size;
+    io::write_all(1, &out[..size]);
+    let more = opening.more as usize;
+    let mut i = 0;
+    while i < more {
+        let k = block_line(tape, tones, blocks, i, out);
+        io::write_all(1, &out[..k]);
+        i += 1;
+    }
 }
 
-// The words lent of a table that has `most`: rows of `width` words, and words of a broken row; the input says at `at` how many.
-fn lent(head: &[u8], at: u64, width: usize, most: usize) -> usize
-    requires { ⌜ at < 256 ⌝ }
+// The words lent of a table that has `most`: rows of `width` words, and words of a broken row, as many as the input says.
+fn read_lent(width: usize, most: usize) -> usize
     requires { ⌜ 0 < width ⌝ }
     ensures { λ n. ⌜ n ≤ most ⌝ }
 {
-    let whole = number_up_to(head, at, 4, most / width) * width;
-    whole + number_up_to(head, at + 4, 1, most - whole)
+    let whole = read_number(4, most / width) * width;
+    whole + read_number(1, most - whole)
 }
 
 // One tape.
-fn replay(bytes: &mut [u8], blocks: &mut [u64], tones: &mut [u64])
-    requires { ⌜ length (now bytes) ≤ 1048576 ⌝ }
+fn replay(bytes: &mut [u8], blocks: &mut [u64], tones: &mut [u64], out: &mut [u8])
+    requires { ⌜ 1200 + 2 * length (now bytes) + 5 * length (now tones) ≤ length (now out) ⌝ }
 {
-    let mut head = [0u8; 15];
-    io::read_full(0, &mut head);
-    let model = number_up_to(&head, 0, 1, 255) as u32;
-    let b = lent(&head, 1, BLOCK_WORDS, blocks.len());
-    let t = lent(&head, 6, TONE_WORDS, tones.len());
-    let n = number_up_to(&head, 11, 4, bytes.len());
-    answer(&mut bytes[..n], model, &mut blocks[..b], &mut tones[..t]);
+    let model = read_number(1, 255) as u32;
+    let b = read_lent(BLOCK_WORDS, blocks.len());
+    let t = read_lent(TONE_WORDS, tones.len());
+    let n = read_counted(bytes);
+    print(&bytes[..n], model, &mut blocks[..b], &mut tones[..t], out);
 }
 
 // n tapes.
-fn replay_all(bytes: &mut [u8], blocks: &mut [u64], tones: &mut [u64], n: usize)
-    requires { ⌜ length (now bytes) ≤ 1048576 ⌝ }
+fn replay_all(bytes: &mut [u8], blocks: &mut [u64], tones: &mut [u64], out: &mut [u8], n: usize)
+    requires { ⌜ 1200 + 2 * length (now bytes) + 5 * length (now tones) ≤ length (now out) ⌝ }
 {
     let mut left = n;
     while 0 < left {
-        replay(bytes, blocks, tones);
+        replay(bytes, blocks, tones, out);
         left -= 1;
     }
 }
 
 fn main() {
-    let mut head = [0u8; 4];
-    io::read_full(0, &mut head);
-    let n = number_up_to(&head, 0, 4, 1000000);
+    let n = read_count();
     let mut bytes = io::large_buffer();
     let mut blocks = [0u64; LONG_BLOCK_TABLE];
     let mut tones = [0u64; LONG_TONE_TABLE];
-    replay_all(&mut bytes, &mut blocks, &mut tones, n);
+    let mut out = [0u8; 1450000];
+    replay_all(&mut bytes, &mut blocks, &mut tones, &mut out, n);
 }

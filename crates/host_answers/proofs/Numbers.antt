@@ -6,13 +6,13 @@ use Rattle.play_walk.specs.Heads as walks
 use Rattle.play_deck.specs.declared.Selected.{Selected}
 use Rattle.play_deck.specs.declared.Selected.the-variants.{Block, BadPosition, BadRow}
 use Rattle.play_deck.specs.Deck.{numberFor}
-use Rattle.ask_block.specs.declared.Number.{Number}
-use Rattle.ask_block.specs.declared.Number.the-variants as number
-use Rattle.ask_block.specs.declared.Mark.{Mark}
-use Rattle.ask_block.specs.declared.Mark.the-variants as mark
-use Rattle.ask_block.specs.declared.Time.{Time}
-use Rattle.ask_block.specs.declared.Time.the-variants as lasting
-use Rattle.ask_block.specs.Queries.{numberNo, markNo, timeNo}
+use Rattle.ask.specs.declared.Number.{Number}
+use Rattle.ask.specs.declared.Number.the-variants as number
+use Rattle.ask.specs.declared.Mark.{Mark}
+use Rattle.ask.specs.declared.Mark.the-variants as mark
+use Rattle.ask.specs.declared.Time.{Time}
+use Rattle.ask.specs.declared.Time.the-variants as lasting
+use Rattle.ask.specs.Queries.{numberNo, markNo, timeNo}
 use Rattle.host_answers.specs.Answers.{ofNumber, ofMark, ofTime, ofSelected, ofReached}
 
 pub number-no : (a : Number) → ofNumber a .no ≡ numberNo a

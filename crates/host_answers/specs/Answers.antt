@@ -1,6 +1,8 @@
 -- An answer as a C host gets it (rules 134, 137): number, values, and what is left of the lent row. Definitions alone; assumes nothing.
-use Prim.Native.Nat.{ℕ}
+use Prim.Native.Nat.{ℕ, _-_}
+use mathlib.Core.Bool.{Bool}
 use mathlib.Core.List.{List, [], _∷_}
+use lib.ListN.{getD}
 use Rattle.law_base.specs.Rules.{_⇒_, _∣_}
 use Rattle.refusals.specs.Refusals.{noPosition, noRoom, badRow}
 use Rattle.text_out.specs.Out.{fits, told}
@@ -10,12 +12,12 @@ use Rattle.play_walk.specs.declared.Reached.{Reached}
 use Rattle.play_walk.specs.declared.Reached.the-variants as reached
 use Rattle.play_deck.specs.declared.Selected.{Selected}
 use Rattle.play_deck.specs.declared.Selected.the-variants as selected
-use Rattle.ask_block.specs.declared.Number.{Number}
-use Rattle.ask_block.specs.declared.Number.the-variants as number
-use Rattle.ask_block.specs.declared.Mark.{Mark}
-use Rattle.ask_block.specs.declared.Mark.the-variants as mark
-use Rattle.ask_block.specs.declared.Time.{Time}
-use Rattle.ask_block.specs.declared.Time.the-variants as lasting
+use Rattle.ask.specs.declared.Number.{Number}
+use Rattle.ask.specs.declared.Number.the-variants as number
+use Rattle.ask.specs.declared.Mark.{Mark}
+use Rattle.ask.specs.declared.Mark.the-variants as mark
+use Rattle.ask.specs.declared.Time.{Time}
+use Rattle.ask.specs.declared.Time.the-variants as lasting
 use Rattle.load_tape.specs.declared.Format.{Format}
 use Rattle.load_tape.specs.declared.Format.the-variants.{Tap, Tzx}
 use Rattle.load_tape.specs.declared.Loaded.{Loaded}
@@ -78,6 +80,11 @@ ofReached (reached.Stopped s) = given (standWords 1 s)
 ofReached (reached.Ended s) = given (standWords 2 s)
 ofReached reached.NotValid = refusedBy noPosition
 ofReached reached.NotFormed = refusedBy badRow
+
+-- where a call of n ends inside its entry, on the position's own words: a shortcut of the code, which no public contract cites
+unfoldable pub insideWords : List ℕ → ℕ → Bool → List ℕ
+insideWords ws n v =
+    0 ∷ 0 ∷ flagOf v ∷ getD ws 0 0 ∷ getD ws 1 0 ∷ getD ws 2 0 ∷ getD ws 3 0 ∷ getD ws 4 0 ∷ getD ws 5 0 ∷ (getD ws 6 0 - n) ∷ []
 
 -- a tape's format: 0 TAP, 1 TZX
 unfoldable pub formatNumber : Format → ℕ

@@ -1,7 +1,7 @@
 // Each answer of the load, the queries and the players as words, told into a lent row.
-use ask_block::Mark;
-use ask_block::Number;
-use ask_block::Time;
+use ask::Mark;
+use ask::Number;
+use ask::Time;
 use host_words::flag;
 use host_words::span_of;
 use host_words::spot_of;
@@ -19,7 +19,9 @@ ghost use Rattle.law_base.specs.Rules.{_⇒_, _∣_};
 ghost use Rattle.refusals.specs.Refusals.{noRoom};
 ghost use Rattle.text_out.specs.Out.{fits, told};
 ghost use Rattle.host_answers.specs.Answers.{numberOf, valuesOf, ofNumber, ofMark, ofTime, ofPosition, ofSelected, standWords};
-ghost use Rattle.host_answers.specs.Answers.{ofReached, formatNumber, ofLoaded};
+ghost use Rattle.host_answers.specs.Answers.{ofReached, insideWords, formatNumber, ofLoaded};
+ghost use Prim.Native.Nat.{_≤_};
+ghost use lib.ListN.{length, getD};
 
 // The words into a row that holds them, and 0; else 10, and nothing is written.
 fn tell(words: &[u64], answer: &mut [u64]) -> u32
@@ -146,6 +148,27 @@ pub fn tell_reached(a: Reached, answer: &mut [u64]) -> u32
         Reached::NotValid => NO_POSITION,
         Reached::NotFormed => BAD_ROW,
     }
+}
+
+// The answer to a call of n that ends inside its entry, straight on the position's words; our crates alone call it.
+pub fn tell_inside(position: &[u64], n: u64, level: bool, answer: &mut [u64]) -> u32
+    requires { ⌜ (7 ≤ length (now position)) × (n ≤ getD (now position) 6 0) ⌝ }
+    ensures { λ k. ⌜ k ≡ (fits (insideWords (now (position .entry)) n level) (now (answer .entry)) ⇒ 0 ∣ noRoom) ⌝ }
+    ensures { λ _. ⌜ now (answer .exit) ≡ told (insideWords (now (position .entry)) n level) (now (answer .entry)) ⌝ }
+{
+    let w = [
+        0,
+        0,
+        flag(level),
+        position[0],
+        position[1],
+        position[2],
+        position[3],
+        position[4],
+        position[5],
+        position[6] - n,
+    ];
+    tell(&w, answer)
 }
 
 fn format_number(f: Format) -> u64

@@ -24,8 +24,7 @@ use Rattle.play_walk.specs.declared.Reached.{Reached}
 use Rattle.play_walk.specs.declared.Reached.the-variants.{At}
 use Rattle.play_walk.specs.Heads.{placed, stand, Walkable}
 use Rattle.play_walk.proofs.Landing.{walkable-less}
-use Rattle.play_deck.specs.declared.Check.{Check}
-use Rattle.play_deck.specs.declared.Check.the-variants.{Fine, NotValid, NotFormed}
+use Rattle.play_deck.specs.declared.Check.the-variants.{Fine}
 use Rattle.play_deck.specs.declared.Finding.{Finding}
 use Rattle.play_deck.specs.Deck.{judged, unless, stays, playMeasured, playSource}
 use Rattle.play_deck.specs.Assay.{Assayed}
@@ -41,7 +40,7 @@ use Rattle.host_run.specs.declared.Going.{Going}
 use Rattle.host_run.specs.Rows.{answerRow, howOf, standRow, rowFor}
 use Rattle.refusals.specs.Refusals.{noRoom}
 use Rattle.host_run.specs.Runs.{playerOf, runRows, roomNo}
-use Rattle.host_run.specs.Inside.{withLeft, insideRows, insideLeft, passes, leadsTo, Known}
+use Rattle.host_run.specs.Inside.{withLeft, insideRows, insideLeft, leadsTo, Known}
 use Rattle.host_run.proofs.Insides.{drop-end}
 
 -- a call that ends inside its entry, of either player
@@ -68,7 +67,7 @@ module _ (w : Tape) (q : Position) (n t : ℕ) (a : Walkable w q) (e : q .left �
       rw (walkable-fine w q a)
       (⊎-elim (λ z. rw (eq-eqb n 0 z) (none z)) (λ p. rw (ne-eqb n 0 (omega arith)) (sym (inside-source w q n a ends))) (eq-zero-or-pos n))
 
-never-none : (t : ℕ) → T t ≡ T 0 → 0 < t → ⊥
+pub never-none : (t : ℕ) → T t ≡ T 0 → 0 < t → ⊥
 never-none t e h =
     let u : _≡_ {A = ℕ} 0 1 = ap (λ (c : Bool). c ⇒ 0 ∣ 1) (sym (ap isNone e) ∙ ne-eqb t 0 (omega arith)) in
     absurd (omega arith)
@@ -128,7 +127,8 @@ module _ (m : Bool) (w : Tape) (b : ℕ) (f : Phase) (a : Finding) (fine : a .ch
             → Assayed w (at (c ⇒ insideLeft (t - n) ns ∣ t)) a
             × (putAll answerRow (putAll answerRow x i (c ⇒ withLeft r (t - n) ∷ insideRows r (t - n) ns ∣ []))
             (i + length (c ⇒ withLeft r (t - n) ∷ insideRows r (t - n) ns ∣ []))
-            (runRows Play (at (c ⇒ insideLeft (t - n) ns ∣ t)) (drop (length (c ⇒ withLeft r (t - n) ∷ insideRows r (t - n) ns ∣ [])) (n ∷ ns)))
+            (runRows Play (at (c ⇒ insideLeft (t - n) ns ∣ t))
+            (drop (length (c ⇒ withLeft r (t - n) ∷ insideRows r (t - n) ns ∣ [])) (n ∷ ns)))
             ≡ putAll answerRow x i (runRows Play (at t) (n ∷ ns)))
         by-test true e go =
             let l = ltb-true n t e in
@@ -136,7 +136,8 @@ module _ (m : Bool) (w : Tape) (b : ℕ) (f : Phase) (a : Finding) (fine : a .ch
             let j = length (insideRows r (t - n) ns) in
             let z : i + suc j ≡ i + 1 + j = omega arith in (
               y .0,
-              ap (λ (u : ℕ). putAll answerRow (putAll answerRow (put answerRow x i (withLeft r (t - n))) (i + 1) (insideRows r (t - n) ns)) u
+              ap (λ (u : ℕ). putAll answerRow
+                  (putAll answerRow (put answerRow x i (withLeft r (t - n))) (i + 1) (insideRows r (t - n) ns)) u
                   (runRows Play (at (insideLeft (t - n) ns)) (drop j ns))) z
                   ∙ y .1
                   ∙ ap (λ (s : AnswerRow). putAll answerRow (put answerRow x i s) (i + 1) (runRows Play (at (t - n)) ns)) (same (t - n))
@@ -152,7 +153,8 @@ unfolding insideRows
 inside-few r t [] = omega arith
 inside-few r t (n ∷ ns) = by-test (ltb n t) (inside-few r (t - n) ns)
   where
-    by-test : (c : Bool) → length (insideRows r (t - n) ns) ≤ length ns → length (c ⇒ withLeft r (t - n) ∷ insideRows r (t - n) ns ∣ []) ≤ suc (length ns)
+    by-test : (c : Bool) → length (insideRows r (t - n) ns) ≤ length ns
+        → length (c ⇒ withLeft r (t - n) ∷ insideRows r (t - n) ns ∣ []) ≤ suc (length ns)
     by-test true h = omega arith
     by-test false h = omega arith
 
@@ -223,10 +225,8 @@ module _ (m : Bool) (w : Tape) (ns table : List ℕ) (g : Going) (in-calls : g .
 -- behind the last call a run leads nowhere else
 pub gone-all : (m : Bool) (w : Tape) (ns table : List ℕ) (g : Going) → length ns ≤ g .next → leadsTo m w ns table g ≡ table
 unfolding runRows putAll
-gone-all m w ns table g h = ap (λ (zs : List ℕ). putAll answerRow table (g .next) (runRows (playerOf m w) (g .position) zs)) (drop-end ns (g .next) h)
-
-never : false ≡ true → ⊥
-never e = let y : _≡_ {A = ℕ} 1 0 = ap (λ (c : Bool). c ⇒ 0 ∣ 1) e in absurd (omega arith)
+gone-all m w ns table g h =
+    ap (λ (zs : List ℕ). putAll answerRow table (g .next) (runRows (playerOf m w) (g .position) zs)) (drop-end ns (g .next) h)
 
 -- room for every row
 pub no-room : (ns table : List ℕ) → length table / 10 < length ns → roomNo ns table ≡ noRoom
@@ -236,9 +236,3 @@ no-room ns table h = rw (lt-ltb (length table) (length ns * answerRow .width) (o
 pub room : (ns table : List ℕ) → length ns ≤ length table / 10 → roomNo ns table ≡ 0
 unfolding roomNo
 room ns table h = rw (le-ltb (length table) (length ns * answerRow .width) (omega arith))
-
-pub fine-of : (c : Check) → passes c ≡ true → c ≡ Fine
-unfolding passes
-fine-of Fine e = refl
-fine-of NotValid e = absurd (never e)
-fine-of NotFormed e = absurd (never e)

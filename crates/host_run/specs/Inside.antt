@@ -1,15 +1,14 @@
--- CALLS THAT END INSIDE ONE ENTRY, and a turn of a run: shortcuts of the code, which no public contract cites. Definitions alone; assumes nothing.
+-- CALLS THAT END INSIDE ONE ENTRY, and a turn of a run: shortcuts of the code, which no public contract cites.
+-- Definitions alone; assumes nothing.
 use Prim.Native.Nat.{ℕ, _-_, _*_, _≤_}
 use mathlib.Core.Path.{_≡_}
-use mathlib.Core.Bool.{Bool, true, false}
+use mathlib.Core.Bool.{Bool}
 use mathlib.Core.List.{List, [], _∷_}
 use lib.Dec.{ltb}
 use lib.ListN.{length, drop}
 use Rattle.law_base.specs.Rules.{_⇒_, _∣_}
 use Rattle.rows.specs.Table.{putAll}
 use Rattle.play_entries.specs.Places.{Tape}
-use Rattle.play_deck.specs.declared.Check.{Check}
-use Rattle.play_deck.specs.declared.Check.the-variants.{Fine, NotValid, NotFormed}
 use Rattle.play_deck.specs.Assay.{Assayed}
 use Rattle.host_run.specs.declared.AnswerRow.{AnswerRow}
 use Rattle.host_run.specs.declared.Going.{Going}
@@ -41,11 +40,6 @@ insideRows r t (n ∷ ns) = ltb n t ⇒ withLeft r (t - n) ∷ insideRows r (t -
 unfoldable pub insideLeft : ℕ → List ℕ → ℕ
 insideLeft t [] = t
 insideLeft t (n ∷ ns) = ltb n t ⇒ insideLeft (t - n) ns ∣ t
-
-unfoldable pub passes : Check → Bool
-passes Fine = true
-passes NotValid = false
-passes NotFormed = false
 
 -- the table that a run still leads to
 abbrev pub leadsTo : Bool → Tape → List ℕ → List ℕ → Going → List ℕ

@@ -1,5 +1,5 @@
--- AN ANSWER OF A RUN AS TEN WORDS: a player's words (`standWords` in `host_answers`); where a call is refused, its number, and the head as it
--- was. Definitions alone; assumes nothing.
+-- AN ANSWER OF A RUN AS TEN WORDS: a player's words; where a call is refused, its number, and the head as it was.
+-- Definitions alone; assumes nothing.
 use Prim.Native.Nat.{ℕ}
 use mathlib.Core.Path.{refl}
 use mathlib.Core.List.{List, [], _∷_}

@@ -13,7 +13,7 @@ use Rattle.play_walk.specs.declared.Reached.{Reached}
 use Rattle.play_deck.specs.declared.Check.{Check}
 use Rattle.play_deck.specs.declared.Check.the-variants.{Fine, NotValid, NotFormed}
 use Rattle.play_deck.specs.Deck.{judged, playMeasured, playSource}
-use Rattle.play_deck.specs.Calls.{positionIn}
+use Rattle.play_deck.specs.Calls.{positionIn, passedIn, counting}
 use Rattle.host_run.specs.declared.AnswerRow.{AnswerRow}
 use Rattle.host_run.specs.Rows.{answerRow, rowFor}
 
@@ -21,6 +21,20 @@ use Rattle.host_run.specs.Rows.{answerRow, rowFor}
 unfoldable pub playerOf : Bool → Tape → Position → ℕ → Reached
 playerOf true w = playMeasured w
 playerOf false w = playSource w
+
+-- EACH CALL'S ANSWER
+unfoldable pub answersOf : (Position → ℕ → Reached) → Position → List ℕ → List Reached
+answersOf play q [] = []
+answersOf play q (n ∷ ns) = play q n ∷ answersOf play (positionIn q (play q n)) ns
+
+-- the last of them, the entries passed added up
+unfoldable pub tallied : Reached → List Reached → Reached
+tallied r [] = r
+tallied r (s ∷ rs) = counting (passedIn r) (tallied s rs)
+
+unfoldable pub lastAnswer : Reached → List Reached → Reached
+lastAnswer r [] = r
+lastAnswer r (s ∷ rs) = lastAnswer s rs
 
 -- EACH CALL'S ROW
 unfoldable pub runRows : (Position → ℕ → Reached) → Position → List ℕ → List AnswerRow

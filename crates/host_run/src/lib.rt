@@ -7,6 +7,7 @@ use play_deck::Finding;
 use play_deck::assay;
 use play_deck::assay_after;
 use play_deck::followed_by;
+use play_deck::is_fine;
 use play_deck::measured_by;
 use play_entries::Duration;
 use play_walk::Position;
@@ -31,7 +32,7 @@ ghost use Rattle.play_deck.specs.Assay.{Assayed};
 ghost use Rattle.play_deck.specs.Calls.{positionIn};
 ghost use Rattle.host_run.specs.Rows.{answerRow, standRow, rowFor};
 ghost use Rattle.host_run.specs.Runs.{playerOf, runRows, roomNo, runNo, runTable};
-ghost use Rattle.host_run.specs.Inside.{withLeft, insideRows, insideLeft, passes, leadsTo, Known, Holds};
+ghost use Rattle.host_run.specs.Inside.{withLeft, insideRows, insideLeft, leadsTo, Known, Holds};
 
 // The words of a call's answer: how it came out, the entries passed, the level, and the position.
 pub struct AnswerRow {
@@ -277,17 +278,6 @@ fn go_on(
         position: position_in(pos, r),
         finding: assay_after(tape, tones, blocks, count, pos, a, r),
         next: i + 1,
-    }
-}
-
-// Whether a check is passed.
-fn is_fine(c: Check) -> bool
-    ensures { λ v. ⌜ v ≡ passes c ⌝ }
-{
-    match c {
-        Check::Fine => true,
-        Check::NotValid => false,
-        Check::NotFormed => false,
     }
 }
 

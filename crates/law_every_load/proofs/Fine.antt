@@ -236,10 +236,10 @@ module _ (s : List ℕ) (b : Bytes s) where
       stop48-fine true = record { sounds = cons (stop-fine s) nil; name = tt }
       stop48-fine false = record { sounds = nil; name = tt }
   deed-fine (Text from size) f = record { sounds = nil; name = f .numbers }
-  deed-fine (Message seconds from size) f = record { sounds = nil; name = tt }
-  deed-fine (Archive count from) f = record { sounds = nil; name = tt }
-  deed-fine (Hardware count from) f = record { sounds = nil; name = tt }
-  deed-fine (Custom id from size) f = record { sounds = nil; name = tt }
+  deed-fine Message f = record { sounds = nil; name = tt }
+  deed-fine Archive f = record { sounds = nil; name = tt }
+  deed-fine Hardware f = record { sounds = nil; name = tt }
+  deed-fine Custom f = record { sounds = nil; name = tt }
   deed-fine Glue f = record { sounds = nil; name = tt }
 
   pub tap-fine : {origin : Origin} (d : Sound) → OfPiece (tapTable s) d origin → FineSound s d

@@ -201,11 +201,11 @@ module _ (most : ℕ) where
       allows kind2A (λ _ a. a) &
       allows unread tt &
       allows kind30 (λ _ _ a. a) &
-      allows kind31 (λ _ a _ _ b. (a, b)) &
-      allows kind32 (λ _ _ _ a _. a) &
-      allows kind33 (λ _ a _. a) &
+      allows kind31 (λ _ _ _ _ _. tt) &
+      allows kind32 (λ _ _ _ _. tt) &
+      allows kind33 (λ _ _. tt) &
       allows unread tt &
-      allows kind35 (λ _ _ _ a. a) &
+      allows kind35 (λ _ _ _. tt) &
       allows unread tt &
       allows kind5A tt &
       no-more

@@ -58,10 +58,10 @@ Numbers most (LoopStart times) = times < 65536
 Numbers most LoopEnd = Unit {0}
 Numbers most (Stop48 length) = length < 4294967296
 Numbers most (Text from size) = Range most 256 from size
-Numbers most (Message seconds from size) = (seconds < 256) × Range most 256 from size
-Numbers most (Archive count from) = count < 256
-Numbers most (Hardware count from) = count < 256
-Numbers most (Custom id from size) = Range most 4294967296 from size
+Numbers most Message = Unit {0}
+Numbers most Archive = Unit {0}
+Numbers most Hardware = Unit {0}
+Numbers most Custom = Unit {0}
 Numbers most Glue = Unit {0}
 
 -- WHAT A WHOLE PIECE IS: its numbers, and its pulses or its tables of 19 inside the tape

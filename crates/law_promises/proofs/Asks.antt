@@ -17,12 +17,12 @@ use Rattle.text_out.specs.Out.{fits, told}
 use Rattle.play_entries.specs.declared.Duration.{Duration}
 use Rattle.play_entries.specs.Places.{Tape, listFrom, leftAt, loadingTime}
 use Rattle.play_entries.specs.Mounted.{overfull, wellRow, formed}
-use Rattle.ask_block.specs.declared.Number.{Number}
-use Rattle.ask_block.specs.declared.Number.the-variants as number
-use Rattle.ask_block.specs.declared.Mark.the-variants as mark
-use Rattle.ask_block.specs.declared.Time.the-variants as lasting
-use Rattle.ask_block.specs.Queries.{numberNo, markNo, timeNo, refusalOf, lenOf, numberUnless, markUnless, timeUnless, sizeOf, selectableOf}
-use Rattle.ask_block.specs.Queries.{timeOf, nameIn, lengthOrNoRoom, nameAnswer, nameBytes, loadingIn, loadingOf}
+use Rattle.ask.specs.declared.Number.{Number}
+use Rattle.ask.specs.declared.Number.the-variants as number
+use Rattle.ask.specs.declared.Mark.the-variants as mark
+use Rattle.ask.specs.declared.Time.the-variants as lasting
+use Rattle.ask.specs.Queries.{numberNo, markNo, timeNo, refusalOf, lenOf, numberUnless, markUnless, timeUnless, sizeOf, selectableOf}
+use Rattle.ask.specs.Queries.{timeOf, nameIn, lengthOrNoRoom, nameAnswer, nameBytes, loadingIn, loadingOf}
 use Rattle.play_walk.specs.Heads.{startAt}
 use Rattle.law_promises.specs.Numbers.{PastCount, Unformed, Asked, Reaches, enough}
 use Rattle.law_promises.proofs.Reaching.{Runs, runs-reach, comes-finite, start-cuts}

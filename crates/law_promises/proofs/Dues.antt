@@ -130,10 +130,10 @@ module _ (lent : Lent) (s : List ℕ) (model : ℕ) where
       of true f = calm f
       of false f = calm f
   deed-four (Text from size) e = calm e
-  deed-four (Message seconds from size) e = calm e
-  deed-four (Archive count from) e = calm e
-  deed-four (Hardware count from) e = calm e
-  deed-four (Custom id from size) e = calm e
+  deed-four Message e = calm e
+  deed-four Archive e = calm e
+  deed-four Hardware e = calm e
+  deed-four Custom e = calm e
   deed-four Glue e = calm e
 
   act-four : (origin : Origin) (p : Piece) (t : Parsed) → act lent s model origin p t ≡ halt (Refusal generalised) → Refused4 s p

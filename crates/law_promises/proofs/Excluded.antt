@@ -36,9 +36,9 @@ use Rattle.play_walk.specs.declared.Reached.the-variants.{At, Ended}
 use Rattle.play_walk.specs.Heads.{startAt, stand, placed, levelHere, restLevel, toldAs, toldReached, walked, walkFrom}
 use Rattle.play_deck.specs.Deck.{ruledOut, illFormed, judged, unless, playMeasured}
 use Rattle.play_deck.specs.Calls.{positionIn, passedIn}
-use Rattle.text_shown.specs.Shown.{shown}
-use Rattle.text_lines.specs.Lines.{timeText, markText, rowText, rowsText}
-use Rattle.text_page.specs.Page.{modelText, formatText, countText, loadingText, restText, listingText}
+use Rattle.text_listing.specs.Shown.{shown}
+use Rattle.text_listing.specs.Lines.{timeText, markText, rowText, rowsText}
+use Rattle.text_listing.specs.Page.{modelText, formatText, countText, loadingText, restText, listingText}
 use Rattle.listing.specs.Listing.{loadedOf, Listing, mounted, listed, listingOf, answerTo}
 
 -- an empty tape is listed in 37 bytes, and `00 00` in 67

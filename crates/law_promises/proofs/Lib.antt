@@ -14,6 +14,7 @@ pub mod Asks
 pub mod Positions
 pub mod Wholes
 pub mod Playing
+pub mod CallRuns
 pub mod Played
 pub mod Listings
 pub mod Errors

@@ -6,14 +6,14 @@ use denote.Ref.{now}
 use Rattle.law_promises.specs.Determined.{Determined, Answered, HeadAnswered}
 use Rattle.load_tape.proofs.load.Kinds as load-kinds
 use Rattle.load_tape.proofs.load.Reads as load
-use Rattle.ask_block.proofs.len.Kinds as len-kinds
-use Rattle.ask_block.proofs.len.Reads as len
-use Rattle.ask_block.proofs.block_size.Kinds as block-size-kinds
-use Rattle.ask_block.proofs.block_size.Reads as block-size
-use Rattle.ask_block.proofs.block_selectable.Kinds as block-selectable-kinds
-use Rattle.ask_block.proofs.block_selectable.Reads as block-selectable
-use Rattle.ask_block.proofs.block_time.Kinds as block-time-kinds
-use Rattle.ask_block.proofs.block_time.Reads as block-time
+use Rattle.ask.proofs.len.Kinds as len-kinds
+use Rattle.ask.proofs.len.Reads as len
+use Rattle.ask.proofs.block_size.Kinds as block-size-kinds
+use Rattle.ask.proofs.block_size.Reads as block-size
+use Rattle.ask.proofs.block_selectable.Kinds as block-selectable-kinds
+use Rattle.ask.proofs.block_selectable.Reads as block-selectable
+use Rattle.ask.proofs.block_time.Kinds as block-time-kinds
+use Rattle.ask.proofs.block_time.Reads as block-time
 use Rattle.ask_name.proofs.block_name.Kinds as block-name-kinds
 use Rattle.ask_name.proofs.block_name.Reads as block-name
 use Rattle.ask_time.proofs.loading_time.Kinds as loading-time-kinds
@@ -60,6 +60,12 @@ use Rattle.export.proofs.glyvrask_play.Kinds as c-play-kinds
 use Rattle.export.proofs.glyvrask_play.Reads as c-play
 use Rattle.export.proofs.glyvrask_play_measured.Kinds as c-play-measured-kinds
 use Rattle.export.proofs.glyvrask_play_measured.Reads as c-play-measured
+use Rattle.host_run.proofs.play_run.Kinds as play-run-kinds
+use Rattle.host_run.proofs.play_run.Reads as play-run
+use Rattle.export.proofs.glyvrask_play_run.Kinds as c-play-run-kinds
+use Rattle.export.proofs.glyvrask_play_run.Reads as c-play-run
+use Rattle.export.proofs.glyvrask_play_head.Kinds as c-play-head-kinds
+use Rattle.export.proofs.glyvrask_play_head.Reads as c-play-head
 use Rattle.play_entries.specs.Places.{Tape}
 use Rattle.play_walk.specs.declared.Reached.{Reached}
 use Rattle.play_deck.specs.declared.Head.{Head}
@@ -97,6 +103,10 @@ play-determined κs a z z′ e e′ p q = p ∙ sym q
 
 pub block-determined : Answered 3 block-kinds.ps block-kinds.r block.Post
 block-determined κs a z z′ e e′ p q = p ∙ sym q
+
+-- a run: its number, and every word of the table
+pub play-run-determined : Determined 5 play-run-kinds.ps play-run-kinds.r play-run.Post (λ κs e. now (e .1 .1 .1 .1 .1 .1 .1 .0))
+play-run-determined κs a z z′ e e′ p q = (p .0 ∙ sym (q .0), p .1 ∙ sym (q .1))
 
 -- positions
 pub new-at-block-determined : Answered 0 new-at-block-kinds.ps new-at-block-kinds.r new-at-block.Post
@@ -170,6 +180,17 @@ play-once κs a z z′ e e′ p q = (p .0 ∙ sym (q .0), p .1 ∙ sym (q .1))
 pub play-measured-once : Determined 5 c-play-measured-kinds.ps c-play-measured-kinds.r c-play-measured.Post
     (λ κs e. now (e .1 .1 .1 .1 .1 .1 .0))
 play-measured-once κs a z z′ e e′ p q = (p .0 ∙ sym (q .0), p .1 ∙ sym (q .1))
+
+pub play-run-once : Determined 6 c-play-run-kinds.ps c-play-run-kinds.r c-play-run.Post
+    (λ κs e. now (e .1 .1 .1 .1 .1 .1 .1 .0))
+play-run-once κs a z z′ e e′ p q = (p .0 ∙ sym (q .0), p .1 ∙ sym (q .1))
+
+pub play-head-once-head : Determined 5 c-play-head-kinds.ps c-play-head-kinds.r c-play-head.Post (λ κs e. now (e .1 .1 .1 .1 .0))
+play-head-once-head κs a z z′ e e′ p q = (p .0 ∙ sym (q .0), p .1 .0 ∙ sym (q .1 .0))
+
+pub play-head-once-answer : Determined 5 c-play-head-kinds.ps c-play-head-kinds.r c-play-head.Post
+    (λ κs e. now (e .1 .1 .1 .1 .1 .1 .0))
+play-head-once-answer κs a z z′ e e′ p q = (p .0 ∙ sym (q .0), p .1 .1 ∙ sym (q .1 .1))
 
 -- the listing: its number, and every output byte
 pub listing-once : Determined 2 c-listing-kinds.ps c-listing-kinds.r c-listing.Post (λ κs e. now (e .1 .1 .0))

@@ -130,10 +130,10 @@ each-row most =
     calm 0x2B unread tt &
     calm 0x30 kind30 (λ _ _. tt) &
     calm 0x31 kind31 (λ _ _ _. tt) &
-    calm 0x32 kind32 (λ _ _ _. tt) &
-    calm 0x33 kind33 (λ _ _. tt) &
+    calm 0x32 kind32 (λ _ _. tt) &
+    calm 0x33 kind33 (λ _. tt) &
     calm 0x34 unread tt &
-    calm 0x35 kind35 (λ _ _ _. tt) &
+    calm 0x35 kind35 (λ _ _. tt) &
     calm 0x40 unread tt &
     calm 0x5A kind5A tt &
     no-more

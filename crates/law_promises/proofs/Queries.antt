@@ -9,8 +9,8 @@ use Rattle.load_tape.specs.Load.{loadNamed, Leaves}
 use Rattle.play_entries.specs.Mounted.{tapeOf}
 use Rattle.law_every_load.specs.Sizes.{Bytes}
 use Rattle.law_every_load.proofs.Left.{left-whole}
-use Rattle.ask_block.proofs.Answers.{whole-answered}
-use Rattle.ask_block.specs.Queries.{EachAnswered}
+use Rattle.ask.proofs.Answers.{whole-answered}
+use Rattle.ask.specs.Queries.{EachAnswered}
 
 module _ (B N : ℕ) (s : List ℕ) (model : ℕ) {f : Format} {n k : ℕ} {bt tt : List ℕ} (b : Bytes s)
     (l : Leaves B N (loadNamed (lentOf B N) s model) (loaded.Tape f n k) bt tt) where

@@ -16,10 +16,10 @@ use Rattle.text_codes.specs.Encoding.{codeTexts, table, encoded, spelled}
 use Rattle.text_name.specs.Headers.{typeName, headerName}
 use Rattle.rows.specs.declared.Block.{Block}
 use Rattle.text_name.specs.Names.{isHeader, sizeShown, sizeName, guessed, nameOf}
-use Rattle.text_shown.specs.Shown.{shown}
-use Rattle.text_shown.specs.Points.{bytesOf, isScalar, areScalars, Utf8, shownPoint}
-use Rattle.text_shown.proofs.Utf8.{utf8-none, utf8-join, utf8-rule, utf8-one, utf8-plain}
-use Rattle.text_shown.proofs.Points.{shown-points}
+use Rattle.text_listing.specs.Shown.{shown}
+use Rattle.text_listing.specs.Points.{bytesOf, isScalar, areScalars, Utf8, shownPoint}
+use Rattle.text_listing.proofs.Utf8.{utf8-none, utf8-join, utf8-rule, utf8-one, utf8-plain}
+use Rattle.text_listing.proofs.Points.{shown-points}
 use Rattle.law_every_load.specs.Sizes.{Bytes}
 use Rattle.law_promises.specs.Texts.{codePoints, headerPoints, namePoints}
 

@@ -1,17 +1,15 @@
 -- DEMAND 2 ON VIEWS: the blocks in the tables that a load leaves are the tape's block list, whatever was lent.
 -- Assumes nothing but that bytes are below 256.
-use Prim.Native.Nat.{ℕ, zero, suc, _+_, _≤_, _<_}
-use native.Mathlib.Numerals.{add-one}
-use native.Mathlib.Omega.{arith}
+use Prim.Native.Nat.{ℕ, _+_, _≤_}
 use mathlib.Core.Path.{_≡_, refl, sym, ap, ap₂, _∙_}
 use mathlib.Core.Bool.{false}
-use mathlib.Core.List.{List, [], _∷_}
-use lib.ListN.{length, take, drop, getD}
+use mathlib.Core.List.{List, _∷_}
+use lib.ListN.{length}
 use Rattle.rows.specs.Table.{rowsOf, tableOf, zeros}
-use Rattle.rows.specs.Rows.{block, tone, decodeTone}
+use Rattle.rows.specs.Rows.{block, tone}
 use Rattle.rows.specs.declared.Block.{Block}
 use Rattle.rows.specs.declared.Tone.{Tone}
-use Rattle.rows.proofs.Tables.{get-row, rows-over}
+use Rattle.rows.proofs.Tables.{rows-over}
 use Rattle.load_blocks.specs.Does.{lentOf}
 use Rattle.load_source.specs.Source.{Load}
 use Rattle.load_tape.specs.declared.Format.{Format}
@@ -24,30 +22,12 @@ use Rattle.law_every_load.specs.Sizes.{Bytes}
 use Rattle.law_every_load.specs.OfSource.{Reads, as-tzx, as-tap}
 use Rattle.law_every_load.proofs.Left.{left}
 use Rattle.law_every_load.proofs.Within.{rows-within}
-use Rattle.text_view.specs.View.{View, tonesFrom, viewOf, rowViews, viewsIn, blockList}
+use Rattle.text_view.specs.View.{View, viewOf, rowViews, viewsIn, blockList}
+use Rattle.text_view.proofs.Views.{tones-read}
 use Rattle.load_state.specs.Kept.{All, nil, cons}
 use Rattle.law_promises.specs.Boundless.{boundlessLoad}
 use Rattle.law_promises.specs.Demands.{listOf, blockListOf}
 use Rattle.law_promises.proofs.Capacity.{named-reads, accepted-load}
-
-none : Tone
-none = decodeTone []
-
--- the list from place i on, where it has one more
-drop-next : (ts : List Tone) (i : ℕ) → i < length ts → drop i ts ≡ getD ts i none ∷ drop (suc i) ts
-drop-next [] i h = absurd (omega arith)
-drop-next (t ∷ ts) zero h = refl
-drop-next (t ∷ ts) (suc i) h = drop-next ts i (omega arith)
-
--- n tone rows of a table are the n tones that it was made of
-tones-read : (ts : List Tone) (N from n : ℕ) → from + n ≤ length ts → tonesFrom (tableOf tone ts N) from n ≡ take n (drop from ts)
-unfolding tonesFrom
-tones-read ts N from zero h = refl
-tones-read ts N from (suc n) h =
-    let i : from < length ts = omega arith in
-    ap₂ (λ (a : Tone) (l : List Tone). a ∷ l) (get-row tone ts (zeros N) from none i) (tones-read ts N (from + 1) n (omega arith))
-    ∙ ap (λ (j : ℕ). getD ts from none ∷ take n (drop j ts)) (add-one from)
-    ∙ sym (ap (take (suc n)) (drop-next ts from i))
 
 -- a row whose tones were read
 abbrev Has : List Tone → Block → Type 0

@@ -107,10 +107,10 @@ piece-stays lent origin s model start n (LoopStart times) t o h = sure (nested-s
 piece-stays lent origin s model start n LoopEnd t o h = absurd (h refl)
 piece-stays lent origin s model start n (Stop48 m) t o h = stop-stays lent origin model m t
 piece-stays lent origin s model start n (Text from size) t o h = sure refl
-piece-stays lent origin s model start n (Message seconds from size) t o h = sure refl
-piece-stays lent origin s model start n (Archive count from) t o h = sure refl
-piece-stays lent origin s model start n (Hardware count from) t o h = sure refl
-piece-stays lent origin s model start n (Custom id from size) t o h = sure refl
+piece-stays lent origin s model start n Message t o h = sure refl
+piece-stays lent origin s model start n Archive t o h = sure refl
+piece-stays lent origin s model start n Hardware t o h = sure refl
+piece-stays lent origin s model start n Custom t o h = sure refl
 piece-stays lent origin s model start n Glue t o h = sure refl
 
 module _ (lent : Lent) (s : List ℕ) (model start n : ℕ) where

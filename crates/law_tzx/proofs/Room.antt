@@ -118,10 +118,10 @@ kept-answers lent origin s model (LoopStart times) t places e = goes
 kept-answers lent origin s model LoopEnd t places e = absurd (differ (sym e))
 kept-answers lent origin s model (Stop48 n) t places e = stop-answers lent origin model n t e
 kept-answers lent origin s model (Text from size) t places e = goes
-kept-answers lent origin s model (Message seconds from size) t places e = goes
-kept-answers lent origin s model (Archive count from) t places e = goes
-kept-answers lent origin s model (Hardware count from) t places e = goes
-kept-answers lent origin s model (Custom id from size) t places e = goes
+kept-answers lent origin s model Message t places e = goes
+kept-answers lent origin s model Archive t places e = goes
+kept-answers lent origin s model Hardware t places e = goes
+kept-answers lent origin s model Custom t places e = goes
 kept-answers lent origin s model Glue t places e = goes
 
 -- NEVER 4

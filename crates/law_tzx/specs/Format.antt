@@ -178,10 +178,10 @@ formatOf on48 s (LoopStart times) = format24 times
 formatOf on48 s LoopEnd = silent
 formatOf on48 s (Stop48 length) = format2A on48 length
 formatOf on48 s (Text from size) = silent
-formatOf on48 s (Message seconds from size) = silent
-formatOf on48 s (Archive count from) = silent
-formatOf on48 s (Hardware count from) = silent
-formatOf on48 s (Custom id from size) = silent
+formatOf on48 s Message = silent
+formatOf on48 s Archive = silent
+formatOf on48 s Hardware = silent
+formatOf on48 s Custom = silent
 formatOf on48 s Glue = silent
 
 -- the alphabet size that 0 means

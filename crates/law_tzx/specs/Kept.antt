@@ -119,10 +119,10 @@ kept s LoopEnd = false
 kept s (Stop48 length) = eqb length 0
 -- no sound of their own, and no block
 kept s (Text from size) = true
-kept s (Message seconds from size) = true
-kept s (Archive count from) = true
-kept s (Hardware count from) = true
-kept s (Custom id from size) = true
+kept s Message = true
+kept s Archive = true
+kept s Hardware = true
+kept s Custom = true
 kept s Glue = true
 
 -- the kinds of which `kept` is exact
@@ -140,10 +140,10 @@ exactKind (LoopStart times) = true
 exactKind LoopEnd = false
 exactKind (Stop48 length) = true
 exactKind (Text from size) = true
-exactKind (Message seconds from size) = true
-exactKind (Archive count from) = true
-exactKind (Hardware count from) = true
-exactKind (Custom id from size) = true
+exactKind Message = true
+exactKind Archive = true
+exactKind Hardware = true
+exactKind Custom = true
 exactKind Glue = true
 
 -- an entry's length

@@ -18,7 +18,7 @@ use Rattle.load_source.specs.Source.{Load, tzx, tapped, no}
 use Rattle.load_source.specs.Reached.{reaches2A}
 use Rattle.load_source.proofs.Models.{models-equal, models-agree}
 use Rattle.load_tape.specs.Load.{namedLoad, loadNamed}
-use Rattle.text_page.specs.Page.{modelText, listingText}
+use Rattle.text_listing.specs.Page.{modelText, listingText}
 use Rattle.listing.specs.Listing.{listingLent, loadedOf, Listing, text, refused, listed, listingOf}
 use Rattle.listing.specs.Models.{modelWord, Alike, refusals, texts}
 

@@ -28,8 +28,8 @@ use Rattle.law_every_load.proofs.Well.{table-length, loaded-well}
 use Rattle.law_every_load.proofs.Left.{mounted-same}
 use Rattle.law_every_load.proofs.Names.{loaded-names}
 use Rattle.load_tape.specs.declared.Loaded.the-variants as loaded
-use Rattle.text_lines.specs.Inner.{Ready}
-use Rattle.text_page.specs.Page.{listingText}
+use Rattle.text_listing.specs.Inner.{ReadyRow, Ready}
+use Rattle.text_listing.specs.Page.{listingText}
 use Rattle.listing.specs.Listing.{blockWords, toneWords, loadedOf, text, refused, mounted as mountedOf, listed, Listing, listingOf}
 use Rattle.listing.specs.Listing.{answerTo, bytesAfter}
 
@@ -40,23 +40,30 @@ pub lent-words : {a : Loaded} {bt tt : List ℕ} (s : List ℕ) (model : ℕ)
 unfolding loadedOf
 lent-words s model l = l
 
--- ready rows of a tape that was read
-module _ (s : List ℕ) (model : ℕ) (b : Bytes s) {t : Parsed} (r : Reads (loadOf (lentOf blockWords toneWords) s model) t) where
-  rows-ready : Ready s (tableOf tone (t .tones) toneWords) (tableOf block (nameAll s false (t .blocks)) blockWords) (length (t .blocks))
+-- A READY ROW of a tape that was read, whatever was lent
+module _ (B N : ℕ) (s : List ℕ) (model : ℕ) (b : Bytes s) {t : Parsed} (r : Reads (loadOf (lentOf B N) s model) t) where
+  pub row-ready : (i : ℕ) → i < length (t .blocks)
+      → ReadyRow s (tableOf tone (t .tones) N) (tableOf block (nameAll s false (t .blocks)) B) i
   unfolding wellRow
-  rows-ready =
-      let w = load-within (lentOf blockWords toneWords) s model b r in
+  row-ready i h =
+      let w = load-within (lentOf B N) s model b r in
       let l = name-all-length s false (t .blocks) in
-      let e : length (tableOf block (nameAll s false (t .blocks)) blockWords) ≡ blockWords =
-      table-length block (nameAll s false (t .blocks)) blockWords (omega (arith, w .blocks)) in
+      let e : length (tableOf block (nameAll s false (t .blocks)) B) ≡ B =
+      table-length block (nameAll s false (t .blocks)) B (omega (arith, w .blocks)) in
       record {
-        few = omega (arith, w .blocks);
-        rows = λ i h. record {
-          lent = omega (arith, w .blocks);
-          well = loaded-well blockWords toneWords s model b r i h;
-          short = loaded-names blockWords toneWords s model b r i h;
-        };
+        lent = omega (arith, w .blocks);
+        well = loaded-well B N s model b r i h;
+        short = loaded-names B N s model b r i h;
       }
+
+-- the rows of a tape that was read into the listing's tables
+rows-ready : (s : List ℕ) (model : ℕ) → Bytes s → {t : Parsed} → Reads (loadOf (lentOf blockWords toneWords) s model) t
+    → Ready s (tableOf tone (t .tones) toneWords) (tableOf block (nameAll s false (t .blocks)) blockWords) (length (t .blocks))
+rows-ready s model b r =
+    record {
+      few = omega (arith, load-within (lentOf blockWords toneWords) s model b r .blocks);
+      rows = row-ready blockWords toneWords s model b r;
+    }
 
 -- tables that are equal
 same-ready : {s tt tt₀ bt bt₀ : List ℕ} {n n₀ : ℕ} → tt ≡ tt₀ → bt ≡ bt₀ → n ≡ n₀ → Ready s tt₀ bt₀ n₀

@@ -18,7 +18,7 @@ use Rattle.law_every_load.proofs.Refusals.{load-numbered, named-numbered}
 use Rattle.law_every_load.specs.Numbered.{Numbered, as-tzx, as-tap, by}
 use Rattle.listing.specs.Listing.{loadedOf, Listing, text, refused, listed, listingOf, answerTo, bytesAfter}
 use Rattle.listing.specs.Printed.{Spoken, spoken}
-use Rattle.text_page.proofs.Texts.{text-least}
+use Rattle.text_listing.proofs.PageTexts.{text-least}
 
 -- a text of 37 bytes at least, or a refusal by a number from 1 to 7
 pub data TextOrNo : Listing → Type 0 where

@@ -32,9 +32,9 @@ use Rattle.play_entries.specs.Entries.{entryOf, cyclesOf, isSingle, startLevel,
 use Rattle.play_entries.specs.Entries.{bitsAt, halfOf, byteOf, dataOf, pauseOf, soundOf, entriesOf, lastsOf}
 use Rattle.play_entries.specs.Places.{listFrom}
 use Rattle.load_tape.specs.Load.{namedTape, namedLoad, loadNamed, blockTable, toneTable}
-use Rattle.text_shown.specs.Shown.{shown}
-use Rattle.text_lines.specs.Lines.{timeText, markText, rowText, rowsText}
-use Rattle.text_page.specs.Page.{modelText, formatText, countText, loadingText, restText, listingText}
+use Rattle.text_listing.specs.Shown.{shown}
+use Rattle.text_listing.specs.Lines.{timeText, markText, rowText, rowsText}
+use Rattle.text_listing.specs.Page.{modelText, formatText, countText, loadingText, restText, listingText}
 use Rattle.listing.specs.Listing.{loadedOf, Listing, text, refused, mounted, listed, listingOf}
 
 -- a TZX of these pieces

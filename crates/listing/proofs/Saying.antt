@@ -19,9 +19,9 @@ use Rattle.law_every_load.specs.Sizes.{Bytes}
 use Rattle.listing.specs.Listing.{blockWords, toneWords, loadedOf, Listing, text, refused, mounted, listed, listingOf}
 use Rattle.listing.specs.Listing.{answerTo, bytesAfter}
 use Rattle.listing.specs.Printed.{printedNo, printedOf, Says}
-use Rattle.text_shown.proofs.Shown.{name-part}
-use Rattle.text_lines.proofs.Texts.{decimal-long}
-use Rattle.text_page.proofs.Texts.{text-most}
+use Rattle.text_listing.proofs.Showing.{name-part}
+use Rattle.text_listing.proofs.Texts.{decimal-long}
+use Rattle.text_listing.proofs.PageTexts.{text-most}
 use Rattle.listing.proofs.Mounting.{load-ready}
 use Rattle.listing.proofs.Numbers.{Tells, refusal, no-room, listing, listing-sized, tells-number}
 

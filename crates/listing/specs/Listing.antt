@@ -12,7 +12,7 @@ use Rattle.play_entries.specs.Mounted.{tapeOf}
 use Rattle.load_source.specs.Source.{Load, tzx, tapped, no}
 use Rattle.load_tape.specs.declared.Format.the-variants.{Tap, Tzx}
 use Rattle.load_tape.specs.Load.{loadNamed, blockTable, toneTable}
-use Rattle.text_page.specs.Page.{listingText}
+use Rattle.text_listing.specs.Page.{listingText}
 use Rattle.load_blocks.specs.Adds.{Lent}
 
 -- the words of 512 block and 2,048 tone rows

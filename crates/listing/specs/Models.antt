@@ -1,7 +1,7 @@
 -- What the model changes of a listing. Definitions alone; assumes nothing.
 use Prim.Native.Nat.{ℕ}
 use mathlib.Core.List.{List, [], _∷_, _++_}
-use Rattle.text_page.specs.Page.{modelText}
+use Rattle.text_listing.specs.Page.{modelText}
 use Rattle.listing.specs.Listing.{Listing, text, refused}
 
 -- `model `

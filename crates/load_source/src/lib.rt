@@ -1,4 +1,7 @@
 // The source reading: what the Rust makes of each piece. Its definitions are of the whole run, over a TZX or a TAP.
+mod run;
+mod whole;
+
 use cut_grammar::Piece;
 use load_blocks::Bits;
 use load_blocks::Origin;
@@ -19,6 +22,9 @@ use load_stops::stop_on_48;
 use load_toned::pure_data_block;
 use load_toned::pure_tone_block;
 use load_toned::turbo_data_block;
+pub use run::read_pieces;
+pub use whole::read_tap;
+pub use whole::read_tzx;
 ghost use mathlib.Core.List.{List};
 ghost use Prim.Native.Nat.{ℕ};
 ghost use Rattle.load_source.specs.Source.{act, halted};
@@ -107,18 +113,10 @@ pub fn act(
             let chars = size as u64;
             Step::On(pend(s, Pending::Text { text: from, chars }))
         }
-        Piece::Message {
-            seconds: _,
-            from: _,
-            size: _,
-        } => Step::On(s),
-        Piece::Archive { count: _, from: _ } => Step::On(s),
-        Piece::Hardware { count: _, from: _ } => Step::On(s),
-        Piece::Custom {
-            id: _,
-            from: _,
-            size: _,
-        } => Step::On(s),
+        Piece::Message => Step::On(s),
+        Piece::Archive => Step::On(s),
+        Piece::Hardware => Step::On(s),
+        Piece::Custom => Step::On(s),
         Piece::Glue => Step::On(s),
     }
 }

@@ -1,8 +1,8 @@
 // The public load: a tape read as TZX, and where that fails as TAP, into the lent tables; then the naming pass.
-use load_reading::read_tap;
-use load_reading::read_tzx;
 use load_select::name_blocks;
 use load_source::Reading;
+use load_source::read_tap;
+use load_source::read_tzx;
 use refusals::BAD_MODEL;
 use refusals::TAPE_BAD;
 use refusals::TAPE_LONG;

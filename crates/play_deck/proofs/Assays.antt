@@ -34,7 +34,7 @@ use Rattle.play_deck.specs.declared.Check.{Check}
 use Rattle.play_deck.specs.declared.Check.the-variants.{Fine, NotValid, NotFormed}
 use Rattle.play_deck.specs.declared.Finding.{Finding}
 use Rattle.play_deck.specs.Deck.{atStart, judged, stays}
-use Rattle.play_deck.specs.Assay.{fineIf, verdictOf, readyRow, levelThere, Assayed, Lending, Sounded}
+use Rattle.play_deck.specs.Assay.{passes, fineIf, verdictOf, readyRow, levelThere, Assayed, Lending, Sounded}
 use Rattle.play_deck.proofs.Checks.{judged-over, judged-start, judged-past, judged-bad, judged-not, judged-fine, fine-none}
 use Rattle.play_deck.proofs.Checks.{stays-at, stays-past, stays-endless}
 
@@ -42,6 +42,13 @@ use Rattle.play_deck.proofs.Checks.{stays-at, stays-past, stays-endless
 told-silence : (tones blocks : List ℕ) → ToldSeen tones blocks silence
 unfolding seenFrom
 told-silence tones blocks = refl
+
+-- checks that are passed
+pub fine-of : (c : Check) → passes c ≡ true → c ≡ Fine
+unfolding passes
+fine-of Fine e = refl
+fine-of NotValid e = cc
+fine-of NotFormed e = cc
 
 -- two checks that differ
 unformed : NotFormed ≡ Fine → ⊥

@@ -23,6 +23,12 @@ use Rattle.play_deck.specs.declared.Check.the-variants.{Fine, NotValid, 
 use Rattle.play_deck.specs.declared.Finding.{Finding}
 use Rattle.play_deck.specs.Deck.{judged}
 
+-- the checks are passed
+unfoldable pub passes : Check → Bool
+passes Fine = true
+passes NotValid = false
+passes NotFormed = false
+
 abbrev pub fineIf : Bool → Check
 fineIf true = Fine
 fineIf false = NotValid

@@ -35,7 +35,7 @@ ghost use Rattle.law_base.specs.Rules.{_⇒_, _∣_};
 ghost use Rattle.play_voice.specs.Voice.{silence, rowAt, ToldSeen};
 ghost use Rattle.play_walk.specs.Heads.{walkFrom, GoesOn, Landed, Lands};
 ghost use Rattle.play_deck.specs.declared.Check.the-variants.{Fine};
-ghost use Rattle.play_deck.specs.Assay.{fineIf, verdictOf, readyRow, levelThere, Assayed, Lending, Sounded};
+ghost use Rattle.play_deck.specs.Assay.{passes, fineIf, verdictOf, readyRow, levelThere, Assayed, Lending, Sounded};
 ghost use Rattle.play_deck.specs.Inside.{endsInside, lessBy, inPlace};
 ghost use Rattle.play_deck.specs.Deck.{atStart, judged, stays, playMeasured, sourceFrom, playSource};
 ghost use Rattle.play_deck.specs.Calls.{positionIn};
@@ -45,6 +45,17 @@ pub enum Check {
     Fine,
     NotValid,
     NotFormed,
+}
+
+// Whether the checks are passed.
+pub fn is_fine(c: Check) -> bool
+    ensures { λ v. ⌜ v ≡ passes c ⌝ }
+{
+    match c {
+        Check::Fine => true,
+        Check::NotValid => false,
+        Check::NotFormed => false,
+    }
 }
 
 // Whether a position is a start with 0 left.
@@ -203,7 +214,7 @@ fn stay(pos: Position, level: bool) -> Reached
 }
 
 // Whether a call of n ends inside an entry of which so much is left.
-fn ends_inside(left: Duration, n: u64) -> bool
+pub fn ends_inside(left: Duration, n: u64) -> bool
     ensures { λ v. ⌜ v ≡ endsInside left n ⌝ }
 {
     match left {

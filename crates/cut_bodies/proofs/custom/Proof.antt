@@ -11,17 +11,14 @@ pass-requires c κs = search needs
 counted-requires : tie.Need-counted-requires
 counted-requires c κs = search needs
 
-place-requires : tie.Need-place-requires
-place-requires c κs = search needs
-
 whole-requires : tie.Need-whole-requires
 whole-requires c κs = search needs
 
 returns : tie.Need-returns
 unfolding kind35 readAt passAt
 returns c =
-    rw (c .whole .ensures, c .before .place .ensures, c .before .before .counted .ensures, c .before .before .before .pass .ensures)
+    rw (c .whole .ensures, c .before .counted .ensures, c .before .before .pass .ensures)
 
 pub custom-spec : {M : Type 1} → statement M
 custom-spec =
-    tie.close (tie.spec pass-requires counted-requires place-requires whole-requires returns)
+    tie.close (tie.spec pass-requires counted-requires whole-requires returns)

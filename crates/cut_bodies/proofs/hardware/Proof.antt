@@ -8,9 +8,6 @@ use Rattle.cut_bodies.proofs.hardware.Tie as tie
 field-requires : tie.Need-field-requires
 field-requires c κs = search needs
 
-place-requires : tie.Need-place-requires
-place-requires c κs = search needs
-
 cast-groups : tie.Need-cast-groups
 cast-groups c = search needs
 
@@ -23,10 +20,9 @@ whole-requires c κs = search needs
 returns : tie.Need-returns
 unfolding kind33 readAt passAt
 returns c =
-    let place = c .before .before .before in
-    rw (c .whole .ensures, c .before .groups .ensures, place .place .ensures, place .before .field .ensures)
+    rw (c .whole .ensures, c .before .groups .ensures, c .before .before .before .field .ensures)
 
 pub hardware-spec : {M : Type 1} → statement M
 hardware-spec =
     tie.close
-    (tie.spec field-requires place-requires cast-groups groups-requires whole-requires returns)
+    (tie.spec field-requires cast-groups groups-requires whole-requires returns)

@@ -8,9 +8,6 @@ use Rattle.cut_bodies.proofs.info.Tie as tie
 field-requires : tie.Need-field-requires
 field-requires c κs = search needs
 
-place-requires : tie.Need-place-requires
-place-requires c κs = search needs
-
 texts-requires : tie.Need-texts-requires
 texts-requires c κs = search needs
 
@@ -20,8 +17,8 @@ whole-requires c κs = search needs
 returns : tie.Need-returns
 unfolding info32 readAt passAt
 returns c =
-    rw (c .whole .ensures, c .before .texts .ensures, c .before .before .place .ensures, c .before .before .before .field .ensures)
+    rw (c .whole .ensures, c .before .texts .ensures, c .before .before .field .ensures)
 
 pub info-spec : {M : Type 1} → statement M
 info-spec =
-    tie.close (tie.spec field-requires place-requires texts-requires whole-requires returns)
+    tie.close (tie.spec field-requires texts-requires whole-requires returns)

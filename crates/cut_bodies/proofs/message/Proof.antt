@@ -5,8 +5,8 @@ use borrow.Author.Needs.{needs}
 use Rattle.cut_bodies.proofs.message.Statement.{statement}
 use Rattle.cut_bodies.proofs.message.Tie as tie
 
-field-requires : tie.Need-field-requires
-field-requires c κs = search needs
+pass-requires : tie.Need-pass-requires
+pass-requires c κs = search needs
 
 counted-requires : tie.Need-counted-requires
 counted-requires c κs = search needs
@@ -17,7 +17,7 @@ whole-requires c κs = search needs
 returns : tie.Need-returns
 unfolding kind31 readAt passAt
 returns c =
-    rw (c .whole .ensures, c .before .counted .ensures, c .before .before .field .ensures)
+    rw (c .whole .ensures, c .before .counted .ensures, c .before .before .pass .ensures)
 
 pub message-spec : {M : Type 1} → statement M
-message-spec = tie.close (tie.spec field-requires counted-requires whole-requires returns)
+message-spec = tie.close (tie.spec pass-requires counted-requires whole-requires returns)

@@ -1,40 +1,37 @@
--- `listings::list_one` meets its contract: the part of the bytes that the tape takes is as long as it says. Assumes nothing.
+-- `list_one` meets its contract: what is said is the front of the bytes lent. Assumes nothing.
 use borrow.Author.Needs.{needs}
-use native.Mathlib.Omega.{arith}
 use Rattle.law_base.proofs.Parts.{take-counted}
 use Rattle.gate_listings.proofs.list_one.Statement.{statement}
 use Rattle.gate_listings.proofs.list_one.Tie as tie
 
-slice-aggregate-read-full : tie.Need-slice-aggregate-read-full
-slice-aggregate-read-full c = search needs
-
-read-full-requires : tie.Need-read-full-requires
-read-full-requires c κs = search needs
-
-slice-aggregate-number-up-to : tie.Need-slice-aggregate-number-up-to
-slice-aggregate-number-up-to c = search needs
-
-number-up-to-requires : tie.Need-number-up-to-requires
-number-up-to-requires c κs = search needs
+read-number-requires : tie.Need-read-number-requires
+read-number-requires c κs = search needs
 
 cast-model : tie.Need-cast-model
 cast-model c = search needs
 
-slice-aggregate-number-up-to-2 : tie.Need-slice-aggregate-number-up-to-2
-slice-aggregate-number-up-to-2 c = search needs
+read-counted-requires : tie.Need-read-counted-requires
+read-counted-requires c κs = search needs
 
-number-up-to-requires-2 : tie.Need-number-up-to-requires-2
-number-up-to-requires-2 c κs = search needs
+slice-reshare-prefix-say : tie.Need-slice-reshare-prefix-say
+slice-reshare-prefix-say c = search needs
 
-slice-relend-prefix-answer : tie.Need-slice-relend-prefix-answer
-slice-relend-prefix-answer c = search needs
+slice-aggregate-say : tie.Need-slice-aggregate-say
+slice-aggregate-say c =
+    take-counted _ _ (c .before .before .before .read-counted .ensures)
 
-slice-aggregate-answer : tie.Need-slice-aggregate-answer
-slice-aggregate-answer c =
-    take-counted _ _ (omega (arith, c .before .number-up-to2 .ensures))
+say-requires : tie.Need-say-requires
+say-requires c κs = search needs
 
-answer-requires : tie.Need-answer-requires
-answer-requires c κs = search needs
+slice-reshare-prefix-write-all : tie.Need-slice-reshare-prefix-write-all
+slice-reshare-prefix-write-all c = search needs
+
+slice-aggregate-write-all : tie.Need-slice-aggregate-write-all
+slice-aggregate-write-all c =
+    take-counted _ _ (c .before .before .before .say .ensures .count)
+
+write-all-requires : tie.Need-write-all-requires
+write-all-requires c κs = search needs
 
 same-length : tie.Need-same-length
 same-length c = search needs
@@ -49,16 +46,15 @@ pub list-one-spec : {M : Type 1} → statement M
 list-one-spec =
     tie.close
     (tie.spec
-    slice-aggregate-read-full
-    read-full-requires
-    slice-aggregate-number-up-to
-    number-up-to-requires
+    read-number-requires
     cast-model
-    slice-aggregate-number-up-to-2
-    number-up-to-requires-2
-    slice-relend-prefix-answer
-    slice-aggregate-answer
-    answer-requires
+    read-counted-requires
+    slice-reshare-prefix-say
+    slice-aggregate-say
+    say-requires
+    slice-reshare-prefix-write-all
+    slice-aggregate-write-all
+    write-all-requires
     same-length
     same-length-2
     returns)

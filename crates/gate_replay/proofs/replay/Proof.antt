@@ -1,74 +1,57 @@
--- `replay` meets its contract. Assumes nothing.
+-- `replay` meets its contract: parts of what is lent. Assumes nothing.
+use borrow.Author.Needs.{needs}
 use Rattle.law_base.proofs.Parts.{take-counted}
 use native.Mathlib.Omega.{arith}
-use borrow.Author.Needs.{needs}
+use lib.ListN.{length-take}
 use Rattle.gate_replay.proofs.replay.Statement.{statement}
 use Rattle.gate_replay.proofs.replay.Tie as tie
 
-slice-aggregate-read-full : tie.Need-slice-aggregate-read-full
-slice-aggregate-read-full c = search needs
-
-read-full-requires : tie.Need-read-full-requires
-read-full-requires c κs = search needs
-
-slice-aggregate-number-up-to : tie.Need-slice-aggregate-number-up-to
-slice-aggregate-number-up-to c = search needs
-
-number-up-to-requires : tie.Need-number-up-to-requires
-number-up-to-requires c κs = search needs
+read-number-requires : tie.Need-read-number-requires
+read-number-requires c κs = search needs
 
 cast-model : tie.Need-cast-model
 cast-model c = search needs
 
-slice-aggregate-lent : tie.Need-slice-aggregate-lent
-slice-aggregate-lent c = search needs
+read-lent-requires : tie.Need-read-lent-requires
+read-lent-requires c κs = search needs
 
-lent-requires : tie.Need-lent-requires
-lent-requires c κs = search needs
+read-lent-requires-2 : tie.Need-read-lent-requires-2
+read-lent-requires-2 c κs = search needs
 
-slice-aggregate-lent-2 : tie.Need-slice-aggregate-lent-2
-slice-aggregate-lent-2 c = search needs
+read-counted-requires : tie.Need-read-counted-requires
+read-counted-requires c κs = search needs
 
-lent-requires-2 : tie.Need-lent-requires-2
-lent-requires-2 c κs = search needs
+slice-reshare-prefix-print : tie.Need-slice-reshare-prefix-print
+slice-reshare-prefix-print c = search needs
 
-slice-aggregate-number-up-to-2 : tie.Need-slice-aggregate-number-up-to-2
-slice-aggregate-number-up-to-2 c = search needs
+slice-aggregate-print : tie.Need-slice-aggregate-print
+slice-aggregate-print c =
+    take-counted _ _ (c .before .before .before .read-counted .ensures)
 
-number-up-to-requires-2 : tie.Need-number-up-to-requires-2
-number-up-to-requires-2 c κs = search needs
+slice-relend-prefix-print : tie.Need-slice-relend-prefix-print
+slice-relend-prefix-print c = search needs
 
-slice-relend-prefix-answer : tie.Need-slice-relend-prefix-answer
-slice-relend-prefix-answer c = search needs
+slice-aggregate-print-2 : tie.Need-slice-aggregate-print-2
+slice-aggregate-print-2 c =
+    take-counted _ _ (omega (arith, c .before .before .before .before .before .before .before .read-lent .ensures))
 
-slice-aggregate-answer : tie.Need-slice-aggregate-answer
-slice-aggregate-answer c =
-    take-counted _ _ (omega (arith, c .before .number-up-to2 .ensures))
+slice-relend-prefix-print-2 : tie.Need-slice-relend-prefix-print-2
+slice-relend-prefix-print-2 c = search needs
 
-slice-relend-prefix-answer-2 : tie.Need-slice-relend-prefix-answer-2
-slice-relend-prefix-answer-2 c = search needs
+slice-aggregate-print-3 : tie.Need-slice-aggregate-print-3
+slice-aggregate-print-3 c =
+    take-counted _ _ (omega (arith, c .before .before .before .before .before .before .before .read-lent2 .ensures))
 
-slice-aggregate-answer-2 : tie.Need-slice-aggregate-answer-2
-slice-aggregate-answer-2 c =
-    take-counted _ _ (omega (arith, c .before .before .before .before .before .before .lent .ensures))
-
-slice-relend-prefix-answer-3 : tie.Need-slice-relend-prefix-answer-3
-slice-relend-prefix-answer-3 c = search needs
-
-slice-aggregate-answer-3 : tie.Need-slice-aggregate-answer-3
-slice-aggregate-answer-3 c =
-    take-counted _ _ (omega (arith, c .before .before .before .before .before .lent2 .ensures))
-
-answer-requires : tie.Need-answer-requires
-answer-requires c κs =
-    let number-up-to2 = c .before .before .before in
-    let start =
-    number-up-to2 .before .before .before .before .before .before .before .before .before .before .before .before .before .before in
+print-requires : tie.Need-print-requires
+print-requires c κs =
+    let read-counted = c .before .before .before .before .before .before in
+    let read-lent2 = read-counted .before .before in
+    let start = read-lent2 .before .before .before .before .before .before .before in
     omega (
       arith,
       start .pre,
-      number-up-to2 .number-up-to2 .ensures,
-      take-counted (start .args .bytes .now) (number-up-to2 .number-up-to2 .result) (omega (arith, number-up-to2 .number-up-to2 .ensures)),
+      length-take (read-counted .read-counted .result) (read-counted .read-counted .last .0),
+      length-take (read-lent2 .read-lent2 .result) (start .args .tones .now),
     )
 
 same-length : tie.Need-same-length
@@ -80,6 +63,9 @@ same-length-2 c = search needs
 same-length-3 : tie.Need-same-length-3
 same-length-3 c = search needs
 
+same-length-4 : tie.Need-same-length-4
+same-length-4 c = search needs
+
 returns : tie.Need-returns
 returns c = search needs
 
@@ -87,25 +73,20 @@ pub replay-spec : {M : Type 1} → statement M
 replay-spec =
     tie.close
     (tie.spec
-    slice-aggregate-read-full
-    read-full-requires
-    slice-aggregate-number-up-to
-    number-up-to-requires
+    read-number-requires
     cast-model
-    slice-aggregate-lent
-    lent-requires
-    slice-aggregate-lent-2
-    lent-requires-2
-    slice-aggregate-number-up-to-2
-    number-up-to-requires-2
-    slice-relend-prefix-answer
-    slice-aggregate-answer
-    slice-relend-prefix-answer-2
-    slice-aggregate-answer-2
-    slice-relend-prefix-answer-3
-    slice-aggregate-answer-3
-    answer-requires
+    read-lent-requires
+    read-lent-requires-2
+    read-counted-requires
+    slice-reshare-prefix-print
+    slice-aggregate-print
+    slice-relend-prefix-print
+    slice-aggregate-print-2
+    slice-relend-prefix-print-2
+    slice-aggregate-print-3
+    print-requires
     same-length
     same-length-2
     same-length-3
+    same-length-4
     returns)

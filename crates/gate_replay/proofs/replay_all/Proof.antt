@@ -7,11 +7,11 @@ use Rattle.gate_replay.proofs.replay_all.Statement.{statement}
 use Rattle.gate_replay.proofs.replay_all.Tie as tie
 
 abbrev Inv-loop : tie.InvT-loop
-Inv-loop bytes₀ blocks₀ tones₀ n left₀ bytes blocks tones left =
-    ((length bytes ≡ length bytes₀) × (length blocks ≡ length blocks₀)) × (length tones ≡ length tones₀)
+Inv-loop bytes₀ blocks₀ tones₀ out₀ n left₀ bytes blocks tones out left =
+    ((length bytes ≡ length bytes₀) × (length blocks ≡ length blocks₀)) × ((length tones ≡ length tones₀) × (length out ≡ length out₀))
 
 abbrev μ-loop : tie.MeasureT-loop
-μ-loop bytes₀ blocks₀ tones₀ n left₀ bytes blocks tones left = left
+μ-loop bytes₀ blocks₀ tones₀ out₀ n left₀ bytes blocks tones out left = left
 
 loop-holds : tie.Need-loop-holds Inv-loop μ-loop
 loop-holds c =
@@ -19,9 +19,9 @@ loop-holds c =
 
 replay-requires : tie.Need-replay-requires Inv-loop μ-loop
 replay-requires c κs =
-    let loop = c .before .before .before .before in
-    let start = loop .before .before .before .before in
-    omega (arith, start .pre, loop .loop .inv .0 .0)
+    let loop = c .before .before .before .before .before in
+    let start = loop .before .before .before .before .before in
+    omega (arith, start .pre, loop .loop .inv)
 
 sub-left : tie.Need-sub-left Inv-loop μ-loop
 sub-left c =
@@ -47,6 +47,10 @@ same-length-3 : tie.Need-same-length-3 Inv-loop μ-loop
 same-length-3 c =
     search needs
 
+same-length-4 : tie.Need-same-length-4 Inv-loop μ-loop
+same-length-4 c =
+    search needs
+
 returns : tie.Need-returns Inv-loop μ-loop
 returns c =
     search needs
@@ -65,4 +69,5 @@ replay-all-spec =
     same-length
     same-length-2
     same-length-3
+    same-length-4
     returns)

@@ -1,6 +1,6 @@
 -- `go_far` meets its contract. Assumes nothing.
 use borrow.Author.Needs.{needs}
-use Rattle.host_run.proofs.Runs.{fine-of}
+use Rattle.play_deck.proofs.Assays.{fine-of}
 use native.Mathlib.Omega.{arith}
 use mathlib.Core.Path.{refl, sym, _∙_}
 use borrow.Author.Tests.{not-false}
@@ -21,10 +21,12 @@ enum-known-left c = search needs
 go-inside-requires : tie.Need-go-inside-requires
 go-inside-requires c κs =
     let s = c .before .before .before .before .before .before .before .before .before .before .before .before .before in
-    let told = c .before .before in (
+    let told = c .before .before in
+    let tested = c .before .before .before .before in
+    let e = sym (tested .before .is-fine .ensures) ∙ not-false (tested .before .is-fine .result) (tested .if1 .left) in (
       s .pre .0,
       (
-        (fine-of (s .args .g .finding .check) (sym (c .before .before .before .before .before .is-fine .ensures) ∙ not-false _ (c .before .before .before .before .if1 .left)), told .left .given .1),
+        (fine-of (s .args .g .finding .check) e, told .left .given .1),
         (s .pre .1 .0, s .pre .1 .1),
       ),
     )

@@ -35,7 +35,8 @@ assay-after-requires c κs = search needs
 
 add-t13 : tie.Need-add-t13
 add-t13 c =
-    let s = c .before .before .before .before .before .before .before .before .before .before .before .before .before .before .before .before in
+    let call = c .before .before .before .before .before .before .before in
+    let s = call .before .before .before .before .before .before .before .before .before in
     omega (arith, s .pre .1 .1)
 
 same-length : tie.Need-same-length
@@ -43,18 +44,18 @@ same-length c = search needs
 
 returns : tie.Need-returns
 returns c =
-    let s = c .before .before .before .before .before .before .before .before .before .before .before .before .before .before .before .before in
+    let call = c .before .before .before .before .before .before .before in
+    let s = call .before .before .before .before .before .before .before .before .before in
     let a = s .args in
     let w = tapeOf (a .tape .now) (a .tones .now) (a .blocks .now) (a .count) in
     let put = c .before .before .before .before .put-answer in
-    let row = c .before .before .before .before .before .row-of in
-    let call = c .before .before .before .before .before .before .before .call-by in (
+    let row = c .before .before .before .before .before .row-of in (
       subst (λ (q : Position). Assayed w q (c .assay-after .result)) (sym (c .before .position-in .ensures)) (c .assay-after .ensures),
       (
         refl,
         (
           gone-on (a .measured) w (a .counts .now) (a .answers .now) (a .g) (s .pre .1 .1) _ refl
-              (call .result) (call .ensures .0) (row .result) (row .ensures) _ (put .ensures)
+              (call .call-by .result) (call .call-by .ensures .0) (row .result) (row .ensures) _ (put .ensures)
               (record { position = c .before .position-in .result; finding = c .assay-after .result; next = a .g .next + 1 })
               (c .before .position-in .ensures) refl,
           ap length (put .ensures) ∙ put-length (a .answers .now) (a .g .next) (row .result) (omega (arith, s .pre .1 .0, s .pre .1 .1)),

@@ -33,12 +33,16 @@ returns c =
 returns-2 : tie.Need-returns-2
 unfolding runNo runTable checkNo
 returns-2 c =
-    (rw (← c .before .before .assay .ensures .check, c .enum-told2 .given .1), rw (← c .before .before .assay .ensures .check, c .enum-told2 .given .1))
+    let e = c .before .before .assay .ensures .check in
+    let f = c .enum-told2 .given .1 in
+    (rw (← e, f), rw (← e, f))
 
 returns-3 : tie.Need-returns-3
 unfolding runNo runTable checkNo
 returns-3 c =
-    (rw (← c .before .before .assay .ensures .check, c .enum-told3 .given .1), rw (← c .before .before .assay .ensures .check, c .enum-told3 .given .1))
+    let e = c .before .before .assay .ensures .check in
+    let f = c .enum-told3 .given .1 in
+    (rw (← e, f), rw (← e, f))
 
 pub play-run-spec : {M : Type 1} → statement M
 play-run-spec =

@@ -41,7 +41,8 @@ go-on-requires c κs =
 
 loop-less : tie.Need-loop-less Inv-loop μ-loop
 loop-less c =
-    omega (arith, c .before .before .go-on .ensures .1 .0, c .before .before .before .before .before .before .before .before .go-far .ensures .1 .0 .0)
+    let on = c .before .before in
+    omega (arith, on .go-on .ensures .1 .0, on .before .before .before .before .before .before .go-far .ensures .1 .0 .0)
 
 loop-again : tie.Need-loop-again Inv-loop μ-loop
 loop-again c =

@@ -8,7 +8,8 @@ use Rattle.rows.specs.Table as Table
 use Rattle.rows.specs.Table.{putAll}
 use Rattle.host_run.specs.Rows.{answerRow}
 use Rattle.host_run.specs.Inside.{insideRows, insideLeft}
-use Rattle.host_run.proofs.Insides.{put-length, nothing, none-put, rows-end, left-end, rows-stop, left-stop, left-on, next-on, table-on}
+use Rattle.host_run.proofs.Insides.{put-length, nothing, none-put, rows-end, left-end, rows-stop, left-stop}
+use Rattle.host_run.proofs.Insides.{left-on, next-on, table-on}
 use borrow.Author.Needs.{needs}
 use Rattle.host_run.proofs.run_inside.Statement.{statement}
 use Rattle.host_run.proofs.run_inside.Tie as tie

@@ -1,7 +1,7 @@
 -- `enough` meets its contract: the most by the rows' number, or the length that the dry run tells. Assumes nothing.
 use native.Mathlib.Omega.{arith}
 use borrow.Author.Needs.{needs}
-use Rattle.text_page.proofs.Texts.{text-rows}
+use Rattle.text_listing.proofs.PageTexts.{text-rows}
 use Rattle.listing.proofs.enough.Statement.{statement}
 use Rattle.listing.proofs.enough.Tie as tie
 

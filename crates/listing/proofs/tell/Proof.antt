@@ -3,8 +3,8 @@ use native.Mathlib.Omega.{arith}
 use borrow.Author.Needs.{needs}
 use Rattle.play_entries.specs.Mounted.{tapeOf}
 use Rattle.text_out.proofs.Writing.{wrote-counted}
-use Rattle.text_page.specs.Page.{listingText}
-use Rattle.text_page.proofs.Texts.{text-most}
+use Rattle.text_listing.specs.Page.{listingText}
+use Rattle.text_listing.proofs.PageTexts.{text-most}
 use Rattle.listing.proofs.Texts.{tells-short, tells}
 use Rattle.listing.proofs.tell.Statement.{statement}
 use Rattle.listing.proofs.tell.Tie as tie

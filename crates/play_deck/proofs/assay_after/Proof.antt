@@ -54,7 +54,8 @@ returns c =
     let s = c .before .before .before .before .before .before .before .before in
     let a = s .args in
     let w = tapeOf (a .tape .now) (a .tones .now) (a .blocks .now) (a .count) in
-    subst (λ (x : Reached). Assayed w (positionIn (a .pos) x) (c .assay-stand .result)) (sym (c .before .before .r .given .1)) (c .assay-stand .ensures)
+    subst (λ (x : Reached). Assayed w (positionIn (a .pos) x) (c .assay-stand .result))
+    (sym (c .before .before .r .given .1)) (c .assay-stand .ensures)
 
 returns-2 : tie.Need-returns-2
 unfolding positionIn
@@ -62,7 +63,8 @@ returns-2 c =
     let s = c .before .before .before .before .before .before .before .before in
     let a = s .args in
     let w = tapeOf (a .tape .now) (a .tones .now) (a .blocks .now) (a .count) in
-    subst (λ (x : Reached). Assayed w (positionIn (a .pos) x) (c .assay-stand2 .result)) (sym (c .before .before .r2 .given .1)) (c .assay-stand2 .ensures)
+    subst (λ (x : Reached). Assayed w (positionIn (a .pos) x) (c .assay-stand2 .result))
+    (sym (c .before .before .r2 .given .1)) (c .assay-stand2 .ensures)
 
 returns-3 : tie.Need-returns-3
 unfolding positionIn
@@ -70,7 +72,8 @@ returns-3 c =
     let s = c .before .before .before .before .before .before .before .before in
     let a = s .args in
     let w = tapeOf (a .tape .now) (a .tones .now) (a .blocks .now) (a .count) in
-    subst (λ (x : Reached). Assayed w (positionIn (a .pos) x) (c .assay-stand3 .result)) (sym (c .before .before .r3 .given .1)) (c .assay-stand3 .ensures)
+    subst (λ (x : Reached). Assayed w (positionIn (a .pos) x) (c .assay-stand3 .result))
+    (sym (c .before .before .r3 .given .1)) (c .assay-stand3 .ensures)
 
 returns-4 : tie.Need-returns-4
 unfolding positionIn

@@ -40,11 +40,11 @@ returns-2 c =
     let a = if1 .before .before .before .before .args in
     let p = if1 .before .before .before .before .pre in
     let w = tapeOf (a .tape .now) (a .tones .now) (a .blocks .now) (a .count) in
-    let q : Position = a .pos in (
+    let q : Position = a .pos in
+    let fine = fine-so (p .0) (p .1) in (
       rw (ne-eqb _ _ (if1 .if1 .left))
           (c .ends .ensures
-          ∙ sym
-          (source-walk w q (a .n) ∙ checks.past-ends w q (fine-so (p .0) (p .1)) (c .before .if2 .taken) _ (omega (arith, if1 .if1 .left)))),
+          ∙ sym (source-walk w q (a .n) ∙ checks.past-ends w q fine (c .before .if2 .taken) _ (omega (arith, if1 .if1 .left)))),
       lands-ended w (a .count) 0 false (c .ends .ensures),
     )
 

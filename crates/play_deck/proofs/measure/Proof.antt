@@ -36,9 +36,9 @@ returns-2 c =
     let a = if1 .before .before .before .before .args in
     let p = if1 .before .before .before .before .pre in
     let w = tapeOf (a .tape .now) (a .tones .now) (a .blocks .now) (a .count) in
-    let q : Position = a .pos in (
-      rw (ne-eqb _ _ (if1 .if1 .left))
-          (c .ends .ensures ∙ sym (checks.past-ends w q (fine-so (p .0) (p .1)) (c .before .if2 .taken) (a .n) (omega (arith, if1 .if1 .left)))),
+    let q : Position = a .pos in
+    let e = checks.past-ends w q (fine-so (p .0) (p .1)) (c .before .if2 .taken) (a .n) (omega (arith, if1 .if1 .left)) in (
+      rw (ne-eqb _ _ (if1 .if1 .left)) (c .ends .ensures ∙ sym e),
       lands-ended w (a .count) 0 false (c .ends .ensures),
     )
 

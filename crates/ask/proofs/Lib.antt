@@ -1,0 +1,5 @@
+pub mod Loads
+pub mod Named
+pub mod Refusals
+pub mod Answers
+pub mod Readings

@@ -1,3 +1,0 @@
-pub mod Refusals
-pub mod Answers
-pub mod Readings

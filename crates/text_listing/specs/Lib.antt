@@ -1,0 +1,6 @@
+pub mod Page
+pub mod PageInner
+pub mod Shown
+pub mod Points
+pub mod Lines
+pub mod Inner

@@ -1,3 +1,0 @@
-pub mod Shown
-pub mod Utf8
-pub mod Points

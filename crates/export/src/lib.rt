@@ -9,6 +9,7 @@ use host_answers::tell_position;
 use host_answers::tell_reached;
 use host_answers::tell_selected;
 use host_answers::tell_time;
+use host_run::call_by;
 use host_run::play_run;
 use host_words::Placed;
 use host_words::position_from;
@@ -16,12 +17,9 @@ use play_deck::Finding;
 use play_deck::Head;
 use play_deck::assay;
 use play_deck::ends_inside;
-use play_deck::followed_by;
 use play_deck::is_fine;
-use play_deck::measured_by;
 use play_head::play_once;
 use play_walk::Position;
-use play_walk::Reached;
 use refusals::BAD_ROW;
 use refusals::NO_POSITION;
 use refusals::NO_ROOM;
@@ -36,7 +34,7 @@ ghost use Rattle.play_walk.specs.Heads.{startAt};
 ghost use Rattle.ask.specs.Queries.{lenOf, sizeOf, selectableOf, timeOf, nameAnswer, loadingOf};
 ghost use Rattle.load_tape.specs.Load.{answerOf, blockTable, toneTable};
 ghost use Rattle.host_answers.specs.Answers.{numberOf, valuesOf, ofNumber, ofMark, ofTime, ofPosition, ofLoaded};
-ghost use Rattle.play_deck.specs.Assay.{passes, Assayed};
+ghost use Rattle.play_deck.specs.Assay.{passes};
 ghost use Rattle.play_deck.specs.Inside.{endsInside};
 ghost use Rattle.play_deck.specs.Deck.{playMeasured};
 ghost use Rattle.host_words.specs.declared.Placed.the-variants.{Is};
@@ -253,26 +251,6 @@ fn is_inside(pos: Position, n: u64, a: Finding) -> bool
     ends_inside(left, n)
 }
 
-// A call that doesn't end inside its entry, by what its position came to.
-fn call_on(
-    tape: &[u8],
-    tones: &[u64],
-    blocks: &[u64],
-    count: u64,
-    measured: bool,
-    pos: Position,
-    n: u32,
-    a: Finding,
-) -> Reached
-    requires { ⌜ Assayed (tapeOf (now tape) (now tones) (now blocks) count) pos a ⌝ }
-    ensures { λ r. ⌜ r ≡ playerOf measured (tapeOf (now (tape .entry)) (now (tones .entry)) (now (blocks .entry)) count) pos n ⌝ }
-{
-    if measured {
-        return measured_by(tape, tones, blocks, count, pos, n, a);
-    }
-    followed_by(tape, tones, blocks, count, pos, n, a)
-}
-
 // A call of n from the position that lent words name.
 fn call_words(
     tape: &[u8],
@@ -298,7 +276,7 @@ fn call_words(
         return tell_inside(position, n as u64, a.level, answer);
     }
     tell_reached(
-        call_on(tape, tones, blocks, count, measured, pos, n, a),
+        call_by(tape, tones, blocks, count, measured, pos, n, a),
         answer,
     )
 }

@@ -14,6 +14,34 @@ use rows::TONE_TABLE;
 use rows::TONE_WORDS;
 ghost use Prim.Native.Nat.{_≤_};
 
+// What is printed of a run.
+fn print(
+    tape: &[u8],
+    blocks: &[u64],
+    tones: &[u64],
+    count: usize,
+    measured: bool,
+    from: usize,
+    counts: &[u8],
+    calls: usize,
+)
+    requires { ⌜ calls ≤ 1000 ⌝ }
+{
+    let mut out = [0u8; 256000];
+    let k = say_calls(
+        tape,
+        tones,
+        blocks,
+        count as u64,
+        measured,
+        from as u64,
+        counts,
+        calls,
+        &mut out,
+    );
+    io::write_all(1, &out[..k]);
+}
+
 // A run over the counts, rows and tape that are read next; rows and tape fill what is lent.
 fn run(
     tape: &mut [u8],
@@ -31,19 +59,7 @@ fn run(
     read_words(blocks);
     read_words(tones);
     io::read_full(0, tape);
-    let mut out = [0u8; 256000];
-    let k = say_calls(
-        tape,
-        tones,
-        blocks,
-        count as u64,
-        measured,
-        from as u64,
-        &counts[..4 * calls],
-        calls,
-        &mut out,
-    );
-    io::write_all(1, &out[..k]);
+    print(tape, blocks, tones, count, measured, from, &counts, calls);
 }
 
 // One run.

@@ -132,8 +132,8 @@ fn position_in(pos: Position, r: Reached) -> Position
     }
 }
 
-// One call, by what its position came to.
-fn call_by(
+// One call of either player, by what its position came to; our crates alone call it.
+pub fn call_by(
     tape: &[u8],
     tones: &[u64],
     blocks: &[u64],

@@ -152,10 +152,3 @@ pub fn block_line(tape: &[u8], tones: &[u64], blocks: &[u64], i: usize, out: &mu
 {
     put_line(out, tape, tones, i as u64, block_at(blocks, i))
 }
-
-// `refused n` on standard output.
-pub fn print_refused(k: u32) {
-    let mut out = io::buffer();
-    let n = put_said(&mut out, b"refused ", k as u64);
-    io::write_all(1, &out[..n]);
-}

@@ -36,8 +36,8 @@ returns c =
     let told = c .before .before .tell-inside .ensures in
     (told .0 ∙ sym (t .number (a .answer .now)), told .1 ∙ sym (t .values (a .answer .now)))
 
-call-on-requires : tie.Need-call-on-requires
-call-on-requires c κs = search needs
+call-by-requires : tie.Need-call-by-requires
+call-by-requires c κs = search needs
 
 tell-reached-requires : tie.Need-tell-reached-requires
 tell-reached-requires c κs = search needs
@@ -47,7 +47,7 @@ same-length-2 c = search needs
 
 returns-2 : tie.Need-returns-2
 returns-2 c =
-    rw (← c .before .before .before .before .call-on .ensures) (c .before .before .tell-reached .ensures)
+    rw (← c .before .before .before .before .call-by .ensures .0) (c .before .before .tell-reached .ensures)
 
 pub call-words-spec : {M : Type 1} → statement M
 call-words-spec =
@@ -58,7 +58,7 @@ call-words-spec =
     tell-inside-requires
     same-length
     returns
-    call-on-requires
+    call-by-requires
     tell-reached-requires
     same-length-2
     returns-2)

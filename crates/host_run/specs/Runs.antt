@@ -1,4 +1,4 @@
--- A RUN OF CALLS, each from where the one before left the head (rules 97, 103). Definitions alone; assumes nothing.
+-- A RUN OF CALLS, each from where the one before left the head (rules 147, 148). Definitions alone; assumes nothing.
 use Prim.Native.Nat.{ℕ, _*_}
 use mathlib.Core.Bool.{Bool, true, false}
 use mathlib.Core.List.{List, [], _∷_}

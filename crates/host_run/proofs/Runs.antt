@@ -37,7 +37,7 @@ use Rattle.play_deck.proofs.Landing.{walkable-fine}
 use Rattle.host_words.specs.Words.{spanOf}
 use Rattle.host_run.specs.declared.AnswerRow.{AnswerRow}
 use Rattle.host_run.specs.declared.Going.{Going}
-use Rattle.host_run.specs.Rows.{answerRow, howOf, standRow, rowFor}
+use Rattle.host_run.specs.Rows.{answerRow, howOf, standRow, callRow}
 use Rattle.refusals.specs.Refusals.{noRoom}
 use Rattle.host_run.specs.Runs.{playerOf, runRows, roomNo}
 use Rattle.host_run.specs.Inside.{withLeft, insideRows, insideLeft, leadsTo, Known}
@@ -100,12 +100,12 @@ module _ (m : Bool) (w : Tape) (b : ℕ) (f : Phase) (a : Finding) (fine : a .ch
   -- a call that ends inside: its row, and where it leaves the head
   inside-row : (t n : ℕ) (ns : List ℕ) → n < t → Assayed w (at t) a
       → runRows Play (at t) (n ∷ ns) ≡ rowLeft (t - n) ∷ runRows Play (at (t - n)) ns
-  unfolding runRows rowFor howOf positionIn passedIn answerLevel lessBy
+  unfolding runRows callRow howOf positionIn passedIn answerLevel lessBy
   inside-row t n ns l x =
       let y = goes t (omega arith) x in
       let v = level-below x fine (y .below) in
       let e = inside-play w (at t) n t y refl l m ∙ ap (λ (k : Level). At (stand (at (t - n)) 0 k)) (sym v) in
-      ap (λ (r : Reached). rowFor (at t) r ∷ runRows Play (positionIn (at t) r) ns) e
+      ap (λ (r : Reached). callRow (at t) r ∷ runRows Play (positionIn (at t) r) ns) e
 
   module _ (r : AnswerRow) (same : (k : ℕ) → withLeft r k ≡ rowLeft k) where
     -- THE CALLS THAT END INSIDE are the run's first ones, and it goes on from where they leave the head
@@ -203,7 +203,7 @@ module _ (m : Bool) (w : Tape) (ns table : List ℕ) (g : Going) (t : ℕ) (know
 -- A TURN BY ONE CALL, as the code takes it
 module _ (m : Bool) (w : Tape) (ns table : List ℕ) (g : Going) (in-calls : g .next < length ns) where
   pub gone-on : (n : ℕ) → n ≡ getD ns (g .next) 0 → (r : Reached) → r ≡ playerOf m w (g .position) n
-      → (row : AnswerRow) → row ≡ rowFor (g .position) r
+      → (row : AnswerRow) → row ≡ callRow (g .position) r
       → (after : List ℕ) → after ≡ put answerRow table (g .next) row
       → (h : Going) → h .position ≡ positionIn (g .position) r → h .next ≡ g .next + 1
       → leadsTo m w ns after h ≡ leadsTo m w ns table g
@@ -216,9 +216,9 @@ module _ (m : Bool) (w : Tape) (ns table : List ℕ) (g : Going) (in-calls : g .
       let here : drop i ns ≡ n ∷ xs =
       drop-cons ns i 0 in-calls ∙ ap (λ (k : ℕ). getD ns i 0 ∷ drop k ns) (sym (add-one i)) ∙ ap (λ (k : ℕ). k ∷ xs) (sym e) in
       ap (λ (y : List ℕ). putAll answerRow y (h .next) (runRows P (h .position) (drop (h .next) ns)))
-      (ea ∙ ap (put answerRow table i) (ew ∙ ap (rowFor q) er))
-      ∙ ap (λ (k : ℕ). putAll answerRow (put answerRow table i (rowFor q (P q n))) k (runRows P (h .position) (drop k ns))) en
-      ∙ ap (λ (y : Position). putAll answerRow (put answerRow table i (rowFor q (P q n))) (i + 1) (runRows P y xs))
+      (ea ∙ ap (put answerRow table i) (ew ∙ ap (callRow q) er))
+      ∙ ap (λ (k : ℕ). putAll answerRow (put answerRow table i (callRow q (P q n))) k (runRows P (h .position) (drop k ns))) en
+      ∙ ap (λ (y : Position). putAll answerRow (put answerRow table i (callRow q (P q n))) (i + 1) (runRows P y xs))
       (ep ∙ ap (positionIn q) er)
       ∙ sym (ap (λ (zs : List ℕ). putAll answerRow table i (runRows P q zs)) here)
 

@@ -13,13 +13,13 @@ use Rattle.play_deck.specs.Deck.{playMeasured, playSource}
 use Rattle.play_deck.specs.Calls.{positionIn, passedIn, answerLevel, counting, runCalls, runSources}
 use Rattle.host_words.specs.Words.{wordsOf, flagOf}
 use Rattle.host_run.specs.declared.AnswerRow.{AnswerRow}
-use Rattle.host_run.specs.Rows.{encodeAnswer, howOf, rowFor}
+use Rattle.host_run.specs.Rows.{encodeAnswer, howOf, callRow}
 use Rattle.host_run.specs.Runs.{answersOf, tallied, lastAnswer, runRows}
 
 -- a row has the player's ten words: how it stands, the entries passed, the level, the position
 pub row-words : (q : Position) (r : Reached)
-    → encodeAnswer (rowFor q r) ≡ howOf r ∷ passedIn r ∷ flagOf (answerLevel r) ∷ wordsOf (positionIn q r)
-unfolding rowFor wordsOf
+    → encodeAnswer (callRow q r) ≡ howOf r ∷ passedIn r ∷ flagOf (answerLevel r) ∷ wordsOf (positionIn q r)
+unfolding callRow wordsOf
 row-words q r = refl
 
 module _ (w : Tape) where
@@ -51,4 +51,4 @@ module _ (play : Position → ℕ → Reached) where
   pub run-cut : (q : Position) (ns ms : List ℕ) → runRows play q (ns ++ ms) ≡ runRows play q ns ++ runRows play (headBehind q ns) ms
   unfolding runRows headBehind
   run-cut q [] ms = refl
-  run-cut q (n ∷ ns) ms = ap (λ (rs : List AnswerRow). rowFor q (play q n) ∷ rs) (run-cut (positionIn q (play q n)) ns ms)
+  run-cut q (n ∷ ns) ms = ap (λ (rs : List AnswerRow). callRow q (play q n) ∷ rs) (run-cut (positionIn q (play q n)) ns ms)

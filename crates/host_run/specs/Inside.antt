@@ -50,5 +50,5 @@ abbrev pub Known : Tape → Going → Type 0
 Known w g = Assayed w (g .position) (g .finding)
 
 -- the table holds a row for each call
-abbrev pub Holds : List ℕ → List ℕ → Type 0
-Holds ns table = length ns * answerRow .width ≤ length table
+abbrev pub HoldsRows : List ℕ → List ℕ → Type 0
+HoldsRows ns table = length ns * answerRow .width ≤ length table

@@ -70,5 +70,5 @@ standRow how s =
     }
 
 -- THE ROW of a call from a position: how it came out, and where it leaves the head
-unfoldable pub rowFor : Position → Reached → AnswerRow
-rowFor q r = standRow (howOf r) (record { position = positionIn q r; passed = passedIn r; level = answerLevel r })
+unfoldable pub callRow : Position → Reached → AnswerRow
+callRow q r = standRow (howOf r) (record { position = positionIn q r; passed = passedIn r; level = answerLevel r })

@@ -15,7 +15,7 @@ use Rattle.play_deck.specs.declared.Check.the-variants.{Fine, NotValid, NotForm
 use Rattle.play_deck.specs.Deck.{judged, playMeasured, playSource}
 use Rattle.play_deck.specs.Calls.{positionIn, passedIn, counting}
 use Rattle.host_run.specs.declared.AnswerRow.{AnswerRow}
-use Rattle.host_run.specs.Rows.{answerRow, rowFor}
+use Rattle.host_run.specs.Rows.{answerRow, callRow}
 
 -- the measured player, or the source's play
 unfoldable pub playerOf : Bool → Tape → Position → ℕ → Reached
@@ -39,7 +39,7 @@ lastAnswer r (s ∷ rs) = lastAnswer s rs
 -- EACH CALL'S ROW
 unfoldable pub runRows : (Position → ℕ → Reached) → Position → List ℕ → List AnswerRow
 runRows play q [] = []
-runRows play q (n ∷ ns) = rowFor q (play q n) ∷ runRows play (positionIn q (play q n)) ns
+runRows play q (n ∷ ns) = callRow q (play q n) ∷ runRows play (positionIn q (play q n)) ns
 
 -- WHAT IS RETURNED: 11 for the count, 9, 11, 9 for the position where the run begins, 10 where the table holds fewer rows; else 0
 unfoldable pub checkNo : Check → ℕ → ℕ

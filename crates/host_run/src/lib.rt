@@ -30,9 +30,9 @@ ghost use Rattle.play_entries.specs.Mounted.{tapeOf};
 ghost use Rattle.play_walk.specs.Heads.{Lands};
 ghost use Rattle.play_deck.specs.Assay.{Assayed};
 ghost use Rattle.play_deck.specs.Calls.{positionIn};
-ghost use Rattle.host_run.specs.Rows.{answerRow, standRow, rowFor};
+ghost use Rattle.host_run.specs.Rows.{answerRow, standRow, callRow};
 ghost use Rattle.host_run.specs.Runs.{playerOf, runRows, roomNo, runNo, runTable};
-ghost use Rattle.host_run.specs.Inside.{withLeft, insideRows, insideLeft, leadsTo, Known, Holds};
+ghost use Rattle.host_run.specs.Inside.{withLeft, insideRows, insideLeft, leadsTo, Known, HoldsRows};
 
 // The words of a call's answer: how it came out, the entries passed, the level, and the position.
 pub struct AnswerRow {
@@ -108,7 +108,7 @@ fn refused_row(k: u32, pos: Position) -> AnswerRow
 
 // The row of a call from a position.
 fn row_of(pos: Position, r: Reached) -> AnswerRow
-    ensures { λ a. ⌜ a ≡ rowFor pos r ⌝ }
+    ensures { λ a. ⌜ a ≡ callRow pos r ⌝ }
 {
     match r {
         Reached::At(s) => stand_row(0, s),
@@ -176,7 +176,7 @@ fn with_left(r: AnswerRow, left: u64) -> AnswerRow
 
 // The calls from call `from` on that end inside an entry, each a row, straight on the words; `row` is the head's before them.
 fn run_inside(counts: &[u32], answers: &mut [u64], from: usize, row: AnswerRow) -> Ran
-    requires { ⌜ Holds (now counts) (now answers) ⌝ }
+    requires { ⌜ HoldsRows (now counts) (now answers) ⌝ }
     requires { ⌜ from ≤ length (now counts) ⌝ }
     ensures { λ r. ⌜ r .next ≡ from + length (insideRows row (row .left) (drop from (now (counts .entry)))) ⌝ }
     ensures { λ r. ⌜ r .left ≡ insideLeft (row .left) (drop from (now (counts .entry))) ⌝ }
@@ -219,7 +219,7 @@ fn go_inside(
 ) -> Going
     requires { ⌜ Known (tapeOf (now tape) (now tones) (now blocks) count) g ⌝ }
     requires { ⌜ (g .finding .check ≡ Fine) × (g .position .left ≡ T t) ⌝ }
-    requires { ⌜ Holds (now counts) (now answers) × (g .next ≤ length (now counts)) ⌝ }
+    requires { ⌜ HoldsRows (now counts) (now answers) × (g .next ≤ length (now counts)) ⌝ }
     ensures { λ h. ⌜ Known (tapeOf (now (tape .entry)) (now (tones .entry)) (now (blocks .entry)) count) h ⌝ }
     ensures { λ h. ⌜ (g .next ≤ h .next) × (h .next ≤ length (now (counts .entry))) ⌝ }
     ensures { λ h. ⌜ leadsTo measured (tapeOf (now (tape .entry)) (now (tones .entry)) (now (blocks .entry)) count)
@@ -260,7 +260,7 @@ fn go_on(
     g: Going,
 ) -> Going
     requires { ⌜ Known (tapeOf (now tape) (now tones) (now blocks) count) g ⌝ }
-    requires { ⌜ Holds (now counts) (now answers) × (g .next < length (now counts)) ⌝ }
+    requires { ⌜ HoldsRows (now counts) (now answers) × (g .next < length (now counts)) ⌝ }
     ensures { λ h. ⌜ Known (tapeOf (now (tape .entry)) (now (tones .entry)) (now (blocks .entry)) count) h ⌝ }
     ensures { λ h. ⌜ h .next ≡ g .next + 1 ⌝ }
     ensures { λ h. ⌜ leadsTo measured (tapeOf (now (tape .entry)) (now (tones .entry)) (now (blocks .entry)) count)
@@ -293,7 +293,7 @@ fn go_far(
     g: Going,
 ) -> Going
     requires { ⌜ Known (tapeOf (now tape) (now tones) (now blocks) count) g ⌝ }
-    requires { ⌜ Holds (now counts) (now answers) × (g .next ≤ length (now counts)) ⌝ }
+    requires { ⌜ HoldsRows (now counts) (now answers) × (g .next ≤ length (now counts)) ⌝ }
     ensures { λ h. ⌜ Known (tapeOf (now (tape .entry)) (now (tones .entry)) (now (blocks .entry)) count) h ⌝ }
     ensures { λ h. ⌜ (g .next ≤ h .next) × (h .next ≤ length (now (counts .entry))) ⌝ }
     ensures { λ h. ⌜ leadsTo measured (tapeOf (now (tape .entry)) (now (tones .entry)) (now (blocks .entry)) count)
@@ -328,7 +328,7 @@ fn run(
     answers: &mut [u64],
 )
     requires { ⌜ Assayed (tapeOf (now tape) (now tones) (now blocks) count) pos a ⌝ }
-    requires { ⌜ Holds (now counts) (now answers) ⌝ }
+    requires { ⌜ HoldsRows (now counts) (now answers) ⌝ }
     ensures { λ _. ⌜ now (answers .exit)
         ≡ putAll answerRow (now (answers .entry)) 0
         (runRows (playerOf measured (tapeOf (now (tape .entry)) (now (tones .entry)) (now (blocks .entry)) count)) pos

@@ -12,7 +12,7 @@ use Rattle.play_walk.specs.Heads.{stand}
 use Rattle.play_deck.specs.Calls.{positionIn, passedIn, answerLevel}
 use Rattle.host_words.specs.Words.{flagOf, wordsOf}
 use Rattle.host_words.proofs.Positions.{position-words}
-use Rattle.host_run.specs.Rows.{howOf, standRow, rowFor}
+use Rattle.host_run.specs.Rows.{howOf, standRow, callRow}
 use Rattle.prog_calls.specs.Answers.{orStart, placeIn, standIn, reachedIn}
 
 level-back : (b : Bool) → eqb (flagOf b) 1 ≡ b
@@ -30,12 +30,12 @@ stand-back how s =
     ∙ ap (λ (v : Bool). stand (s .position) (s .passed) v) (level-back (s .level))
 
 module _ (q : Position) where
-  pub place-back : (r : Reached) → placeIn (rowFor q r) ≡ positionIn q r
-  unfolding rowFor
+  pub place-back : (r : Reached) → placeIn (callRow q r) ≡ positionIn q r
+  unfolding callRow
   place-back r = stand-place (howOf r) (stand (positionIn q r) (passedIn r) (answerLevel r))
 
-  pub reached-back : (r : Reached) → reachedIn (rowFor q r) ≡ r
-  unfolding reachedIn rowFor howOf positionIn passedIn answerLevel
+  pub reached-back : (r : Reached) → reachedIn (callRow q r) ≡ r
+  unfolding reachedIn callRow howOf positionIn passedIn answerLevel
   reached-back (At s) = ap At (stand-back 0 s)
   reached-back (Stopped s) = ap Stopped (stand-back 1 s)
   reached-back (Ended s) = ap Ended (stand-back 2 s)

@@ -19,7 +19,7 @@ use Rattle.play_deck.specs.declared.Check.{Check}
 use Rattle.play_deck.specs.declared.Check.the-variants.{Fine, NotValid, NotFormed}
 use Rattle.play_deck.specs.Deck.{judged, unless, playMeasured, playSource, blockAt}
 use Rattle.play_deck.specs.Calls.{positionIn}
-use Rattle.host_run.specs.Rows.{answerRow, rowFor}
+use Rattle.host_run.specs.Rows.{answerRow, callRow}
 use Rattle.host_run.specs.Runs.{playerOf, runRows, checkNo, roomNo, runNo, runTable}
 use Rattle.text_trace.specs.Lines.{refusedLine, measuredLine, sourceLine, lineOf}
 use Rattle.text_trace.proofs.Lengths.{line-length}
@@ -40,7 +40,7 @@ module _ (m : Bool) (w : Tape) where
   rows-said q (n ∷ ns) =
       let r = Play q n in
       let rest = linesIn m w (runRows Play (positionIn q r) ns) in
-      ap (λ (x : Reached). lineOf m x (blockAt w (placeIn (rowFor q r))) ++ (endsRun m x ⇒ [] ∣ rest)) (reached-back q r)
+      ap (λ (x : Reached). lineOf m x (blockAt w (placeIn (callRow q r))) ++ (endsRun m x ⇒ [] ∣ rest)) (reached-back q r)
       ∙ ap (λ (p : Position). lineOf m r (blockAt w p) ++ (endsRun m r ⇒ [] ∣ rest)) (place-back q r)
       ∙ ap (λ (t : List ℕ). lineOf m r (blockAt w (positionIn q r)) ++ (endsRun m r ⇒ [] ∣ t)) (rows-said (positionIn q r) ns)
 

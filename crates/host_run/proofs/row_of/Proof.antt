@@ -1,6 +1,6 @@
 -- `row_of` meets its contract. Assumes nothing.
 use Rattle.play_deck.specs.Calls.{positionIn, passedIn, answerLevel}
-use Rattle.host_run.specs.Rows.{howOf, rowFor}
+use Rattle.host_run.specs.Rows.{howOf, callRow}
 use borrow.Author.Needs.{needs}
 use Rattle.host_run.proofs.row_of.Statement.{statement}
 use Rattle.host_run.proofs.row_of.Tie as tie
@@ -36,23 +36,23 @@ refused-row-requires-2 : tie.Need-refused-row-requires-2
 refused-row-requires-2 c κs = search needs
 
 returns : tie.Need-returns
-unfolding rowFor howOf positionIn passedIn answerLevel
+unfolding callRow howOf positionIn passedIn answerLevel
 returns c = rw (c .before .before .r .given .1) (c .stand-row .ensures)
 
 returns-2 : tie.Need-returns-2
-unfolding rowFor howOf positionIn passedIn answerLevel
+unfolding callRow howOf positionIn passedIn answerLevel
 returns-2 c = rw (c .before .before .r2 .given .1) (c .stand-row2 .ensures)
 
 returns-3 : tie.Need-returns-3
-unfolding rowFor howOf positionIn passedIn answerLevel
+unfolding callRow howOf positionIn passedIn answerLevel
 returns-3 c = rw (c .before .before .r3 .given .1) (c .stand-row3 .ensures)
 
 returns-4 : tie.Need-returns-4
-unfolding rowFor howOf positionIn passedIn answerLevel
+unfolding callRow howOf positionIn passedIn answerLevel
 returns-4 c = rw (c .before .enum-told .given .1) (c .refused-row .ensures)
 
 returns-5 : tie.Need-returns-5
-unfolding rowFor howOf positionIn passedIn answerLevel
+unfolding callRow howOf positionIn passedIn answerLevel
 returns-5 c = rw (c .before .enum-told2 .given .1) (c .refused-row2 .ensures)
 
 pub row-of-spec : {M : Type 1} → statement M

@@ -39,7 +39,8 @@ module _ (w : Tape) (q : Position) (ns table : List ℕ) where
   room-ways : (roomNo ns table ≡ 0) ⊎ ((roomNo ns table ≡ noRoom) × Short)
   unfolding roomNo
   room-ways =
-      ⊎-elim (λ h. inr (rw (lt-ltb (length table) (length ns * answerRow .width) h), h)) (λ h. inl (rw (le-ltb (length table) (length ns * answerRow .width) h))) (lt-or-ge (length table) (length ns * answerRow .width))
+      let n = length ns * answerRow .width in
+      ⊎-elim (λ h. inr (rw (lt-ltb (length table) n h), h)) (λ h. inl (rw (le-ltb (length table) n h))) (lt-or-ge (length table) n)
 
   run-9 : (c : Check) → (checkNo c (roomNo ns table) ≡ noPosition) ↔ (c ≡ NotValid)
   unfolding checkNo

@@ -14,7 +14,7 @@ use Rattle.play_deck.specs.Calls.{positionIn, passedIn, answerLevel, counting, 
 use Rattle.host_words.specs.Words.{wordsOf, flagOf}
 use Rattle.host_run.specs.declared.AnswerRow.{AnswerRow}
 use Rattle.host_run.specs.Rows.{encodeAnswer, howOf, callRow}
-use Rattle.host_run.specs.Runs.{answersOf, tallied, lastAnswer, runRows}
+use Rattle.host_run.specs.Runs.{answersOf, tallied, lastAnswer, runRows, rowsOver}
 
 -- a row has the player's ten words: how it stands, the entries passed, the level, the position
 pub row-words : (q : Position) (r : Reached)
@@ -39,6 +39,12 @@ module _ (w : Tape) where
 
 -- a run is as long as its calls, and cut in two it is two runs, the second from where the first leaves the head
 module _ (play : Position → ℕ → Reached) where
+  -- the rows are those of the answers
+  pub rows-answers : (q : Position) (ns : List ℕ) → runRows play q ns ≡ rowsOver q (answersOf play q ns)
+  unfolding runRows rowsOver answersOf
+  rows-answers q [] = refl
+  rows-answers q (n ∷ ns) = ap (λ (rs : List AnswerRow). callRow q (play q n) ∷ rs) (rows-answers (positionIn q (play q n)) ns)
+
   pub rows-many : (q : Position) (ns : List ℕ) → length (runRows play q ns) ≡ length ns
   unfolding runRows
   rows-many q [] = refl

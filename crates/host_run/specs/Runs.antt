@@ -41,6 +41,11 @@ unfoldable pub runRows : (Position → ℕ → Reached) → Position → List �
 runRows play q [] = []
 runRows play q (n ∷ ns) = callRow q (play q n) ∷ runRows play (positionIn q (play q n)) ns
 
+-- the rows of answers that were given one after the other, the first to a call from q
+unfoldable pub rowsOver : Position → List Reached → List AnswerRow
+rowsOver q [] = []
+rowsOver q (r ∷ rs) = callRow q r ∷ rowsOver (positionIn q r) rs
+
 -- WHAT IS RETURNED: 11 for the count, 9, 11, 9 for the position where the run begins, 10 where the table holds fewer rows; else 0
 unfoldable pub checkNo : Check → ℕ → ℕ
 checkNo Fine k = k

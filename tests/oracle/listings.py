@@ -1,5 +1,5 @@
 #!/usr/bin/env python3
-"""Makes the tapes that `gate_listings` lists in the gate, and the Rust's listings of them.
+"""Makes the tapes that `gate_listings` lists in the gate, and the Rust's listings of them, the last line by rule 112.
 
     tests/oracle/listings.py ORACLE OUT
 
@@ -10,20 +10,38 @@ import struct
 import subprocess
 import sys
 import tempfile
+from itertools import product
 from pathlib import Path
 
+from measured import Block, entries_of
 from replay import Oracle, tools
 from tapes import MODELS, SIGNATURE, counted, each_kind_cut, long_fallbacks, too_many_bits, u16
 
 GENERATED = 1300
 
 
+def loading_time(total, blocks):
+    """Rule 112 from the end: the sum of all entries up to the first stop or the end, less each pause behind the last entry that sounds."""
+    stop = next((i for i, block in enumerate(blocks) if block.pause is None), len(blocks) - 1)
+    for i in range(stop, -1, -1):
+        total -= blocks[i].pause or 0
+        if any(length for _, phase, _, length in entries_of(i, blocks[i]) if phase not in ("start", "pause")):
+            break
+    return total
+
+
 class Lister(Oracle):
     def list(self, tape, model):
+        """The driver's listing, whose last line is the sum of all entries up to the first stop or the end; put anew from the blocks that it dumps."""
         path = self.room / "one.tape"
         path.write_bytes(tape)
         run = [self.room / "oracle" / "oracle", "list", MODELS[model], path]
-        return subprocess.run(run, check=True, stdout=subprocess.PIPE, stderr=subprocess.DEVNULL).stdout
+        said = subprocess.run(run, check=True, stdout=subprocess.PIPE, stderr=subprocess.DEVNULL).stdout
+        if said.startswith(b"refused"):
+            return said
+        rows, total = said.rsplit(b"time ", 1)
+        blocks = [Block(line) for line in self.dump(tape, model, 512, 2048).decode().split("\n")[1:-1]]
+        return rows + b"time %d\n" % loading_time(int(total), blocks)
 
 
 def names():
@@ -39,11 +57,23 @@ def names():
 
 
 def times():
-    """Stops in each place, blocks without length, and the longest."""
+    """Stops in each place, blocks without length, the longest; and what sounds before, between and behind pauses, stops and blocks of no length."""
     for pauses in ((1, 0, 2), (0, 1), (1, 2), (0,), (65535,) * 3, (1,) * 512, (1,) * 513):
         yield SIGNATURE + b"".join(b"\x20" + u16(n) for n in pauses)
     yield SIGNATURE + b"\x24" + u16(511) + b"\x12" + u16(65535) * 2 + b"\x25"
     yield SIGNATURE + b"\x24" + u16(3) + b"\x14" + u16(65535) * 2 + b"\x08" + u16(65535) + counted(b"\xff" * 1000, 3) + b"\x25"
+    sorts = [
+        b"\x12" + u16(100) + u16(4),
+        b"\x12" + u16(0) + u16(4),
+        b"\x20" + u16(1),
+        b"\x20" + u16(0),
+        b"\x2a" + bytes(4),
+        b"\x14" + u16(10) + u16(20) + b"\x08" + u16(5) + counted(b"\x80", 3),
+        b"\x14" + u16(10) + u16(20) + b"\x08" + u16(5) + counted(b"", 3),
+        b"\x14" + u16(0) + u16(20) + b"\x01" + u16(5) + counted(b"\x7f", 3),
+    ]
+    for pieces in product(sorts, repeat=3):
+        yield SIGNATURE + b"".join(pieces)
 
 
 def limits():

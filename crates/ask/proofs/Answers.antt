@@ -23,7 +23,7 @@ use Rattle.ask.specs.Queries.{numberNo, markNo, timeNo, refusalOf, numbe
 use Rattle.ask.specs.Queries.{selectableOf, timeOf, nameIn, lengthOrNoRoom, nameAnswer, nameBytes, loadingIn}
 use Rattle.ask.specs.Queries.{loadingOf, EachAnswered}
 use Rattle.ask.proofs.Refusals.{refusal-none}
-use Rattle.play_entries.specs.Places.{loadingTime}
+use Rattle.play_entries.specs.Places.{loadTime}
 
 -- a rule whose second test fails
 never : {A : Type 0} (t : Bool) (x y : A) → ((t && false) ⇒ x ∣ y) ≡ y
@@ -39,11 +39,11 @@ module _ (w : Tape) (whole : WholeTape w) where
   len-whole = rw not-over
 
   -- none of it is cut
-  uncut : loadingIn w w ≡ number.Is (loadingTime w)
+  uncut : loadingIn w w ≡ number.Is (loadTime w)
   unfolding loadingIn
   uncut = rw (le-ltb (w .count) (w .count) (omega arith)) (never (isEnded (comesTo (listFrom w 0))) _ _)
 
-  pub loading-whole : loadingOf w ≡ number.Is (loadingTime w)
+  pub loading-whole : loadingOf w ≡ number.Is (loadTime w)
   unfolding loadingOf
   loading-whole = rw not-over (ap (loadingIn w) (whole-formed w whole 0) ∙ uncut)
 

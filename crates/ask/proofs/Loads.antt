@@ -32,13 +32,13 @@ needs w = needed w 0 (omega arith)
 
 -- out: at a stop
 pub loads-stop : (w : Tape) {b : ℕ} {s : Loading} → s .over ≡ true → Sums (formed w 0) b s
-    → number.Is (s .sum) ≡ loadingIn w (formed w 0)
+    → number.Is (s .end) ≡ loadingIn w (formed w 0)
 unfolding loadingIn
 loads-stop w o l = rw (l .stops o) (ap number.Is (sym (l .whole o)))
 
 module _ {w : Tape} {b : ℕ} {s : Loading} (l : Loads w b s) where
   -- out: past the last block, or at a row that is not well formed
-  pub loads-over : w .count ≤ b → number.Is (s .sum) ≡ loadingIn w (formed w 0)
+  pub loads-over : w .count ≤ b → number.Is (s .end) ≡ loadingIn w (formed w 0)
   unfolding loadingIn
   loads-over h =
       let v = formed w 0 in

@@ -6,6 +6,7 @@ use mathlib.Core.List.{List, [], _∷_, _++_, map}
 use Rattle.refusals.specs.Refusals.{noBlock, noRoom, badRow}
 use Rattle.law_pulses.specs.Play.{time, comesTo}
 use Rattle.law_pulses.specs.Runs.{run}
+use Rattle.law_pulses.specs.Sounding.{endsAt, soundingTime}
 use Rattle.rows.specs.Well.{wellRanges, wellTone, wellNumbers, wellCases, wellTones, wellBlock}
 use Rattle.rows.proofs.Samples.{rowWords}
 use Rattle.text_out.specs.Out.{digits, decimal, told}
@@ -106,9 +107,13 @@ brokenRow = rowWords (0 ∷ 0 ∷ 0 ∷ 1 ∷ 0 ∷ 0 ∷ 9 ∷ 0 ∷ 0 ∷ 1 �
 abbrev pureTone : List ℕ → ℕ → Tape
 pureTone rows n = tapeOf [] rows (sound 0 n 0 0 0 0) 1
 
+-- a tone of two cycles
+abbrev oneTone : List ℕ
+oneTone = 2 ∷ 100 ∷ 100 ∷ 0 ∷ []
+
 -- the tape of the printed listing
 abbrev printed : Tape
-printed = tapeOf [] (2 ∷ 100 ∷ 100 ∷ 0 ∷ []) (sound 0 1 0 0 0 0 ++ sound 1 0 3500 0 0 0 ++ stopRow) 3
+printed = tapeOf [] oneTone (sound 0 1 0 0 0 0 ++ sound 1 0 3500 0 0 0 ++ stopRow) 3
 
 abbrev pub readings : List (Tape × ℕ × List ℕ × Answers)
 readings =
@@ -118,7 +123,7 @@ readings =
           (rowWords (0 ∷ 2 ∷ 2 ∷ 0 ∷ 855 ∷ 1710 ∷ 8 ∷ 3500000 ∷ 0 ∷ 1 ∷ [])) 1,
       0,
       nine,
-      says 0 starred (T 20984154) 7 (0x30 ∷ bytesWord ++ (8 ∷ 9 ∷ [])) 20984154,
+      says 0 starred (T 20984154) 7 (0x30 ∷ bytesWord ++ (8 ∷ 9 ∷ [])) 17484154,
     ) ∷
     -- 12 with length 100, count 1, and with count 0
     (
@@ -137,9 +142,11 @@ readings =
       says 1 starred (T 40) 7 (0x31 ∷ bytesWord ++ (8 ∷ 9 ∷ [])) 40,
     ) ∷
     -- the printed listing, line by line
-    (printed, 0, nine, says 0 plain (T 400) 7 (0x30 ∷ bytesWord ++ (8 ∷ 9 ∷ [])) 3900) ∷
-    (printed, 1, nine, says 0 plain (T 3500) 7 (0x30 ∷ bytesWord ++ (8 ∷ 9 ∷ [])) 3900) ∷
-    (printed, 2, stopWord, says 0 starred Endless 4 stopWord 3900) ∷
+    (printed, 0, nine, says 0 plain (T 400) 7 (0x30 ∷ bytesWord ++ (8 ∷ 9 ∷ [])) 400) ∷
+    (printed, 1, nine, says 0 plain (T 3500) 7 (0x30 ∷ bytesWord ++ (8 ∷ 9 ∷ [])) 400) ∷
+    (printed, 2, stopWord, says 0 starred Endless 4 stopWord 400) ∷
+    -- the loading time has the sound of a stop's own row
+    (tapeOf [] oneTone (sound 0 1 0 1 1 1) 1, 0, stopWord, says 0 starred Endless 4 stopWord 400) ∷
     -- 11 for the count goes before 8
     (tapeOf [] [] stopRow 2, 2, [], refuses badRow [] (number.Refused badRow)) ∷
     -- 8 before 11 for the row: the row behind the count is not well formed
@@ -148,6 +155,8 @@ readings =
     -- 11 for the row before 10; the loading time needs no row beyond the first stop, and each up to it
     (tapeOf (0 ∷ []) [] (stopRow ++ brokenRow) 2, 1, [], refuses badRow [] (number.Is 0)) ∷
     (tapeOf (0 ∷ []) [] (brokenRow ++ stopRow) 2, 0, [], refuses badRow [] (number.Refused badRow)) ∷
+    -- also behind the last pulse: without it nobody can tell that none follows
+    (tapeOf (0 ∷ []) oneTone (sound 0 1 0 0 0 0 ++ brokenRow ++ stopRow) 3, 1, [], refuses badRow [] (number.Refused badRow)) ∷
     -- 10: three bytes are too short for `stop`, and stay
     (
       printed,
@@ -160,7 +169,7 @@ readings =
         lasts = lasting.Lasts Endless;
         name = number.Refused noRoom;
         bytes = 1 ∷ 2 ∷ 3 ∷ [];
-        loading = number.Is 3900;
+        loading = number.Is 400;
       },
     ) ∷
     []
@@ -168,6 +177,6 @@ readings =
 pub readings-said : map (λ e. answered (e .0) (e .1) (e .2)) readings ≡ map (λ e. e .3) readings
 unfolding refusalOf numberUnless markUnless timeUnless sizeOf selectableOf timeOf lengthOrNoRoom nameAnswer nameBytes told loadingOf
     loadingIn formed firstBad wellRow wellBlock wellRanges wellNumbers wellCases wellTones wellTone nameOf guessed isHeader sizeName
-    sizeShown decimal digits lastsOf comesTo time listFrom entriesOf soundOf tonesOf toneOf cyclesOf isSingle startLevel cycleLevel bitLevel
+    sizeShown decimal digits lastsOf comesTo time soundingTime endsAt listFrom entriesOf soundOf tonesOf toneOf cyclesOf isSingle startLevel cycleLevel bitLevel
     edged pauseLevel dataOf byteOf bitsAt halfOf pauseOf entryOf run
 readings-said = refl

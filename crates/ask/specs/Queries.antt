@@ -11,7 +11,7 @@ use Rattle.law_pulses.specs.Play.{comesTo}
 use Rattle.law_pulses.specs.Source.{isEnded}
 use Rattle.text_out.specs.Out.{fits, told}
 use Rattle.play_entries.specs.Entries.{entriesOf, lastsOf}
-use Rattle.play_entries.specs.Places.{Tape, blockIn, listFrom, loadingTime}
+use Rattle.play_entries.specs.Places.{Tape, blockIn, listFrom, loadTime}
 use Rattle.play_entries.specs.Mounted.{overfull, wellRow, formed}
 use Rattle.text_name.specs.Names.{nameOf}
 use Rattle.ask.specs.declared.Number.{Number}
@@ -87,7 +87,7 @@ nameBytes w i out = eqb (refusalOf w i) 0 ⇒ told (nameIn w i) out ∣ out
 unfoldable pub loadingIn : Tape → Tape → Number
 loadingIn w v =
     (isEnded (comesTo (listFrom v 0)) && ltb (v .count) (w .count)) ⇒ number.Refused badRow
-    ∣ number.Is (loadingTime v)
+    ∣ number.Is (loadTime v)
 
 unfoldable pub loadingOf : Tape → Number
 loadingOf w = overfull w ⇒ number.Refused badRow ∣ loadingIn w (formed w 0)

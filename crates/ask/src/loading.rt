@@ -11,7 +11,7 @@ ghost use mathlib.Core.Path.{_≡_};
 ghost use Rattle.play_entries.specs.Mounted.{tapeOf};
 ghost use Rattle.ask.specs.Queries.{loadingOf};
 
-// All entries up to the first stop or the end.
+// The time up to the end of the last tone or data entry with length before the first stop or the end.
 pub fn loading_time(tape: &[u8], tones: &[u64], blocks: &[u64], count: u64) -> Number
     ensures { λ r. ⌜ r ≡ loadingOf (tapeOf (now (tape .entry)) (now (tones .entry)) (now (blocks .entry)) count) ⌝ }
 {
@@ -27,9 +27,9 @@ pub fn loading_time(tape: &[u8], tones: &[u64], blocks: &[u64], count: u64) -> N
         let r = block_at(blocks, b as usize);
         s = one_more(s, sound_time(tape, tones, r), r);
         if s.over {
-            return Number::Is(s.sum);
+            return Number::Is(s.end);
         }
         b += 1;
     }
-    Number::Is(s.sum)
+    Number::Is(s.end)
 }

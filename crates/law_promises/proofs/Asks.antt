@@ -15,7 +15,7 @@ use Rattle.law_pulses.specs.Play.{Status, standing, stopped, ended, comesTo}
 use Rattle.law_pulses.specs.Source.{isEnded}
 use Rattle.text_out.specs.Out.{fits, told}
 use Rattle.play_entries.specs.declared.Duration.{Duration}
-use Rattle.play_entries.specs.Places.{Tape, listFrom, leftAt, loadingTime}
+use Rattle.play_entries.specs.Places.{Tape, listFrom, leftAt, loadTime}
 use Rattle.play_entries.specs.Mounted.{overfull, wellRow, formed}
 use Rattle.ask.specs.declared.Number.{Number}
 use Rattle.ask.specs.declared.Number.the-variants as number
@@ -217,7 +217,7 @@ loading-runs w = (
     end = comesTo (listFrom (formed w 0) 0)
 
     answer : Bool → Bool → Number
-    answer a b = a ⇒ number.Refused badRow ∣ b ⇒ number.Refused badRow ∣ number.Is (loadingTime (formed w 0))
+    answer a b = a ⇒ number.Refused badRow ∣ b ⇒ number.Refused badRow ∣ number.Is (loadTime (formed w 0))
 
     of : (a b : Bool) → overfull w ≡ a → (isEnded end && ltb (formed w 0 .count) (w .count)) ≡ b
         → numberNo (answer a b) ≡ badRow → (overfull w ≡ true) ⊎ Runs w 0 end

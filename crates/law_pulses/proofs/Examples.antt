@@ -2,13 +2,14 @@
 use mathlib.Core.Path.{_≡_, refl}
 use mathlib.Core.Bool.{true, false}
 use mathlib.Core.Logic.{inl}
-use mathlib.Core.List.{List, [], _∷_}
+use mathlib.Core.List.{List, [], _∷_, map}
 use Prim.Native.Nat.{ℕ, _%_}
 use native.Mathlib.Omega.{arith}
 use lib.Dec.{eqb}
 use Rattle.law_pulses.specs.Play.{Entry, pulse, endless, low, high, standing, stopped, ended, made, rest, over, statusHere, status}
 use Rattle.law_pulses.specs.Play.{answer, countedOn, calls, time}
 use Rattle.law_pulses.specs.Runs.{run}
+use Rattle.law_pulses.specs.Sounding.{endsAt, soundingTime}
 use Rattle.law_pulses.specs.Source.{after, turn, turns, sourced, reached, sumDropped, source, dropped, sources, withDropped, heard}
 use Rattle.law_pulses.specs.Source.{lastingEntries, Agrees}
 
@@ -113,6 +114,21 @@ drops-last = refl
 charged : withDropped pauses (1 ∷ 3499 ∷ 7000 ∷ []) ≡ 1 ∷ 3499 ∷ 14000 ∷ []
 unfolding withDropped sourced reached sumDropped turns turn after
 charged = refl
+
+-- the time up to the last entry that sounds, where odd labels are taken: the pauses before it count, what is behind it doesn't; nor does
+-- an entry of no length, nor anything behind an endless one
+abbrev soundings : List (List (Entry ℕ) × ℕ)
+soundings =
+    (pulse 0 low 7 ∷ pulse 1 low 3 ∷ pulse 2 low 5 ∷ [], 10) ∷
+    (pulse 1 low 3 ∷ pulse 2 low 5 ∷ pulse 3 low 4 ∷ pulse 4 low 9 ∷ pulse 5 high 0 ∷ pulse 6 low 1 ∷ [], 12) ∷
+    (pulse 1 high 3 ∷ endless 2 low ∷ pulse 3 low 4 ∷ [], 3) ∷
+    (pulse 0 low 7 ∷ pulse 1 low 0 ∷ [], 0) ∷
+    ([], 0) ∷
+    []
+
+sounding-said : map (λ e. soundingTime (λ a. eqb (a % 2) 1) (e .0)) soundings ≡ map (λ e. e .1) soundings
+unfolding soundingTime endsAt
+sounding-said = refl
 
 -- items of two pulses; and of one, its level flipping
 abbrev cycle : ℕ → List (Entry ℕ)

@@ -8,3 +8,4 @@ pub mod Ahead
 pub mod Agreement
 pub mod Dropped
 pub mod Examples
+pub mod Sounding

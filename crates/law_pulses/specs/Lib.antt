@@ -1,3 +1,4 @@
 pub mod Play
 pub mod Runs
 pub mod Source
+pub mod Sounding

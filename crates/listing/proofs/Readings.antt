@@ -5,6 +5,7 @@ use mathlib.Core.List.{List, [], _∷_, _++_, map}
 use Rattle.refusals.specs.Refusals.{badModel, tapeBad, generalised, lastBits}
 use Rattle.law_pulses.specs.Play.{time, comesTo}
 use Rattle.law_pulses.specs.Runs.{run}
+use Rattle.law_pulses.specs.Sounding.{endsAt, soundingTime}
 use Rattle.cut_fields.specs.Field.{leAt, numberAt, fieldAt, placeOf}
 use Rattle.cut_fields.specs.Run.{times, eachAt, groupsAt}
 use Rattle.rows.specs.Table.{tableOver}
@@ -46,6 +47,23 @@ pub record ListReading : Type 0 where
   pub tape : List ℕ
   pub gives : Listing
 
+-- tapes/levels.tzx, from its first piece on
+abbrev levels : List ℕ
+levels =
+    0x10 ∷ 0xE8 ∷ 0x03 ∷ 0x13 ∷ 0x00 ∷ 0x00 ∷ 0x03 ∷ 0x4C ∷ 0x65 ∷ 0x76 ∷ 0x65 ∷ 0x6C ∷ 0x20 ∷ 0x4E ∷ 0x6F ∷ 0x20 ∷
+    0x31 ∷ 0x42 ∷ 0x00 ∷ 0x00 ∷ 0x80 ∷ 0x00 ∷ 0x80 ∷ 0x07 ∷ 0x10 ∷ 0xE8 ∷ 0x03 ∷ 0x44 ∷ 0x00 ∷ 0xFF ∷ 0xF3 ∷ 0xFF ∷
+    0x81 ∷ 0xBD ∷ 0xA5 ∷ 0xA5 ∷ 0xBD ∷ 0x81 ∷ 0xFF ∷ 0xFF ∷ 0x81 ∷ 0xBD ∷ 0xA5 ∷ 0xA5 ∷ 0xBD ∷ 0x81 ∷ 0xFF ∷ 0xFF ∷
+    0x81 ∷ 0xBD ∷ 0xA5 ∷ 0xA5 ∷ 0xBD ∷ 0x81 ∷ 0xFF ∷ 0xFF ∷ 0x81 ∷ 0xBD ∷ 0xA5 ∷ 0xA5 ∷ 0xBD ∷ 0x81 ∷ 0xFF ∷ 0xFF ∷
+    0x81 ∷ 0xBD ∷ 0xA5 ∷ 0xA5 ∷ 0xBD ∷ 0x81 ∷ 0xFF ∷ 0xFF ∷ 0x81 ∷ 0xBD ∷ 0xA5 ∷ 0xA5 ∷ 0xBD ∷ 0x81 ∷ 0xFF ∷ 0xFF ∷
+    0x81 ∷ 0xBD ∷ 0xA5 ∷ 0xA5 ∷ 0xBD ∷ 0x81 ∷ 0xFF ∷ 0xFF ∷ 0x81 ∷ 0xBD ∷ 0xA5 ∷ 0xA5 ∷ 0xBD ∷ 0x81 ∷ 0xFF ∷ 0xC9 ∷
+    0xC5 ∷ 0x2A ∷ 0x00 ∷ 0x00 ∷ 0x00 ∷ 0x00 ∷ 0x10 ∷ 0xE8 ∷ 0x03 ∷ 0x13 ∷ 0x00 ∷ 0x00 ∷ 0x03 ∷ 0x4C ∷ 0x65 ∷ 0x76 ∷
+    0x65 ∷ 0x6C ∷ 0x20 ∷ 0x4E ∷ 0x6F ∷ 0x20 ∷ 0x32 ∷ 0x42 ∷ 0x00 ∷ 0x00 ∷ 0xA0 ∷ 0x00 ∷ 0x80 ∷ 0x24 ∷ 0x10 ∷ 0x00 ∷
+    0x00 ∷ 0x44 ∷ 0x00 ∷ 0xFF ∷ 0xF3 ∷ 0xFF ∷ 0x81 ∷ 0xBD ∷ 0xA5 ∷ 0xA5 ∷ 0xBD ∷ 0x81 ∷ 0xFF ∷ 0xFF ∷ 0x81 ∷ 0xBD ∷
+    0xA5 ∷ 0xA5 ∷ 0xBD ∷ 0x81 ∷ 0xFF ∷ 0xFF ∷ 0x81 ∷ 0xBD ∷ 0xA5 ∷ 0xA5 ∷ 0xBD ∷ 0x81 ∷ 0xFF ∷ 0xFF ∷ 0x81 ∷ 0xBD ∷
+    0xA5 ∷ 0xA5 ∷ 0xBD ∷ 0x81 ∷ 0xFF ∷ 0xFF ∷ 0x81 ∷ 0xBD ∷ 0xA5 ∷ 0xA5 ∷ 0xBD ∷ 0x81 ∷ 0xFF ∷ 0xFF ∷ 0x81 ∷ 0xBD ∷
+    0xA5 ∷ 0xA5 ∷ 0xBD ∷ 0x81 ∷ 0xFF ∷ 0xFF ∷ 0x81 ∷ 0xBD ∷ 0xA5 ∷ 0xA5 ∷ 0xBD ∷ 0x81 ∷ 0xFF ∷ 0xFF ∷ 0x81 ∷ 0xBD ∷
+    0xA5 ∷ 0xA5 ∷ 0xBD ∷ 0x81 ∷ 0xFF ∷ 0xC9 ∷ 0xC5 ∷ []
+
 abbrev lists : ℕ → List ℕ → Listing → ListReading
 lists model tape gives = record { model = model; tape = tape; gives = gives }
 
@@ -55,13 +73,13 @@ readings =
     -- the printed listing, and the same tape on the others
     lists 0
     (pieces (0x12 ∷ 0x64 ∷ 0x00 ∷ 0x04 ∷ 0x00 ∷ 0x20 ∷ 0x01 ∷ 0x00 ∷ 0x2A ∷ 0x00 ∷ 0x00 ∷ 0x00 ∷ 0x00 ∷ []))
-    (text (ascii "model 48K format TZX blocks 3\n0 - 0 400 0 bytes\n1 - 0 3500 0 bytes\n2 * 0 stop stop\ntime 3900\n")) ∷
+    (text (ascii "model 48K format TZX blocks 3\n0 - 0 400 0 bytes\n1 - 0 3500 0 bytes\n2 * 0 stop stop\ntime 400\n")) ∷
     lists 1
     (pieces (0x12 ∷ 0x64 ∷ 0x00 ∷ 0x04 ∷ 0x00 ∷ 0x20 ∷ 0x01 ∷ 0x00 ∷ 0x2A ∷ 0x00 ∷ 0x00 ∷ 0x00 ∷ 0x00 ∷ []))
-    (text (ascii "model 128K format TZX blocks 2\n0 - 0 400 0 bytes\n1 - 0 3500 0 bytes\ntime 3900\n")) ∷
+    (text (ascii "model 128K format TZX blocks 2\n0 - 0 400 0 bytes\n1 - 0 3500 0 bytes\ntime 400\n")) ∷
     lists 2
     (pieces (0x12 ∷ 0x64 ∷ 0x00 ∷ 0x04 ∷ 0x00 ∷ 0x20 ∷ 0x01 ∷ 0x00 ∷ 0x2A ∷ 0x00 ∷ 0x00 ∷ 0x00 ∷ 0x00 ∷ []))
-    (text (ascii "model Plus3 format TZX blocks 2\n0 - 0 400 0 bytes\n1 - 0 3500 0 bytes\ntime 3900\n")) ∷
+    (text (ascii "model Plus3 format TZX blocks 2\n0 - 0 400 0 bytes\n1 - 0 3500 0 bytes\ntime 400\n")) ∷
     -- no such model
     lists 3
     (pieces (0x12 ∷ 0x64 ∷ 0x00 ∷ 0x04 ∷ 0x00 ∷ 0x20 ∷ 0x01 ∷ 0x00 ∷ 0x2A ∷ 0x00 ∷ 0x00 ∷ 0x00 ∷ 0x00 ∷ []))
@@ -70,8 +88,8 @@ readings =
     lists 0 [] (text (ascii "model 48K format TAP blocks 0\ntime 0\n")) ∷
     lists 2 (0x13 ∷ []) (text (ascii "model Plus3 format TAP blocks 0\ntime 0\n")) ∷
     -- `00 00`: one block, 4,032 cycles; `01 00 FF`: 1,612 cycles, pause 7,000,000; `02 00 FF`: refused 3
-    lists 0 (0x00 ∷ 0x00 ∷ []) (text (ascii "model 48K format TAP blocks 1\n0 * 0 20984154 0 bytes\ntime 20984154\n")) ∷
-    lists 0 (0x01 ∷ 0x00 ∷ 0xFF ∷ []) (text (ascii "model 48K format TAP blocks 1\n0 * 1 14018394 1 bytes\ntime 14018394\n")) ∷
+    lists 0 (0x00 ∷ 0x00 ∷ []) (text (ascii "model 48K format TAP blocks 1\n0 * 0 20984154 0 bytes\ntime 17484154\n")) ∷
+    lists 0 (0x01 ∷ 0x00 ∷ 0xFF ∷ []) (text (ascii "model 48K format TAP blocks 1\n0 * 1 14018394 1 bytes\ntime 7018394\n")) ∷
     lists 0 (0x02 ∷ 0x00 ∷ 0xFF ∷ []) (refused tapeBad) ∷
     -- 12 with length 100: count 1, count 0
     lists 0 (pieces (0x12 ∷ 0x64 ∷ 0x00 ∷ 0x01 ∷ 0x00 ∷ []))
@@ -80,7 +98,7 @@ readings =
     (text (ascii "model 48K format TZX blocks 1\n0 - 0 200 0 bytes\ntime 200\n")) ∷
     -- loop 2 round one pause: three blocks
     lists 0 (pieces (0x24 ∷ 0x02 ∷ 0x00 ∷ 0x20 ∷ 0x01 ∷ 0x00 ∷ 0x25 ∷ []))
-    (text (ascii "model 48K format TZX blocks 3\n0 - 0 3500 0 bytes\n1 - 0 3500 0 bytes\n2 - 0 3500 0 bytes\ntime 10500\n")) ∷
+    (text (ascii "model 48K format TZX blocks 3\n0 - 0 3500 0 bytes\n1 - 0 3500 0 bytes\n2 - 0 3500 0 bytes\ntime 0\n")) ∷
     -- pure data byte 80, zero 10, one 20, last bits 0, pause 0; last bits 8 accepted, 9 refused 7
     lists 0 (pieces (0x14 ∷ 0x0A ∷ 0x00 ∷ 0x14 ∷ 0x00 ∷ 0x00 ∷ 0x00 ∷ 0x00 ∷ 0x01 ∷ 0x00 ∷ 0x00 ∷ 0x80 ∷ []))
     (text (ascii "model 48K format TZX blocks 1\n0 * 1 40 1 bytes\ntime 40\n")) ∷
@@ -92,12 +110,33 @@ readings =
     -- (`? ~???`, A0 and `ÿ`, in UTF-8)
     lists 0
     (pieces (0x30 ∷ 0x08 ∷ 0x1F ∷ 0x20 ∷ 0x7E ∷ 0x7F ∷ 0x80 ∷ 0x9F ∷ 0xA0 ∷ 0xFF ∷ 0x20 ∷ 0x01 ∷ 0x00 ∷ [])) (text
-    (ascii "model 48K format TZX blocks 1\n0 * 0 3500 ? ~???" ++ (0xC2 ∷ 0xA0 ∷ 0xC3 ∷ 0xBF ∷ []) ++ ascii "\ntime 3500\n")) ∷
+    (ascii "model 48K format TZX blocks 1\n0 * 0 3500 ? ~???" ++ (0xC2 ∷ 0xA0 ∷ 0xC3 ∷ 0xBF ∷ []) ++ ascii "\ntime 0\n")) ∷
     lists 0 (pieces (0x30 ∷ 0x00 ∷ 0x20 ∷ 0x01 ∷ 0x00 ∷ []))
-    (text (ascii "model 48K format TZX blocks 1\n0 * 0 3500 \ntime 3500\n")) ∷
-    -- the loading time ends at the first stop
-    lists 0 (pieces (0x20 ∷ 0x01 ∷ 0x00 ∷ 0x20 ∷ 0x00 ∷ 0x00 ∷ 0x20 ∷ 0x02 ∷ 0x00 ∷ []))
-    (text (ascii "model 48K format TZX blocks 3\n0 - 0 3500 0 bytes\n1 * 0 stop stop\n2 - 0 7000 0 bytes\ntime 3500\n")) ∷
+    (text (ascii "model 48K format TZX blocks 1\n0 * 0 3500 \ntime 0\n")) ∷
+    -- THE LOADING TIME: it ends with the last tone or data entry with length; pauses before it count, pauses behind it don't
+    lists 0 (pieces (0x20 ∷ 0x01 ∷ 0x00 ∷ 0x12 ∷ 0x64 ∷ 0x00 ∷ 0x02 ∷ 0x00 ∷ []))
+    (text (ascii "model 48K format TZX blocks 2\n0 - 0 3500 0 bytes\n1 - 0 200 0 bytes\ntime 3700\n")) ∷
+    -- a tone of no length is no end
+    lists 0 (pieces (0x12 ∷ 0x64 ∷ 0x00 ∷ 0x04 ∷ 0x00 ∷ 0x20 ∷ 0x01 ∷ 0x00 ∷ 0x12 ∷ 0x00 ∷ 0x00 ∷ 0x04 ∷ 0x00 ∷ []))
+    (text (ascii "model 48K format TZX blocks 3\n0 - 0 400 0 bytes\n1 - 0 3500 0 bytes\n2 - 0 0 0 bytes\ntime 400\n")) ∷
+    -- nothing before the first stop
+    lists 0 (pieces (0x20 ∷ 0x00 ∷ 0x00 ∷ 0x12 ∷ 0x64 ∷ 0x00 ∷ 0x04 ∷ 0x00 ∷ []))
+    (text (ascii "model 48K format TZX blocks 2\n0 * 0 stop stop\n1 - 0 400 0 bytes\ntime 0\n")) ∷
+    -- a block's own pause, at the end
+    lists 0 (pieces (0x14 ∷ 0x0A ∷ 0x00 ∷ 0x14 ∷ 0x00 ∷ 0x00 ∷ 0x05 ∷ 0x00 ∷ 0x01 ∷ 0x00 ∷ 0x00 ∷ 0x80 ∷ []))
+    (text (ascii "model 48K format TZX blocks 1\n0 * 1 17540 1 bytes\ntime 40\n")) ∷
+    -- and between sounds: of a pause block, and of a 14 without data
+    lists 0 (pieces (0x12 ∷ 0x64 ∷ 0x00 ∷ 0x04 ∷ 0x00 ∷ 0x20 ∷ 0x01 ∷ 0x00 ∷ 0x14 ∷ 0x0A ∷ 0x00 ∷ 0x14 ∷ 0x00 ∷ 0x08 ∷ 0x05 ∷ 0x00 ∷ 0x00 ∷ 0x00 ∷ 0x00 ∷ 0x12 ∷ 0x64 ∷ 0x00 ∷ 0x02 ∷ 0x00 ∷ []))
+    (text (ascii "model 48K format TZX blocks 4\n0 - 0 400 0 bytes\n1 - 0 3500 0 bytes\n2 * 0 17500 0 bytes\n3 - 0 200 0 bytes\ntime 21600\n")) ∷
+    -- tapes/levels.tzx, where a 48K stops and a 128K plays on
+    lists 0 (pieces levels)
+    (text
+    (ascii "model 48K format TZX blocks 5\n0 * 19 21319314 Bytes: Level No 1\n1 - 68 12006094 68 bytes\n2 * 0 stop stop\n"
+    ++ ascii "3 * 19 21319314 Bytes: Level No 2\n4 - 68 8506094 68 bytes\ntime 29825408\n")) ∷
+    lists 1 (pieces levels)
+    (text
+    (ascii "model 128K format TZX blocks 4\n0 * 19 21319314 Bytes: Level No 1\n1 - 68 12006094 68 bytes\n"
+    ++ ascii "2 * 19 21319314 Bytes: Level No 2\n3 - 68 8506094 68 bytes\ntime 63150816\n")) ∷
     -- a generalised piece with neither pilot nor data: refused 4
     lists 0 (pieces (0x19 ∷ 0x00 ∷ 0x00 ∷ 0x00 ∷ 0x00 ∷ 0x00 ∷ 0x00 ∷ 0x00 ∷ 0x00 ∷ 0x00 ∷ 0x00 ∷ 0x00 ∷ 0x00 ∷
     0x00 ∷ 0x00 ∷ 0x00 ∷ 0x00 ∷ 0x00 ∷ 0x00 ∷ [])) (refused generalised) ∷
@@ -111,7 +150,7 @@ unfolding leAt numberAt fieldAt placeOf times eachAt groupsAt countedAt passAt t
     standardPause turboTones pureTones pureToneTones pulseAt addRows rowOf standardSound turboSound pairSounds pureSound pauseSound addSound
     addSounds generalDeed stop48Deed does deedOf act readOn seeing foldFrom halted tooManyBits bitsJudged tzxOf tzxSee headed readTzx tapOf
     tapSee readTap orTap orElse loadOf decimal digits latin1 eachByte table encoded isHeader typeName headerName sizeShown sizeName guessed
-    nameOf unselected nameOne nameAll namedTape namedLoad loadNamed blockTable toneTable tableOver time comesTo run entryOf cyclesOf
+    nameOf unselected nameOne nameAll namedTape namedLoad loadNamed blockTable toneTable tableOver time soundingTime endsAt comesTo run entryOf cyclesOf
     isSingle startLevel cycleLevel bitLevel edged pauseLevel toneOf tonesOf bitsAt halfOf byteOf dataOf pauseOf soundOf entriesOf lastsOf
     listFrom shown timeText markText rowText rowsText modelText formatText countText loadingText restText listingText loadedOf mounted
     listed listingOf

@@ -1,14 +1,19 @@
--- A BLOCK'S END: an edge if there is one, and the pause. Together they last the pause, or never end. Assumes nothing.
-use Prim.Native.Nat.{ℕ, _+_, _-_, min}
+-- A BLOCK'S END: an edge if there is one, and the pause. Together they last the pause, or never end, and neither sounds. Assumes nothing.
+use Prim.Native.Nat.{ℕ, _+_, _-_, _<_, min}
+use native.Mathlib.Nat.{add-zero}
 use native.Mathlib.Omega.{arith}
 use borrow.Author.Tests.{eq-eqb, ne-eqb}
-use mathlib.Core.Path.{_≡_, refl}
+use mathlib.Core.Path.{_≡_, refl, sym, ap, _∙_}
 use mathlib.Core.Bool.{Bool, true, false, not, and-false}
-use mathlib.Core.List.{List, [], _∷_, _++_}
+use mathlib.Core.List.{List, [], _∷_, _++_, append-assoc}
 use Rattle.law_base.specs.Rules.{_⇒_, _∣_}
-use Rattle.law_pulses.specs.Play.{Level, Entry, pulse, stopped, time, comesTo}
+use Rattle.law_pulses.specs.Play.{Level, Entry, pulse, stopped, time, comesTo, Finite}
+use Rattle.law_pulses.specs.Sounding.{endsAt, soundingTime}
+use Rattle.law_pulses.proofs.Sounding.{sounding-behind}
 use Rattle.rows.specs.declared.Block.{Block}
-use Rattle.play_entries.specs.Entries.{Label, entryOf, isSource, edged, edgeOf, pauseOf, pauseEntry}
+use Rattle.play_entries.specs.Entries.{Label, labelAt, entryOf, isSource, edged, edgeOf, pauseOf, pauseEntry}
+use Rattle.play_entries.specs.Places.{sounds}
+use Rattle.play_entries.specs.declared.Phase.the-variants.{Edge, Pause}
 
 -- the end of block b
 abbrev pub endOf : List ℕ → ℕ → Block → List (Entry Label)
@@ -47,3 +52,33 @@ module _ (tones : List ℕ) (b : ℕ) (r : Block) (es : List (Entry Label)) wher
   pub end-comes : r .endless ≡ 1 → comesTo (edgeOf tones b r ++ pauseEntry tones b r ∷ es) ≡ stopped
   unfolding pauseOf entryOf comesTo
   end-comes e = rw (stop-edge r e, eq-eqb (r .endless) 1 e)
+
+-- where nothing sounds behind it, or it never ends, nothing sounds; where something does, it is passed whole
+module _ (tones : List ℕ) (b : ℕ) (r : Block) (es : List (Entry Label)) where
+  by-silence : (x : Bool) (v u : Level) (n m : ℕ) → soundingTime sounds es ≡ 0
+      → soundingTime sounds ((x ⇒ pulse (labelAt b Edge) v n ∷ [] ∣ []) ++ pulse (labelAt b Pause) u m ∷ es) ≡ 0
+  unfolding soundingTime endsAt
+  by-silence true v u n m z = rw z
+  by-silence false v u n m z = rw z
+
+  by-finite : (x : Bool) (a d : Label) (v u : Level) (n m : ℕ) → Finite ((x ⇒ pulse a v n ∷ [] ∣ []) ++ pulse d u m ∷ [])
+  unfolding Finite
+  by-finite true a d v u n m = tt
+  by-finite false a d v u n m = tt
+
+  pub end-stop : r .endless ≡ 1 → soundingTime sounds (edgeOf tones b r ++ pauseEntry tones b r ∷ es) ≡ 0
+  unfolding pauseOf entryOf soundingTime
+  end-stop e = rw (stop-edge r e, eq-eqb (r .endless) 1 e)
+
+  pub end-silent : (r .endless ≡ 1 → ⊥) → soundingTime sounds es ≡ 0
+      → soundingTime sounds (edgeOf tones b r ++ pauseEntry tones b r ∷ es) ≡ 0
+  unfolding pauseOf entryOf
+  end-silent e z = rw (ne-eqb (r .endless) 1 e) (by-silence (edged r) _ _ _ _ z)
+
+  pub end-passed : (r .endless ≡ 1 → ⊥) → 0 < soundingTime sounds es
+      → soundingTime sounds (edgeOf tones b r ++ pauseEntry tones b r ∷ es) ≡ r .pause + soundingTime sounds es
+  unfolding pauseOf entryOf time
+  end-passed e h =
+      ap (soundingTime sounds) (sym (append-assoc (edgeOf tones b r) (pauseEntry tones b r ∷ []) es))
+      ∙ sounding-behind sounds (endOf tones b r) es (rw (ne-eqb (r .endless) 1 e) (by-finite (edged r) _ _ _ _ _ _)) h
+      ∙ ap (λ (x : ℕ). x + soundingTime sounds es) (end-time tones b r [] e ∙ add-zero _)

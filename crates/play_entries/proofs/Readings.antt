@@ -2,10 +2,11 @@
 use Prim.Native.Nat.{ℕ}
 use mathlib.Core.Path.{_≡_, refl}
 use mathlib.Core.Bool.{true, false}
-use mathlib.Core.List.{List, [], _∷_, map}
+use mathlib.Core.List.{List, [], _∷_, _++_, map}
 use Rattle.law_pulses.specs.Play.{low, high, Entry, pulse, rest, over, statusHere, status, answer, time, comesTo}
 use Rattle.law_pulses.specs.Source.{Outcome, heard, source, sourced, reached, turns, turn, after}
 use Rattle.law_pulses.specs.Runs.{run}
+use Rattle.law_pulses.specs.Sounding.{endsAt, soundingTime}
 use Rattle.rows.specs.Rows.{decodeBlock}
 use Rattle.rows.proofs.Samples.{rowWords}
 use Rattle.play_entries.specs.declared.Phase.the-variants.{Tones, Pause}
@@ -14,7 +15,13 @@ use Rattle.play_entries.specs.declared.Duration.the-variants.{T}
 use Rattle.play_entries.specs.Entries.{Label, labelAt, entryOf, cyclesOf, isSingle, startLevel, cycleLevel, bitLevel, edged}
 use Rattle.play_entries.specs.Entries.{pauseLevel, toneOf, tonesOf, bitsAt, halfOf, byteOf, dataOf, pauseOf, soundOf}
 use Rattle.play_entries.specs.Entries.{entriesOf, lastsOf}
-use Rattle.play_entries.specs.Places.{listFrom}
+use Rattle.play_levels.specs.Closed.{timesOf}
+use Rattle.play_entries.specs.Places.{Tape, listFrom, loadTime}
+use Rattle.play_entries.specs.Mounted.{tapeOf}
+
+-- a document row: its first tone row, how many it has, its pause
+abbrev documentRow : ℕ → ℕ → ℕ → List ℕ
+documentRow tone tones pause = rowWords (tone ∷ tones ∷ 0 ∷ 0 ∷ 0 ∷ 0 ∷ 0 ∷ pause ∷ 0 ∷ 0 ∷ 0 ∷ 0 ∷ 0 ∷ 1 ∷ [])
 
 -- a reading: the tape's bytes, the tone table and the block row that it gives, and the T-states it is to have
 pub record TimeReading : Type 0 where
@@ -49,6 +56,20 @@ pub times-said : map (λ e. lastsOf (entriesOf (e .tape) (e .tones) 0 (decodeBlo
 unfolding lastsOf comesTo time entriesOf soundOf tonesOf toneOf cyclesOf isSingle startLevel cycleLevel bitLevel edged pauseLevel dataOf
     byteOf bitsAt halfOf pauseOf entryOf run
 times-said = refl
+
+-- the loading time, of tones of 400 T: a document row's closing pause doesn't count, neither its edge nor the rest; before a tone both do;
+-- a tone of no length behind it is no end
+abbrev pub loads : List (Tape × ℕ)
+loads =
+    (tapeOf [] (2 ∷ 100 ∷ 100 ∷ 2 ∷ []) (documentRow 0 1 7000) 1, 400) ∷
+    (tapeOf [] (2 ∷ 100 ∷ 100 ∷ 2 ∷ []) (documentRow 0 1 7000 ++ documentRow 0 1 7000) 2, 7800) ∷
+    (tapeOf [] (2 ∷ 100 ∷ 100 ∷ 2 ∷ 9 ∷ 0 ∷ 0 ∷ 2 ∷ []) (documentRow 0 1 7000 ++ documentRow 1 1 7000) 2, 400) ∷
+    []
+
+pub loads-said : map (λ e. loadTime (e .0)) loads ≡ map (λ e. e .1) loads
+unfolding soundingTime endsAt listFrom entriesOf soundOf tonesOf toneOf cyclesOf timesOf isSingle startLevel cycleLevel bitLevel edged
+    pauseLevel dataOf pauseOf entryOf run
+loads-said = refl
 
 -- a sole 12 of 100 and 4: its list, from its start
 abbrev sole : List (Entry Label)

@@ -3,8 +3,10 @@ use Prim.Native.Nat.{ℕ, _+_, _-_, min}
 use mathlib.Core.Bool.{Bool, true, false, not, _&&_, _||_}
 use mathlib.Core.List.{List, [], _∷_, _++_}
 use lib.Dec.{ltb, leb, eqb}
-use Rattle.law_pulses.specs.Play.{Level, Entry, pulse, endless, time}
+use Rattle.law_base.specs.Rules.{_⇒_, _∣_}
+use Rattle.law_pulses.specs.Play.{Level, Entry, pulse, endless}
 use Rattle.law_pulses.specs.Runs.{run}
+use Rattle.law_pulses.specs.Sounding.{soundingTime}
 use Rattle.rows.specs.Table.{get}
 use Rattle.rows.specs.Rows.{block}
 use Rattle.rows.specs.declared.Tone.{Tone}
@@ -39,9 +41,29 @@ byteIn w b pos = byteAt (w .bytes) (blockIn w b) pos
 unfoldable pub listFrom : Tape → ℕ → List (Entry Label)
 listFrom w b = run (λ i. entriesOf (w .bytes) (w .tones) i (blockIn w i)) b (w .count - b)
 
--- LOADING TIME: all entries up to the first stop or the end
-abbrev pub loadingTime : Tape → ℕ
-loadingTime w = time (listFrom w 0)
+-- whether an entry is of a tone or of data; else it is a start or of a pause
+abbrev pub isSound : Phase → Bool
+isSound Start = false
+isSound (Tones i p last-half) = true
+isSound (Data pos k last-half) = true
+isSound Edge = false
+isSound Pause = false
+
+abbrev pub sounds : Label → Bool
+sounds s = isSound (s .phase)
+
+-- from block b's start up to the end of the last tone or data entry with length before the first stop or the end; 0 if there is none
+abbrev pub loadFrom : Tape → ℕ → ℕ
+loadFrom w b = soundingTime sounds (listFrom w b)
+
+-- LOADING TIME: that from the tape's start
+abbrev pub loadTime : Tape → ℕ
+loadTime w = loadFrom w 0
+
+-- the time from a block's start by its row, the T-states of its sound and the time from the next block's: a stop's sound is the last;
+-- another's is, where nothing sounds behind it; else its sound and its pause are passed
+abbrev pub byRow : Block → ℕ → ℕ → ℕ
+byRow r sound later = eqb (r .endless) 1 ⇒ sound ∣ ltb 0 later ⇒ sound + r .pause + later ∣ sound
 
 -- from block b's pause on; from its edge; from its data byte at pos; from bit k of that byte; from its tone row i;
 -- from repetition p of that row

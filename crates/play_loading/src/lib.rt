@@ -5,11 +5,12 @@ ghost use mathlib.Core.Bool.{true, false};
 ghost use Prim.Native.Nat.{ℕ, _+_, _^_, _<_};
 ghost use Rattle.rows.specs.Well.{wellNumbers};
 ghost use Rattle.play_entries.specs.Places.{Tape};
-ghost use Rattle.play_loading.specs.Sums.{Sums, Sounds};
+ghost use Rattle.play_loading.specs.Sums.{endWith, Sums, Sounds};
 
-// What is summed up so far: the T-states up to the first stop, and whether it was met.
+// What is summed up so far: the T-states of all rows before the first stop, where the last sound among them ended, and whether a stop was met.
 pub struct Loading {
     pub sum: u64,
+    pub end: u64,
     pub over: bool,
 }
 
@@ -20,8 +21,20 @@ pub fn none() -> Loading
 {
     Loading {
         sum: 0,
+        end: 0,
         over: false,
     }
+}
+
+// Where the last sound ends, a row's included: a sound of no length is no end.
+fn end_with(s: Loading, sound: u64) -> u64
+    requires { ⌜ (s .sum < 2 ^ 63) × (sound < 2 ^ 50) ⌝ }
+    ensures { λ e. ⌜ e ≡ endWith s sound ⌝ }
+{
+    if 0 < sound {
+        return s.sum + sound;
+    }
+    s.end
 }
 
 // One row more, by its sound's T-states: what stands behind a stop isn't counted. Its callers know these to be those of a well-formed row.
@@ -33,14 +46,18 @@ pub fn one_more(s: Loading, sound: u64, r: Block) -> Loading
     if s.over {
         return s;
     }
+    let end = end_with(s, sound);
     if r.endless == 1 {
         return Loading {
-            sum: s.sum + sound,
+            sum: s.sum,
+            end,
             over: true,
         };
     }
+    let sum = s.sum + sound + r.pause;
     Loading {
-        sum: s.sum + sound + r.pause,
+        sum,
+        end,
         over: false,
     }
 }

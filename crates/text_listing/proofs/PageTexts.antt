@@ -8,7 +8,7 @@ use lib.ListN.{length, length-append}
 use lib.Dec.{eqb}
 use Rattle.text_out.specs.Out.{Wrote}
 use Rattle.text_out.proofs.Writing.{then}
-use Rattle.play_entries.specs.Places.{Tape, loadingTime}
+use Rattle.play_entries.specs.Places.{Tape, loadTime}
 use Rattle.play_entries.specs.Mounted.{tapeOf}
 use Rattle.load_tape.specs.declared.Format.{Format}
 use Rattle.load_tape.specs.declared.Format.the-variants.{Tap, Tzx}
@@ -39,7 +39,7 @@ count-long f n =
 pub loading-long : (w : Tape) → Long 7 26 (loadingText w)
 unfolding loadingText
 loading-long w =
-    let a = decimal-long (loadingTime w) in
+    let a = decimal-long (loadTime w) in
     record { low = simp length-append (omega arith); high = simp length-append (omega arith) }
 
 -- THE WHOLE TEXT, by its rows; there are at most 512
@@ -67,7 +67,7 @@ text-least m f w =
 
 -- what was written of the parts of the whole text
 pub listing-written : {d d1 d2 d3 d4 d5 : List ℕ} {o1 o2 o3 o4 o5 : ℕ} (m : ℕ) (f : Format) (w : Tape) (total : ℕ)
-    → total ≡ loadingTime w → Wrote d 0 (0x6D ∷ 0x6F ∷ 0x64 ∷ 0x65 ∷ 0x6C ∷ 0x20 ∷ []) d1 o1
+    → total ≡ loadTime w → Wrote d 0 (0x6D ∷ 0x6F ∷ 0x64 ∷ 0x65 ∷ 0x6C ∷ 0x20 ∷ []) d1 o1
     → Wrote d1 o1 (modelText m) d2 o2 → Wrote d2 o2 (countText f (w .count)) d3 o3 → Wrote d3 o3 (rowsText w (w .count)) d4 o4
     → Wrote d4 o4 (totalText total) d5 o5 → Wrote d 0 (listingText m f w) d5 o5
 unfolding listingText restText loadingText

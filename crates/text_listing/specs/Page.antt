@@ -4,7 +4,7 @@ use mathlib.Core.List.{List, _++_}
 use lib.Dec.{eqb}
 use Rattle.law_base.specs.Rules.{_⇒_, _∣_}
 use Rattle.text_out.specs.Out.{ascii, decimal}
-use Rattle.play_entries.specs.Places.{Tape, loadingTime}
+use Rattle.play_entries.specs.Places.{Tape, loadTime}
 use Rattle.load_tape.specs.declared.Format.{Format}
 use Rattle.load_tape.specs.declared.Format.the-variants.{Tap, Tzx}
 use Rattle.text_listing.specs.Lines.{rowsText}
@@ -27,9 +27,9 @@ countText format n =
     ascii " format " ++ formatText format
     ++ ascii " blocks " ++ decimal n ++ ascii "\n"
 
--- `time T`: all entries up to the first stop or the end
+-- `time T`: the loading time
 unfoldable pub loadingText : Tape → List ℕ
-loadingText w = ascii "time " ++ decimal (loadingTime w) ++ ascii "\n"
+loadingText w = ascii "time " ++ decimal (loadTime w) ++ ascii "\n"
 
 -- what follows the model's name
 unfoldable pub restText : Format → Tape → List ℕ

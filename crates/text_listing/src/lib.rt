@@ -20,7 +20,7 @@ ghost use Prim.Native.Nat.{ℕ, _+_, _^_, _<_, _≤_};
 ghost use lib.ListN.{length};
 ghost use lib.Dec.{eqb};
 ghost use Rattle.text_out.specs.Out.{Wrote};
-ghost use Rattle.play_entries.specs.Places.{loadingTime};
+ghost use Rattle.play_entries.specs.Places.{loadTime};
 ghost use Rattle.play_entries.specs.Mounted.{tapeOf};
 ghost use Rattle.play_loading.specs.Sums.{Sums};
 ghost use Rattle.text_name.specs.Names.{nameOf};
@@ -105,7 +105,7 @@ fn put_row(out: &mut [u8], s: Told, tape: &[u8], tones: &[u64], blocks: &[u64], 
     Told { at: b, load }
 }
 
-// The lines of the first n rows, and the loading time: all entries up to the first stop or the end; our crates alone call it.
+// The lines of the first n rows, and the loading time; our crates alone call it.
 pub fn put_rows(
     out: &mut [u8],
     at: usize,
@@ -118,7 +118,7 @@ pub fn put_rows(
     requires { ⌜ at ≤ 1024 ⌝ }
     ensures { λ q. ⌜ Wrote (now (out .entry))
         at (rowsText (tapeOf (now (tape .entry)) (now (tones .entry)) (now (blocks .entry)) n) n) (now (out .exit)) (q .at) ⌝ }
-    ensures { λ q. ⌜ q .load .sum ≡ loadingTime (tapeOf (now (tape .entry)) (now (tones .entry)) (now (blocks .entry)) n) ⌝ }
+    ensures { λ q. ⌜ q .load .end ≡ loadTime (tapeOf (now (tape .entry)) (now (tones .entry)) (now (blocks .entry)) n) ⌝ }
 {
     let load = none();
     let mut s = Told { at, load };

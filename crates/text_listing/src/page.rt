@@ -76,5 +76,5 @@ pub fn put_listing(
     let b = put_model(out, a, model);
     let c = put_count(out, b, format, n);
     let s = put_rows(out, c, tape, tones, blocks, n);
-    put_total(out, s.at, s.load.sum)
+    put_total(out, s.at, s.load.end)
 }

@@ -9,23 +9,24 @@ use Rattle.play_loading.proofs.one_more.Tie as tie
 returns : tie.Need-returns
 returns c = λ w b k. sums-stay (c .if1 .taken)
 
-add-t5 : tie.Need-add-t5
-add-t5 c = search needs
+end-with-requires : tie.Need-end-with-requires
+end-with-requires c κs = search needs
 
 returns-2 : tie.Need-returns-2
-returns-2 c = λ w b k. sums-stop k (c .before .before .before .if1 .left) (omega arith)
+returns-2 c = λ w b k. sums-stop k (c .before .before .before .if1 .left) (omega arith) (c .before .before .end-with .ensures)
 
-add-t6 : tie.Need-add-t6
-add-t6 c = search needs
+add-sum : tie.Need-add-sum
+add-sum c = search needs
 
-add-t7 : tie.Need-add-t7
-add-t7 c =
-    let s = c .before .before .before .before .before in
+add-sum-2 : tie.Need-add-sum-2
+add-sum-2 c =
+    let s = c .before .before .before .before .before .before in
     let n = numbers-most (s .args .r) (s .pre .1) in
     omega (arith, n .pause (omega arith))
 
 returns-3 : tie.Need-returns-3
-returns-3 c = λ w b k. sums-on k (c .before .before .before .before .if1 .left) (omega arith)
+returns-3 c =
+    λ w b k. sums-on k (c .before .before .before .before .before .if1 .left) (omega arith) (c .before .before .before .before .end-with .ensures)
 
 pub one-more-spec : {M : Type 1} → statement M
-one-more-spec = tie.close (tie.spec returns add-t5 returns-2 add-t6 add-t7 returns-3)
+one-more-spec = tie.close (tie.spec returns end-with-requires returns-2 add-sum add-sum-2 returns-3)

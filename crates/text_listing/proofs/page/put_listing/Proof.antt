@@ -70,7 +70,7 @@ returns c =
     let put-all = put-model .before .before .before .before in
     let a = put-all .before .before .before .before .before .before .before .args in
     let w = c .before .before .before .before .before .before .put-rows in
-    listing-written (a .model) (a .format) (tapeOf (a .tape .now) (a .tones .now) (a .blocks .now) (a .n)) (w .result .load .sum)
+    listing-written (a .model) (a .format) (tapeOf (a .tape .now) (a .tones .now) (a .blocks .now) (a .n)) (w .result .load .end)
     (w .ensures .1) (put-all .put-all .ensures) (put-model .put-model .ensures) (put-count .put-count .ensures) (w .ensures .0)
     (c .before .before .put-total .ensures)
 

@@ -271,7 +271,7 @@ static void queries(void) {
     answers(TIME, 0, WORDS(0, 400), "block 0 lasts 400");
     answers(TIME, 1, WORDS(0, 3500), "block 1 lasts 3,500");
     answers(TIME, 2, WORDS(1, 0), "block 2 never ends");
-    answers(LOADING, 0, WORDS(3900), "the loading time");
+    answers(LOADING, 0, WORDS(400), "the loading time ends with the last pulse");
     out_len = 4;
     answers(NAME, 2, WORDS(4), "block 2's name fits four bytes");
     check(out[0] == 's' && out[1] == 't' && out[2] == 'o' && out[3] == 'p' && out_kept(4), "  and is stop");

@@ -156,7 +156,9 @@ unsigned glyvrask_block_time(const unsigned char *tape, glyvrask_size tape_len,
                              glyvrask_word count, glyvrask_word i,
                              glyvrask_word *answer, glyvrask_size answer_len);
 
-/* All entries up to the first stop or the end. answer: 0 T-states. Refusals: 11, 10. */
+/* The loading time: up to the end of the last tone or data entry with length before the first stop or the end, 0 if there is
+ * none; a pause before that entry counts, one behind it doesn't. answer: 0 T-states. Refusals: 11, for any row up to the first
+ * stop or the end, 10. */
 unsigned glyvrask_loading_time(const unsigned char *tape, glyvrask_size tape_len,
                                const glyvrask_word *blocks, glyvrask_size blocks_len,
                                const glyvrask_word *tones, glyvrask_size tones_len,

@@ -170,7 +170,7 @@ tell_sample group.tzx
 call compare 'a tape.tzx'
 [ "$status" = 0 ] || bad 'comparing equal listings fails'
 grep -q '^All three models give the same listing' "$room/out" || bad 'equal listings are not said to be equal'
-grep -q 'the tape stops at block 5 (stop). Loading time, up to the first stop: 42358394 T-states (0 min 12.102 s)' "$room/out" || bad 'equal listings: no stop or time'
+grep -q 'the tape stops at block 5 (stop). Loading time, up to its last pulse before the first stop: 40608394 T-states (0 min 11.602 s)' "$room/out" || bad 'equal listings: no stop or time'
 if grep -q WARNING "$room/out"; then bad 'equal listings give a warning'; fi
 tell list 4 'refused 6'
 call compare 'a tape.tzx'

@@ -10,6 +10,7 @@ use lib.ListN.{replicate}
 use Rattle.cut_fields.specs.Field.{leAt, numberAt, fieldAt, placeOf}
 use Rattle.law_pulses.specs.Play.{time, comesTo, low, high, answer, rest, over, statusHere, status}
 use Rattle.law_pulses.specs.Runs.{run}
+use Rattle.law_pulses.specs.Sounding.{endsAt, soundingTime}
 use Rattle.rows.specs.Table.{tableOver}
 use Rattle.rows.specs.Well.{wellRanges, wellTone, wellNumbers, wellCases, wellTones, wellBlock}
 use Rattle.rows.proofs.Samples.{rowWords}
@@ -46,7 +47,7 @@ lists : (answerTo (listingOf [] 0) (replicate 99 0) ≡ 37) × (answerTo (listin
 unfolding countedAt comesTo leAt numberAt fieldAt placeOf startsAt headAt tapBlock tapAt empty _⟫_ addTones addBlock rowOf standardHeader
     standardCycles standardTones standardSound standardPause addRows addSound readOn seeing foldFrom headed readTzx tapOf tapSee readTap
     orTap orElse loadOf decimal digits isHeader sizeShown sizeName guessed nameOf unselected nameOne nameAll namedTape namedLoad loadNamed
-    blockTable toneTable tableOver time run entryOf cyclesOf isSingle startLevel cycleLevel bitLevel edged pauseLevel toneOf tonesOf dataOf
+    blockTable toneTable tableOver time soundingTime endsAt run entryOf cyclesOf isSingle startLevel cycleLevel bitLevel edged pauseLevel toneOf tonesOf dataOf
     pauseOf soundOf entriesOf lastsOf listFrom shown timeText markText rowText rowsText modelText formatText countText loadingText restText
     listingText loadedOf mounted listed listingOf answerTo
 lists = (refl, refl)

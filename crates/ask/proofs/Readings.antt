@@ -177,6 +177,6 @@ readings =
 pub readings-said : map (λ e. answered (e .0) (e .1) (e .2)) readings ≡ map (λ e. e .3) readings
 unfolding refusalOf numberUnless markUnless timeUnless sizeOf selectableOf timeOf lengthOrNoRoom nameAnswer nameBytes told loadingOf
     loadingIn formed firstBad wellRow wellBlock wellRanges wellNumbers wellCases wellTones wellTone nameOf guessed isHeader sizeName
-    sizeShown decimal digits lastsOf comesTo time soundingTime endsAt listFrom entriesOf soundOf tonesOf toneOf cyclesOf isSingle startLevel cycleLevel bitLevel
-    edged pauseLevel dataOf byteOf bitsAt halfOf pauseOf entryOf run
+    sizeShown decimal digits lastsOf comesTo time soundingTime endsAt listFrom entriesOf soundOf tonesOf toneOf cyclesOf isSingle
+    startLevel cycleLevel bitLevel edged pauseLevel dataOf byteOf bitsAt halfOf pauseOf entryOf run
 readings-said = refl

@@ -47,9 +47,9 @@ lists : (answerTo (listingOf [] 0) (replicate 99 0) ≡ 37) × (answerTo (listin
 unfolding countedAt comesTo leAt numberAt fieldAt placeOf startsAt headAt tapBlock tapAt empty _⟫_ addTones addBlock rowOf standardHeader
     standardCycles standardTones standardSound standardPause addRows addSound readOn seeing foldFrom headed readTzx tapOf tapSee readTap
     orTap orElse loadOf decimal digits isHeader sizeShown sizeName guessed nameOf unselected nameOne nameAll namedTape namedLoad loadNamed
-    blockTable toneTable tableOver time soundingTime endsAt run entryOf cyclesOf isSingle startLevel cycleLevel bitLevel edged pauseLevel toneOf tonesOf dataOf
-    pauseOf soundOf entriesOf lastsOf listFrom shown timeText markText rowText rowsText modelText formatText countText loadingText restText
-    listingText loadedOf mounted listed listingOf answerTo
+    blockTable toneTable tableOver time soundingTime endsAt run entryOf cyclesOf isSingle startLevel cycleLevel bitLevel edged pauseLevel
+    toneOf tonesOf dataOf pauseOf soundOf entriesOf lastsOf listFrom shown timeText markText rowText rowsText modelText formatText
+    countText loadingText restText listingText loadedOf mounted listed listingOf answerTo
 lists = (refl, refl)
 
 -- refusing all tapes

@@ -1,7 +1,7 @@
 -- THE LAST ENTRY THAT SOUNDS, over any list and any test of labels: what the time up to its end is, and that nothing else is; how it goes
 -- on through a list; and that playing takes from it what is played. Assumes nothing.
 use mathlib.Core.Path.{_≡_, refl, sym, ap, _∙_}
-use mathlib.Core.Bool.{Bool, true, false, _&&_}
+use mathlib.Core.Bool.{Bool, true, false, not, _&&_}
 use mathlib.Core.Logic.{_↔_, inl, inr, ⊎-elim}
 use mathlib.Core.List.{List, [], _∷_, _++_, append-assoc}
 use Prim.Native.Nat.{ℕ, zero, suc, _+_, _-_, _≤_, _<_}
@@ -189,33 +189,27 @@ module _ {A : Type 0} (p : A → Bool) where
     λ h. none-silent (rest es n) (sounding-left es n ∙ omega arith),
   )
 
-  -- entries of which each with length is taken
-  unfoldable pub Loud : List (Entry A) → Type 0
-  Loud [] = Unit
-  Loud (endless a v ∷ es) = Unit
-  Loud (pulse a v t ∷ es) = (p a ≡ false → t ≡ 0) × Loud es
+  pub silent-append : (xs ys : List (Entry A)) → Silent p xs → Silent p ys → Silent p (xs ++ ys)
+  unfolding Silent
+  silent-append [] ys q z = z
+  silent-append (endless a v ∷ xs) ys q z = tt
+  silent-append (pulse a v t ∷ xs) ys q z = (q .0, silent-append xs ys (q .1) z)
 
-  -- their time is it
-  pub sounding-loud : (es : List (Entry A)) → Loud es → soundingTime p es ≡ time es
-  unfolding soundingTime time Loud
-  sounding-loud [] l = refl
-  sounding-loud (endless a v ∷ es) l = refl
-  sounding-loud (pulse a v t ∷ es) l =
-      let e = sounding-loud es (l .1) in
-      ways (λ n. n ≡ t + time es) (p a) t (soundingTime p es)
-      (λ h. omega (arith, e)) (λ z _ _. omega (arith, e)) (λ z f. omega (arith, e, of (p a) f (l .0)))
-    where
-      of : (b : Bool) → (b ≡ true → t ≡ 0) → (b ≡ false → t ≡ 0) → t ≡ 0
-      of true f g = f refl
-      of false f g = g refl
+  pub run-silent : (item : ℕ → List (Entry A)) → ((i : ℕ) → Silent p (item i)) → (k m : ℕ) → Silent p (run item k m)
+  unfolding run Silent
+  run-silent item q k zero = tt
+  run-silent item q k (suc m) = silent-append (item k) (run item (k + 1) m) (q k) (run-silent item q (k + 1) m)
 
-  pub loud-append : (xs ys : List (Entry A)) → Loud xs → Loud ys → Loud (xs ++ ys)
-  unfolding Loud
-  loud-append [] ys l m = m
-  loud-append (endless a v ∷ xs) ys l m = tt
-  loud-append (pulse a v t ∷ xs) ys l m = (l .0, loud-append xs ys (l .1) m)
-
-  pub run-loud : (item : ℕ → List (Entry A)) → ((i : ℕ) → Loud (item i)) → (q m : ℕ) → Loud (run item q m)
-  unfolding run Loud
-  run-loud item l q zero = tt
-  run-loud item l q (suc m) = loud-append (item q) (run item (q + 1) m) (l q) (run-loud item l (q + 1) m)
+-- where no other entry has length, the list's time is it
+pub sounding-all : {A : Type 0} (p : A → Bool) (es : List (Entry A)) → Silent (λ a. not (p a)) es → soundingTime p es ≡ time es
+unfolding soundingTime time Silent
+sounding-all p [] q = refl
+sounding-all p (endless a v ∷ es) q = refl
+sounding-all p (pulse a v t ∷ es) q =
+    let e = sounding-all p es (q .1) in
+    ways (λ n. n ≡ t + time es) (p a) t (soundingTime p es)
+    (λ h. omega (arith, e)) (λ z _ _. omega (arith, e)) (λ z f. omega (arith, e, of (p a) f (q .0)))
+  where
+    of : (b : Bool) → (b ≡ true → t ≡ 0) → (not b ≡ true → t ≡ 0) → t ≡ 0
+    of true f g = f refl
+    of false f g = g refl

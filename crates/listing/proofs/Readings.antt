@@ -126,8 +126,12 @@ readings =
     lists 0 (pieces (0x14 ∷ 0x0A ∷ 0x00 ∷ 0x14 ∷ 0x00 ∷ 0x00 ∷ 0x05 ∷ 0x00 ∷ 0x01 ∷ 0x00 ∷ 0x00 ∷ 0x80 ∷ []))
     (text (ascii "model 48K format TZX blocks 1\n0 * 1 17540 1 bytes\ntime 40\n")) ∷
     -- and between sounds: of a pause block, and of a 14 without data
-    lists 0 (pieces (0x12 ∷ 0x64 ∷ 0x00 ∷ 0x04 ∷ 0x00 ∷ 0x20 ∷ 0x01 ∷ 0x00 ∷ 0x14 ∷ 0x0A ∷ 0x00 ∷ 0x14 ∷ 0x00 ∷ 0x08 ∷ 0x05 ∷ 0x00 ∷ 0x00 ∷ 0x00 ∷ 0x00 ∷ 0x12 ∷ 0x64 ∷ 0x00 ∷ 0x02 ∷ 0x00 ∷ []))
-    (text (ascii "model 48K format TZX blocks 4\n0 - 0 400 0 bytes\n1 - 0 3500 0 bytes\n2 * 0 17500 0 bytes\n3 - 0 200 0 bytes\ntime 21600\n")) ∷
+    lists 0
+    (pieces (0x12 ∷ 0x64 ∷ 0x00 ∷ 0x04 ∷ 0x00 ∷ 0x20 ∷ 0x01 ∷ 0x00 ∷ 0x14 ∷ 0x0A ∷ 0x00 ∷ 0x14 ∷ 0x00 ∷ 0x08 ∷ 0x05 ∷ 0x00 ∷ 0x00 ∷ 0x00 ∷
+    0x00 ∷ 0x12 ∷ 0x64 ∷ 0x00 ∷ 0x02 ∷ 0x00 ∷ []))
+    (text
+    (ascii "model 48K format TZX blocks 4\n0 - 0 400 0 bytes\n1 - 0 3500 0 bytes\n"
+    ++ ascii "2 * 0 17500 0 bytes\n3 - 0 200 0 bytes\ntime 21600\n")) ∷
     -- tapes/levels.tzx, where a 48K stops and a 128K plays on
     lists 0 (pieces levels)
     (text
@@ -150,8 +154,8 @@ unfolding leAt numberAt fieldAt placeOf times eachAt groupsAt countedAt passAt t
     standardPause turboTones pureTones pureToneTones pulseAt addRows rowOf standardSound turboSound pairSounds pureSound pauseSound addSound
     addSounds generalDeed stop48Deed does deedOf act readOn seeing foldFrom halted tooManyBits bitsJudged tzxOf tzxSee headed readTzx tapOf
     tapSee readTap orTap orElse loadOf decimal digits latin1 eachByte table encoded isHeader typeName headerName sizeShown sizeName guessed
-    nameOf unselected nameOne nameAll namedTape namedLoad loadNamed blockTable toneTable tableOver time soundingTime endsAt comesTo run entryOf cyclesOf
-    isSingle startLevel cycleLevel bitLevel edged pauseLevel toneOf tonesOf bitsAt halfOf byteOf dataOf pauseOf soundOf entriesOf lastsOf
-    listFrom shown timeText markText rowText rowsText modelText formatText countText loadingText restText listingText loadedOf mounted
-    listed listingOf
+    nameOf unselected nameOne nameAll namedTape namedLoad loadNamed blockTable toneTable tableOver time soundingTime endsAt comesTo run
+    entryOf cyclesOf isSingle startLevel cycleLevel bitLevel edged pauseLevel toneOf tonesOf bitsAt halfOf byteOf dataOf pauseOf soundOf
+    entriesOf lastsOf listFrom shown timeText markText rowText rowsText modelText formatText countText loadingText restText listingText
+    loadedOf mounted listed listingOf
 listings-said = refl

@@ -36,6 +36,17 @@ unfolding comesTo
 by-comes true es n a d v u m = refl
 by-comes false es n a d v u m = refl
 
+by-silence : (x : Bool) (b : ℕ) (v u : Level) (n m : ℕ) (es : List (Entry Label)) → soundingTime sounds es ≡ 0
+    → soundingTime sounds ((x ⇒ pulse (labelAt b Edge) v n ∷ [] ∣ []) ++ pulse (labelAt b Pause) u m ∷ es) ≡ 0
+unfolding soundingTime endsAt
+by-silence true b v u n m es z = rw z
+by-silence false b v u n m es z = rw z
+
+by-finite : (x : Bool) (a d : Label) (v u : Level) (n m : ℕ) → Finite ((x ⇒ pulse a v n ∷ [] ∣ []) ++ pulse d u m ∷ [])
+unfolding Finite
+by-finite true a d v u n m = tt
+by-finite false a d v u n m = tt
+
 module _ (tones : List ℕ) (b : ℕ) (r : Block) (es : List (Entry Label)) where
   pub end-time : (r .endless ≡ 1 → ⊥) → time (edgeOf tones b r ++ pauseEntry tones b r ∷ es) ≡ r .pause + time es
   unfolding pauseOf entryOf
@@ -53,19 +64,7 @@ module _ (tones : List ℕ) (b : ℕ) (r : Block) (es : List (Entry Label)) wher
   unfolding pauseOf entryOf comesTo
   end-comes e = rw (stop-edge r e, eq-eqb (r .endless) 1 e)
 
--- where nothing sounds behind it, or it never ends, nothing sounds; where something does, it is passed whole
-module _ (tones : List ℕ) (b : ℕ) (r : Block) (es : List (Entry Label)) where
-  by-silence : (x : Bool) (v u : Level) (n m : ℕ) → soundingTime sounds es ≡ 0
-      → soundingTime sounds ((x ⇒ pulse (labelAt b Edge) v n ∷ [] ∣ []) ++ pulse (labelAt b Pause) u m ∷ es) ≡ 0
-  unfolding soundingTime endsAt
-  by-silence true v u n m z = rw z
-  by-silence false v u n m z = rw z
-
-  by-finite : (x : Bool) (a d : Label) (v u : Level) (n m : ℕ) → Finite ((x ⇒ pulse a v n ∷ [] ∣ []) ++ pulse d u m ∷ [])
-  unfolding Finite
-  by-finite true a d v u n m = tt
-  by-finite false a d v u n m = tt
-
+  -- nothing sounds where nothing does behind it, or where it never ends; where something does, it is passed whole
   pub end-stop : r .endless ≡ 1 → soundingTime sounds (edgeOf tones b r ++ pauseEntry tones b r ∷ es) ≡ 0
   unfolding pauseOf entryOf soundingTime
   end-stop e = rw (stop-edge r e, eq-eqb (r .endless) 1 e)
@@ -73,12 +72,13 @@ module _ (tones : List ℕ) (b : ℕ) (r : Block) (es : List (Entry Label)) wher
   pub end-silent : (r .endless ≡ 1 → ⊥) → soundingTime sounds es ≡ 0
       → soundingTime sounds (edgeOf tones b r ++ pauseEntry tones b r ∷ es) ≡ 0
   unfolding pauseOf entryOf
-  end-silent e z = rw (ne-eqb (r .endless) 1 e) (by-silence (edged r) _ _ _ _ z)
+  end-silent e z = rw (ne-eqb (r .endless) 1 e) (by-silence (edged r) b _ _ _ _ es z)
 
   pub end-passed : (r .endless ≡ 1 → ⊥) → 0 < soundingTime sounds es
       → soundingTime sounds (edgeOf tones b r ++ pauseEntry tones b r ∷ es) ≡ r .pause + soundingTime sounds es
   unfolding pauseOf entryOf time
   end-passed e h =
+      let lasts : time (endOf tones b r) ≡ r .pause = rw (ne-eqb (r .endless) 1 e) (by-edge (edged r) _ _ _ _ (r .pause) [] ∙ add-zero _) in
       ap (soundingTime sounds) (sym (append-assoc (edgeOf tones b r) (pauseEntry tones b r ∷ []) es))
       ∙ sounding-behind sounds (endOf tones b r) es (rw (ne-eqb (r .endless) 1 e) (by-finite (edged r) _ _ _ _ _ _)) h
-      ∙ ap (λ (x : ℕ). x + soundingTime sounds es) (end-time tones b r [] e ∙ add-zero _)
+      ∙ ap (λ (x : ℕ). x + soundingTime sounds es) lasts

@@ -9,43 +9,46 @@ use mathlib.Core.List.{List, [], _∷_, _++_, append-assoc}
 use lib.Dec.{eqb, ltb}
 use Rattle.law_base.specs.Rules.{_⇒_, _∣_}
 use Rattle.law_pulses.specs.Play.{Level, Entry, pulse, stopped, ended, time, comesTo}
-use Rattle.law_pulses.specs.Sounding.{soundingTime}
+use Rattle.law_pulses.specs.Sounding.{soundingTime, Silent}
 use Rattle.law_pulses.proofs.Joined.{comes-append}
 use Rattle.law_pulses.proofs.Runs.{run-next}
-use Rattle.law_pulses.proofs.Sounding.{Loud, sounding-behind, sounding-before, sounding-loud, loud-append, run-loud}
+use Rattle.law_pulses.proofs.Sounding.{sounding-behind, sounding-before, sounding-all, silent-append, run-silent}
 use Rattle.rows.specs.declared.Tone.{Tone}
 use Rattle.rows.specs.declared.Block.{Block}
-use Rattle.play_entries.specs.Entries.{Label, labelAt, bitLevel, isSingle, cycleOf, toneOf, tonesOf, rowEntries, byteOf, dataOf, bitEntries}
-use Rattle.play_entries.specs.Entries.{byteEntries, cyclesOf, bitsAt, edgeOf, pauseEntry, soundOf, entriesOf}
+use Rattle.play_entries.specs.Entries.{Label, labelAt, bitLevel, isSingle, cycleOf, toneOf, rowEntries, tonesOf, byteOf}
+use Rattle.play_entries.specs.Entries.{byteEntries, dataOf, edgeOf, pauseEntry, soundOf, entriesOf}
 use Rattle.play_entries.specs.declared.Phase.the-variants.{Tones}
 use Rattle.play_entries.specs.Places.{Tape, blockIn, listFrom, fromPause, fromEdge, sounds, loadFrom, byRow}
 use Rattle.play_entries.proofs.Runs.{sound-finite}
 use Rattle.play_entries.proofs.Follows.{list-out}
 use Rattle.play_entries.proofs.Ends.{endOf, end-on, end-comes, end-stop, end-silent, end-passed}
 
--- OF A BLOCK'S SOUND each entry with length is of a tone or of data
+-- OF A BLOCK'S SOUND no entry with length is another than of a tone or of data
+abbrev others : Label → Bool
+others a = not (sounds a)
+
 module _ (tape tones : List ℕ) (b : ℕ) (r : Block) where
-  cycle-loud : (i : ℕ) (t : Tone) (v : ℕ → Level) (p : ℕ) → Loud sounds (cycleOf b i r t v p)
-  unfolding Loud
-  cycle-loud i t v p = (λ e. cc, of (isSingle r t) (not (v p)) (t .len2))
+  cycle-all : (i : ℕ) (t : Tone) (v : ℕ → Level) (p : ℕ) → Silent others (cycleOf b i r t v p)
+  unfolding Silent
+  cycle-all i t v p = (λ e. cc, of (isSingle r t) (not (v p)) (t .len2))
     where
-      of : (x : Bool) (u : Level) (n : ℕ) → Loud sounds (x ⇒ [] ∣ pulse (labelAt b (Tones i p true)) u n ∷ [])
+      of : (x : Bool) (u : Level) (n : ℕ) → Silent others (x ⇒ [] ∣ pulse (labelAt b (Tones i p true)) u n ∷ [])
       of true u n = tt
       of false u n = (λ e. cc, tt)
 
-  tones-loud : Loud sounds (tonesOf tones b r)
+  tones-all : Silent others (tonesOf tones b r)
   unfolding tonesOf toneOf
-  tones-loud = run-loud sounds (rowEntries tones b r) (λ i. run-loud sounds _ (cycle-loud i _ _) 0 _) 0 (r .tones)
+  tones-all = run-silent others (rowEntries tones b r) (λ i. run-silent others _ (cycle-all i _ _) 0 _) 0 (r .tones)
 
-  data-loud : (c : Level) → Loud sounds (dataOf tape b r c)
-  unfolding dataOf byteOf Loud
-  data-loud c =
-      run-loud sounds (byteEntries tape b r c) (λ pos. run-loud sounds _ (λ k. ((λ e. cc), ((λ e. cc), tt))) 0 _) 0 (r .size)
+  data-all : (c : Level) → Silent others (dataOf tape b r c)
+  unfolding dataOf byteOf Silent
+  data-all c =
+      run-silent others (byteEntries tape b r c) (λ pos. run-silent others _ (λ k. ((λ e. cc), ((λ e. cc), tt))) 0 _) 0 (r .size)
 
-  sound-loud : Loud sounds (soundOf tape tones b r)
-  unfolding soundOf Loud
-  sound-loud =
-      (λ e. refl, loud-append sounds (tonesOf tones b r) (dataOf tape b r (bitLevel tones r)) tones-loud (data-loud (bitLevel tones r)))
+  sound-all : Silent others (soundOf tape tones b r)
+  unfolding soundOf Silent
+  sound-all =
+      (λ e. refl, silent-append others (tonesOf tones b r) (dataOf tape b r (bitLevel tones r)) tones-all (data-all (bitLevel tones r)))
 
   -- so entries behind it, if they sound, stand behind all of it; if not, its own time is it
   sound-behind : (es : List (Entry Label)) → 0 < soundingTime sounds es
@@ -55,7 +58,7 @@ module _ (tape tones : List ℕ) (b : ℕ) (r : Block) where
   sound-last : (es : List (Entry Label)) → soundingTime sounds es ≡ 0
       → soundingTime sounds (soundOf tape tones b r ++ es) ≡ time (soundOf tape tones b r)
   sound-last es z =
-      sounding-before sounds (soundOf tape tones b r) es (sound-finite tape tones b r) z ∙ sounding-loud sounds _ sound-loud
+      sounding-before sounds (soundOf tape tones b r) es (sound-finite tape tones b r) z ∙ sounding-all sounds _ sound-all
 
 module _ (w : Tape) (b : ℕ) where
   -- past the last block

@@ -7,7 +7,7 @@ ghost use Rattle.rows.specs.Well.{wellNumbers};
 ghost use Rattle.play_entries.specs.Places.{Tape};
 ghost use Rattle.play_loading.specs.Sums.{endWith, Sums, Sounds};
 
-// What is summed up so far: the T-states of all rows before the first stop, where the last sound among them ended, and whether a stop was met.
+// What is summed up so far: the T-states of all rows before the first stop, where the last sound ended, and whether a stop was met.
 pub struct Loading {
     pub sum: u64,
     pub end: u64,

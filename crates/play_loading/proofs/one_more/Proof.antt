@@ -13,7 +13,9 @@ end-with-requires : tie.Need-end-with-requires
 end-with-requires c κs = search needs
 
 returns-2 : tie.Need-returns-2
-returns-2 c = λ w b k. sums-stop k (c .before .before .before .if1 .left) (omega arith) (c .before .before .end-with .ensures)
+returns-2 c =
+    let e = c .before .before in
+    λ w b k. sums-stop k (e .before .if1 .left) (omega arith) (e .end-with .ensures)
 
 add-sum : tie.Need-add-sum
 add-sum c = search needs
@@ -26,7 +28,8 @@ add-sum-2 c =
 
 returns-3 : tie.Need-returns-3
 returns-3 c =
-    λ w b k. sums-on k (c .before .before .before .before .before .if1 .left) (omega arith) (c .before .before .before .before .end-with .ensures)
+    let e = c .before .before .before .before in
+    λ w b k. sums-on k (e .before .if1 .left) (omega arith) (e .end-with .ensures)
 
 pub one-more-spec : {M : Type 1} → statement M
 one-more-spec = tie.close (tie.spec returns end-with-requires returns-2 add-sum add-sum-2 returns-3)

@@ -101,9 +101,9 @@ enum {
 #define GLYVRASK_PAST_END 4294967295u
 
 /* The listing as text into `out`, last the loading time as glyvrask_loading_time has it: its length, or a refusal's number. No
- * text is shorter than 37 bytes and no number is above 11, so below 32 it is a refusal. `tape` has at most 65,535 bytes; model 0 is the 48K, 1 the 128K, 2 the Plus3. Bytes of `out` past
- * the text stay. Its own tables, 512 block and 2,048 tone rows, take 8 * (512 * GLYVRASK_BLOCK_WORDS + 2048 *
- * GLYVRASK_TONE_WORDS) bytes of stack. Refusals: 1, 2, 3 to 7, 10. */
+ * text is shorter than 37 bytes and no number is above 11, so below 32 it is a refusal. `tape` has at most 65,535 bytes; model 0
+ * is the 48K, 1 the 128K, 2 the Plus3. Bytes of `out` past the text stay. Its own tables, 512 block and 2,048 tone rows, take
+ * 8 * (512 * GLYVRASK_BLOCK_WORDS + 2048 * GLYVRASK_TONE_WORDS) bytes of stack. Refusals: 1, 2, 3 to 7, 10. */
 unsigned glyvrask_listing(const unsigned char *tape, glyvrask_size tape_len, unsigned model,
                           unsigned char *out, glyvrask_size out_len);
 

@@ -187,6 +187,10 @@ tell list 3 "model Plus3 format TZX blocks 2${nl}0 - 0 12600001750 x${nl}1 * 0 s
 call compare 'a tape.tzx'
 grep -q '^On the 48K only, the tape stops at block 0 (stop), block 3 (a\\tb\\c %s):' "$room/out" || bad 'stops of the 48K alone are not told from others'
 grep -q '^- 128K and Plus3: the tape stops at block 1 (stop).*: 12600001750 T-states (60 min 0.001 s)' "$room/out" || bad 'minutes and seconds'
+grep -q '^- 48K: the tape stops at block 0 (stop), .*\. Loading time 0: it has no pulse before the first stop\.$' "$room/out" || bad 'no pulse before the first stop'
+for model in 4:48K 1:128K 3:Plus3; do tell list "${model%:*}" "model ${model#*:} format TZX blocks 1${nl}0 - 0 3500 0 bytes${nl}time 0"; done
+call compare 'a tape.tzx'
+grep -qx -- '- 48K, 128K and Plus3: the tape never stops. Loading time 0: it has no pulse.' "$room/out" || bad 'no pulse at all'
 
 # a reader that goes away leaves nothing behind either
 tell list 4 "$(seq 20000)"

@@ -82,7 +82,7 @@ nameAnswer w i out = numberUnless (refusalOf w i) (lengthOrNoRoom (nameIn w i) o
 unfoldable pub nameBytes : Tape → ℕ → List ℕ → List ℕ
 nameBytes w i out = eqb (refusalOf w i) 0 ⇒ told (nameIn w i) out ∣ out
 
--- LOADING TIME. Of the rows up to and including the first stop each is needed, and none beyond:
+-- LOADING TIME. Of the rows up to and including the first stop each is needed, also behind the last pulse, and none beyond:
 -- v is the tape up to the first row that is not well formed, and a list that ends where v is cut has come to that row
 unfoldable pub loadingIn : Tape → Tape → Number
 loadingIn w v =

@@ -64,7 +64,7 @@ module _ {K : Parsed → Type 0} where
   unfolding readOn halted
   after-keeps k (sure {t = t} h) f = f t h
   after-keeps k (none {k = Refusal j}) f = refused
-  after-keeps k (none {k = Length n}) f = failed
+  after-keeps k (none {k = Length kind at n}) f = failed
 
   seeing-keeps : {x : See} (k : ℕ → Parsed → Verdict) → Safe K x → ((at : ℕ) (t : Parsed) → K t → Final K (k at t))
       → (t : Parsed) → K t → Final K (seeing x t k)

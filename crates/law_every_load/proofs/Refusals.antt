@@ -43,7 +43,7 @@ pub record Between (lo hi k : ℕ) : Type 0 where
 pub data HaltsBy (lo hi : ℕ) : Out → Type 0 where
   goes : {t : Parsed} → HaltsBy lo hi (on t)
   says : {k : ℕ} → Between lo hi k → HaltsBy lo hi (halt (Refusal k))
-  fails : {n : ℕ} → HaltsBy lo hi (halt (Length n))
+  fails : {kind at n : ℕ} → HaltsBy lo hi (halt (Length kind at n))
 
 pub data Sees (lo hi : ℕ) : See → Type 0 where
   ends : Sees lo hi theEnd

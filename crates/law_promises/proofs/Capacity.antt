@@ -373,7 +373,7 @@ module _ (s : List ℕ) (model : ℕ) where
 data Free : Out → Type 0 where
   goes : {t : Parsed} → Free (on t)
   panicked : Free (halt (Refusal generalised))
-  erred : {n : ℕ} → Free (halt (Length n))
+  erred : {kind at n : ℕ} → Free (halt (Length kind at n))
 
 data Clear : Verdict → Type 0 where
   whole : {t : Parsed} → Clear (done t)

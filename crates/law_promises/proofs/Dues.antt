@@ -64,12 +64,12 @@ never-four fails e = let z : _≡_ {A = ℕ} 0 1 = cc in absurd (omega arith)
 halted-by : (j : Halt) (k : ℕ) → halted j ≡ refused k → j ≡ Refusal k
 unfolding halted
 halted-by (Refusal j) k e = let z : j ≡ k = cc in ap Refusal z
-halted-by (Length n) k e = let z : _≡_ {A = ℕ} 0 1 = cc in absurd (omega arith)
+halted-by (Length kind at n) k e = let z : _≡_ {A = ℕ} 0 1 = cc in absurd (omega arith)
 
 halted-never : (j : Halt) {u : Parsed} → halted j ≡ done u → ⊥
 unfolding halted
 halted-never (Refusal j) e = let z : _≡_ {A = ℕ} 0 1 = cc in omega arith
-halted-never (Length n) e = let z : _≡_ {A = ℕ} 0 1 = cc in omega arith
+halted-never (Length kind at n) e = let z : _≡_ {A = ℕ} 0 1 = cc in omega arith
 
 -- the piece is a generalised one, and refused by 4
 unfoldable panicking : Deed → Bool

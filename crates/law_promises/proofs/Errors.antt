@@ -30,12 +30,12 @@ due-bad (ends e) q = let z : _≡_ {A = ℕ} 0 1 = cc in absurd (omega arith)
 due-bad (errs e) q = short e
 due-bad (stands e) q = let z : _≡_ {A = ℕ} 0 1 = cc in absurd (omega arith)
 due-bad (answers {k = Refusal j} e d) q = let z : _≡_ {A = ℕ} 0 1 = cc in absurd (omega arith)
-due-bad (answers {k = Length n} e d) q = length48 e d
+due-bad (answers {k = Length kind at n} e d) q = length48 e d
 
 bad-due : {see : ℕ → See} {at : ℕ} {t : Parsed} → Comes see (Bad see) at t → (f : Failure) × Comes see (Due see (failed f)) at t
 unfolding halted
 bad-due (here (short {f = f} e)) = (f, here (errs e))
-bad-due (here (length48 {n = n} e d)) = (failure.Length n, here (answers {k = Length n} e d))
+bad-due (here (length48 {kind = kind} {from = from} {n = n} e d)) = (failure.Length kind from n, here (answers {k = Length kind from n} e d))
 bad-due (past e d c) = let x = bad-due c in (x .0, past e d (x .1))
 
 -- judging alters no error

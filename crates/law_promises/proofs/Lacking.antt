@@ -287,7 +287,7 @@ module _ (lent : Lent) where
       of (Open start times) =
           copies-add times (drop start (t .blocks)) (withBody Closed t) (record { blocks = w .blocks; tones = w .tones })
   deed-adds model origin panics t w = adds-halted (Refusal generalised) (λ k h e. let z : generalised ≡ k = cc in omega arith)
-  deed-adds model origin (errs n) t w = adds-halted (Length n) (λ k h e. let z : _≡_ {A = ℕ} 0 1 = cc in omega arith)
+  deed-adds model origin (errs n) t w = adds-halted (Length (origin .kind) (origin .place) n) (λ k h e. let z : _≡_ {A = ℕ} 0 1 = cc in omega arith)
 
   -- a piece
   pub act-adds : (s : List ℕ) (model : ℕ) (origin : Origin) (p : Piece) (t : Parsed) → Within lent t

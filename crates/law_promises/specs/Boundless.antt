@@ -62,14 +62,14 @@ boundlessDoes model origin groupEnds t = endGroup t
 boundlessDoes model origin (opens n) t = openLoop n t
 boundlessDoes model origin closes t = on (withLooped (t .body) t)
 boundlessDoes model origin panics t = halt (Refusal generalised)
-boundlessDoes model origin (errs n) t = halt (Length n)
+boundlessDoes model origin (errs n) t = halt (Length (origin .kind) (origin .place) n)
 
 module _ (s : List ℕ) where
   unfoldable pub boundlessPiece : ℕ → ℕ → Taken → See
   boundlessPiece model at taken.End = theEnd
   boundlessPiece model at (taken.Whole kind from next piece) = thing next (boundlessDoes model (originAt kind from) (deedOf s piece))
   boundlessPiece model at (taken.Unknown kind described) = thing (at + 1) on
-  boundlessPiece model at (taken.Short kind p w) = bad (failure.ShortPiece kind p w)
+  boundlessPiece model at (taken.Short kind p w) = bad (failure.ShortPiece kind at p w)
   boundlessPiece model at (taken.Overflow kind p) = refuses generalised
 
   unfoldable pub boundlessTzx : ℕ → Heading → Verdict

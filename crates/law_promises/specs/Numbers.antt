@@ -62,7 +62,7 @@ ByTap lent s P = Comes (tapSee lent s) P 0 empty
 -- 3: what stands here errs: a short read, or a 2A of another length than 0
 pub data Bad (see : ℕ → See) (at : ℕ) (t : Parsed) : Type 0 where
   short : {f : Failure} → see at ≡ bad f → Bad see at t
-  length48 : {next n : ℕ} {does : Parsed → Out} → see at ≡ thing next does → does t ≡ no (Length n) → Bad see at t
+  length48 : {next kind from n : ℕ} {does : Parsed → Out} → see at ≡ thing next does → does t ≡ no (Length kind from n) → Bad see at t
 
 -- 7: a block with data has last bits above 8
 pub data Overlong : List Block → Type 0 where

@@ -63,7 +63,7 @@ went : {K : Parsed → Type 0} {o : Out} {u : Parsed} (k : Parsed → Verdict) �
 unfolding readOn halted
 went k (sure {t = t} h) e = record { tape = t; has = h; then = e }
 went k (none {k = Refusal j}) e = absurd (let z : _≡_ {A = ℕ} 0 1 = cc in omega arith)
-went k (none {k = Length n}) e = absurd (let z : _≡_ {A = ℕ} 0 1 = cc in omega arith)
+went k (none {k = Length kind at n}) e = absurd (let z : _≡_ {A = ℕ} 0 1 = cc in omega arith)
 
 -- the end is the end to both
 named-on : (kind at : ℕ) (b : Body) → takenAs kind at b ≡ taken.End → ⊥

@@ -32,7 +32,7 @@ heardIn unsaid = nothing
 unfoldable pub playedBy : List ℕ → Out → HeardOn
 playedBy s (on t) = plays (lasting (lengths (entriesFrom s (tableOf tone (t .tones) 0) 0 (t .blocks))))
 playedBy s (halt (Refusal k)) = refused k
-playedBy s (halt (Length n)) = errs
+playedBy s (halt (Length kind at n)) = errs
 
 abbrev pub most : Lent
 most = record { blocks = 4096; tones = 65536 }

@@ -48,7 +48,7 @@ does lent model origin groupEnds t = endGroup t
 does lent model origin (opens n) t = openLoop n t
 does lent model origin closes t = closeLoop (lent .blocks) t
 does lent model origin panics t = no (Refusal generalised)
-does lent model origin (errs n) t = no (Length n)
+does lent model origin (errs n) t = no (Length (origin .kind) (origin .place) n)
 
 -- the blocks of a deed
 unfoldable pub soundsOf : Deed → List Sound

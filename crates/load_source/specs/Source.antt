@@ -5,7 +5,7 @@ use mathlib.Core.Bool.{Bool, true, false, _&&_}
 use mathlib.Core.List.{List, [], _∷_}
 use lib.ListN.{length}
 use lib.Dec.{ltb, leb}
-use Rattle.refusals.specs.Refusals.{badModel, tapeLong, tapeBad, generalised, lastBits}
+use Rattle.refusals.specs.Refusals.{badModel, tapeLong, generalised, lastBits}
 use Rattle.law_base.specs.Rules.{_⇒_, _∣_}
 use Rattle.rows.specs.declared.Block.{Block}
 use Rattle.cut_grammar.specs.declared.Piece.{Piece}
@@ -48,7 +48,7 @@ pub data Verdict : Type 0 where
 -- a reading that halts: by a refusal, or by a failure
 unfoldable pub halted : Halt → Verdict
 halted (Refusal j) = refused j
-halted (Length n) = failed (failure.Length n)
+halted (Length kind at n) = failed (failure.Length kind at n)
 
 unfoldable pub readOn : Out → (Parsed → Verdict) → Verdict
 readOn (on t) k = k t
@@ -89,7 +89,7 @@ module _ (lent : Lent) (s : List ℕ) where
   tzxOf model at taken.End = theEnd
   tzxOf model at (taken.Whole kind from next piece) = thing next (act lent s model (originAt kind from) piece)
   tzxOf model at (taken.Unknown kind described) = thing (at + 1) on
-  tzxOf model at (taken.Short kind p w) = bad (failure.ShortPiece kind p w)
+  tzxOf model at (taken.Short kind p w) = bad (failure.ShortPiece kind at p w)
   tzxOf model at (taken.Overflow kind p) = refuses generalised
 
   unfoldable pub tzxSee : ℕ → ℕ → See
@@ -119,22 +119,23 @@ module _ (lent : Lent) (s : List ℕ) where
   unfoldable pub readTap : Verdict
   readTap = foldFrom tapSee (length s) 0 empty
 
--- a load's answer: the tape in its format, or the refusal's number alone
+-- a load's answer: the tape in its format; why TZX and TAP reading err, where both do, which is 3; or the refusal's number alone
 pub data Load : Type 0 where
   tzx : Parsed → Load
   tapped : Parsed → Load
+  bothErr : Failure → Failure → Load
   no : ℕ → Load
 
--- 3: TZX and TAP reading both err
-unfoldable pub orTap : Verdict → Load
-orTap (done t) = tapped t
-orTap (failed f) = no tapeBad
-orTap (refused j) = no j
+-- the TAP reading of what failed as TZX by f
+unfoldable pub orTap : Failure → Verdict → Load
+orTap f (done t) = tapped t
+orTap f (failed g) = bothErr f g
+orTap f (refused j) = no j
 
 -- a short read or bad signature is an error, and the same bytes are read as TAP; 4 to 7 don't fall back
 unfoldable pub orElse : Verdict → Verdict → Load
 orElse (done t) other = tzx t
-orElse (failed f) other = orTap other
+orElse (failed f) other = orTap f other
 orElse (refused j) other = no j
 
 -- load checks 1, 2, then reads

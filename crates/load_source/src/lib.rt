@@ -31,13 +31,25 @@ ghost use Rattle.load_source.specs.Source.{act, halted};
 ghost use Rattle.load_blocks.specs.Does.{Does};
 ghost use Rattle.load_source.specs.Does.{Fit, Finds};
 
-// Why a reading failed: a bad signature; the first field that came up short, in the piece of this kind or in none (a head, a TAP);
-// or a 2A of a length that is not 0.
+// Why a reading failed: a bad signature; the first field that came up short, in no piece (a head, a TAP) or in the piece of this kind,
+// whose kind byte stands at `at`; or such a piece, a 2A, has a length that is not 0.
 pub enum Failure {
     BadSignature,
-    Short { place: u64, width: u64 },
-    ShortPiece { kind: u8, place: u64, width: u64 },
-    Length { length: u32 },
+    Short {
+        place: u64,
+        width: u64,
+    },
+    ShortPiece {
+        kind: u8,
+        at: u64,
+        place: u64,
+        width: u64,
+    },
+    Length {
+        kind: u8,
+        at: u64,
+        length: u32,
+    },
 }
 
 // A reading's answer: the state at the end of the tape, a failure, or the refusal's number.
@@ -53,7 +65,9 @@ pub fn halted(k: Halt) -> Reading
 {
     match k {
         Halt::Refusal(number) => Reading::Refused(number),
-        Halt::Length(length) => Reading::Failed(Failure::Length { length }),
+        Halt::Length { kind, at, length } => {
+            Reading::Failed(Failure::Length { kind, at, length })
+        }
     }
 }
 

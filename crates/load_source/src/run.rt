@@ -50,7 +50,12 @@ pub fn read_pieces(tape: &[u8], model: u32, blocks: &mut [u64], tones: &mut [u64
                 described: _,
             } => at += 1,
             Taken::Short { kind, place, width } => {
-                return Reading::Failed(Failure::ShortPiece { kind, place, width });
+                return Reading::Failed(Failure::ShortPiece {
+                    kind,
+                    at,
+                    place,
+                    width,
+                });
             }
             Taken::Overflow { kind: _, place: _ } => return Reading::Refused(GENERALISED),
         }

@@ -56,7 +56,7 @@ words r = r .tone ∷ r .tones ∷ r .pause ∷ r .endless ∷ r .selectable ∷
 abbrev shown : Out → ℕ × List (List ℕ)
 shown (on t) = (0, map words (t .blocks))
 shown (no (Refusal k)) = (k, [])
-shown (no (Length n)) = (0, [])
+shown (no (Length kind at n)) = (0, [])
 
 -- the words of a, of b (and of its copy, which is no different), of a stop, and of a copy of a and of a stop
 abbrev A : List ℕ

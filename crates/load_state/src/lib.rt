@@ -38,10 +38,10 @@ pub struct State {
     pub body: Loop,
 }
 
-// Why a reading halts: a refusal's number; or a 2A of this length, which is not 0: a failure.
+// Why a reading halts: a refusal's number; or the piece of this kind at this place, a 2A, has a length that is not 0: a failure.
 pub enum Halt {
     Refusal(u32),
-    Length(u32),
+    Length { kind: u8, at: u64, length: u32 },
 }
 
 // A step's answer: the next state, or why there is none.

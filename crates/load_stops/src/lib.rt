@@ -38,7 +38,11 @@ pub fn stop_on_48(model: u32, s: State, blocks: &mut [u64], origin: Origin, leng
         → Does (λ lent. does lent model origin (stop48Deed length)) s x (now (blocks .entry)) tt (now (blocks .exit)) tt) ⌝ }
 {
     if length != 0 {
-        return Step::No(Halt::Length(length));
+        return Step::No(Halt::Length {
+            kind: origin.kind,
+            at: origin.place,
+            length,
+        });
     }
     if model == 0 {
         return stop_block(s, blocks, origin);

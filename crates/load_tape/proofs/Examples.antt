@@ -26,7 +26,7 @@ use Rattle.load_blocks.specs.Adds.{Lent, addRows}
 use Rattle.load_blocks.specs.Deeds.{generalDeed, stop48Deed, does}
 use Rattle.load_source.specs.Meaning.{deedOf}
 use Rattle.load_source.specs.Source.{act, readOn, seeing, foldFrom, halted, tooManyBits, bitsJudged, tzxOf, tzxSee, headed, readTzx, tapOf}
-use Rattle.load_source.specs.Source.{tapSee, readTap, Load, tzx, tapped, no, orTap, orElse, loadOf}
+use Rattle.load_source.specs.Source.{tapSee, readTap, Load, tzx, tapped, bothErr, no, orTap, orElse, loadOf}
 use Rattle.text_out.specs.Out.{decimal, digits, latin1, eachByte}
 use Rattle.text_codes.specs.Encoding.{table, encoded}
 use Rattle.text_name.specs.Headers.{typeName, headerName as namedAs}
@@ -65,6 +65,7 @@ refusal k = ((k ∷ []) ∷ []) ∷ []
 abbrev view : List ℕ → Load → View
 view s (tzx t) = taken 1 (map encodeBlock (t .blocks)) (map encodeTone (t .tones)) (map (nameOf s) (t .blocks))
 view s (tapped t) = taken 0 (map encodeBlock (t .blocks)) (map encodeTone (t .tones)) (map (nameOf s) (t .blocks))
+view s (bothErr f g) = refusal tapeBad
 view s (no k) = refusal k
 
 -- a nameless block's words: tone, tones, start, size, zero, one, last, pause, selectable

@@ -5,20 +5,19 @@ use mathlib.Core.Bool.{false}
 use mathlib.Core.List.{List}
 use lib.ListN.{length, length-replicate}
 use lib.Dec.{leb, ltb}
-use Rattle.refusals.specs.Refusals.{tapeBad}
 use Rattle.rows.specs.Table.{zeros}
 use Rattle.load_state.specs.declared.State.{State}
 use Rattle.load_source.specs.declared.Failure.{Failure}
 use Rattle.load_source.specs.declared.Reading.{Reading}
 use Rattle.load_source.specs.declared.Reading.the-variants.{Done, Failed, Refused}
 use Rattle.load_blocks.specs.Adds.{Lent}
-use Rattle.load_source.specs.Source.{Verdict, Load, no, orTap, orElse, readTzx, readTap, loadOf}
+use Rattle.load_source.specs.Source.{Verdict, Load, bothErr, no, orTap, orElse, readTzx, readTap, loadOf}
 use Rattle.load_blocks.specs.Does.{lentOf}
 use Rattle.load_source.specs.Does.{Blank, Finds}
 use Rattle.load_source.proofs.Judged.{found-done, found-failed, found-refused}
 use Rattle.load_tape.specs.declared.Format.the-variants.{Tap, Tzx}
 use Rattle.load_tape.specs.declared.Loaded.{Loaded}
-use Rattle.load_tape.specs.declared.Loaded.the-variants.{Tape, Refused as No}
+use Rattle.load_tape.specs.declared.Loaded.the-variants.{Tape, Unread, Refused as No}
 use Rattle.load_tape.specs.Load.{answerOf, blockTable, toneTable, Leaves}
 
 -- any two outcomes that the contract permits are equal
@@ -33,22 +32,26 @@ pub no-leaves : {B N k : ℕ} {bt tt : List ℕ} → bt ≡ zeros B → tt ≡ z
 unfolding answerOf blockTable toneTable
 no-leaves b t = record { answer = refl; blocks = b; tones = t }
 
+pub both-leave : {B N : ℕ} {f g : Failure} {bt tt : List ℕ} → bt ≡ zeros B → tt ≡ zeros N → Leaves B N (bothErr f g) (Unread f g) bt tt
+unfolding answerOf blockTable toneTable
+both-leave b t = record { answer = refl; blocks = b; tones = t }
+
 module _ {B N : ℕ} {r : Reading} {bt tt : List ℕ} {o : Verdict} (f : Finds B N r bt tt o) where
-  pub tap-leaves : {s : State} → r ≡ Done s → Leaves B N (orTap o) (Tape Tap (s .blocks) (s .tones)) bt tt
+  pub tap-leaves : (x : Failure) {s : State} → r ≡ Done s → Leaves B N (orTap x o) (Tape Tap (s .blocks) (s .tones)) bt tt
   unfolding orTap answerOf blockTable toneTable
-  tap-leaves {s} e =
+  tap-leaves x {s} e =
       let d = found-done f e in
       let n : Tape Tap (s .blocks) (s .tones) ≡ Tape Tap (length (d .0 .blocks)) (length (d .0 .tones)) =
       ap (λ (x : ℕ). Tape Tap x (s .tones)) (d .2 .nb) ∙ ap (λ (x : ℕ). Tape Tap (length (d .0 .blocks)) x) (d .2 .nt) in
       rw (d .1) (record { answer = n; blocks = d .2 .isB; tones = d .2 .isT })
 
-  pub tap-fails : {x : Failure} → r ≡ Failed x → orTap o ≡ no tapeBad
+  pub tap-fails : (x : Failure) {y : Failure} → r ≡ Failed y → orTap x o ≡ bothErr x y
   unfolding orTap
-  tap-fails e = rw (found-failed f e)
+  tap-fails x e = rw (found-failed f e)
 
-  pub tap-refuses : {k : ℕ} → r ≡ Refused k → orTap o ≡ no k
+  pub tap-refuses : (x : Failure) {k : ℕ} → r ≡ Refused k → orTap x o ≡ no k
   unfolding orTap
-  tap-refuses e = rw (found-refused f e)
+  tap-refuses x e = rw (found-refused f e)
 
   pub tzx-leaves : (other : Verdict) {s : State} → r ≡ Done s → Leaves B N (orElse o other) (Tape Tzx (s .blocks) (s .tones)) bt tt
   unfolding orElse answerOf blockTable toneTable
@@ -58,7 +61,7 @@ module _ {B N : ℕ} {r : Reading} {bt tt : List ℕ} {o : Verdict} (f : Finds B
       ap (λ (x : ℕ). Tape Tzx x (s .tones)) (d .2 .nb) ∙ ap (λ (x : ℕ). Tape Tzx (length (d .0 .blocks)) x) (d .2 .nt) in
       rw (d .1) (record { answer = n; blocks = d .2 .isB; tones = d .2 .isT })
 
-  pub tzx-fails : (other : Verdict) {x : Failure} → r ≡ Failed x → orElse o other ≡ orTap other
+  pub tzx-fails : (other : Verdict) {x : Failure} → r ≡ Failed x → orElse o other ≡ orTap x other
   unfolding orElse
   tzx-fails other e = rw (found-failed f e)
 
@@ -88,6 +91,9 @@ module _ {B N B′ N′ : ℕ} (b : B ≡ B′) (n : N ≡ N′) where
   pub leaves-no : {k : ℕ} {a : Loaded} {bt tt : List ℕ} → Leaves B N (no k) a bt tt → Leaves B′ N′ (no k) a bt tt
   leaves-no {k} {a} {bt} {tt} l = moved (λ x y. Leaves x y (no k) a bt tt) l
 
-  pub leaves-tap : (s : List ℕ) {a : Loaded} {bt tt : List ℕ} → Leaves B N (orTap (readTap (lentOf B N) s)) a bt tt
-      → Leaves B′ N′ (orTap (readTap (lentOf B′ N′) s)) a bt tt
-  leaves-tap s {a} {bt} {tt} l = moved (λ x y. Leaves x y (orTap (readTap (lentOf x y) s)) a bt tt) l
+  pub leaves-both : {f g : Failure} {a : Loaded} {bt tt : List ℕ} → Leaves B N (bothErr f g) a bt tt → Leaves B′ N′ (bothErr f g) a bt tt
+  leaves-both {f} {g} {a} {bt} {tt} l = moved (λ x y. Leaves x y (bothErr f g) a bt tt) l
+
+  pub leaves-tap : (s : List ℕ) (f : Failure) {a : Loaded} {bt tt : List ℕ} → Leaves B N (orTap f (readTap (lentOf B N) s)) a bt tt
+      → Leaves B′ N′ (orTap f (readTap (lentOf B′ N′) s)) a bt tt
+  leaves-tap s f {a} {bt} {tt} l = moved (λ x y. Leaves x y (orTap f (readTap (lentOf x y) s)) a bt tt) l

@@ -11,11 +11,11 @@ use Rattle.rows.specs.Rows.{block}
 use Rattle.rows.proofs.Tables.{flat-length}
 use Rattle.text_name.specs.Names.{nameAll}
 use Rattle.text_name.proofs.Selecting.{name-all-length, named-table}
-use Rattle.load_source.specs.Source.{Load, tzx, tapped, no}
+use Rattle.load_source.specs.Source.{Load, tzx, tapped, bothErr, no}
 use Rattle.load_tape.specs.declared.Format.{Format}
 use Rattle.load_tape.specs.declared.Format.the-variants.{Tap, Tzx}
 use Rattle.load_tape.specs.declared.Loaded.{Loaded}
-use Rattle.load_tape.specs.declared.Loaded.the-variants.{Tape, Refused as No}
+use Rattle.load_tape.specs.declared.Loaded.the-variants.{Tape, Unread, Refused as No}
 use Rattle.load_tape.specs.Load.{answerOf, blockTable, toneTable, namedTape, namedLoad, Leaves}
 
 -- a table of rows has the words of its rows at the least
@@ -29,10 +29,12 @@ room rs N n e k = rw (e, k) (over-room rs N)
 -- what an answer says of its blocks
 abbrev count-of : Loaded → ℕ
 count-of (Tape f n m) = n
+count-of (Unread f g) = 0
 count-of (No k) = 0
 
-abbrev is-tape : Loaded → Bool
+abbrev pub is-tape : Loaded → Bool
 is-tape (Tape f n m) = true
+is-tape (Unread f g) = false
 is-tape (No k) = false
 
 module _ {B N : ℕ} where
@@ -42,6 +44,7 @@ module _ {B N : ℕ} where
   unfolding answerOf blockTable
   named-room (tzx t) {n = n} x e = room (t .blocks) B n (x .blocks) (ap count-of (sym e ∙ x .answer))
   named-room (tapped t) {n = n} x e = room (t .blocks) B n (x .blocks) (ap count-of (sym e ∙ x .answer))
+  named-room (bothErr f g) x e = absurd (false≢true (ap is-tape (sym (x .answer) ∙ e)))
   named-room (no k) x e = absurd (false≢true (ap is-tape (sym (x .answer) ∙ e)))
 
   -- and leaves the tape with its blocks named
@@ -62,12 +65,14 @@ module _ {B N : ℕ} where
         blocks = named-table s (t .blocks) B n (x .blocks) (ap count-of (sym e ∙ x .answer)) p;
         tones = x .tones;
       }
+  named-leaves s (bothErr f g) x e p = absurd (false≢true (ap is-tape (sym (x .answer) ∙ e)))
   named-leaves s (no k) x e p = absurd (false≢true (ap is-tape (sym (x .answer) ∙ e)))
 
   -- a refusal is left as it is
-  pub named-refusal : (s : List ℕ) (l : Load) {a : Loaded} {bt tt : List ℕ} {k : ℕ} → Leaves B N l a bt tt → a ≡ No k
+  pub named-refusal : (s : List ℕ) (l : Load) {a : Loaded} {bt tt : List ℕ} → Leaves B N l a bt tt → is-tape a ≡ false
       → Leaves B N (namedLoad s l) a bt tt
   unfolding answerOf namedLoad
-  named-refusal s (tzx t) x e = absurd (false≢true (ap is-tape (sym e ∙ x .answer)))
-  named-refusal s (tapped t) x e = absurd (false≢true (ap is-tape (sym e ∙ x .answer)))
+  named-refusal s (tzx t) x e = absurd (false≢true (sym e ∙ ap is-tape (x .answer)))
+  named-refusal s (tapped t) x e = absurd (false≢true (sym e ∙ ap is-tape (x .answer)))
+  named-refusal s (bothErr f g) x e = x
   named-refusal s (no k) x e = x

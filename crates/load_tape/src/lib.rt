@@ -1,14 +1,14 @@
 // The public load: a tape read as TZX, and where that fails as TAP, into the lent tables; then the naming pass.
 use load_select::name_blocks;
+use load_source::Failure;
 use load_source::Reading;
 use load_source::read_tap;
 use load_source::read_tzx;
 use refusals::BAD_MODEL;
-use refusals::TAPE_BAD;
 use refusals::TAPE_LONG;
 use rows::blank;
 ghost use lib.ListN.{length};
-ghost use Rattle.load_source.specs.Source.{no, orTap, readTap, loadOf};
+ghost use Rattle.load_source.specs.Source.{no, bothErr, orTap, readTap, loadOf};
 ghost use Rattle.load_blocks.specs.Does.{lentOf};
 ghost use Rattle.load_tape.specs.Load.{Leaves, loadNamed};
 
@@ -17,12 +17,17 @@ pub enum Format {
     Tzx,
 }
 
-// A load's answer: the tape's format, how many blocks and tone rows it has; or the refusal's number alone.
+// A load's answer: the tape's format, how many blocks and tone rows it has; or refusal 3 with what the two attempts met; or any other
+// refusal's number alone.
 pub enum Loaded {
     Tape {
         format: Format,
         blocks: u64,
         tones: u64,
+    },
+    Unread {
+        tzx: Failure,
+        tap: Failure,
     },
     Refused(u32),
 }
@@ -37,10 +42,20 @@ fn refuse(blocks: &mut [u64], tones: &mut [u64], k: u32) -> Loaded
     Loaded::Refused(k)
 }
 
-// The bytes as TAP, whatever the tables held.
-fn load_tap(tape: &[u8], blocks: &mut [u64], tones: &mut [u64]) -> Loaded
+// So does the one that tells what both attempts met.
+fn refuse_both(blocks: &mut [u64], tones: &mut [u64], tzx: Failure, tap: Failure) -> Loaded
+    ensures { λ a. ⌜ Leaves (length (now (blocks .entry))) (length (now (tones .entry))) (bothErr tzx tap) a (now (blocks .exit))
+        (now (tones .exit)) ⌝ }
+{
+    blank(blocks);
+    blank(tones);
+    Loaded::Unread { tzx, tap }
+}
+
+// The bytes as TAP, whatever the tables held; the attempt as TZX met `tzx`.
+fn load_tap(tape: &[u8], blocks: &mut [u64], tones: &mut [u64], tzx: Failure) -> Loaded
     ensures { λ a. ⌜ Leaves (length (now (blocks .entry))) (length (now (tones .entry)))
-        (orTap (readTap (lentOf (length (now (blocks .entry))) (length (now (tones .entry)))) (now (tape .entry)))) a (now (blocks .exit))
+        (orTap tzx (readTap (lentOf (length (now (blocks .entry))) (length (now (tones .entry)))) (now (tape .entry)))) a (now (blocks .exit))
         (now (tones .exit)) ⌝ }
 {
     blank(blocks);
@@ -54,7 +69,7 @@ fn load_tap(tape: &[u8], blocks: &mut [u64], tones: &mut [u64]) -> Loaded
                 tones: s.tones,
             }
         }
-        Reading::Failed(_f) => refuse(blocks, tones, TAPE_BAD),
+        Reading::Failed(tap) => refuse_both(blocks, tones, tzx, tap),
         Reading::Refused(k) => refuse(blocks, tones, k),
     }
 }
@@ -82,7 +97,7 @@ fn read(tape: &[u8], model: u32, blocks: &mut [u64], tones: &mut [u64]) -> Loade
                 tones: s.tones,
             }
         }
-        Reading::Failed(_f) => load_tap(tape, blocks, tones),
+        Reading::Failed(f) => load_tap(tape, blocks, tones, f),
         Reading::Refused(j) => refuse(blocks, tones, j),
     }
 }
@@ -94,14 +109,16 @@ pub fn load(tape: &[u8], model: u32, blocks: &mut [u64], tones: &mut [u64]) -> L
         (now (tones .exit)) ⌝ }
 {
     let loaded = read(tape, model, blocks, tones);
-    let Loaded::Tape {
-        format: _,
-        blocks: n,
-        tones: _,
-    } = loaded
-    else {
-        return loaded;
-    };
-    name_blocks(tape, blocks, n as usize);
-    loaded
+    match loaded {
+        Loaded::Tape {
+            format: _,
+            blocks: n,
+            tones: _,
+        } => {
+            name_blocks(tape, blocks, n as usize);
+            loaded
+        }
+        Loaded::Unread { tzx: _, tap: _ } => loaded,
+        Loaded::Refused(_k) => loaded,
+    }
 }

@@ -1,9 +1,10 @@
 -- `load` meets its contract. Assumes nothing.
+use mathlib.Core.Path.{ap}
 use lib.ListN.{length}
 use Rattle.load_blocks.specs.Does.{lentOf}
 use Rattle.load_source.specs.Source.{loadOf}
 use Rattle.load_tape.specs.Load.{loadNamed}
-use Rattle.load_tape.proofs.Naming.{named-room, named-leaves, named-refusal}
+use Rattle.load_tape.proofs.Naming.{is-tape, named-room, named-leaves, named-refusal}
 use native.Mathlib.Omega.{arith}
 use borrow.Author.Needs.{needs}
 use Rattle.load_tape.proofs.load.Statement.{statement}
@@ -15,8 +16,18 @@ read-requires c κs = search needs
 enum-known-loaded : tie.Need-enum-known-loaded
 enum-known-loaded c = search needs
 
+name-blocks-requires : tie.Need-name-blocks-requires
+name-blocks-requires c κs =
+    let read = c .before .before .before .before .before .before .before .before in
+    let a = read .before .before .before .before .before .before .args in
+    let l = loadOf (lentOf (length (a .blocks .now)) (length (a .tones .now))) (a .tape .now) (a .model) in
+    omega (arith, named-room l (read .read .ensures) (c .before .before .loaded .given .1))
+
 enum-told : tie.Need-enum-told
 enum-told c = search needs
+
+enum-known-loaded-2 : tie.Need-enum-known-loaded-2
+enum-known-loaded-2 c = search needs
 
 same-length : tie.Need-same-length
 same-length c = search needs
@@ -27,16 +38,11 @@ same-length-2 c = search needs
 returns : tie.Need-returns
 unfolding loadNamed
 returns c =
-    let a = c .before .before .before .before .before .before .before .before .before .before .before .before .args in
-    let l = loadOf (lentOf (length (a .blocks .now)) (length (a .tones .now))) (a .tape .now) (a .model) in
-    named-refusal (a .tape .now) l (c .before .before .before .before .before .before .read .ensures) (c .enum-told .given .1)
-
-name-blocks-requires : tie.Need-name-blocks-requires
-name-blocks-requires c κs =
-    let read = c .before .before .before .before .before .before .before .before in
+    let loaded = c .before .before .before .before .before in
+    let read = loaded .before .before .before .before .before .before in
     let a = read .before .before .before .before .before .before .args in
     let l = loadOf (lentOf (length (a .blocks .now)) (length (a .tones .now))) (a .tape .now) (a .model) in
-    omega (arith, named-room l (read .read .ensures) (c .before .before .loaded .given .1))
+    named-leaves (a .tape .now) l (read .read .ensures) (loaded .loaded .given .1) (c .before .before .name-blocks .ensures)
 
 same-length-3 : tie.Need-same-length-3
 same-length-3 c = search needs
@@ -47,11 +53,25 @@ same-length-4 c = search needs
 returns-2 : tie.Need-returns-2
 unfolding loadNamed
 returns-2 c =
-    let loaded = c .before .before .before .before .before in
-    let read = loaded .before .before .before .before .before .before in
+    let read = c .before .before .before .before .before .before in
     let a = read .before .before .before .before .before .before .args in
     let l = loadOf (lentOf (length (a .blocks .now)) (length (a .tones .now))) (a .tape .now) (a .model) in
-    named-leaves (a .tape .now) l (read .read .ensures) (loaded .loaded .given .1) (c .before .before .name-blocks .ensures)
+    named-refusal (a .tape .now) l (read .read .ensures) (ap is-tape (c .enum-told .given .1))
+
+same-length-5 : tie.Need-same-length-5
+same-length-5 c = search needs
+
+same-length-6 : tie.Need-same-length-6
+same-length-6 c = search needs
+
+returns-3 : tie.Need-returns-3
+unfolding loadNamed
+returns-3 c =
+    let read = c .before .before .before .before .before .before .before in
+    let a = read .before .before .before .before .before .before .args in
+    let l = loadOf (lentOf (length (a .blocks .now)) (length (a .tones .now))) (a .tape .now) (a .model) in
+    rw (c .before .loaded2 .given .1) at
+    (named-refusal (a .tape .now) l (read .read .ensures) (ap is-tape (c .before .loaded2 .given .1)))
 
 pub load-spec : {M : Type 1} → statement M
 load-spec =
@@ -59,11 +79,15 @@ load-spec =
     (tie.spec
     read-requires
     enum-known-loaded
+    name-blocks-requires
     enum-told
+    enum-known-loaded-2
     same-length
     same-length-2
     returns
-    name-blocks-requires
     same-length-3
     same-length-4
-    returns-2)
+    returns-2
+    same-length-5
+    same-length-6
+    returns-3)

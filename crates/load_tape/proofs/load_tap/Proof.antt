@@ -1,6 +1,6 @@
 -- `load_tap` meets its contract. Assumes nothing.
 use lib.ListN.{length}
-use Rattle.load_tape.proofs.Leaving.{blanked, finds-tap, tap-leaves, tap-fails, tap-refuses, leaves-no}
+use Rattle.load_tape.proofs.Leaving.{blanked, finds-tap, tap-leaves, tap-fails, tap-refuses, leaves-no, leaves-both}
 use mathlib.Core.Path.{_∙_}
 use borrow.Author.Needs.{needs}
 use Rattle.load_tape.proofs.load_tap.Statement.{statement}
@@ -22,17 +22,17 @@ read-tap-requires c κs =
 enum-known-s : tie.Need-enum-known-s
 enum-known-s c = search needs
 
-enum-known--f : tie.Need-enum-known--f
-enum-known--f c = search needs
+enum-known-tap : tie.Need-enum-known-tap
+enum-known-tap c = search needs
 
-refuse-requires : tie.Need-refuse-requires
-refuse-requires c κs = search needs
+refuse-both-requires : tie.Need-refuse-both-requires
+refuse-both-requires c κs = search needs
 
 enum-known-k : tie.Need-enum-known-k
 enum-known-k c = search needs
 
-refuse-requires-2 : tie.Need-refuse-requires-2
-refuse-requires-2 c κs = search needs
+refuse-requires : tie.Need-refuse-requires
+refuse-requires c κs = search needs
 
 same-length : tie.Need-same-length
 same-length c = search needs
@@ -47,7 +47,7 @@ returns c =
     let blank = blank2 .before .before .before .before in
     let a = blank .before .before .before .before .before .args in
     tap-leaves (finds-tap (blank .blank .kept .0) (blank2 .blank2 .kept .0) (a .tape .now) (read-tap .read-tap .ensures))
-    (c .before .s .given .1)
+    (a .tzx) (c .before .s .given .1)
 
 same-length-3 : tie.Need-same-length-3
 same-length-3 c = search needs
@@ -57,15 +57,15 @@ same-length-4 c = search needs
 
 returns-2 : tie.Need-returns-2
 returns-2 c =
-    let refuse = c .before .before .before .before in
-    let f = refuse .before .before .before .before in
+    let refuse-both = c .before .before .before .before in
+    let f = refuse-both .before .before .before .before in
     let read-tap = f .before .before .before .before .before .before in
     let blank2 = read-tap .before .before .before .before .before in
     let blank = blank2 .before .before .before .before in
     let a = blank .before .before .before .before .before .args in
     rw (tap-fails (finds-tap (blank .blank .kept .0) (blank2 .blank2 .kept .0) (a .tape .now) (read-tap .read-tap .ensures))
-    (f .-f .given .1)) (leaves-no (read-tap .read-tap .kept .1 .0 ∙ blank .blank .kept .0)
-    (read-tap .read-tap .kept .1 .1 .0 ∙ blank2 .blank2 .kept .0) (refuse .refuse .ensures))
+    (a .tzx) (f .tap .given .1)) (leaves-both (read-tap .read-tap .kept .1 .0 ∙ blank .blank .kept .0)
+    (read-tap .read-tap .kept .1 .1 .0 ∙ blank2 .blank2 .kept .0) (refuse-both .refuse-both .ensures))
 
 same-length-5 : tie.Need-same-length-5
 same-length-5 c = search needs
@@ -75,15 +75,15 @@ same-length-6 c = search needs
 
 returns-3 : tie.Need-returns-3
 returns-3 c =
-    let refuse2 = c .before .before .before .before in
-    let k = refuse2 .before .before .before .before in
+    let refuse = c .before .before .before .before in
+    let k = refuse .before .before .before .before in
     let read-tap = k .before .before .before .before .before .before in
     let blank2 = read-tap .before .before .before .before .before in
     let blank = blank2 .before .before .before .before in
     let a = blank .before .before .before .before .before .args in
     rw (tap-refuses (finds-tap (blank .blank .kept .0) (blank2 .blank2 .kept .0) (a .tape .now) (read-tap .read-tap .ensures))
-    (k .k .given .1)) (leaves-no (read-tap .read-tap .kept .1 .0 ∙ blank .blank .kept .0)
-    (read-tap .read-tap .kept .1 .1 .0 ∙ blank2 .blank2 .kept .0) (refuse2 .refuse2 .ensures))
+    (a .tzx) (k .k .given .1)) (leaves-no (read-tap .read-tap .kept .1 .0 ∙ blank .blank .kept .0)
+    (read-tap .read-tap .kept .1 .1 .0 ∙ blank2 .blank2 .kept .0) (refuse .refuse .ensures))
 
 pub load-tap-spec : {M : Type 1} → statement M
 load-tap-spec =
@@ -93,10 +93,10 @@ load-tap-spec =
     blank-requires-2
     read-tap-requires
     enum-known-s
-    enum-known--f
-    refuse-requires
+    enum-known-tap
+    refuse-both-requires
     enum-known-k
-    refuse-requires-2
+    refuse-requires
     same-length
     same-length-2
     returns

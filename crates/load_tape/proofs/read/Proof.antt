@@ -59,8 +59,8 @@ read-tzx-requires c κs =
 enum-known-s : tie.Need-enum-known-s
 enum-known-s c = search needs
 
-enum-known--f : tie.Need-enum-known--f
-enum-known--f c = search needs
+enum-known-f : tie.Need-enum-known-f
+enum-known-f c = search needs
 
 load-tap-requires : tie.Need-load-tap-requires
 load-tap-requires c κs = search needs
@@ -107,9 +107,9 @@ returns-4 c =
     rw (load-reads (lentOf (length (a .blocks .now)) (length (a .tones .now))) (a .tape .now) (a .model)
     (lt-leb 3 (a .model) (if1 .if1 .left)) (le-ltb 1048576 (length (a .tape .now)) (blank .before .before .if2 .left))
     ∙ tzx-fails (finds-tzx (blank .blank .kept .0) (blank2 .blank2 .kept .0) (a .tape .now) (a .model) (read-tzx .read-tzx .ensures))
-    (readTap (lentOf (length (a .blocks .now)) (length (a .tones .now))) (a .tape .now)) (f .-f .given .1))
+    (readTap (lentOf (length (a .blocks .now)) (length (a .tones .now))) (a .tape .now)) (f .f .given .1))
     (leaves-tap (read-tzx .read-tzx .kept .1 .1 .0 ∙ blank .blank .kept .0)
-    (read-tzx .read-tzx .kept .1 .1 .1 .0 ∙ blank2 .blank2 .kept .0) (a .tape .now) (load-tap .load-tap .ensures))
+    (read-tzx .read-tzx .kept .1 .1 .1 .0 ∙ blank2 .blank2 .kept .0) (a .tape .now) _ (load-tap .load-tap .ensures))
 
 same-length-9 : tie.Need-same-length-9
 same-length-9 c = search needs
@@ -149,7 +149,7 @@ read-spec =
     blank-requires-2
     read-tzx-requires
     enum-known-s
-    enum-known--f
+    enum-known-f
     load-tap-requires
     enum-known-j
     refuse-requires-3

@@ -13,7 +13,10 @@ use Rattle.ask.specs.declared.Mark.the-variants as mark
 use Rattle.ask.specs.declared.Time.{Time}
 use Rattle.ask.specs.declared.Time.the-variants as lasting
 use Rattle.ask.specs.Queries.{numberNo, markNo, timeNo}
-use Rattle.host_answers.specs.Answers.{ofNumber, ofMark, ofTime, ofSelected, ofReached}
+use Rattle.load_tape.specs.declared.Loaded.{Loaded}
+use Rattle.load_tape.specs.declared.Loaded.the-variants as loaded
+use Rattle.load_tape.specs.Load.{refusalNo}
+use Rattle.host_answers.specs.Answers.{ofNumber, ofMark, ofTime, ofSelected, ofReached, ofLoaded}
 
 pub number-no : (a : Number) → ofNumber a .no ≡ numberNo a
 unfolding ofNumber numberNo
@@ -43,3 +46,9 @@ reached-no (Stopped s) = refl
 reached-no (Ended s) = refl
 reached-no NotValid = refl
 reached-no NotFormed = refl
+
+pub loaded-no : (a : Loaded) → ofLoaded a .no ≡ refusalNo a
+unfolding ofLoaded refusalNo
+loaded-no (loaded.Tape f b t) = refl
+loaded-no (loaded.Unread f g) = refl
+loaded-no (loaded.Refused k) = refl

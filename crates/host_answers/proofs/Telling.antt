@@ -2,7 +2,8 @@
 use Prim.Native.Nat.{ℕ, _+_, _<_, _≤_}
 use native.Mathlib.Omega.{arith}
 use native.Mathlib.Numerals.{add-one}
-use mathlib.Core.Path.{_≡_, sym, ap, _∙_}
+use mathlib.Core.Path.{_≡_, refl, sym, ap, _∙_}
+use mathlib.Core.Bool.{Bool, true, false}
 use mathlib.Core.List.{List, _++_}
 use lib.ListN.{length, drop, set, getD}
 use lib.Seq.{paste, paste-suc, take-length}
@@ -10,7 +11,7 @@ use borrow.Author.Tests.{le-leb, lt-leb}
 use Rattle.law_base.specs.Rules.{_⇒_, _∣_}
 use Rattle.refusals.specs.Refusals.{noRoom}
 use Rattle.text_out.specs.Out.{fits, told}
-use Rattle.host_answers.specs.Answers.{refusedBy, numberOf, valuesOf}
+use Rattle.host_answers.specs.Answers.{refusedWith, refusedBy, numberOf, valuesOf}
 
 -- one word more
 pub tell-turn : (ws row row′ : List ℕ) (j : ℕ) → row′ ≡ paste row 0 ws j → j < length row → j < length ws
@@ -42,3 +43,12 @@ tell-whole ws row row′ j h k e =
 pub tell-refused : (k : ℕ) (row : List ℕ) → (k ≡ numberOf (refusedBy k) row) × (row ≡ valuesOf (refusedBy k) row)
 unfolding numberOf valuesOf told
 tell-refused k row = (rw (le-leb 0 (length row) (omega arith)), rw (le-leb 0 (length row) (omega arith)))
+
+-- the number of a refusal with words stands, whatever row is lent
+pub number-stands : (k : ℕ) (ws row : List ℕ) → k ≡ numberOf (refusedWith k ws) row
+unfolding numberOf
+number-stands k ws row = either (fits ws row)
+  where
+    either : (b : Bool) → k ≡ (b ⇒ k ∣ k)
+    either true = refl
+    either false = refl

@@ -4,7 +4,7 @@ use mathlib.Core.Bool.{Bool}
 use mathlib.Core.List.{List, [], _∷_}
 use lib.ListN.{getD}
 use Rattle.law_base.specs.Rules.{_⇒_, _∣_}
-use Rattle.refusals.specs.Refusals.{noPosition, noRoom, badRow}
+use Rattle.refusals.specs.Refusals.{tapeBad, noPosition, noRoom, badRow}
 use Rattle.text_out.specs.Out.{fits, told}
 use Rattle.play_walk.specs.declared.Position.{Position}
 use Rattle.play_walk.specs.declared.Stand.{Stand}
@@ -18,27 +18,35 @@ use Rattle.ask.specs.declared.Mark.{Mark}
 use Rattle.ask.specs.declared.Mark.the-variants as mark
 use Rattle.ask.specs.declared.Time.{Time}
 use Rattle.ask.specs.declared.Time.the-variants as lasting
+use Rattle.load_source.specs.declared.Failure.{Failure}
+use Rattle.load_source.specs.declared.Failure.the-variants as failure
 use Rattle.load_tape.specs.declared.Format.{Format}
 use Rattle.load_tape.specs.declared.Format.the-variants.{Tap, Tzx}
 use Rattle.load_tape.specs.declared.Loaded.{Loaded}
 use Rattle.load_tape.specs.declared.Loaded.the-variants as loaded
+use Rattle.host_answers.specs.declared.Met.{Met}
 use Rattle.host_words.specs.Words.{flagOf, spanOf, wordsOf}
 
--- an answer as a host gets it: the number for no (rule 20), 0 for none, and its values as words
+-- an answer as a host gets it: the number for no (rule 20), 0 for none; its values as words; and the number where the row doesn't hold them
 pub record Reply : Type 0 where
   pub no : ℕ
   pub values : List ℕ
+  pub short : ℕ
 
 abbrev pub given : List ℕ → Reply
-given ws = record { no = 0; values = ws }
+given ws = record { no = 0; values = ws; short = noRoom }
+
+-- a refusal with words: its number stands, whatever row is lent
+abbrev pub refusedWith : ℕ → List ℕ → Reply
+refusedWith k ws = record { no = k; values = ws; short = k }
 
 -- a refusal is its number alone
 abbrev pub refusedBy : ℕ → Reply
-refusedBy k = record { no = k; values = [] }
+refusedBy k = refusedWith k []
 
--- WHAT IS RETURNED: the number; 10 where the lent row is shorter than the values
+-- WHAT IS RETURNED: the number; of an answer that is no refusal 10, where the lent row is shorter than the values
 unfoldable pub numberOf : Reply → List ℕ → ℕ
-numberOf a row = fits (a .values) row ⇒ a .no ∣ noRoom
+numberOf a row = fits (a .values) row ⇒ a .no ∣ a .short
 
 -- WHAT IS LEFT OF THE LENT ROW: the values, then the words that were there; all of them where nothing is told
 unfoldable pub valuesOf : Reply → List ℕ → List ℕ
@@ -91,7 +99,23 @@ unfoldable pub formatNumber : Format → ℕ
 formatNumber Tap = 0
 formatNumber Tzx = 1
 
--- a load's answer: the format, how many blocks, how many tone rows
+-- what an attempt to read met, as words. Cause 0: no piece's field came up short (as TZX the signature); 1: a bad signature;
+-- 2: a piece's field came up short; 3: a piece has a length that is not 0. What a cause doesn't name is 0
+unfoldable pub metOf : Failure → Met
+metOf (failure.Short p w) = record { cause = 0; kind = 0; at = 0; place = p; width = w; length = 0 }
+metOf failure.BadSignature = record { cause = 1; kind = 0; at = 0; place = 0; width = 0; length = 0 }
+metOf (failure.ShortPiece kind at p w) = record { cause = 2; kind = kind; at = at; place = p; width = w; length = 0 }
+metOf (failure.Length kind at n) = record { cause = 3; kind = kind; at = at; place = 0; width = 0; length = n }
+
+-- what both attempts met: all of the TZX attempt's, then the TAP attempt's place and width
+unfoldable pub bothWords : Failure → Failure → List ℕ
+bothWords f g =
+    let x = metOf f in
+    let y = metOf g in
+    x .cause ∷ x .kind ∷ x .at ∷ x .place ∷ x .width ∷ x .length ∷ y .place ∷ y .width ∷ []
+
+-- a load's answer: the format, how many blocks, how many tone rows; or with 3 what both attempts met
 unfoldable pub ofLoaded : Loaded → Reply
 ofLoaded (loaded.Tape f b t) = given (formatNumber f ∷ b ∷ t ∷ [])
+ofLoaded (loaded.Unread f g) = refusedWith tapeBad (bothWords f g)
 ofLoaded (loaded.Refused k) = refusedBy k

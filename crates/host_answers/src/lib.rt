@@ -5,6 +5,7 @@ use ask::Time;
 use host_words::flag;
 use host_words::span_of;
 use host_words::spot_of;
+use load_source::Failure;
 use load_tape::Format;
 use load_tape::Loaded;
 use play_deck::Selected;
@@ -14,12 +15,13 @@ use play_walk::Stand;
 use refusals::BAD_ROW;
 use refusals::NO_POSITION;
 use refusals::NO_ROOM;
+use refusals::TAPE_BAD;
 ghost use mathlib.Core.Path.{_≡_};
 ghost use Rattle.law_base.specs.Rules.{_⇒_, _∣_};
-ghost use Rattle.refusals.specs.Refusals.{noRoom};
+ghost use Rattle.refusals.specs.Refusals.{noRoom, tapeBad};
 ghost use Rattle.text_out.specs.Out.{fits, told};
 ghost use Rattle.host_answers.specs.Answers.{numberOf, valuesOf, ofNumber, ofMark, ofTime, ofPosition, ofSelected, standWords};
-ghost use Rattle.host_answers.specs.Answers.{ofReached, insideWords, formatNumber, ofLoaded};
+ghost use Rattle.host_answers.specs.Answers.{ofReached, insideWords, formatNumber, refusedWith, metOf, bothWords, ofLoaded};
 ghost use Prim.Native.Nat.{_≤_};
 ghost use lib.ListN.{length, getD};
 
@@ -37,6 +39,15 @@ fn tell(words: &[u64], answer: &mut [u64]) -> u32
         j += 1;
     }
     0
+}
+
+// A refusal with words: the words where the row holds all of them, and the number whether it does or not.
+pub fn tell_refused(no: u32, words: &[u64], answer: &mut [u64]) -> u32
+    ensures { λ k. ⌜ k ≡ numberOf (refusedWith no (now (words .entry))) (now (answer .entry)) ⌝ }
+    ensures { λ _. ⌜ now (answer .exit) ≡ valuesOf (refusedWith no (now (words .entry))) (now (answer .entry)) ⌝ }
+{
+    tell(words, answer);
+    no
 }
 
 pub fn tell_number(a: Number, answer: &mut [u64]) -> u32
@@ -180,6 +191,79 @@ fn format_number(f: Format) -> u64
     }
 }
 
+// What an attempt to read met, as words; what its cause doesn't name is 0.
+pub struct Met {
+    pub cause: u64,
+    pub kind: u64,
+    pub at: u64,
+    pub place: u64,
+    pub width: u64,
+    pub length: u64,
+}
+
+fn met_words(f: Failure) -> Met
+    ensures { λ m. ⌜ m ≡ metOf f ⌝ }
+{
+    match f {
+        Failure::Short { place, width } => Met {
+            cause: 0,
+            kind: 0,
+            at: 0,
+            place,
+            width,
+            length: 0,
+        },
+        Failure::BadSignature => Met {
+            cause: 1,
+            kind: 0,
+            at: 0,
+            place: 0,
+            width: 0,
+            length: 0,
+        },
+        Failure::ShortPiece {
+            kind,
+            at,
+            place,
+            width,
+        } => Met {
+            cause: 2,
+            kind: kind as u64,
+            at,
+            place,
+            width,
+            length: 0,
+        },
+        Failure::Length { kind, at, length } => Met {
+            cause: 3,
+            kind: kind as u64,
+            at,
+            place: 0,
+            width: 0,
+            length: length as u64,
+        },
+    }
+}
+
+fn tell_both(tzx: Failure, tap: Failure, answer: &mut [u64]) -> u32
+    ensures { λ k. ⌜ k ≡ numberOf (refusedWith tapeBad (bothWords tzx tap)) (now (answer .entry)) ⌝ }
+    ensures { λ _. ⌜ now (answer .exit) ≡ valuesOf (refusedWith tapeBad (bothWords tzx tap)) (now (answer .entry)) ⌝ }
+{
+    let x = met_words(tzx);
+    let y = met_words(tap);
+    let w = [
+        x.cause,
+        x.kind,
+        x.at,
+        x.place,
+        x.width,
+        x.length,
+        y.place,
+        y.width,
+    ];
+    tell_refused(TAPE_BAD, &w, answer)
+}
+
 pub fn tell_loaded(a: Loaded, answer: &mut [u64]) -> u32
     ensures { λ k. ⌜ k ≡ numberOf (ofLoaded a) (now (answer .entry)) ⌝ }
     ensures { λ _. ⌜ now (answer .exit) ≡ valuesOf (ofLoaded a) (now (answer .entry)) ⌝ }
@@ -193,6 +277,7 @@ pub fn tell_loaded(a: Loaded, answer: &mut [u64]) -> u32
             let w = [format_number(format), blocks, tones];
             tell(&w, answer)
         }
+        Loaded::Unread { tzx, tap } => tell_both(tzx, tap, answer),
         Loaded::Refused(k) => k,
     }
 }

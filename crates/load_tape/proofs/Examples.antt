@@ -5,7 +5,7 @@ use native.Mathlib.Nat.{suc-ne-zero}
 use mathlib.Core.Path.{_≡_, refl, sym, ap, _∙_}
 use mathlib.Core.List.{List, [], _∷_, _++_, map}
 use lib.ListN.{length, replicate, getD}
-use Rattle.refusals.specs.Refusals.{badModel, tapeLong, tapeBad, generalised, tonesFull, blocksFull, lastBits}
+use Rattle.refusals.specs.Refusals.{badModel, tapeLong, generalised, tonesFull, blocksFull, lastBits}
 use Rattle.cut_fields.specs.Field.{leAt, numberAt, fieldAt, placeOf}
 use Rattle.cut_fields.specs.Run.{times, eachAt, groupsAt}
 use Rattle.rows.specs.Rows.{encodeBlock, encodeTone, block, tone}
@@ -24,6 +24,8 @@ use Rattle.load_blocks.specs.Blocks.{pulseAt, standardSound, turboSound, pairSo
 use Rattle.load_blocks.specs.Does.{lentOf}
 use Rattle.load_blocks.specs.Adds.{Lent, addRows}
 use Rattle.load_blocks.specs.Deeds.{generalDeed, stop48Deed, does}
+use Rattle.load_source.specs.declared.Failure.{Failure}
+use Rattle.load_source.specs.declared.Failure.the-variants.{BadSignature, Short, ShortPiece, Length}
 use Rattle.load_source.specs.Meaning.{deedOf}
 use Rattle.load_source.specs.Source.{act, readOn, seeing, foldFrom, halted, tooManyBits, bitsJudged, tzxOf, tzxSee, headed, readTzx, tapOf}
 use Rattle.load_source.specs.Source.{tapSee, readTap, Load, tzx, tapped, bothErr, no, orTap, orElse, loadOf}
@@ -52,20 +54,16 @@ fourTones = 4 * tone .width
 abbrev pieces : List ℕ → List ℕ
 pieces s = signature ++ 1 ∷ 20 ∷ s
 
--- format (0 TAP, 1 TZX), the blocks' words, the tone rows' words, the blocks' names; or a refusal's number alone
-abbrev View : Type 0
-View = List (List (List ℕ))
-
-abbrev taken : ℕ → List (List ℕ) → List (List ℕ) → List (List ℕ) → View
-taken format blocks tones names = ((format ∷ []) ∷ []) ∷ blocks ∷ tones ∷ names ∷ []
-
-abbrev refusal : ℕ → View
-refusal k = ((k ∷ []) ∷ []) ∷ []
+-- format (0 TAP, 1 TZX), the blocks' words, the tone rows' words, the blocks' names; what both attempts met; or a refusal's number alone
+data View : Type 0 where
+  taken : ℕ → List (List ℕ) → List (List ℕ) → List (List ℕ) → View
+  met : Failure → Failure → View
+  refusal : ℕ → View
 
 abbrev view : List ℕ → Load → View
 view s (tzx t) = taken 1 (map encodeBlock (t .blocks)) (map encodeTone (t .tones)) (map (nameOf s) (t .blocks))
 view s (tapped t) = taken 0 (map encodeBlock (t .blocks)) (map encodeTone (t .tones)) (map (nameOf s) (t .blocks))
-view s (bothErr f g) = refusal tapeBad
+view s (bothErr f g) = met f g
 view s (no k) = refusal k
 
 -- a nameless block's words: tone, tones, start, size, zero, one, last, pause, selectable
@@ -132,10 +130,9 @@ abbrev examples : List Example
 examples =
     -- empty or one byte: TAP, no blocks
     of 0 [] (taken 0 [] [] []) ∷ of 0 (0x13 ∷ []) (taken 0 [] [] []) ∷
-    -- 00 00: one block, 4,032 cycles, `0 bytes`; 01 00 FF: 1,612 cycles, pause 7,000,000; 02 00 FF: refused 3
+    -- 00 00: one block, 4,032 cycles, `0 bytes`; 01 00 FF: 1,612 cycles, pause 7,000,000; 02 00 FF is below
     of 0 (0 ∷ 0 ∷ []) (taken 0 (row 0 2 2 0 855 1710 8 3500000 1 ∷ []) long (sized 0 ∷ [])) ∷
     of 0 (1 ∷ 0 ∷ 0xFF ∷ []) (taken 0 (row 0 2 2 1 855 1710 8 7000000 1 ∷ []) short (sized 1 ∷ [])) ∷
-    of 0 (2 ∷ 0 ∷ 0xFF ∷ []) (refusal tapeBad) ∷
     -- 12 with length 100: count 1, count 0
     of 0 (pieces (0x12 ∷ 100 ∷ 0 ∷ 1 ∷ 0 ∷ [])) (taken 1 (row 0 2 0 0 0 0 0 0 0 ∷ [])
     ((1 ∷ 0 ∷ 100 ∷ 0 ∷ []) ∷ (0 ∷ 100 ∷ 100 ∷ 0 ∷ []) ∷ []) (sized 0 ∷ [])) ∷
@@ -170,7 +167,27 @@ examples =
     of 0 headerTap (taken 0 (row 0 2 2 19 855 1710 8 3500000 1 ∷ row 2 2 23 1 855 1710 8 7000000 0 ∷ []) (long ++ short)
     (headerName ∷ sized 1 ∷ [])) ∷
     -- an unknown kind is one byte
-    of 0 (pieces (0x27 ∷ 0x20 ∷ 1 ∷ 0 ∷ 0xFF ∷ [])) (taken 1 (pause 0 ∷ []) [] (sized 0 ∷ [])) ∷ []
+    of 0 (pieces (0x27 ∷ 0x20 ∷ 1 ∷ 0 ∷ 0xFF ∷ [])) (taken 1 (pause 0 ∷ []) [] (sized 0 ∷ [])) ∷
+    -- WHERE THE BYTES RAN OUT. Too few for a head; ten of them, and no head
+    of 0 (2 ∷ 0 ∷ 0xFF ∷ []) (met (Short 0 10) (Short 2 2)) ∷
+    of 0 (replicate 10 0xFF) (met BadSignature (Short 2 65535)) ∷
+    -- a field of 20, the data of 10, the second pulse of 13
+    of 0 (pieces (0x20 ∷ 0x01 ∷ [])) (met (ShortPiece 0x20 10 11 2) (Short 2 22618)) ∷
+    of 0 (pieces (0x10 ∷ 0x00 ∷ 0x00 ∷ 0x05 ∷ 0x00 ∷ 0xAA ∷ [])) (met (ShortPiece 0x10 10 15 5) (Short 2 22618)) ∷
+    of 0 (pieces (0x13 ∷ 0x03 ∷ 0x01 ∷ 0x00 ∷ 0x02 ∷ [])) (met (ShortPiece 0x13 10 14 2) (Short 2 22618)) ∷
+    -- 32: a length short of its body, where the tape goes on; the body short of the tape
+    of 0 (pieces (0x32 ∷ 0x01 ∷ 0x00 ∷ 0x01 ∷ 0x20 ∷ 0x01 ∷ 0x00 ∷ [])) (met (ShortPiece 0x32 10 14 1) (Short 2 22618)) ∷
+    of 0 (pieces (0x32 ∷ 0x05 ∷ 0x00 ∷ 0x01 ∷ [])) (met (ShortPiece 0x32 10 13 5) (Short 2 22618)) ∷
+    -- 19: the first of 4,294,967,295 entries
+    of 0 (pieces (0x19 ∷ 0x0F ∷ 0x00 ∷ 0x00 ∷ 0x00 ∷ 0x00 ∷ 0x00 ∷ 0xFF ∷ 0xFF ∷ 0xFF ∷ 0xFF ∷ 0x00 ∷ 0x01 ∷ 0x00 ∷
+    0x00 ∷ 0x00 ∷ 0x00 ∷ 0x00 ∷ 0x00 ∷ 0x00 ∷ [])) (met (ShortPiece 0x19 10 30 1) (Short 2 22618)) ∷
+    -- 2A: a length that is not 0, and one that is not all there
+    of 0 (pieces (0x20 ∷ 0x01 ∷ 0x00 ∷ 0x2A ∷ 0x01 ∷ 0x00 ∷ 0x00 ∷ 0x00 ∷ [])) (met (Length 0x2A 13 1) (Short 2 22618)) ∷
+    of 0 (pieces (0x2A ∷ 0x01 ∷ 0x00 ∷ [])) (met (ShortPiece 0x2A 10 11 4) (Short 2 22618)) ∷
+    -- 19: data bits over 32 bits, which is 4 before any data byte is wanted: no field is short
+    of 0 (pieces (0x20 ∷ 0x01 ∷ 0x00 ∷ 0x19 ∷ 0x11 ∷ 0x00 ∷ 0x00 ∷ 0x00 ∷ 0x00 ∷ 0x00 ∷ 0x00 ∷ 0x00 ∷ 0x00 ∷ 0x00 ∷
+    0x00 ∷ 0x00 ∷ 0x00 ∷ 0x00 ∷ 0x00 ∷ 0x80 ∷ 0x00 ∷ 0x03 ∷ 0x00 ∷ 0x00 ∷ 0x00 ∷ 0x20 ∷ 0x02 ∷ 0x00 ∷ []))
+    (refusal generalised) ∷ []
 
 shown : map (λ (e : Example). view (e .tape) (loadNamed (e .lent) (e .tape) (e .model))) examples
     ≡ map (λ (e : Example). e .gives) examples

@@ -34,7 +34,7 @@ pub cut-there : (s : List ℕ) (at full : ℕ) → at < length s
 unfolding cutAt
 cut-there s at full h = rw (lt-leb (length s) at h)
 
-cut-end : (s : List ℕ) (at full : ℕ) → length s ≤ at → cutAt s at full ≡ taken.End
+pub cut-end : (s : List ℕ) (at full : ℕ) → length s ≤ at → cutAt s at full ≡ taken.End
 unfolding cutAt
 cut-end s at full h = rw (le-leb (length s) at h)
 

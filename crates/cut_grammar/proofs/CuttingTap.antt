@@ -21,16 +21,16 @@ use Rattle.cut_grammar.specs.Ends.{StandsIn, stands, stuck}
 use Rattle.cut_grammar.proofs.Layouts.{OwnRead, OwnPlace, field-past, field-forward, field-own, place-own}
 
 -- the tests before a block
-tap-there : (s : List ℕ) (at : ℕ) → at + 1 < length s
+pub tap-there : (s : List ℕ) (at : ℕ) → at + 1 < length s
     → tapAt s at ≡ tapBlock (countedAt s (At at) 2) (countedAt s (At at) 2 .cursor)
 unfolding tapAt
 tap-there s at h = rw (lt-leb (length s) at (omega arith), ne-eqb (at + 1) (length s) (λ e. omega arith))
 
-tap-lone : (s : List ℕ) (at : ℕ) → at + 1 ≡ length s → tapAt s at ≡ tap.Lone
+pub tap-lone : (s : List ℕ) (at : ℕ) → at + 1 ≡ length s → tapAt s at ≡ tap.Lone
 unfolding tapAt
 tap-lone s at h = rw (lt-leb (length s) at (omega arith), eq-eqb (at + 1) (length s) h)
 
-tap-end : (s : List ℕ) (at : ℕ) → length s ≤ at → tapAt s at ≡ tap.End
+pub tap-end : (s : List ℕ) (at : ℕ) → length s ≤ at → tapAt s at ≡ tap.End
 unfolding tapAt
 tap-end s at h = rw (le-leb (length s) at h)
 

@@ -3,8 +3,8 @@
 use Prim.Native.Nat.{ℕ, _+_, _-_}
 use mathlib.Core.Path.{_≡_, refl}
 use mathlib.Core.Bool.{true, false}
-use mathlib.Core.List.{List, [], _∷_, map}
-use lib.ListN.{take}
+use mathlib.Core.List.{List, [], _∷_, map, _++_}
+use lib.ListN.{take, getD}
 use Rattle.cut_fields.specs.Field.{leAt, numberAt, fieldAt, placeOf}
 use Rattle.cut_fields.specs.Run.{times, eachAt, groupsAt}
 use Rattle.cut_grammar.specs.declared.Piece.the-variants.{Standard, Turbo, Tone, Pulses, Pure, Generalized, Pause, GroupStart}
@@ -15,10 +15,11 @@ use Rattle.cut_grammar.specs.declared.Taken.the-variants as taken
 use Rattle.cut_grammar.specs.declared.TakenTap.the-variants as tap
 use Rattle.cut_grammar.specs.declared.Heading.the-variants as head
 use Rattle.cut_grammar.specs.Grammar.{passAt, countedAt, textsAt, wholeAt, sealed, enclosed, fittingAt, readAt, binaryDigits}
-use Rattle.cut_grammar.specs.Grammar.{orFull, heldIf}
+use Rattle.cut_grammar.specs.Grammar.{unknownAt, orFull, heldIf}
 use Rattle.cut_grammar.specs.Kinds.{kind10, kind11, kind12, kind13, kind14, stream19, kind19, kind20, kind21, kind22, kind24}
 use Rattle.cut_grammar.specs.Kinds.{kind25, kind2A, kind30, kind31, info32, kind32, kind33, kind35, kind5A, kinds, kindOf}
-use Rattle.cut_grammar.specs.Cut.{startsAt, headAt, takenAs, cutAt, tapBlock, tapAt}
+use Rattle.cut_grammar.specs.Cut.{signature, startsAt, headAt, takenAs, cutAt, tapBlock, tapAt}
+use Rattle.cut_grammar.specs.Trace.{eachTrace, countedTrace, textsTrace, passTrace, trace}
 
 pub record Example : Type 0 where
   pub tape : List ℕ
@@ -188,7 +189,7 @@ examples =
 pub examples-hold : map (λ e. cutAt (e .tape) (e .at) (e .full)) examples ≡ map (λ e. e .wants) examples
 unfolding examples cutAt kindOf kinds kind10 kind11 kind12 kind13 kind14 stream19 kind19 kind20 kind21 kind22 kind24 kind25 kind2A kind30
     kind31 info32 kind32 kind33 kind35 kind5A takenAs readAt passAt countedAt textsAt wholeAt sealed enclosed fittingAt binaryDigits orFull
-    heldIf fieldAt numberAt leAt placeOf times eachAt groupsAt
+    heldIf unknownAt fieldAt numberAt leAt placeOf times eachAt groupsAt
 examples-hold = refl
 
 -- a piece cut inside each of these fields, places and widths, one byte before its end: that field comes up short
@@ -263,3 +264,21 @@ pub taps-hold : map (λ (e : List ℕ × ℕ). tapAt (e .0) (e .1)) (([], 0) ∷
 ) ∷ (0x02 ∷ 0x00 ∷ 0xFF ∷ [], 0) ∷ []) ≡ tap.End ∷ tap.Lone ∷ tap.Block 2 0 2 ∷ tap.Block 5 2 7 ∷ tap.Short 2 2 ∷ []
 unfolding tapAt tapBlock countedAt fieldAt numberAt leAt placeOf
 taps-hold = refl
+
+-- the fields of the piece behind a head of 10 bytes, each with its place, its width and the end of the bytes that it is read from
+unfoldable pub fieldsOf : List ℕ → List (ℕ × (ℕ × ℕ))
+fieldsOf piece =
+    let s = signature ++ (0x01 ∷ 0x14 ∷ piece) in
+    map (λ f. (f .place, (f .width, f .end))) (trace (kindOf 255 (getD s 10 0)) s 11)
+
+-- a 20, a 10 and a 13 without their last bytes; a 32 whose body ends before the tape does: what stands in the body is read from the body;
+-- a 32 whose body goes on behind the tape's end
+pub fields-hold : map fieldsOf ((0x20 ∷ 0x01 ∷ []) ∷ (0x10 ∷ 0x00 ∷ 0x00 ∷ 0x05 ∷ 0x00 ∷ 0xAA ∷ []) ∷
+    (0x13 ∷ 0x03 ∷ 0x01 ∷ 0x00 ∷ 0x02 ∷ []) ∷ (0x32 ∷ 0x01 ∷ 0x00 ∷ 0x01 ∷ 0x20 ∷ 0x01 ∷ 0x00 ∷ []) ∷
+    (0x32 ∷ 0x05 ∷ 0x00 ∷ 0x01 ∷ []) ∷ [])
+    ≡ ((11, (2, 12)) ∷ []) ∷ ((11, (2, 16)) ∷ (13, (2, 16)) ∷ (15, (5, 16)) ∷ []) ∷
+    ((11, (1, 15)) ∷ (12, (2, 15)) ∷ (14, (2, 15)) ∷ (16, (2, 15)) ∷ []) ∷
+    ((11, (2, 17)) ∷ (13, (1, 17)) ∷ (13, (1, 14)) ∷ (14, (1, 14)) ∷ (15, (1, 14)) ∷ (16, (0, 14)) ∷ []) ∷
+    ((11, (2, 14)) ∷ (13, (5, 14)) ∷ (13, (1, 14)) ∷ (14, (1, 14)) ∷ (15, (1, 14)) ∷ (16, (0, 14)) ∷ []) ∷ []
+unfolding fieldsOf kindOf kinds kind10 kind13 kind20 info32 kind32 trace passTrace eachTrace countedTrace textsTrace numberAt leAt
+fields-hold = refl

@@ -22,7 +22,8 @@ use Rattle.cut_grammar.specs.declared.Piece.{Piece}
 use Rattle.cut_grammar.specs.declared.Body.{Body}
 use Rattle.cut_grammar.specs.declared.Body.the-variants.{Whole, Unknown, Short, Overflow}
 use Rattle.cut_grammar.specs.Grammar.{Passed, bytes, fields, groups, texts, Layout, number, counted, here, pass, within, fitting}
-use Rattle.cut_grammar.specs.Grammar.{whole, unknown, countedAt, textsAt, passAt, wholeAt, sealed, enclosed, fittingAt, readAt}
+use Rattle.cut_grammar.specs.Grammar.{whole, unknown, countedAt, textsAt, passAt, wholeAt, sealed, enclosed, fittingAt, unknownAt}
+use Rattle.cut_grammar.specs.Grammar.{readAt}
 use Rattle.cut_grammar.specs.Ends.{StandsIn, stands, stuck, Ends, ends, none, short, wide, Own}
 
 -- two reads of which the first, where it ends at or before k, is the second
@@ -137,6 +138,11 @@ unfolding wholeAt
 whole-forward piece a b (At p) (stands h t) = ends h t
 whole-forward piece a b (cursor.Short p w) stuck = short
 
+unknown-forward : (described : Bool) (a b : ℕ) (c : Cursor) → Ends a b (unknownAt described c)
+unfolding unknownAt
+unknown-forward described a b (At p) = none
+unknown-forward described a b (cursor.Short p w) = short
+
 sealed-forward : (a b end : ℕ) → a ≤ end → end ≤ b → (x : Body) → Ends a b (sealed end x)
 unfolding sealed
 sealed-forward a b end h t (Whole piece p) = ends h t
@@ -170,7 +176,7 @@ forward (within n inner) s a c h =
     enclosed-forward (λ end. readAt inner (take end s) c) a (length s) (fieldAt s c n .cursor) (field-forward n s a c h)
 forward (fitting bits rest) s a c h = fitting-forward bits a (length s) c (readAt rest s c) (forward rest s a c h)
 forward (whole piece) s a c h = whole-forward piece a (length s) c h
-forward (unknown described) s a c h = none
+forward (unknown described) s a c h = unknown-forward described a (length s) c
 
 -- the rest of a layout after a move
 module _ (s : List ℕ) (k : ℕ) where
@@ -212,7 +218,7 @@ module _ (s : List ℕ) (k : ℕ) where
 
 -- a piece that ends at or before k is read alike from the first k bytes
 pub own : (l : Layout) (s : List ℕ) (k p : ℕ) → p ≤ k → Own (length s) k (readAt l s (At p)) (readAt l (take k s) (At p))
-unfolding readAt countedAt wholeAt
+unfolding readAt countedAt wholeAt unknownAt
 own (number w rest) s k p h = after-read s k rest (λ v. own (rest v) s k) (field-own w s k p h)
 own (counted w rest) s k p h = after-span s k rest (λ q v. own (rest q v) s k) (field-own w s k p h)
 own (here rest) s k p h = own (rest (placeOf (At p))) s k p h

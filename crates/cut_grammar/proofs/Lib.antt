@@ -6,4 +6,5 @@ pub mod Places
 pub mod PulsePlaces
 pub mod CuttingTap
 pub mod Turns
+pub mod First
 pub mod Examples

@@ -17,7 +17,7 @@ use Rattle.cut_grammar.specs.declared.Body.{Body}
 use Rattle.cut_grammar.specs.declared.Body.the-variants.{Whole, Unknown, Short, Overflow}
 use Rattle.cut_grammar.specs.declared.Taken.the-variants as taken
 use Rattle.cut_grammar.specs.Grammar.{Layout, number, counted, here, pass, within, fitting, whole, unknown, countedAt, passAt}
-use Rattle.cut_grammar.specs.Grammar.{wholeAt, sealed, enclosed, fittingAt, readAt}
+use Rattle.cut_grammar.specs.Grammar.{wholeAt, sealed, enclosed, fittingAt, unknownAt, readAt}
 use Rattle.cut_grammar.specs.Cut.{takenAs}
 
 module _ (is : Piece → Bool) where
@@ -41,6 +41,11 @@ module _ (is : Piece → Bool) where
   whole-other x (At p) h y next t e =
       let i : x ≡ y = cc in let z : false ≡ true = sym h ∙ ap is i ∙ t in let n : _≡_ {A = ℕ} 0 1 = cc in omega arith
   whole-other x (cursor.Short p w) h y next t e = let z : _≡_ {A = ℕ} 0 1 = cc in omega arith
+
+  unknown-other : (described : Bool) (c : Cursor) → Never (unknownAt described c)
+  unfolding unknownAt
+  unknown-other described (At p) y next t e = let z : _≡_ {A = ℕ} 0 1 = cc in omega arith
+  unknown-other described (cursor.Short p w) y next t e = let z : _≡_ {A = ℕ} 0 1 = cc in omega arith
 
   sealed-other : (end : ℕ) (b : Body) → Never b → Never (sealed end b)
   unfolding sealed
@@ -75,7 +80,7 @@ module _ (is : Piece → Bool) where
       enclosed-other (λ end. readAt inner (take end s) c) (fieldAt s c n .cursor) (λ end. other-none inner o (take end s) c)
   other-none (fitting bits rest) o s c = fitting-other bits c (readAt rest s c) (other-none rest o s c)
   other-none (whole x) o s c = whole-other x c o
-  other-none (unknown described) o s c = λ y next t e. let z : _≡_ {A = ℕ} 0 1 = cc in omega arith
+  other-none (unknown described) o s c = unknown-other described c
 
 -- what holds of every row of a table, a row after the other
 infixr 20 _&_

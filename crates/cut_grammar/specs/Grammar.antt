@@ -74,6 +74,10 @@ unfoldable pub fittingAt : ℕ → Cursor → Body → Body
 fittingAt bits (At p) rest = leb bits 4294967295 ⇒ rest ∣ Overflow p
 fittingAt bits (cursor.Short p w) rest = rest
 
+unfoldable pub unknownAt : Bool → Cursor → Body
+unknownAt described (At p) = Unknown described
+unknownAt described (cursor.Short p w) = Short p w
+
 unfoldable pub readAt : Layout → List ℕ → Cursor → Body
 readAt (number w rest) s c = readAt (rest (fieldAt s c w .value)) s (fieldAt s c w .cursor)
 readAt (counted w rest) s c = readAt (rest (countedAt s c w .from) (countedAt s c w .size)) s (countedAt s c w .cursor)
@@ -82,7 +86,7 @@ readAt (pass part rest) s c = readAt rest s (passAt part s c)
 readAt (within n inner) s c = enclosed (λ end. readAt inner (take end s) c) (fieldAt s c n .cursor)
 readAt (fitting bits rest) s c = fittingAt bits c (readAt rest s c)
 readAt (whole piece) s c = wholeAt piece c
-readAt (unknown described) s c = Unknown described
+readAt (unknown described) s c = unknownAt described c
 
 -- the binary digits of n, f of them at the most; a number of 32 bits has no more than 32
 unfoldable pub binaryDigits : ℕ → ℕ → ℕ

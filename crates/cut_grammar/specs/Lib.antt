@@ -4,3 +4,4 @@ pub mod Cut
 pub mod Places
 pub mod Steps
 pub mod Ends
+pub mod Trace

@@ -21,14 +21,16 @@ use cut_grammar::Piece;
 use cut_grammar::Taken;
 use cut_grammar::whole;
 ghost use mathlib.Core.Path.{_≡_};
+ghost use Rattle.cut_fields.specs.declared.Cursor.the-variants.{At};
 ghost use Rattle.cut_grammar.specs.Grammar.{readAt};
 ghost use Rattle.cut_grammar.specs.Kinds.{kindOf};
 ghost use Rattle.cut_grammar.specs.Cut.{cutAt, takenAs};
 
-// What stands after a kind byte: every kind from 0 to 255 has its row.
-fn body_of(tape: &[u8], kind: u8, c: Cursor, full: u32) -> Body
-    ensures { λ r. ⌜ r ≡ readAt (kindOf full kind) (now (tape .entry)) c ⌝ }
+// What stands after a kind byte, from a place on: every kind from 0 to 255 has its row.
+fn body_of(tape: &[u8], kind: u8, from: u64, full: u32) -> Body
+    ensures { λ r. ⌜ r ≡ readAt (kindOf full kind) (now (tape .entry)) (At from) ⌝ }
 {
+    let c = Cursor::At(from);
     match kind {
         0x10 => standard(tape, c),
         0x11 => turbo(tape, c),
@@ -83,5 +85,5 @@ pub fn cut(tape: &[u8], at: u64, full: u32) -> Taken
         return Taken::End;
     }
     let kind = tape[at as usize];
-    named(kind, at, body_of(tape, kind, Cursor::At(at + 1), full))
+    named(kind, at, body_of(tape, kind, at + 1, full))
 }

@@ -24,7 +24,7 @@ use Rattle.cut_grammar.specs.declared.Taken.the-variants as taken
 use Rattle.cut_grammar.specs.declared.TakenTap.{TakenTap}
 use Rattle.cut_grammar.specs.declared.TakenTap.the-variants as tap
 use Rattle.cut_grammar.specs.Grammar.{Layout, number, counted, here, pass, within, fitting, whole, unknown, countedAt, passAt, wholeAt}
-use Rattle.cut_grammar.specs.Grammar.{sealed, enclosed, fittingAt, readAt}
+use Rattle.cut_grammar.specs.Grammar.{sealed, enclosed, fittingAt, unknownAt, readAt}
 use Rattle.cut_grammar.specs.Kinds.{kind10, kind11, kind12, kind13, kind14, stream19, kind19, kind20, kind21, kind22, kind24, kind25}
 use Rattle.cut_grammar.specs.Kinds.{kind2A, kind30, kind31, info32, kind32, kind33, kind35, kind5A, unread, kinds, kindOf}
 use Rattle.cut_grammar.specs.Cut.{takenAs, cutAt, tapBlock, tapAt}
@@ -113,6 +113,11 @@ module _ {P : Piece → Type 0} where
   whole-gives x (At p) h = has h
   whole-gives x (cursor.Short p w) h = too-short
 
+  unknown-gives : (described : Bool) (c : Cursor) → Gives P (unknownAt described c)
+  unfolding unknownAt
+  unknown-gives described (At p) = not-known
+  unknown-gives described (cursor.Short p w) = too-short
+
   sealed-gives : (end : ℕ) {b : Body} → Gives P b → Gives P (sealed end b)
   unfolding sealed
   sealed-gives end (has h) = has h
@@ -174,7 +179,7 @@ module _ (P : Piece → Type 0) (most : ℕ) where
       (λ end. allowed inner a (take end s) (take-bytes s b end) (rw length-take (omega arith)) c)
   allowed (fitting bits rest) a s b h c = fitting-gives bits c (readAt rest s c) (allowed rest a s b h c)
   allowed (whole x) a s b h c = whole-gives x c a
-  allowed (unknown described) a s b h c = not-known
+  allowed (unknown described) a s b h c = unknown-gives described c
 
 -- each kind allows what its piece is said to be
 module _ (most : ℕ) where

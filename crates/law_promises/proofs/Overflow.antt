@@ -28,7 +28,7 @@ use Rattle.cut_grammar.specs.declared.Body.{Body}
 use Rattle.cut_grammar.specs.declared.Body.the-variants.{Whole, Unknown, Short, Overflow}
 use Rattle.cut_grammar.specs.declared.Taken.the-variants as taken
 use Rattle.cut_grammar.specs.Grammar.{Layout, number, counted, here, pass, within, fitting, whole, unknown, fields, groups, countedAt}
-use Rattle.cut_grammar.specs.Grammar.{passAt, wholeAt, sealed, enclosed, fittingAt, readAt, binaryDigits, bitsOf, orFull, heldIf}
+use Rattle.cut_grammar.specs.Grammar.{passAt, wholeAt, sealed, enclosed, fittingAt, unknownAt, readAt, binaryDigits, bitsOf, orFull, heldIf}
 use Rattle.cut_grammar.specs.Kinds.{kind10, kind11, kind12, kind13, kind14, stream19, kind19, kind20, kind21, kind22, kind24, kind25}
 use Rattle.cut_grammar.specs.Kinds.{kind2A, kind30, kind31, info32, kind32, kind33, kind35, kind5A, unread, kinds, kindOf}
 use Rattle.cut_grammar.specs.Cut.{takenAs, cutAt}
@@ -58,6 +58,11 @@ unfolding wholeAt
 whole-never x (At q) p e = let z : _≡_ {A = ℕ} 0 1 = cc in omega arith
 whole-never x (cursor.Short q w) p e = let z : _≡_ {A = ℕ} 0 1 = cc in omega arith
 
+unknown-never : (described : Bool) (c : Cursor) → Never (unknownAt described c)
+unfolding unknownAt
+unknown-never described (At q) p e = let z : _≡_ {A = ℕ} 0 1 = cc in omega arith
+unknown-never described (cursor.Short q w) p e = let z : _≡_ {A = ℕ} 0 1 = cc in omega arith
+
 sealed-never : (end : ℕ) (b : Body) → Never b → Never (sealed end b)
 unfolding sealed
 sealed-never end (Whole x q) h p e = let z : _≡_ {A = ℕ} 0 1 = cc in omega arith
@@ -82,7 +87,7 @@ steady-never (within n inner) o s c =
     enclosed-never (λ end. readAt inner (take end s) c) (fieldAt s c n .cursor) (λ end. steady-never inner o (take end s) c)
 steady-never (fitting bits rest) o s c = absurd o
 steady-never (whole x) o s c = whole-never x c
-steady-never (unknown described) o s c = λ p e. let z : _≡_ {A = ℕ} 0 1 = cc in omega arith
+steady-never (unknown described) o s c = unknown-never described c
 
 -- of all rows of the grammar's table, 19's alone counts bits
 data Row : Arm Layout → Type 0 where

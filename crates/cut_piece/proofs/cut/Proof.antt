@@ -13,8 +13,8 @@ returns c =
 shared-slice-read-kind : tie.Need-shared-slice-read-kind
 shared-slice-read-kind c = search needs
 
-add-t6 : tie.Need-add-t6
-add-t6 c = search needs
+add-body-of : tie.Need-add-body-of
+add-body-of c = search needs
 
 body-of-requires : tie.Need-body-of-requires
 body-of-requires c κs = search needs
@@ -30,4 +30,4 @@ returns-2 c =
 pub cut-spec : {M : Type 1} → statement M
 cut-spec =
     tie.close
-    (tie.spec returns shared-slice-read-kind add-t6 body-of-requires named-requires returns-2)
+    (tie.spec returns shared-slice-read-kind add-body-of body-of-requires named-requires returns-2)

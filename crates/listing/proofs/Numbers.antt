@@ -15,7 +15,7 @@ use Rattle.load_source.specs.Source.{Load}
 use Rattle.load_tape.specs.Load.{loadNamed}
 use Rattle.load_tape.specs.declared.Format.the-variants.{Tap, Tzx}
 use Rattle.law_every_load.proofs.Refusals.{load-numbered, named-numbered}
-use Rattle.law_every_load.specs.Numbered.{Numbered, as-tzx, as-tap, by}
+use Rattle.law_every_load.specs.Numbered.{Numbered, as-tzx, as-tap, both, by}
 use Rattle.listing.specs.Listing.{loadedOf, Listing, text, refused, listed, listingOf, answerTo, bytesAfter}
 use Rattle.listing.specs.Printed.{Spoken, spoken}
 use Rattle.text_listing.proofs.PageTexts.{text-least}

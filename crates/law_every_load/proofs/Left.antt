@@ -11,7 +11,7 @@ use Rattle.rows.specs.Table.{tableOf, capacityOf}
 use Rattle.rows.specs.Rows.{block, tone, blockMost}
 use Rattle.load_state.specs.Parser.{Parsed}
 use Rattle.load_blocks.specs.Does.{lentOf}
-use Rattle.load_source.specs.Source.{Load, tzx, tapped, no, loadOf}
+use Rattle.load_source.specs.Source.{Load, tzx, tapped, bothErr, no, loadOf}
 use Rattle.load_tape.specs.declared.Format.{Format}
 use Rattle.load_tape.specs.declared.Loaded.the-variants as loaded
 use Rattle.load_tape.specs.Load.{namedTape, namedLoad, loadNamed, answerOf, blockTable, toneTable, Leaves}
@@ -42,6 +42,7 @@ left-of s (tapped t) {n = n} l =
     let e = l .answer in
     let c : n ≡ length (nameAll s false (t .blocks)) = cc in
     record { tape = t; reads = as-tap; count = c ∙ name-all-length s false (t .blocks); blocks = l .blocks; tones = l .tones }
+left-of s (bothErr f g) l = let e = l .answer in absurd (let z : _≡_ {A = ℕ} 0 1 = cc in omega arith)
 left-of s (no j) l = let e = l .answer in absurd (let z : _≡_ {A = ℕ} 0 1 = cc in omega arith)
 
 -- a tape mounted over equal tables

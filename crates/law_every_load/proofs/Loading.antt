@@ -57,6 +57,7 @@ data Final (K : Parsed → Type 0) : Verdict → Type 0 where
 data Answers (K L : Parsed → Type 0) : Load → Type 0 where
   tzx : {t : Parsed} → K t → Answers K L (source.tzx t)
   tapped : {t : Parsed} → L t → Answers K L (source.tapped t)
+  both : {f g : Failure} → Answers K L (source.bothErr f g)
   no : {j : ℕ} → Answers K L (source.no j)
 
 module _ {K : Parsed → Type 0} where
@@ -133,16 +134,16 @@ module _ {lent : Lent} {s : List ℕ} (b : Bytes s) where
     unfolding readTap
     tap-read = fold-keeps (tapSee lent s) tap-safe (length s) 0 empty (l .begins)
 
-or-tap : {K L : Parsed → Type 0} {r : Verdict} → Final L r → Answers K L (orTap r)
+or-tap : {K L : Parsed → Type 0} (f : Failure) {r : Verdict} → Final L r → Answers K L (orTap f r)
 unfolding orTap
-or-tap (done h) = tapped h
-or-tap failed = no
-or-tap refused = no
+or-tap f (done h) = tapped h
+or-tap f failed = both
+or-tap f refused = no
 
 or-else : {K L : Parsed → Type 0} {r q : Verdict} → Final K r → Final L q → Answers K L (orElse r q)
 unfolding orElse
 or-else (done h) f = tzx h
-or-else failed f = or-tap f
+or-else failed f = or-tap _ f
 or-else refused f = no
 
 load-answers : {K L : Parsed → Type 0} (lent : Lent) (s : List ℕ) (model : ℕ) → Final K (readTzx lent s model)

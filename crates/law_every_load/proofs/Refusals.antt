@@ -5,7 +5,7 @@ use mathlib.Core.Bool.{Bool, true, false, _&&_, not}
 use mathlib.Core.List.{List, [], _∷_}
 use lib.ListN.{length}
 use lib.Dec.{ltb, leb, eqb}
-use Rattle.refusals.specs.Refusals.{badModel, tapeLong, tapeBad, generalised, tonesFull, blocksFull, lastBits}
+use Rattle.refusals.specs.Refusals.{badModel, tapeLong, generalised, tonesFull, blocksFull, lastBits}
 use Rattle.law_base.specs.Rules.{_⇒_, _∣_}
 use Rattle.rows.specs.declared.Block.{Block}
 use Rattle.rows.specs.declared.Tone.{Tone}
@@ -32,7 +32,7 @@ use Rattle.load_source.specs.Source.{See, theEnd, bad, refuses, thing, Verdict,
 use Rattle.load_source.specs.Source.{foldFrom, tooManyBits, bitsJudged, tzxOf, tzxSee, headed, readTzx, tapOf, tapSee, readTap, full, Load}
 use Rattle.load_source.specs.Source.{no, orTap, orElse, loadOf}
 use Rattle.load_tape.specs.Load.{namedLoad}
-use Rattle.law_every_load.specs.Numbered.{Numbered, as-tzx, as-tap, by}
+use Rattle.law_every_load.specs.Numbered.{Numbered, as-tzx, as-tap, both, by}
 
 -- a number from lo to hi
 pub record Between (lo hi k : ℕ) : Type 0 where
@@ -195,16 +195,16 @@ module _ (lent : Lent) where
   unfolding readTap tapSee
   tap-tells s = run-tells (λ at. tap-sees s at (tapAt s at)) (length s) 0 empty
 
-or-tap : {r : Verdict} → Tells tonesFull blocksFull r → Numbered (orTap r)
+or-tap : (f : Failure) {r : Verdict} → Tells tonesFull blocksFull r → Numbered (orTap f r)
 unfolding orTap
-or-tap whole = as-tap
-or-tap fails = by {k = tapeBad} (omega arith) (omega arith)
-or-tap (tells {k = k} b) = by {k = k} (omega (arith, b .low)) (omega (arith, b .high))
+or-tap f whole = as-tap
+or-tap f fails = both
+or-tap f (tells {k = k} b) = by {k = k} (omega (arith, b .low)) (omega (arith, b .high))
 
 or-else : {r q : Verdict} → Tells generalised lastBits r → Tells tonesFull blocksFull q → Numbered (orElse r q)
 unfolding orElse
 or-else whole q = as-tzx
-or-else fails q = or-tap q
+or-else fails q = or-tap _ q
 or-else (tells {k = k} b) q = by {k = k} (omega (arith, b .low)) (b .high)
 
 pub load-numbered : (lent : Lent) (s : List ℕ) (model : ℕ) → Numbered (loadOf lent s model)
@@ -221,4 +221,5 @@ pub named-numbered : (s : List ℕ) {l : Load} → Numbered l → Numbered (name
 unfolding namedLoad
 named-numbered s as-tzx = as-tzx
 named-numbered s as-tap = as-tap
+named-numbered s both = both
 named-numbered s (by a b) = by a b

@@ -21,7 +21,7 @@ use Rattle.play_entries.specs.Mounted.{tapeOf}
 use Rattle.text_name.specs.Names.{isHeader, unselected, nameOne, nameAll}
 use Rattle.load_state.specs.Parser.{Parsed, empty}
 use Rattle.load_blocks.specs.Does.{lentOf}
-use Rattle.load_source.specs.Source.{Load, tzx, tapped, no, loadOf}
+use Rattle.load_source.specs.Source.{Load, tzx, tapped, bothErr, no, loadOf}
 use Rattle.load_tape.specs.declared.Format.the-variants.{Tzx}
 use Rattle.load_tape.specs.declared.Loaded.the-variants as answer
 use Rattle.load_tape.specs.Load.{namedTape, namedLoad, loadNamed, answerOf, blockTable, toneTable, Leaves}
@@ -69,6 +69,7 @@ left-tzx : {B N : ℕ} (s : List ℕ) (a : Load) {n k : ℕ} {bt tt : List ℕ} 
 unfolding namedLoad namedTape answerOf blockTable toneTable
 left-tzx s (tzx t) l = let e = l .answer in record { tape = t; read = refl; count = cc; blocks = l .blocks; tones = l .tones }
 left-tzx s (tapped t) l = let e = l .answer in absurd (let z : _≡_ {A = ℕ} 0 1 = cc in omega arith)
+left-tzx s (bothErr f g) l = let e = l .answer in absurd (let z : _≡_ {A = ℕ} 0 1 = cc in omega arith)
 left-tzx s (no j) l = let e = l .answer in absurd (let z : _≡_ {A = ℕ} 0 1 = cc in omega arith)
 
 -- a tape's list over tables of rows

@@ -27,6 +27,7 @@ use Rattle.load_blocks.specs.Sounds.{originAt}
 use Rattle.load_source.specs.Source.{Verdict, done, failed, refused, readOn, seeing, foldFrom, halted, tooManyBits, bitsJudged, tzxOf}
 use Rattle.load_source.specs.Source.{tzxSee, headed, readTzx, readTap, tzx, no, orTap, orElse, loadOf}
 use Rattle.load_source.specs.Source as source
+use Rattle.load_source.specs.declared.Failure.{Failure}
 use Rattle.load_source.specs.declared.Failure.the-variants as failure
 use Rattle.law_tzx.specs.Format.{Said, formatOf, lasting}
 use Rattle.law_tzx.specs.Cut.{layoutOf, formatCut}
@@ -128,14 +129,14 @@ module _ (lent : Lent) (s : List ℕ) (model : ℕ) where
   unfolding loadOf orElse orTap readTzx headed
   tzx-run {u} e = by-model (leb 3 model) (ltb 1048576 (length s)) e
     where
-      by-tap : (r : Verdict) → orTap r ≡ tzx u → ⊥
-      by-tap (done t) q = let z : _≡_ {A = ℕ} 0 1 = cc in omega arith
-      by-tap (failed f) q = let z : _≡_ {A = ℕ} 0 1 = cc in omega arith
-      by-tap (refused k) q = let z : _≡_ {A = ℕ} 0 1 = cc in omega arith
+      by-tap : (f : Failure) (r : Verdict) → orTap f r ≡ tzx u → ⊥
+      by-tap f (done t) q = let z : _≡_ {A = ℕ} 0 1 = cc in omega arith
+      by-tap f (failed g) q = let z : _≡_ {A = ℕ} 0 1 = cc in omega arith
+      by-tap f (refused k) q = let z : _≡_ {A = ℕ} 0 1 = cc in omega arith
 
       by-read : (r : Verdict) → orElse r (readTap lent s) ≡ tzx u → r ≡ done u
       by-read (done t) q = let i : t ≡ u = cc in ap done i
-      by-read (failed f) q = absurd (by-tap (readTap lent s) q)
+      by-read (failed f) q = absurd (by-tap f (readTap lent s) q)
       by-read (refused k) q = absurd (let z : _≡_ {A = ℕ} 0 1 = cc in omega arith)
 
       by-head : (h : Heading) → headed lent s model h ≡ done u → foldFrom (tzxSee lent s model) (length s) 10 empty ≡ done u

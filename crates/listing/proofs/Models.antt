@@ -14,7 +14,7 @@ use Rattle.law_base.specs.Rules.{_⇒_, _∣_}
 use Rattle.law_base.proofs.Numbers.{lt-or-ge}
 use Rattle.refusals.specs.Refusals.{tapeLong}
 use Rattle.text_out.specs.Out.{fits}
-use Rattle.load_source.specs.Source.{Load, tzx, tapped, no}
+use Rattle.load_source.specs.Source.{Load, tzx, tapped, bothErr, no}
 use Rattle.load_source.specs.Reached.{reaches2A}
 use Rattle.load_source.proofs.Models.{models-equal, models-agree}
 use Rattle.load_tape.specs.Load.{namedLoad, loadNamed}
@@ -27,6 +27,7 @@ listed-alike : (s : List ℕ) (m m′ : ℕ) (l : Load) → Alike m m′ (listed
 unfolding listed listingText
 listed-alike s m m′ (tzx t) = texts _
 listed-alike s m m′ (tapped t) = texts _
+listed-alike s m m′ (bothErr f g) = refusals
 listed-alike s m m′ (no k) = refusals
 
 module _ (s : List ℕ) where

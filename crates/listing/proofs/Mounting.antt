@@ -3,7 +3,7 @@
 use Prim.Native.Nat.{ℕ, _≤_, _<_}
 use native.Mathlib.Omega.{arith}
 use mathlib.Core.Path.{_≡_, refl, sym, ap, subst, _∙_}
-use mathlib.Core.Bool.{false}
+use mathlib.Core.Bool.{Bool, true, false, false≢true}
 use mathlib.Core.List.{List}
 use lib.ListN.{length}
 use borrow.Author.Tests.{le-leb, lt-leb, lt-ltb, le-ltb}
@@ -12,7 +12,7 @@ use Rattle.rows.specs.Table.{tableOf}
 use Rattle.rows.specs.Rows.{block, tone}
 use Rattle.load_state.specs.Parser.{Parsed}
 use Rattle.load_blocks.specs.Does.{lentOf}
-use Rattle.load_source.specs.Source.{Load, tzx, tapped, no, loadOf}
+use Rattle.load_source.specs.Source.{Load, tzx, tapped, bothErr, no, loadOf}
 use Rattle.text_name.specs.Names.{nameAll}
 use Rattle.text_name.proofs.Selecting.{name-all-length}
 use Rattle.play_entries.specs.Places.{Tape}
@@ -20,7 +20,7 @@ use Rattle.play_entries.specs.Mounted.{tapeOf, wellRow}
 use Rattle.load_tape.specs.declared.Format.{Format}
 use Rattle.load_tape.specs.declared.Format.the-variants.{Tap, Tzx}
 use Rattle.load_tape.specs.declared.Loaded.{Loaded}
-use Rattle.load_tape.specs.Load.{namedTape, namedLoad, loadNamed, answerOf, blockTable, toneTable, Leaves}
+use Rattle.load_tape.specs.Load.{namedTape, namedLoad, loadNamed, answerOf, refusalNo, blockTable, toneTable, Leaves}
 use Rattle.law_every_load.specs.Sizes.{Bytes}
 use Rattle.law_every_load.specs.OfSource.{Reads, as-tzx, as-tap}
 use Rattle.law_every_load.proofs.Room.{load-within}
@@ -90,7 +90,14 @@ load-ready s model {f} {n} {k} {bt} {tt} b l = by-cases (loadOf (lentOf blockWor
         let m : n ≡ length (nameAll s false (t .blocks)) = cc in
         same-ready (y .tones) (y .blocks) (m ∙ name-all-length s false (t .blocks))
         (rows-ready s model b (subst (λ (z : Load). Reads z t) (sym e) as-tap))
+    by-cases (bothErr f g) e y = let a = y .answer in absurd (let z : _≡_ {A = ℕ} 0 1 = cc in omega arith)
     by-cases (no j) e y = let a = y .answer in absurd (let z : _≡_ {A = ℕ} 0 1 = cc in omega arith)
+
+-- whether an answer is a tape's
+abbrev pub is-tape : Loaded → Bool
+is-tape (loaded.Tape f n k) = true
+is-tape (loaded.Unread f g) = false
+is-tape (loaded.Refused k) = false
 
 -- WHAT IS LISTED OF A LOAD, by its answer
 module _ (s : List ℕ) (model : ℕ) {bt tt : List ℕ} where
@@ -107,13 +114,16 @@ module _ (s : List ℕ) (model : ℕ) {bt tt : List ℕ} where
       let e : n ≡ length (t .blocks) = cc in
       let g : f ≡ Tap = cc in
       rw g (ap (λ (w : Tape). text (listingText model Tap w)) (sym (mounted-same s (l .tones) (l .blocks) e)))
+  listed-text (bothErr f g) l = let a = l .answer in absurd (let z : _≡_ {A = ℕ} 0 1 = cc in omega arith)
   listed-text (no j) l = let a = l .answer in absurd (let z : _≡_ {A = ℕ} 0 1 = cc in omega arith)
 
-  listed-no : {k : ℕ} (x : Load) → Leaves blockWords toneWords x (loaded.Refused k) bt tt → listed s model x ≡ refused k
-  unfolding listed answerOf
-  listed-no (tzx t) l = let a = l .answer in absurd (let z : _≡_ {A = ℕ} 0 1 = cc in omega arith)
-  listed-no (tapped t) l = let a = l .answer in absurd (let z : _≡_ {A = ℕ} 0 1 = cc in omega arith)
-  listed-no {k} (no j) l = let a = l .answer in let e : j ≡ k = cc in ap refused e
+  listed-no : {a : Loaded} (x : Load) → Leaves blockWords toneWords x a bt tt → is-tape a ≡ false
+      → listed s model x ≡ refused (refusalNo a)
+  unfolding listed answerOf refusalNo
+  listed-no (tzx t) l e = absurd (false≢true (sym e ∙ ap is-tape (l .answer)))
+  listed-no (tapped t) l e = absurd (false≢true (sym e ∙ ap is-tape (l .answer)))
+  listed-no (bothErr f g) l e = rw (l .answer)
+  listed-no (no j) l e = rw (l .answer)
 
 -- an answer and the bytes it leaves are what the contract says
 abbrev pub ListingAnswered : List ℕ → ℕ → List ℕ → ℕ → List ℕ → Type 0
@@ -133,10 +143,10 @@ module _ (s : List ℕ) (model : ℕ) where
     unfolding listingOf
     loads = rw (lt-leb 3 model h, le-ltb 65535 (length s) k)
 
-    pub load-refused : {bt tt : List ℕ} (out : List ℕ) {j : ℕ}
-        → Leaves blockWords toneWords (loadedOf s model) (loaded.Refused j) bt tt → ListingAnswered s model out j out
+    pub load-refused : {a : Loaded} {bt tt : List ℕ} (out : List ℕ) → Leaves blockWords toneWords (loadedOf s model) a bt tt
+        → is-tape a ≡ false → ListingAnswered s model out (refusalNo a) out
     unfolding answerTo bytesAfter
-    load-refused out l = let e = loads ∙ listed-no s model (loadedOf s model) l in (rw e, rw e)
+    load-refused out l f = let e = loads ∙ listed-no s model (loadedOf s model) l f in (rw e, rw e)
 
     pub load-told : {bt tt out′ : List ℕ} {f : Format} {n m r : ℕ} (out : List ℕ)
         → Leaves blockWords toneWords (loadedOf s model) (loaded.Tape f n m) bt tt

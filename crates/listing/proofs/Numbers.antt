@@ -9,13 +9,13 @@ use lib.ListN.{length, drop}
 use lib.Dec.{leb, ltb}
 use borrow.Author.Tests.{leb-true, leb-false}
 use Rattle.law_base.specs.Rules.{_⇒_, _∣_}
-use Rattle.refusals.specs.Refusals.{badModel, tapeLong, lastBits, noRoom}
+use Rattle.refusals.specs.Refusals.{badModel, tapeLong, tapeBad, lastBits, noRoom}
 use Rattle.text_out.specs.Out.{fits, told}
 use Rattle.load_source.specs.Source.{Load}
 use Rattle.load_tape.specs.Load.{loadNamed}
 use Rattle.load_tape.specs.declared.Format.the-variants.{Tap, Tzx}
 use Rattle.law_every_load.proofs.Refusals.{load-numbered, named-numbered}
-use Rattle.law_every_load.specs.Numbered.{Numbered, as-tzx, as-tap, by}
+use Rattle.law_every_load.specs.Numbered.{Numbered, as-tzx, as-tap, both, by}
 use Rattle.listing.specs.Listing.{loadedOf, Listing, text, refused, listed, listingOf, answerTo, bytesAfter}
 use Rattle.listing.specs.Printed.{Spoken, spoken}
 use Rattle.text_listing.proofs.PageTexts.{text-least}
@@ -29,6 +29,7 @@ listed-sized : (s : List ℕ) (model : ℕ) {l : Load} → Numbered l → TextOr
 unfolding listed
 listed-sized s model as-tzx = long (text-least model Tzx _)
 listed-sized s model as-tap = long (text-least model Tap _)
+listed-sized s model both = small {k = tapeBad} (omega arith) (omega arith)
 listed-sized s model (by a b) = small a b
 
 -- EVERY LISTING: so `text-length` is that of a text

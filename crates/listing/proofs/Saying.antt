@@ -12,7 +12,7 @@ use Rattle.law_base.specs.Rules.{_⇒_, _∣_}
 use Rattle.refusals.specs.Refusals.{badModel, tapeLong}
 use Rattle.text_out.specs.Out.{Wrote}
 use Rattle.text_out.proofs.Writing.{wrote-counted, same-len}
-use Rattle.load_source.specs.Source.{Load, tzx, tapped, no}
+use Rattle.load_source.specs.Source.{Load, tzx, tapped, bothErr, no}
 use Rattle.load_tape.specs.declared.Format.the-variants.{Tap, Tzx}
 use Rattle.load_tape.specs.Load.{answerOf, blockTable, toneTable, Leaves}
 use Rattle.law_every_load.specs.Sizes.{Bytes}
@@ -43,6 +43,7 @@ module _ (s : List ℕ) (model : ℕ) (b : Bytes s) where
       (toneTable toneWords (tapped t)) = record { answer = refl; blocks = refl; tones = refl } in
       fit (text-most model Tap (load-ready s model b (subst (λ (x : Load).
       Leaves blockWords toneWords x (answerOf (tapped t)) (blockTable blockWords (tapped t)) (toneTable toneWords (tapped t))) (sym e) y)))
+  listed-fits (bothErr f g) e = none
   listed-fits (no k) e = none
 
   -- EVERY TEXT FITS

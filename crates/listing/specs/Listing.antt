@@ -4,12 +4,12 @@ use mathlib.Core.List.{List}
 use lib.Dec.{ltb, leb}
 use lib.ListN.{length}
 use Rattle.law_base.specs.Rules.{_⇒_, _∣_}
-use Rattle.refusals.specs.Refusals.{badModel, tapeLong, noRoom}
+use Rattle.refusals.specs.Refusals.{badModel, tapeLong, tapeBad, noRoom}
 use Rattle.text_out.specs.Out.{fits, told}
 use Rattle.rows.specs.Rows.{block, tone}
 use Rattle.play_entries.specs.Places.{Tape}
 use Rattle.play_entries.specs.Mounted.{tapeOf}
-use Rattle.load_source.specs.Source.{Load, tzx, tapped, no}
+use Rattle.load_source.specs.Source.{Load, tzx, tapped, bothErr, no}
 use Rattle.load_tape.specs.declared.Format.the-variants.{Tap, Tzx}
 use Rattle.load_tape.specs.Load.{loadNamed, blockTable, toneTable}
 use Rattle.text_listing.specs.Page.{listingText}
@@ -41,6 +41,7 @@ mounted s l n = tapeOf s (toneTable toneWords l) (blockTable blockWords l) n
 unfoldable pub listed : List ℕ → ℕ → Load → Listing
 listed s model (tzx t) = text (listingText model Tzx (mounted s (tzx t) (length (t .blocks))))
 listed s model (tapped t) = text (listingText model Tap (mounted s (tapped t) (length (t .blocks))))
+listed s model (bothErr f g) = refused tapeBad
 listed s model (no k) = refused k
 
 -- THE LISTING of a tape: 1, 2 over 65,535 bytes, 3 to 7

@@ -3,6 +3,7 @@ use load_tape::Format;
 use load_tape::Loaded;
 use refusals::BAD_MODEL;
 use refusals::NO_ROOM;
+use refusals::TAPE_BAD;
 use refusals::TAPE_LONG;
 use rows::BLOCK_TABLE;
 use rows::TONE_TABLE;
@@ -88,6 +89,7 @@ pub extern "C" fn glyvrask_listing(tape: &[u8], model: u32, out: &mut [u8]) -> u
             blocks: n,
             tones: _,
         } => tell(out, model, format, tape, &tones, &blocks, n),
+        Loaded::Unread { tzx: _, tap: _ } => TAPE_BAD,
         Loaded::Refused(k) => k,
     }
 }

@@ -3,6 +3,7 @@
 use native.Mathlib.Omega.{arith}
 use mathlib.Core.Path.{refl}
 use borrow.Author.Needs.{needs}
+use Rattle.load_tape.specs.Load.{refusalNo}
 use Rattle.listing.proofs.Mounting.{leaves-told, lent-words, load-ready, no-model, too-long, load-refused, load-told}
 use Rattle.listing.proofs.glyvrask_listing.Statement.{statement}
 use Rattle.listing.proofs.glyvrask_listing.Tie as tie
@@ -48,6 +49,10 @@ tell-requires c κs =
     load-ready (a .tape .now) (a .model) (λ i. shared-slice-known .shared-slice-known .given i .fits)
     (leaves-told (lent-words (a .tape .now) (a .model) (load .load .ensures)) (format .format .given .1))
 
+enum-told : tie.Need-enum-told
+enum-told c =
+    search needs
+
 enum-known-k : tie.Need-enum-known-k
 enum-known-k c =
     search needs
@@ -65,11 +70,20 @@ returns-3 c =
     (leaves-told (lent-words (a .tape .now) (a .model) (load .load .ensures)) (format .format .given .1)) (c .before .before .tell .ensures)
 
 returns-4 : tie.Need-returns-4
+unfolding refusalNo
 returns-4 c =
+    let load = c .before .before .before .before in
+    let a = load .before .before .before .before .before .before .before .args in
+    load-refused (a .tape .now) (a .model) (omega arith) (omega arith) (a .out .now)
+    (leaves-told (lent-words (a .tape .now) (a .model) (load .load .ensures)) (c .enum-told .given .1)) refl
+
+returns-5 : tie.Need-returns-5
+unfolding refusalNo
+returns-5 c =
     let load = c .before .before .before .before .before in
     let a = load .before .before .before .before .before .before .before .args in
     load-refused (a .tape .now) (a .model) (omega arith) (omega arith) (a .out .now)
-    (leaves-told (lent-words (a .tape .now) (a .model) (load .load .ensures)) (c .before .k .given .1))
+    (leaves-told (lent-words (a .tape .now) (a .model) (load .load .ensures)) (c .before .k .given .1)) refl
 
 pub glyvrask-listing-spec : {M : Type 1} → statement M
 glyvrask-listing-spec =
@@ -84,7 +98,9 @@ glyvrask-listing-spec =
     slice-aggregate-tell
     slice-aggregate-tell-2
     tell-requires
+    enum-told
     enum-known-k
     same-length
     returns-3
-    returns-4)
+    returns-4
+    returns-5)

@@ -189,7 +189,7 @@ examples =
 pub examples-hold : map (λ e. cutAt (e .tape) (e .at) (e .full)) examples ≡ map (λ e. e .wants) examples
 unfolding examples cutAt kindOf kinds kind10 kind11 kind12 kind13 kind14 stream19 kind19 kind20 kind21 kind22 kind24 kind25 kind2A kind30
     kind31 info32 kind32 kind33 kind35 kind5A takenAs readAt passAt countedAt textsAt wholeAt sealed enclosed fittingAt binaryDigits orFull
-    heldIf unknownAt fieldAt numberAt leAt placeOf times eachAt groupsAt
+    heldIf fieldAt numberAt leAt placeOf times eachAt groupsAt
 examples-hold = refl
 
 -- a piece cut inside each of these fields, places and widths, one byte before its end: that field comes up short

@@ -26,7 +26,7 @@ use Rattle.cut_grammar.specs.declared.Taken.the-variants as taken
 use Rattle.cut_grammar.specs.declared.TakenTap.the-variants as tap
 use Rattle.cut_grammar.specs.declared.Heading.the-variants as head
 use Rattle.cut_grammar.specs.Grammar.{Passed, bytes, fields, groups, texts, Layout, number, counted, here, pass, within, fitting}
-use Rattle.cut_grammar.specs.Grammar.{whole, unknown, countedAt, textsAt, passAt, wholeAt, sealed, enclosed, fittingAt, unknownAt}
+use Rattle.cut_grammar.specs.Grammar.{whole, unknown, countedAt, textsAt, passAt, wholeAt, sealed, enclosed, fittingAt}
 use Rattle.cut_grammar.specs.Grammar.{readAt}
 use Rattle.cut_grammar.specs.Kinds.{kind10, kind11, kind12, kind13, kind14, stream19, kind19, kind20, kind21, kind22, kind24, kind25}
 use Rattle.cut_grammar.specs.Kinds.{kind2A, kind30, kind31, info32, kind32, kind33, kind35, kind5A, unread, kinds, kindOf}
@@ -159,7 +159,7 @@ within-follows s n K k f = record { stuck = λ p w. unfold fieldAt in refl; meet
 
 -- every layout, read as its fields stand
 traced : (l : Layout) (s : List ℕ) → Follows s (readAt l s) (trace l s)
-unfolding readAt trace wholeAt unknownAt
+unfolding readAt trace wholeAt
 traced (number w rest) s = field-follows s w {K = λ v. readAt (rest v) s} {k = λ v. trace (rest v) s} (λ v. traced (rest v) s)
 traced (counted w rest) s =
     counted-follows s w {K = λ q v. readAt (rest q v) s} {k = λ q v. trace (rest q v) s} (λ q v. traced (rest q v) s)
@@ -377,10 +377,10 @@ unfolding kindOf kinds
 lookup-32 full = refl
 
 -- A PIECE'S SHORT FIELD begins at or before the end of its bytes and reaches past it: the tape's end, or the end of a 32's body
-pub cut-inside : (s : List ℕ) (at full : ℕ) {k p w : ℕ} → cutAt s at full ≡ taken.Short k p w
+pub cut-short-inside : (s : List ℕ) (at full : ℕ) {k p w : ℕ} → cutAt s at full ≡ taken.Short k p w
     → (e : ℕ) × ((p ≤ e) × ((e < p + w) × ((e ≤ length s) × (((k ≡ 0x32 → ⊥) → e ≡ length s)
     × (k ≡ 0x32 → (e ≡ length s) ⊎ (e ≡ at + 3 + numberAt s (at + 1) 2))))))
-cut-inside s at full {k} {p} {w} r =
+cut-short-inside s at full {k} {p} {w} r =
     let x = cut-first s at full k p w .0 r in
     let h = x .0 in
     let e = x .1 .1 .0 in

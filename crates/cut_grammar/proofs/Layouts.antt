@@ -139,7 +139,6 @@ whole-forward piece a b (At p) (stands h t) = ends h t
 whole-forward piece a b (cursor.Short p w) stuck = short
 
 unknown-forward : (described : Bool) (a b : ℕ) (c : Cursor) → Ends a b (unknownAt described c)
-unfolding unknownAt
 unknown-forward described a b (At p) = none
 unknown-forward described a b (cursor.Short p w) = short
 
@@ -218,7 +217,7 @@ module _ (s : List ℕ) (k : ℕ) where
 
 -- a piece that ends at or before k is read alike from the first k bytes
 pub own : (l : Layout) (s : List ℕ) (k p : ℕ) → p ≤ k → Own (length s) k (readAt l s (At p)) (readAt l (take k s) (At p))
-unfolding readAt countedAt wholeAt unknownAt
+unfolding readAt countedAt wholeAt
 own (number w rest) s k p h = after-read s k rest (λ v. own (rest v) s k) (field-own w s k p h)
 own (counted w rest) s k p h = after-span s k rest (λ q v. own (rest q v) s k) (field-own w s k p h)
 own (here rest) s k p h = own (rest (placeOf (At p))) s k p h

@@ -43,7 +43,6 @@ module _ (is : Piece → Bool) where
   whole-other x (cursor.Short p w) h y next t e = let z : _≡_ {A = ℕ} 0 1 = cc in omega arith
 
   unknown-other : (described : Bool) (c : Cursor) → Never (unknownAt described c)
-  unfolding unknownAt
   unknown-other described (At p) y next t e = let z : _≡_ {A = ℕ} 0 1 = cc in omega arith
   unknown-other described (cursor.Short p w) y next t e = let z : _≡_ {A = ℕ} 0 1 = cc in omega arith
 

@@ -74,7 +74,7 @@ unfoldable pub fittingAt : ℕ → Cursor → Body → Body
 fittingAt bits (At p) rest = leb bits 4294967295 ⇒ rest ∣ Overflow p
 fittingAt bits (cursor.Short p w) rest = rest
 
-unfoldable pub unknownAt : Bool → Cursor → Body
+abbrev pub unknownAt : Bool → Cursor → Body
 unknownAt described (At p) = Unknown described
 unknownAt described (cursor.Short p w) = Short p w
 

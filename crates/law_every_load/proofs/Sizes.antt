@@ -114,7 +114,6 @@ module _ {P : Piece → Type 0} where
   whole-gives x (cursor.Short p w) h = too-short
 
   unknown-gives : (described : Bool) (c : Cursor) → Gives P (unknownAt described c)
-  unfolding unknownAt
   unknown-gives described (At p) = not-known
   unknown-gives described (cursor.Short p w) = too-short
 

@@ -59,7 +59,6 @@ whole-never x (At q) p e = let z : _≡_ {A = ℕ} 0 1 = cc in omega arith
 whole-never x (cursor.Short q w) p e = let z : _≡_ {A = ℕ} 0 1 = cc in omega arith
 
 unknown-never : (described : Bool) (c : Cursor) → Never (unknownAt described c)
-unfolding unknownAt
 unknown-never described (At q) p e = let z : _≡_ {A = ℕ} 0 1 = cc in omega arith
 unknown-never described (cursor.Short q w) p e = let z : _≡_ {A = ℕ} 0 1 = cc in omega arith
 

@@ -5,7 +5,7 @@ use mathlib.Core.Bool.{_||_}
 use native.Mathlib.Omega.{arith}
 use Rattle.law_base.specs.Arms.{between}
 use Rattle.law_base.proofs.Arms.{lookup-none, between-in, between-below, between-above}
-use Rattle.cut_grammar.specs.Grammar.{Layout, readAt, passAt, unknown, unknownAt}
+use Rattle.cut_grammar.specs.Grammar.{Layout, readAt, passAt, unknown}
 use Rattle.cut_grammar.specs.Kinds.{kind22, kind25, kind5A, kinds, kindOf}
 use borrow.Author.Needs.{needs}
 use Rattle.cut_piece.proofs.body_of.Statement.{statement}
@@ -127,7 +127,7 @@ returns-9 c =
     rw (c .whole .ensures, c .before .match .keys9)
 
 returns-10 : tie.Need-returns-10
-unfolding kindOf kinds readAt unknownAt
+unfolding kindOf kinds readAt
 returns-10 c =
     rw (c .match .keys10)
 
@@ -147,7 +147,7 @@ returns-13 c =
     rw (c .stop48 .ensures, c .before .match .keys13)
 
 returns-14 : tie.Need-returns-14
-unfolding kindOf kinds readAt unknownAt
+unfolding kindOf kinds readAt
 returns-14 c =
     rw (c .match .keys14)
 
@@ -172,7 +172,7 @@ returns-18 c =
     rw (c .hardware .ensures, c .before .match .keys18)
 
 returns-19 : tie.Need-returns-19
-unfolding kindOf kinds readAt unknownAt
+unfolding kindOf kinds readAt
 returns-19 c =
     rw (c .match .keys19)
 
@@ -182,7 +182,7 @@ returns-20 c =
     rw (c .custom .ensures, c .before .match .keys20)
 
 returns-21 : tie.Need-returns-21
-unfolding kindOf kinds readAt unknownAt
+unfolding kindOf kinds readAt
 returns-21 c =
     rw (c .match .keys21)
 
@@ -192,7 +192,7 @@ returns-22 c =
     rw (c .whole3 .ensures, c .before .pass .ensures, c .before .before .match .keys22)
 
 returns-23 : tie.Need-returns-23
-unfolding kindOf kinds readAt unknownAt
+unfolding kindOf kinds readAt
 returns-23 c =
     let match = c .before .before in
     let k = match .before .before .args .kind in
@@ -207,7 +207,7 @@ returns-23 c =
     )
 
 returns-24 : tie.Need-returns-24
-unfolding kindOf kinds readAt unknownAt
+unfolding kindOf kinds readAt
 returns-24 c =
     let match = c .before .before .before .before in
     let k = match .before .before .args .kind in
@@ -221,7 +221,7 @@ returns-24 c =
     )
 
 returns-25 : tie.Need-returns-25
-unfolding kindOf kinds readAt unknownAt
+unfolding kindOf kinds readAt
 returns-25 c =
     let a = c .before .before .before .args in
     let k = a .kind in
@@ -232,7 +232,7 @@ returns-25 c =
     )
 
 returns-26 : tie.Need-returns-26
-unfolding kindOf kinds readAt unknownAt
+unfolding kindOf kinds readAt
 returns-26 c =
     let match = c .before .before .before in
     let k = match .before .before .args .kind in
@@ -243,7 +243,7 @@ returns-26 c =
     )
 
 returns-27 : tie.Need-returns-27
-unfolding kindOf kinds readAt unknownAt
+unfolding kindOf kinds readAt
 returns-27 c =
     let match = c .before .before .before .before in
     let k = match .before .before .args .kind in

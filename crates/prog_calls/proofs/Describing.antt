@@ -9,10 +9,11 @@ use lib.ListN.{length, length-drop, getD, take, drop}
 use lib.Seq.{take-all}
 use borrow.Author.Tests.{lt-ltb, le-ltb, leb-true, eq-eqb, ne-eqb}
 use Rattle.law_base.proofs.Tests.{first, second}
-use Rattle.refusals.specs.Refusals.{badModel, tapeLong, noPosition}
+use Rattle.refusals.specs.Refusals.{badModel, tapeLong, tapeBad, noPosition}
 use Rattle.rows.specs.Rows.{block, tone}
 use Rattle.play_entries.specs.Mounted.{tapeOf}
 use Rattle.play_walk.specs.Heads.{startAt}
+use Rattle.load_source.specs.declared.Failure.{Failure}
 use Rattle.load_tape.specs.declared.Format.{Format}
 use Rattle.load_tape.specs.declared.Loaded.{Loaded}
 use Rattle.load_tape.specs.declared.Loaded.the-variants as loaded
@@ -100,6 +101,10 @@ module _ (measured : Bool) (model : ℕ) (s : List ℕ) (from : ℕ) (ns : List 
       rw (sym (l .answer) ∙ e)
       (ap (λ (x : List ℕ). runText measured (tapeOf s x bt n) (startAt from) ns) (l .tones)
       ∙ ap (λ (x : List ℕ). runText measured (tapeOf s (toneTable N (loadNamed traceLent s model)) x n) (startAt from) ns) (l .blocks))
+
+  pub text-unread : {f g : Failure} → a ≡ loaded.Unread f g → refusedLine tapeBad ≡ tapeText measured model s from ns
+  unfolding tapeText loadedText
+  text-unread e = rw (sym (l .answer) ∙ e)
 
   pub text-refused : {k : ℕ} → a ≡ loaded.Refused k → refusedLine k ≡ tapeText measured model s from ns
   unfolding tapeText loadedText

@@ -7,7 +7,7 @@ use lib.Dec.{ltb, eqb}
 use lib.ListN.{length, getD, take, drop}
 use Rattle.io.specs.Counts.{Counts}
 use Rattle.law_base.specs.Rules.{_⇒_, _∣_}
-use Rattle.refusals.specs.Refusals.{badModel, tapeLong, noPosition}
+use Rattle.refusals.specs.Refusals.{badModel, tapeLong, tapeBad, noPosition}
 use Rattle.rows.specs.Rows.{block, tone}
 use Rattle.play_entries.specs.Places.{Tape}
 use Rattle.play_entries.specs.Mounted.{tapeOf}
@@ -47,6 +47,7 @@ traceLent = record { blocks = 512; tones = 2048 }
 unfoldable pub loadedText : Bool → List ℕ → ℕ → List ℕ → Load → Loaded → List ℕ
 loadedText measured s from ns l (loaded.Tape format n tones) =
     runText measured (tapeOf s (toneTable (2048 * tone .width) l) (blockTable (512 * block .width) l) n) (startAt from) ns
+loadedText measured s from ns l (loaded.Unread f g) = refusedLine tapeBad
 loadedText measured s from ns l (loaded.Refused k) = refusedLine k
 
 unfoldable pub tapeText : Bool → ℕ → List ℕ → ℕ → List ℕ → List ℕ

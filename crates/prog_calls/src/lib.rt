@@ -18,6 +18,7 @@ use play_walk::Reached;
 use prog_model::model_of;
 use refusals::BAD_MODEL;
 use refusals::NO_POSITION;
+use refusals::TAPE_BAD;
 use refusals::TAPE_LONG;
 use rows::BLOCK_TABLE;
 use rows::TONE_TABLE;
@@ -307,6 +308,7 @@ fn say_tape(
             blocks: n,
             tones: _,
         } => say_calls(tape, &tones, &blocks, n, measured, from, counts, calls, out),
+        Loaded::Unread { tzx: _, tap: _ } => say_refused(out, TAPE_BAD),
         Loaded::Refused(k) => say_refused(out, k),
     }
 }

@@ -15,7 +15,7 @@ use Rattle.rows.proofs.Tables.{get-row}
 use Rattle.load_state.specs.Parser.{Parsed}
 use Rattle.load_state.proofs.Kept.{all-get}
 use Rattle.load_blocks.specs.Does.{lentOf}
-use Rattle.load_source.specs.Source.{Load, tzx, tapped, no, loadOf}
+use Rattle.load_source.specs.Source.{Load, tzx, tapped, bothErr, no, loadOf}
 use Rattle.load_tape.specs.declared.Loaded.{Loaded}
 use Rattle.load_tape.specs.Load.{namedTape, namedLoad, loadNamed, answerOf, blockTable, toneTable, Leaves}
 use Rattle.text_name.specs.Names.{nameAll}
@@ -51,6 +51,7 @@ lines-counted : (s : List ℕ) (l : Load) → linesAfter (answerOf l) ≡ length
 unfolding linesAfter answerOf blockLines
 lines-counted s (tzx t) = sym (rows-counted s (t .tones) 0 (t .blocks))
 lines-counted s (tapped t) = sym (rows-counted s (t .tones) 0 (t .blocks))
+lines-counted s (bothErr f g) = refl
 lines-counted s (no k) = refl
 
 -- what is left with a load's first line
@@ -110,4 +111,5 @@ module _ (B N : ℕ) (s : List ℕ) (model : ℕ) (b : Bytes s) where
           let r = subst (λ (x : Load). Reads x t) (sym e) as-tap in
           let n = rows-counted s (t .tones) 0 (nameAll s false (t .blocks)) ∙ name-all-length s false (t .blocks) in
           record { ready = row-ready B N s model b r i (omega arith); text = read-line r i (omega arith) }
+      by-cases (bothErr f g) e k = absurd (omega arith)
       by-cases (no j) e k = absurd (omega arith)

@@ -3,10 +3,11 @@ use Prim.Native.Nat.{ℕ, suc, _+_}
 use mathlib.Core.Path.{_≡_}
 use mathlib.Core.List.{List, [], _∷_, _++_}
 use lib.ListN.{length, getD}
+use Rattle.refusals.specs.Refusals.{tapeBad}
 use Rattle.text_out.specs.Out.{ascii, decimal, Fitted}
-use Rattle.load_source.specs.Source.{Load, tzx, tapped, no}
+use Rattle.load_source.specs.Source.{Load, tzx, tapped, bothErr, no}
 use Rattle.load_tape.specs.declared.Loaded.{Loaded}
-use Rattle.load_tape.specs.declared.Loaded.the-variants.{Tape, Refused}
+use Rattle.load_tape.specs.declared.Loaded.the-variants.{Tape, Unread, Refused}
 use Rattle.load_tape.specs.Load.{answerOf, blockTable, toneTable}
 use Rattle.text_listing.specs.Page.{formatText}
 use Rattle.listing.specs.Printed.{printedNo}
@@ -17,11 +18,13 @@ use Rattle.prog_tape.specs.declared.Opening.{Opening}
 -- `TAP n` or `TZX n`, n the number of blocks; or `refused n`
 unfoldable pub firstLine : Loaded → List ℕ
 firstLine (Tape format n tones) = formatText format ++ ascii " " ++ decimal n ++ ascii "\n"
+firstLine (Unread f g) = printedNo tapeBad
 firstLine (Refused k) = printedNo k
 
 -- how many lines follow it
 unfoldable pub linesAfter : Loaded → ℕ
 linesAfter (Tape format n tones) = n
+linesAfter (Unread f g) = 0
 linesAfter (Refused k) = 0
 
 -- blocks, numbered from i on
@@ -33,6 +36,7 @@ viewLines i (v ∷ vs) = viewLine i v ∷ viewLines (i + 1) vs
 unfoldable pub blockLines : List ℕ → Load → List (List ℕ)
 blockLines s (tzx t) = viewLines 0 (blockList s (t .tones) (t .blocks))
 blockLines s (tapped t) = viewLines 0 (blockList s (t .tones) (t .blocks))
+blockLines s (bothErr f g) = []
 blockLines s (no k) = []
 
 -- THE LINES of a load

@@ -2,6 +2,7 @@
 use load_tape::Format;
 use load_tape::Loaded;
 use load_tape::load;
+use refusals::TAPE_BAD;
 use rows::Block;
 use rows::block_at;
 use text_out::put;
@@ -25,6 +26,7 @@ ghost use Rattle.load_blocks.specs.Does.{lentOf};
 ghost use Rattle.load_tape.specs.Load.{loadNamed};
 ghost use Rattle.text_listing.specs.Inner.{ReadyRow};
 ghost use Rattle.text_listing.specs.Page.{formatText};
+ghost use Rattle.listing.specs.Printed.{printedNo};
 ghost use Rattle.text_view.specs.View.{tonesFrom, rowView};
 ghost use Rattle.text_view.specs.Dump.{hexAll, viewLine};
 ghost use Rattle.prog_tape.specs.Lines.{firstLine, linesAfter, Opens};
@@ -57,6 +59,16 @@ fn put_count(out: &mut [u8], format: Format, n: u64) -> usize
     }
 }
 
+// A refusal, which no line follows.
+fn put_no(out: &mut [u8], k: u32) -> Opening
+    requires { ⌜ 32 ≤ length (now out) ⌝ }
+    ensures { λ o. ⌜ Fitted (printedNo k) (now (out .entry)) (now (out .exit)) (o .size) ⌝ }
+    ensures { λ o. ⌜ o .more ≡ 0 ⌝ }
+{
+    let size = put_said(out, b"refused ", k as u64);
+    Opening { size, more: 0 }
+}
+
 // The first line of a load's text; our programs alone call it.
 pub fn put_first(out: &mut [u8], loaded: Loaded) -> Opening
     requires { ⌜ 32 ≤ length (now out) ⌝ }
@@ -72,10 +84,8 @@ pub fn put_first(out: &mut [u8], loaded: Loaded) -> Opening
             let size = put_count(out, format, n);
             Opening { size, more: n }
         }
-        Loaded::Refused(k) => {
-            let size = put_said(out, b"refused ", k as u64);
-            Opening { size, more: 0 }
-        }
+        Loaded::Unread { tzx: _, tap: _ } => put_no(out, TAPE_BAD),
+        Loaded::Refused(k) => put_no(out, k),
     }
 }
 

@@ -54,7 +54,7 @@ took() { # NAME HEAD FILE
 }
 
 # A stand-in keeps what it took and answers what it was told for the model, its input's first byte.
-for p in list dump trace; do
+for p in list dump trace unread; do
     cat >"$room/bin/$p" <<'END'
 #!/bin/sh
 cat >"$0.took"
@@ -77,7 +77,7 @@ tell_sample() { # TAPE
 # wrong words
 call --help
 [ "$status" = 0 ] || bad '--help fails'
-for word in list compare dump 'trace m' 'trace s' 48K 128K Plus3 GLYVRASK_BIN; do
+for word in list compare dump 'trace m' 'trace s' 48K 128K Plus3 'refusal 3' GLYVRASK_BIN; do
     grep -q -e "$word" "$room/out" || bad "--help says nothing of $word"
 done
 fails 2 'say what to do'
@@ -152,10 +152,90 @@ for n in 1 2 3 4 5 6 7 9 10 11; do
     fails 1 "refused $n: " trace m 48K 'a tape.tzx' 0 1
     [ "$n" = 11 ] || grep -q "^| $n |.*|.*|$" "$here/README.md" || bad "README.md has no row for refusal $n"
 done
-tell list 4 'refused 3'
-says 1 '' 'glyvrask: refused 3: this is neither a whole TZX nor a whole TAP: the file may be cut short, or still packed (zip); get a fresh copy, or unpack it' list 48K 'a tape.tzx'
 
-# programs that fail
+# refusal 3 in words: the same wherever it is met
+refused3='glyvrask: refused 3: this is neither a whole TZX nor a whole TAP: the file may be cut short, or still packed (zip); get a fresh copy, or unpack it'
+for p in list dump trace; do
+    tell $p 4 'refused 3'
+    tell $p 1 'refused 3'
+    tell $p 3 'refused 3'
+done
+# What unread answers of a file, and what is said then, but for the script's name before each line.
+explains() { # ANSWER WORDS FILE
+    tell unread 4 "refused 3$nl$1"
+    words=$(printf '%s\n' "$2" | sed 's/^/glyvrask: /')
+    says 1 '' "$refused3$nl$words" list 48K "$3"
+    took unread 4 "$3"
+    if tail -n +2 "$room/err" | grep '.\{81\}'; then bad "a line of over 80 columns"; fi
+}
+no_tap='as TAP: it begins as a TZX does: so not a TAP'
+tap='tap short place 2 width 22618'
+explains "tzx short kind 16 piece 36 place 41 width 228$nl$tap" \
+    "as TZX: the piece of kind 10 (hex) at byte 36 is cut:${nl}as TZX: 228 bytes are wanted at byte 41, 168 are there${nl}as TZX: so a cut copy, or damaged before that place$nl$no_tap" "$tape"
+says 1 '' "$refused3$nl$words" dump 48K "$tape"
+took unread 4 "$tape"
+says 1 '' "$refused3$nl$words" trace m 48K "$tape" 0 1
+took unread 4 "$tape"
+cp "$room/bin/unread.4" "$room/bin/unread.1"
+says 1 '' "$refused3$nl$words" dump 128K "$tape"
+took unread 1 "$tape"
+cp "$room/bin/unread.4" "$room/bin/unread.3"
+says 1 '' "$refused3$nl$words" compare "$tape"
+took unread 3 "$tape"
+cut_words=$words
+explains "tzx short kind 25 piece 10 place 208 width 1$nl$tap" \
+    "as TZX: the piece of kind 19 (hex) at byte 10 is cut:${nl}as TZX: 1 byte is wanted at byte 208, 1 is there${nl}as TZX: so a cut copy, or damaged before that place$nl$no_tap" "$tape"
+explains "tzx short kind 10 piece 10 place 209 width 2$nl$tap" \
+    "as TZX: the piece of kind 0A (hex) at byte 10 is cut:${nl}as TZX: 2 bytes are wanted at byte 209, 0 are there${nl}as TZX: so a cut copy, or damaged before that place$nl$no_tap" "$tape"
+# a 32: its body past the file; an entry past the body, where the file goes on and where both end; no entry's count, where the file goes on
+explains "tzx short kind 50 piece 180 place 183 width 50$nl$tap" \
+    "as TZX: the piece of kind 32 (hex) at byte 180 is cut:${nl}as TZX: 50 bytes are wanted at byte 183, 26 are there${nl}as TZX: so a cut copy, or damaged before that place$nl$no_tap" "$tape"
+for place in 13 14 100 208 209; do
+    width=1
+    [ "$place" -lt 100 ] || width=255
+    explains "tzx short kind 50 piece 10 place $place width $width$nl$tap" \
+        "as TZX: the piece of kind 32 (hex) at byte 10 is too short:${nl}as TZX: its entries run past its own length, at byte $place${nl}as TZX: so damaged$nl$no_tap" "$tape"
+done
+explains "tzx length kind 42 piece 13 length 1$nl$tap" \
+    "as TZX: the piece of kind 2A (hex) at byte 13 has a wrong length:${nl}as TZX: 1, where it should be 0${nl}as TZX: so damaged, there or before$nl$no_tap" "$tape"
+printf '\002\0\377' >"$room/short"
+explains "tzx signature short place 0 width 10${nl}tap short place 2 width 2" \
+    "as TZX: the file has only 3 bytes, too few for a TZX's head of 10${nl}as TAP: 2 bytes are wanted at byte 2, 1 is there${nl}as TAP: that is the first block: so not a TAP, or a cut copy" "$room/short"
+explains "tzx signature bad${nl}tap short place 23 width 300" \
+    "as TZX: it begins with another signature: so not a TZX${nl}as TAP: 300 bytes are wanted at byte 23, 186 are there${nl}as TAP: the blocks before are whole: so a cut copy, or not a TAP" "$tape"
+# the widest numbers
+explains "tzx short kind 53 piece 30000 place 30021 width 4294967295$nl$tap" \
+    "as TZX: the piece of kind 35 (hex) at byte 30000 is cut:${nl}as TZX: 4294967295 bytes are wanted at byte 30021, 35514 are there${nl}as TZX: so a cut copy, or damaged before that place$nl$no_tap" "$room/long"
+explains "tzx length kind 42 piece 65530 length 4294967295$nl$tap" \
+    "as TZX: the piece of kind 2A (hex) at byte 65530 has a wrong length:${nl}as TZX: 4294967295, where it should be 0${nl}as TZX: so damaged, there or before$nl$no_tap" "$room/long"
+explains "tzx signature bad${nl}tap short place 30000 width 65535" \
+    "as TZX: it begins with another signature: so not a TZX${nl}as TAP: 65535 bytes are wanted at byte 30000, 35535 are there${nl}as TAP: the blocks before are whole: so a cut copy, or not a TAP" "$room/long"
+# README.md's example
+cut=$here/tapes/cut.tzx
+tell unread 4 "refused 3${nl}tzx short kind 16 piece 34 place 39 width 68$nl$tap"
+says 1 '' "$(awk '/^\$ \.\/glyvrask list 48K tapes\/cut\.tzx$/ { on = 1; next } /^```/ { on = 0 } on' "$here/README.md")" list 48K "$cut"
+# an answer that says nothing of this: the refusal stands as it is
+for answer in 'read TZX' 'refused 4' 'refused 3' "refused 3${nl}tzx signature bad" "refused 3${nl}tzx odd${nl}$tap" "refused 3${nl}tzx signature bad${nl}tap odd"; do
+    tell unread 4 "$answer"
+    says 1 '' "$refused3" list 48K "$tape"
+done
+# a refusal of one model
+tell list 4 'refused 6'
+call compare "$tape"
+[ "$status" = 1 ] || bad "refusals 6 and 3: status $status"
+[ "$(cat "$room/err")" = "glyvrask: the tape is refused on a model: see above$nl$cut_words" ] || bad "refusals 6 and 3: $(cat "$room/err")"
+grep -q '^- 128K and Plus3: refused 3: ' "$room/out" || bad 'refusals 6 and 3: the 3 is not said'
+
+# programs that fail; where it is unread the refusal stands as it is
+for p in 'exit 7' 'cat >/dev/null' 'echo refused; exit 1' 'echo oh >&2; exit 127'; do
+    printf '#!/bin/sh\n%s\n' "$p" >"$room/bin/unread"
+    tell list 4 'refused 3'
+    says 1 '' "$refused3" list 48K "$tape"
+    says 1 '' "$refused3" compare "$tape"
+done
+rm "$room/bin/unread"
+says 1 '' "$refused3" list 48K "$tape"
+says 1 '' "$refused3" trace m 48K "$tape" 0 1
 printf '#!/bin/sh\nexit 7\n' >"$room/bin/dump"
 fails 3 'dump ended with status 7' dump 48K 'a tape.tzx'
 printf '#!/bin/sh\ncat >/dev/null\n' >"$room/bin/dump"
@@ -220,12 +300,13 @@ cat >"$room/path/rt" <<END
 #!/bin/sh
 case \$* in
     doc) echo '$kit/docs/START-HERE.md' ;;
-    'check list')
+    'check list' | 'check unread')
         echo "rt: in \$(pwd)"
         echo 'a note' >&2
         mkdir -p target/bin
-        [ -f target/bin/list ] || printf '\\177ELF' >target/bin/list
-        [ ! -f no ] || exit 1
+        [ ! -f "made \$2" ] || cp "made \$2" "target/bin/\$2"
+        [ -f "target/bin/\$2" ] || printf '\\177ELF' >"target/bin/\$2"
+        [ ! -f "no \$2" ] || exit 1
         ;;
     *) exit 2 ;;
 esac
@@ -254,7 +335,7 @@ GLYVRASK_BUILD=no
 export GLYVRASK_BUILD
 fails 3 'list is not built' list 48K 'a tape.tzx'
 unset GLYVRASK_BUILD
-: >"$root/no"
+: >"$root/no list"
 call list 48K 'a tape.tzx'
 [ "$status" = 3 ] || bad "a failed build: status $status"
 case $(cat "$room/err") in
@@ -262,6 +343,26 @@ case $(cat "$room/err") in
     *) bad "a failed build says: $(cat "$room/err")" ;;
 esac
 [ ! -f "$root/target/bin/list" ] || bad 'a program that failed its check is kept'
+
+# unread is built when it is needed, behind the refusal; where it can't be, also right behind another that was built, the refusal stands
+rm "$root/no list"
+printf '#!/bin/sh\necho refused 3\n' >"$root/made list"
+printf '#!/bin/sh\nprintf "refused 3\\ntzx signature bad\\ntap short place 2 width 65535\\n"\n' >"$root/made unread"
+chmod +x "$root/made list" "$root/made unread"
+building_unread="glyvrask: building unread (proved first; this takes some minutes once)${nl}rt: in $(cd "$root" && pwd -P)"
+: >"$root/no unread"
+says 1 '' "$building$nl$refused3$nl$building_unread" list 48K "$tape"
+[ ! -f "$root/target/bin/unread" ] || bad 'an unread that failed its check is kept'
+GLYVRASK_BUILD=no
+export GLYVRASK_BUILD
+says 1 '' "$refused3" list 48K "$tape"
+unset GLYVRASK_BUILD
+rm "$root/no unread"
+words="glyvrask: as TZX: it begins with another signature: so not a TZX
+glyvrask: as TAP: 65535 bytes are wanted at byte 2, 207 are there
+glyvrask: as TAP: that is the first block: so not a TAP, or a cut copy"
+says 1 '' "$refused3$nl$building_unread$nl$words" list 48K "$tape"
+says 1 '' "$refused3$nl$words" list 48K "$tape"
 PATH=$old
 script=
 unset QEMU_LOG
@@ -288,6 +389,11 @@ for t in "$room"/tapes/*; do
     for m in 48K 128K Plus3; do
         want=$(sample "${t##*/}" "$m")
         case $want in
+            'refused 3')
+                # with the real unread, more is said: tests/built/tool.sh
+                call list "$m" "$t"
+                [ "$status:$(head -n 1 "$room/err"):$(cat "$room/out")" = "1:$refused3:" ] || bad "${t##*/} on $m: $(cat "$room/err")"
+                ;;
             'refused '*) fails 1 "$want: " list "$m" "$t" ;;
             *) says 0 "$want" '' list "$m" "$t" ;;
         esac

@@ -9,7 +9,7 @@ use mathlib.Core.Logic.{_⊎_, inl, inr}
 use mathlib.Core.List.{List, [], _∷_}
 use lib.ListN.{length, drop}
 use lib.Dec.{leb, ltb, eqb}
-use Rattle.refusals.specs.Refusals.{badModel, tapeLong, tapeBad, generalised, tonesFull, blocksFull, lastBits}
+use Rattle.refusals.specs.Refusals.{badModel, tapeLong, generalised, tonesFull, blocksFull, lastBits}
 use Rattle.law_base.specs.Rules.{_⇒_, _∣_}
 use Rattle.rows.specs.declared.Block.{Block}
 use Rattle.rows.specs.declared.Tone.{Tone}
@@ -34,7 +34,7 @@ use Rattle.load_source.specs.declared.Failure.{Failure}
 use Rattle.load_source.specs.Meaning.{deedOf}
 use Rattle.load_source.specs.Source.{See, Verdict, done, failed, refused, act, halted, readOn, seeing, foldFrom, full}
 use Rattle.load_source.specs.Source.{tooManyBits, bitsJudged}
-use Rattle.load_source.specs.Source.{tzxOf, tzxSee, headed, readTzx, tapOf, tapSee, readTap, Load, tzx, tapped, no, orTap, orElse, loadOf}
+use Rattle.load_source.specs.Source.{tzxOf, tzxSee, headed, readTzx, tapOf, tapSee, readTap, Load, tzx, tapped, bothErr, no, orTap, orElse, loadOf}
 use Rattle.load_tape.specs.Load.{namedTape, namedLoad, loadNamed}
 use Rattle.law_every_load.specs.OfSource.{Reads as Accepts, as-tzx, as-tap}
 use Rattle.law_promises.specs.Boundless.{withSound, withSounds, withCopy, withCopies, withLooped, boundlessDoes}
@@ -273,13 +273,13 @@ else-tends a b =
       };
     }
   where
-    tap-near : {x y : Verdict} → Near refused x y → Near no (orTap x) (orTap y)
-    tap-near same = same
-    tap-near (short n) = short n
+    tap-near : (f : Failure) {x y : Verdict} → Near refused x y → Near no (orTap f x) (orTap f y)
+    tap-near f same = same
+    tap-near f (short n) = short n
 
     else-near : {x y z w : Verdict} → Near refused x y → Near refused z w → Near no (orElse x z) (orElse y w)
     else-near (same {x = done t}) q = same
-    else-near (same {x = failed f}) q = tap-near q
+    else-near (same {x = failed f}) q = tap-near f q
     else-near (same {x = refused k}) q = same
     else-near (short n) q = short n
 
@@ -438,17 +438,20 @@ tzx-roomy t k n e = let z : _≡_ {A = ℕ} 0 1 = cc in omega arith
 tap-roomy : (t : Parsed) → Roomy (tapped t)
 tap-roomy t k n e = let z : _≡_ {A = ℕ} 0 1 = cc in omega arith
 
-or-tap-roomy : {q : Verdict} → Clear q → Roomy (orTap q)
+both-roomy : (f g : Failure) → Roomy (bothErr f g)
+both-roomy f g k n e = let z : _≡_ {A = ℕ} 0 1 = cc in omega arith
+
+or-tap-roomy : (f : Failure) {q : Verdict} → Clear q → Roomy (orTap f q)
 unfolding orTap
-or-tap-roomy (whole {t}) = tap-roomy t
-or-tap-roomy fails = refused-roomy tapeBad (inl (omega arith))
-or-tap-roomy four = refused-roomy generalised (inl (omega arith))
-or-tap-roomy seven = refused-roomy lastBits (inr (omega arith))
+or-tap-roomy f (whole {t}) = tap-roomy t
+or-tap-roomy f (fails {f = g}) = both-roomy f g
+or-tap-roomy f four = refused-roomy generalised (inl (omega arith))
+or-tap-roomy f seven = refused-roomy lastBits (inr (omega arith))
 
 or-else-roomy : {r q : Verdict} → Clear r → Clear q → Roomy (orElse r q)
 unfolding orElse
 or-else-roomy (whole {t}) q = tzx-roomy t
-or-else-roomy fails q = or-tap-roomy q
+or-else-roomy (fails {f}) q = or-tap-roomy f q
 or-else-roomy four q = refused-roomy generalised (inl (omega arith))
 or-else-roomy seven q = refused-roomy lastBits (inr (omega arith))
 
@@ -456,6 +459,7 @@ named-roomy : (s : List ℕ) (x : Load) → Roomy x → Roomy (namedLoad s x)
 unfolding namedLoad
 named-roomy s (tzx t) h = tzx-roomy _
 named-roomy s (tapped t) h = tap-roomy _
+named-roomy s (bothErr f g) h = both-roomy f g
 named-roomy s (no j) h = h
 
 module _ (s : List ℕ) (model : ℕ) where

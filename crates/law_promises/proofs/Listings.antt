@@ -11,9 +11,8 @@ use lib.Dec.{leb, ltb}
 use Rattle.text_out.specs.Out.{fits}
 use Rattle.law_base.specs.Rules.{_⇒_, _∣_}
 use Rattle.refusals.specs.Refusals.{badModel, tapeLong, tapeBad, lastBits, noRoom}
-use Rattle.load_source.specs.Source.{Load, tzx, tapped, no}
-use Rattle.load_tape.specs.declared.Loaded.the-variants.{Refused}
-use Rattle.load_tape.specs.Load.{answerOf}
+use Rattle.load_source.specs.Source.{Load, tzx, tapped, bothErr, no}
+use Rattle.load_tape.specs.Load.{answerOf, refusalNo}
 use Rattle.listing.specs.Listing.{loadedOf, Listing, text, refused, listed, listingOf, answerTo}
 use Rattle.listing.proofs.Numbers.{TextOrNo, long, small, listing-sized}
 use Rattle.law_promises.specs.Numbers.{Admitted}
@@ -47,17 +46,16 @@ sized-10 out (long {t = t} h) = (
 sized-10 out (small {k = j} a b) =
     (λ e. absurd (omega arith), λ x. let e = x .1 in let z : _≡_ {A = ℕ} 0 1 = cc in absurd (omega arith))
 
--- a listing is refused where the load is
-listed-no : (s : List ℕ) (model k : ℕ) (l : Load) → (listed s model l ≡ refused k) ↔ (answerOf l ≡ Refused k)
-unfolding listed answerOf
-listed-no s model k (tzx t) =
-    (λ e. let z : _≡_ {A = ℕ} 0 1 = cc in absurd (omega arith), λ e. let z : _≡_ {A = ℕ} 0 1 = cc in absurd (omega arith))
-listed-no s model k (tapped t) =
-    (λ e. let z : _≡_ {A = ℕ} 0 1 = cc in absurd (omega arith), λ e. let z : _≡_ {A = ℕ} 0 1 = cc in absurd (omega arith))
-listed-no s model k (no j) = (λ e. let z : j ≡ k = cc in ap Refused z, λ e. let z : j ≡ k = cc in ap refused z)
-
 apart : (i j : ℕ) → refused i ≡ refused j → i ≡ j
 apart i j e = cc
+
+-- a listing is refused where the load is
+listed-no : (s : List ℕ) (model k : ℕ) (l : Load) → 0 < k → (listed s model l ≡ refused k) ↔ (refusalNo (answerOf l) ≡ k)
+unfolding listed answerOf refusalNo
+listed-no s model k (tzx t) h = (λ e. let z : _≡_ {A = ℕ} 0 1 = cc in absurd (omega arith), λ e. absurd (omega arith))
+listed-no s model k (tapped t) h = (λ e. let z : _≡_ {A = ℕ} 0 1 = cc in absurd (omega arith), λ e. absurd (omega arith))
+listed-no s model k (bothErr f g) h = (λ e. apart tapeBad k e, λ e. ap refused e)
+listed-no s model k (no j) h = (λ e. apart j k e, λ e. ap refused e)
 
 module _ (s : List ℕ) (model : ℕ) where
   abbrev Checks : ℕ → Type 0
@@ -78,7 +76,7 @@ module _ (s : List ℕ) (model : ℕ) where
         of : Checks badModel → 3 ≤ model
         of (by-model e q) = leb-true _ _ e
         of (by-size e f q) = absurd (omega arith)
-        of (by-rest e f q) = given-1 _ s model .0 (listed-no s model badModel _ .0 q)
+        of (by-rest e f q) = given-1 _ s model .0 (listed-no s model badModel _ (omega arith) .0 q)
 
     -- 2: in the listing, over 65,535
     pub listing-2 : (answerTo (listingOf s model) out ≡ tapeLong) ↔ ((model < 3) × (65535 < length s))
@@ -92,21 +90,21 @@ module _ (s : List ℕ) (model : ℕ) where
         of (by-model e q) = absurd (omega arith)
         of (by-size e f q) = (leb-false _ _ e, ltb-true _ _ f)
         of (by-rest e f q) =
-            let x = given-2 _ s model .0 (listed-no s model tapeLong _ .0 q) in
+            let x = given-2 _ s model .0 (listed-no s model tapeLong _ (omega arith) .0 q) in
             absurd (omega (arith, x .1, ltb-false 65535 (length s) f))
 
     -- 3 to 7: the load's, with 512 block and 2,048 tone rows
     pub listing-load : (k : ℕ) → tapeBad ≤ k → k ≤ lastBits
-        → (answerTo (listingOf s model) out ≡ k) ↔ (Admitted 65535 s model × (answerOf (loadedOf s model) ≡ Refused k))
+        → (answerTo (listingOf s model) out ≡ k) ↔ (Admitted 65535 s model × (refusalNo (answerOf (loadedOf s model)) ≡ k))
     listing-load k l m = (
       λ e. of (number k m .0 e),
-      λ h. number k m .1 (by-rest (lt-leb _ _ (h .0 .known)) (le-ltb _ _ (h .0 .short)) (listed-no s model k _ .1 (h .1))),
+      λ h. number k m .1 (by-rest (lt-leb _ _ (h .0 .known)) (le-ltb _ _ (h .0 .short)) (listed-no s model k _ (omega arith) .1 (h .1))),
     )
       where
-        of : Checks k → Admitted 65535 s model × (answerOf (loadedOf s model) ≡ Refused k)
+        of : Checks k → Admitted 65535 s model × (refusalNo (answerOf (loadedOf s model)) ≡ k)
         of (by-model e q) = absurd (omega arith)
         of (by-size e f q) = absurd (omega arith)
-        of (by-rest e f q) = (record { known = leb-false _ _ e; short = ltb-false _ _ f }, listed-no s model k _ .0 q)
+        of (by-rest e f q) = (record { known = leb-false _ _ e; short = ltb-false _ _ f }, listed-no s model k _ (omega arith) .0 q)
 
     -- 10: output buffer shorter than the text
     pub listing-10 : (answerTo (listingOf s model) out ≡ noRoom)

@@ -16,11 +16,11 @@ use Rattle.cut_grammar.specs.declared.Heading.the-variants as heading
 use Rattle.cut_grammar.specs.Cut.{headAt}
 use Rattle.load_blocks.specs.Adds.{Lent}
 use Rattle.load_source.specs.Source.{Verdict, done, failed, refused, foldFrom, tooManyBits, bitsJudged, tzxSee, headed, readTzx, readTap}
-use Rattle.load_source.specs.Source.{Load, tzx, tapped, no, orTap, orElse, loadOf}
+use Rattle.load_source.specs.Source.{Load, tzx, tapped, bothErr, no, orTap, orElse, loadOf}
 use Rattle.load_tape.specs.declared.Loaded.the-variants.{Refused}
-use Rattle.load_tape.specs.Load.{namedLoad, loadNamed, answerOf}
+use Rattle.load_tape.specs.Load.{namedLoad, loadNamed, answerOf, refusalNo}
 use Rattle.law_every_load.proofs.Refusals.{Between, Tells, whole, fails, tells, pieces-tell, tzx-tells, tap-tells}
-use Rattle.law_promises.specs.Numbers.{Admitted, Errs, Headed}
+use Rattle.law_promises.specs.Numbers.{Admitted, loadNo, Errs, Headed}
 
 -- a refusal of a reading has one of its numbers
 pub refused-between : {lo hi : ℕ} {r : Verdict} (k : ℕ) → Tells lo hi r → r ≡ refused k → Between lo hi k
@@ -35,7 +35,25 @@ answers-no s k (tzx t) =
     (λ e. let z : _≡_ {A = ℕ} 0 1 = cc in absurd (omega arith), λ e. let z : _≡_ {A = ℕ} 0 1 = cc in absurd (omega arith))
 answers-no s k (tapped t) =
     (λ e. let z : _≡_ {A = ℕ} 0 1 = cc in absurd (omega arith), λ e. let z : _≡_ {A = ℕ} 0 1 = cc in absurd (omega arith))
+answers-no s k (bothErr f g) =
+    (λ e. let z : _≡_ {A = ℕ} 0 1 = cc in absurd (omega arith), λ e. let z : _≡_ {A = ℕ} 0 1 = cc in absurd (omega arith))
 answers-no s k (no j) = (λ e. let z : j ≡ k = cc in ap no z, λ e. let z : j ≡ k = cc in ap Refused z)
+
+-- the naming pass leaves the number of a load as it is
+named-number : (s : List ℕ) (l : Load) → refusalNo (answerOf (namedLoad s l)) ≡ refusalNo (answerOf l)
+unfolding refusalNo answerOf namedLoad
+named-number s (tzx t) = refl
+named-number s (tapped t) = refl
+named-number s (bothErr f g) = refl
+named-number s (no k) = refl
+
+-- and a check that refuses gives its own
+checked-number : (a b : Bool) (l : Load)
+    → refusalNo (answerOf (a ⇒ no badModel ∣ b ⇒ no tapeLong ∣ l)) ≡ (a ⇒ badModel ∣ b ⇒ tapeLong ∣ refusalNo (answerOf l))
+unfolding refusalNo answerOf
+checked-number true b l = refl
+checked-number false true l = refl
+checked-number false false l = refl
 
 -- the two checks, in order
 pub data Ways {A : Type 0} (give : ℕ → A) (a b : Bool) (x : A) (k : ℕ) : Type 0 where
@@ -60,19 +78,19 @@ data Both (r q : Verdict) (k : ℕ) : Type 0 where
   other : Errs r → q ≡ refused k → Both r q k
   none : Errs r → Errs q → k ≡ tapeBad → Both r q k
 
-both : (r q : Verdict) (k : ℕ) → orElse r q ≡ no k → Both r q k
-unfolding orElse orTap
-both (done t) q k e = let z : _≡_ {A = ℕ} 0 1 = cc in absurd (omega arith)
-both (failed f) (done t) k e = let z : _≡_ {A = ℕ} 0 1 = cc in absurd (omega arith)
-both (failed f) (failed g) k e = let z : tapeBad ≡ k = cc in none (f, refl) (g, refl) (sym z)
-both (failed f) (refused j) k e = let z : j ≡ k = cc in other (f, refl) (ap refused z)
-both (refused j) q k e = let z : j ≡ k = cc in one (ap refused z)
+both : (r q : Verdict) (k : ℕ) → 0 < k → refusalNo (answerOf (orElse r q)) ≡ k → Both r q k
+unfolding orElse orTap answerOf refusalNo
+both (done t) q k h e = absurd (omega arith)
+both (failed f) (done t) k h e = absurd (omega arith)
+both (failed f) (failed g) k h e = none (f, refl) (g, refl) (sym e)
+both (failed f) (refused j) k h e = other (f, refl) (ap refused e)
+both (refused j) q k h e = one (ap refused e)
 
-both-back : {r q : Verdict} {k : ℕ} → Both r q k → orElse r q ≡ no k
-unfolding orElse orTap
+both-back : {r q : Verdict} {k : ℕ} → Both r q k → refusalNo (answerOf (orElse r q)) ≡ k
+unfolding orElse orTap answerOf refusalNo
 both-back (one e) = rw e
 both-back (other e f) = rw (e .1, f)
-both-back (none e f z) = rw (e .1, f .1, z)
+both-back (none e f z) = rw (e .1, f .1) (sym z)
 
 module _ (lent : Lent) (s : List ℕ) (model : ℕ) where
   -- THE NUMBERS OF A LOAD
@@ -84,33 +102,38 @@ module _ (lent : Lent) (s : List ℕ) (model : ℕ) where
     tap-no : Admitted 1048576 s model → Errs (readTzx lent s model) → readTap lent s ≡ refused k → Between tonesFull blocksFull k
         → LoadRefused k
 
-  apart-no : (i j : ℕ) → no i ≡ no j → i ≡ j
-  apart-no i j e = cc
+  -- its number, by the two checks and what both readings come to
+  abbrev Checks : ℕ → Type 0
+  Checks k = Ways (λ n. n) (leb 3 model) (ltb 1048576 (length s)) (refusalNo (answerOf (orElse (readTzx lent s model) (readTap lent s)))) k
 
-  given-of : (k : ℕ) → Ways no (leb 3 model) (ltb 1048576 (length s)) (orElse (readTzx lent s model) (readTap lent s)) k
-      → LoadRefused k
-  given-of k (by-model e q) = model-no (leb-true _ _ e) q
-  given-of k (by-size e f q) = size-no (leb-false _ _ e) (ltb-true _ _ f) q
-  given-of k (by-rest e f q) = of-both (record { known = leb-false _ _ e; short = ltb-false _ _ f }) (both _ _ k q)
+  given-of : (k : ℕ) → 0 < k → Checks k → LoadRefused k
+  given-of k h (by-model e q) = model-no (leb-true _ _ e) q
+  given-of k h (by-size e f q) = size-no (leb-false _ _ e) (ltb-true _ _ f) q
+  given-of k h (by-rest e f q) = of-both (record { known = leb-false _ _ e; short = ltb-false _ _ f }) (both _ _ k h q)
     where
       of-both : Admitted 1048576 s model → Both (readTzx lent s model) (readTap lent s) k → LoadRefused k
       of-both a (one x) = tzx-no a x (refused-between k (tzx-tells lent s model) x)
       of-both a (other x y) = tap-no a x y (refused-between k (tap-tells lent s) y)
       of-both a (none x y z) = both-no a x y z
 
-  ways-of : {k : ℕ} → LoadRefused k
-      → Ways no (leb 3 model) (ltb 1048576 (length s)) (orElse (readTzx lent s model) (readTap lent s)) k
+  ways-of : {k : ℕ} → LoadRefused k → Checks k
   ways-of (model-no h q) = by-model (le-leb _ _ h) q
   ways-of (size-no h l q) = by-size (lt-leb _ _ h) (lt-ltb _ _ l) q
   ways-of (both-no a x y z) = by-rest (lt-leb _ _ (a .known)) (le-ltb _ _ (a .short)) (both-back (none x y z))
   ways-of (tzx-no a x b) = by-rest (lt-leb _ _ (a .known)) (le-ltb _ _ (a .short)) (both-back (one x))
   ways-of (tap-no a x y b) = by-rest (lt-leb _ _ (a .known)) (le-ltb _ _ (a .short)) (both-back (other x y))
 
-  pub refused-when : (k : ℕ) → (answerOf (loadNamed lent s model) ≡ Refused k) ↔ LoadRefused k
+  load-number : loadNo lent s model
+      ≡ (leb 3 model ⇒ badModel ∣ ltb 1048576 (length s) ⇒ tapeLong
+      ∣ refusalNo (answerOf (orElse (readTzx lent s model) (readTap lent s))))
   unfolding loadNamed loadOf
-  refused-when k =
-      let a = answers-no s k (loadOf lent s model) in
-      (λ e. given-of k (ways no apart-no _ _ _ k (a .0 e)), λ g. a .1 (ways-back no apart-no (ways-of g)))
+  load-number = named-number s (loadOf lent s model) ∙ checked-number (leb 3 model) (ltb 1048576 (length s)) _
+
+  pub refused-when : (k : ℕ) → 0 < k → (loadNo lent s model ≡ k) ↔ LoadRefused k
+  refused-when k h = (
+    λ e. given-of k h (ways (λ n. n) (λ i j q. q) _ _ _ k (sym load-number ∙ e)),
+    λ g. load-number ∙ ways-back (λ n. n) (λ i j q. q) (ways-of g),
+  )
 
 -- the TZX reading: its pieces' answer, then 7
 module _ (lent : Lent) (s : List ℕ) (model : ℕ) where

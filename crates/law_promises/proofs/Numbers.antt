@@ -1,7 +1,7 @@
 -- NUMBERS FOR NO, 1 TO 7: rules 21 to 27, number by number, 'given exactly when'. Assumes nothing.
 use Prim.Native.Nat.{ℕ, _≤_, _<_}
 use native.Mathlib.Omega.{arith}
-use mathlib.Core.Path.{_≡_, refl}
+use mathlib.Core.Path.{_≡_, refl, ap}
 use mathlib.Core.Logic.{_↔_, Iff·trans, inl, inr, ⊎-elim}
 use mathlib.Core.List.{List}
 use lib.ListN.{length}
@@ -9,11 +9,11 @@ use Rattle.refusals.specs.Refusals.{badModel, tapeLong, tapeBad, generalised, t
 use Rattle.rows.specs.Table.{zeros}
 use Rattle.load_state.specs.Parser.{Parsed, empty}
 use Rattle.load_blocks.specs.Adds.{Lent}
-use Rattle.load_source.specs.Source.{done, refused, readTzx, readTap, foldFrom, tzxSee, Load, tzx, tapped, no}
-use Rattle.load_tape.specs.declared.Loaded.the-variants.{Refused}
-use Rattle.load_tape.specs.Load.{loadNamed, answerOf, blockTable, toneTable, Leaves}
+use Rattle.load_source.specs.Source.{done, refused, readTzx, readTap, foldFrom, tzxSee, Load, tzx, tapped, bothErr, no}
+use Rattle.load_tape.specs.declared.Loaded.{Loaded}
+use Rattle.load_tape.specs.Load.{answerOf, refusalNo, blockTable, toneTable, Leaves}
 use Rattle.law_every_load.proofs.Room.{Within}
-use Rattle.law_promises.specs.Numbers.{Admitted, Errs, Comes, ByTzx, ByTap, Due, OverlongAt}
+use Rattle.law_promises.specs.Numbers.{Admitted, loadNo, Errs, Comes, ByTzx, ByTap, Due, OverlongAt}
 use Rattle.law_promises.specs.Four.{Four}
 use Rattle.law_promises.specs.Needs.{NeedsPiece, NeedsBlock, Lacking}
 use Rattle.law_promises.proofs.Runs.{comes-under, run-due}
@@ -23,8 +23,8 @@ use Rattle.law_promises.proofs.Four.{four-exactly}
 
 module _ (lent : Lent) (s : List ℕ) (model : ℕ) where
   -- 1: model is not 0 (48K), 1 (128K), 2 (Plus3)
-  pub given-1 : (answerOf (loadNamed lent s model) ≡ Refused badModel) ↔ (3 ≤ model)
-  given-1 = (λ e. of (refused-when lent s model badModel .0 e), λ h. refused-when lent s model badModel .1 (model-no h refl))
+  pub given-1 : (loadNo lent s model ≡ badModel) ↔ (3 ≤ model)
+  given-1 = (λ e. of (refused-when lent s model badModel (omega arith) .0 e), λ h. refused-when lent s model badModel (omega arith) .1 (model-no h refl))
     where
       of : LoadRefused lent s model badModel → 3 ≤ model
       of (model-no h q) = h
@@ -34,8 +34,8 @@ module _ (lent : Lent) (s : List ℕ) (model : ℕ) where
       of (tap-no a x y b) = absurd (omega (arith, b .low))
 
   -- 2: tape over 1,048,576 bytes; 1 is checked first
-  pub given-2 : (answerOf (loadNamed lent s model) ≡ Refused tapeLong) ↔ ((model < 3) × (1048576 < length s))
-  given-2 = (λ e. of (refused-when lent s model tapeLong .0 e), λ h. refused-when lent s model tapeLong .1 (size-no (h .0) (h .1) refl))
+  pub given-2 : (loadNo lent s model ≡ tapeLong) ↔ ((model < 3) × (1048576 < length s))
+  given-2 = (λ e. of (refused-when lent s model tapeLong (omega arith) .0 e), λ h. refused-when lent s model tapeLong (omega arith) .1 (size-no (h .0) (h .1) refl))
     where
       of : LoadRefused lent s model tapeLong → (model < 3) × (1048576 < length s)
       of (model-no h q) = absurd (omega arith)
@@ -45,11 +45,11 @@ module _ (lent : Lent) (s : List ℕ) (model : ℕ) where
       of (tap-no a x y b) = absurd (omega (arith, b .low))
 
   -- 3: TZX and TAP reading both err
-  pub given-3 : (answerOf (loadNamed lent s model) ≡ Refused tapeBad)
+  pub given-3 : (loadNo lent s model ≡ tapeBad)
       ↔ (Admitted 1048576 s model × (Errs (readTzx lent s model) × Errs (readTap lent s)))
   given-3 = (
-    λ e. of (refused-when lent s model tapeBad .0 e),
-    λ h. refused-when lent s model tapeBad .1 (both-no (h .0) (h .1 .0) (h .1 .1) refl),
+    λ e. of (refused-when lent s model tapeBad (omega arith) .0 e),
+    λ h. refused-when lent s model tapeBad (omega arith) .1 (both-no (h .0) (h .1 .0) (h .1 .1) refl),
   )
     where
       of : LoadRefused lent s model tapeBad → Admitted 1048576 s model × (Errs (readTzx lent s model) × Errs (readTap lent s))
@@ -96,11 +96,11 @@ module _ (lent : Lent) (s : List ℕ) (model : ℕ) where
       )
 
   -- 4: a generalised piece on which the Rust panics
-  pub given-4 : (answerOf (loadNamed lent s model) ≡ Refused generalised)
+  pub given-4 : (loadNo lent s model ≡ generalised)
       ↔ (Admitted 1048576 s model × ByTzx lent s model (λ at t. Four s at))
   given-4 = (
-    λ e. of (refused-when lent s model generalised .0 e),
-    λ h. refused-when lent s model generalised .1 (tzx-no (h .0) (comes .1 (h .1)) (record { low = omega arith; high = omega arith })),
+    λ e. of (refused-when lent s model generalised (omega arith) .0 e),
+    λ h. refused-when lent s model generalised (omega arith) .1 (tzx-no (h .0) (comes .1 (h .1)) (record { low = omega arith; high = omega arith })),
   )
     where
       comes : (readTzx lent s model ≡ refused generalised) ↔ ByTzx lent s model (λ at t. Four s at)
@@ -115,12 +115,12 @@ module _ (lent : Lent) (s : List ℕ) (model : ℕ) where
 
   -- 5, 6: by the TZX's pieces, or, where TZX errs, by the TAP's blocks
   lacking : (k : ℕ) → tonesFull ≤ k → k ≤ blocksFull
-      → (answerOf (loadNamed lent s model) ≡ Refused k) ↔ (Admitted 1048576 s model × Lacking lent s model k)
+      → (loadNo lent s model ≡ k) ↔ (Admitted 1048576 s model × Lacking lent s model k)
   lacking k l m = (
-    λ e. of (refused-when lent s model k .0 e),
+    λ e. of (refused-when lent s model k (omega arith) .0 e),
     λ h. ⊎-elim
-        (λ x. refused-when lent s model k .1 (tzx-no (h .0) (comes .1 x) (record { low = omega arith; high = omega arith })))
-        (λ x. refused-when lent s model k .1 (tap-no (h .0) (x .0) (tap-comes k l .1 (x .1)) (record { low = l; high = m })))
+        (λ x. refused-when lent s model k (omega arith) .1 (tzx-no (h .0) (comes .1 x) (record { low = omega arith; high = omega arith })))
+        (λ x. refused-when lent s model k (omega arith) .1 (tap-no (h .0) (x .0) (tap-comes k l .1 (x .1)) (record { low = l; high = m })))
         (h .1),
   )
     where
@@ -135,19 +135,19 @@ module _ (lent : Lent) (s : List ℕ) (model : ℕ) where
       of (tap-no a x y b) = (a, inr (x, tap-comes k l .0 y))
 
   -- 5: a block needs more tone rows than remain
-  pub given-5 : (answerOf (loadNamed lent s model) ≡ Refused tonesFull) ↔ (Admitted 1048576 s model × Lacking lent s model tonesFull)
+  pub given-5 : (loadNo lent s model ≡ tonesFull) ↔ (Admitted 1048576 s model × Lacking lent s model tonesFull)
   given-5 = lacking tonesFull (omega arith) (omega arith)
 
   -- 6: more block rows than remain
-  pub given-6 : (answerOf (loadNamed lent s model) ≡ Refused blocksFull) ↔ (Admitted 1048576 s model × Lacking lent s model blocksFull)
+  pub given-6 : (loadNo lent s model ≡ blocksFull) ↔ (Admitted 1048576 s model × Lacking lent s model blocksFull)
   given-6 = lacking blocksFull (omega arith) (omega arith)
 
   -- 7: TZX was read whole, but a block with data has last bits above 8
-  pub given-7 : (answerOf (loadNamed lent s model) ≡ Refused lastBits)
+  pub given-7 : (loadNo lent s model ≡ lastBits)
       ↔ (Admitted 1048576 s model × ByTzx lent s model (OverlongAt lent s model))
   given-7 = (
-    λ e. of (refused-when lent s model lastBits .0 e),
-    λ h. refused-when lent s model lastBits .1 (tzx-no (h .0) (tzx-ends .1 (h .1)) (record { low = omega arith; high = omega arith })),
+    λ e. of (refused-when lent s model lastBits (omega arith) .0 e),
+    λ h. refused-when lent s model lastBits (omega arith) .1 (tzx-no (h .0) (tzx-ends .1 (h .1)) (record { low = omega arith; high = omega arith })),
   )
     where
       of : LoadRefused lent s model lastBits → Admitted 1048576 s model × ByTzx lent s model (OverlongAt lent s model)
@@ -158,8 +158,10 @@ module _ (lent : Lent) (s : List ℕ) (model : ℕ) where
       of (tap-no a x y b) = absurd (omega (arith, b .high))
 
 -- 1 to 7 leave both tables all zero
-pub refused-blank : (B N k : ℕ) (l : Load) (bt tt : List ℕ) → Leaves B N l (Refused k) bt tt → (bt ≡ zeros B) × (tt ≡ zeros N)
-unfolding answerOf blockTable toneTable
-refused-blank B N k (tzx t) bt tt h = let e = h .answer in let z : _≡_ {A = ℕ} 0 1 = cc in absurd (omega arith)
-refused-blank B N k (tapped t) bt tt h = let e = h .answer in let z : _≡_ {A = ℕ} 0 1 = cc in absurd (omega arith)
-refused-blank B N k (no j) bt tt h = (h .blocks, h .tones)
+pub refused-blank : (B N : ℕ) (l : Load) (a : Loaded) (bt tt : List ℕ) → Leaves B N l a bt tt → 0 < refusalNo a
+    → (bt ≡ zeros B) × (tt ≡ zeros N)
+unfolding answerOf refusalNo blockTable toneTable
+refused-blank B N (tzx t) a bt tt h p = absurd (omega (arith, p, ap refusalNo (h .answer)))
+refused-blank B N (tapped t) a bt tt h p = absurd (omega (arith, p, ap refusalNo (h .answer)))
+refused-blank B N (bothErr f g) a bt tt h p = (h .blocks, h .tones)
+refused-blank B N (no k) a bt tt h p = (h .blocks, h .tones)

@@ -28,7 +28,7 @@ use Rattle.load_blocks.specs.Adds.{addRows}
 use Rattle.load_blocks.specs.Deeds.{generalDeed, stop48Deed, does}
 use Rattle.load_source.specs.Meaning.{deedOf}
 use Rattle.load_source.specs.Source.{act, readOn, seeing, foldFrom, halted, tooManyBits, bitsJudged, tzxOf, tzxSee, headed, readTzx, tapOf}
-use Rattle.load_source.specs.Source.{tapSee, readTap, Load, tzx, tapped, no, orTap, orElse, loadOf}
+use Rattle.load_source.specs.Source.{tapSee, readTap, Load, tzx, tapped, bothErr, no, orTap, orElse, loadOf}
 use Rattle.text_out.specs.Out.{decimal, digits}
 use Rattle.text_name.specs.Names.{isHeader, sizeShown, sizeName, guessed, nameOf, unselected, nameOne, nameAll}
 use Rattle.load_tape.specs.declared.Format.{Format}
@@ -84,6 +84,7 @@ from w i (suc n) = said w i ∷ from w (i + 1) n
 abbrev reads : List ℕ → Load → TapeReading
 reads s (tzx t) = is Tzx (from (mounted s (tzx t) (length (t .blocks))) 0 (length (t .blocks)))
 reads s (tapped t) = is Tap (from (mounted s (tapped t) (length (t .blocks))) 0 (length (t .blocks)))
+reads s (bothErr f g) = refused tapeBad
 reads s (no k) = refused k
 
 -- a TZX of these pieces

@@ -1,7 +1,7 @@
 -- What demand 2 compares: the block list, from the definition and from the tables. Definitions alone; assumes nothing.
 use Prim.Native.Nat.{ℕ}
 use mathlib.Core.List.{List, []}
-use Rattle.load_source.specs.Source.{Load, tzx, tapped, no}
+use Rattle.load_source.specs.Source.{Load, tzx, tapped, bothErr, no}
 use Rattle.text_view.specs.View.{View, blockList}
 use Rattle.law_promises.specs.Boundless.{boundlessLoad}
 
@@ -9,6 +9,7 @@ use Rattle.law_promises.specs.Boundless.{boundlessLoad}
 unfoldable pub listOf : List ℕ → Load → List View
 listOf s (tzx t) = blockList s (t .tones) (t .blocks)
 listOf s (tapped t) = blockList s (t .tones) (t .blocks)
+listOf s (bothErr f g) = []
 listOf s (no k) = []
 
 -- .. whatever is lent: a tape's and a model's

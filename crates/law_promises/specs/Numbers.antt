@@ -17,6 +17,7 @@ use Rattle.load_state.specs.Parser.{Parsed, Out, on, no, empty}
 use Rattle.load_blocks.specs.Adds.{Lent}
 use Rattle.load_source.specs.declared.Failure.{Failure}
 use Rattle.load_source.specs.Source.{See, theEnd, bad, refuses, thing, Verdict, done, failed, refused, halted, tzxSee, tapSee}
+use Rattle.load_tape.specs.Load.{loadNamed, answerOf, refusalNo}
 use Rattle.play_entries.specs.Entries.{Label}
 use Rattle.play_entries.specs.Places.{Tape, blockIn, listFrom}
 use Rattle.play_entries.specs.Mounted.{overfull, wellRow}
@@ -28,6 +29,10 @@ use Rattle.play_deck.specs.Deck.{validAt}
 pub record Admitted (most : ℕ) (s : List ℕ) (model : ℕ) : Type 0 where
   pub known : model < 3
   pub short : length s ≤ most
+
+-- the number of a load, 0 for none
+abbrev pub loadNo : Lent → List ℕ → ℕ → ℕ
+loadNo lent s model = refusalNo (answerOf (loadNamed lent s model))
 
 -- a reading errs
 abbrev pub Errs : Verdict → Type 0

@@ -39,11 +39,11 @@ pub record Between (lo hi k : ℕ) : Type 0 where
   pub low : lo ≤ k
   pub high : k ≤ hi
 
--- a step's answer, what is seen at a place, a reading's answer: each refusal by such a number
+-- a step's answer, what is seen at a place, a reading's answer: each refusal by such a number. A step that adds blocks alone doesn't err
 pub data HaltsBy (lo hi : ℕ) : Out → Type 0 where
   goes : {t : Parsed} → HaltsBy lo hi (on t)
   says : {k : ℕ} → Between lo hi k → HaltsBy lo hi (halt (Refusal k))
-  fails : {kind at n : ℕ} → HaltsBy lo hi (halt (Length kind at n))
+  fails : {kind at n : ℕ} → lo ≤ generalised → HaltsBy lo hi (halt (Length kind at n))
 
 pub data Sees (lo hi : ℕ) : See → Type 0 where
   ends : Sees lo hi theEnd
@@ -63,7 +63,7 @@ four = record { low = omega arith; high = omega arith }
 wider : {o : Out} → HaltsBy tonesFull blocksFull o → HaltsBy generalised blocksFull o
 wider goes = goes
 wider (says {k = k} b) = says {k = k} (record { low = omega (arith, b .low); high = b .high })
-wider fails = fails
+wider (fails h) = fails (omega arith)
 
 -- a rule's answer has what both answers have
 pub either : (P : Out → Type 0) (b : Bool) {x y : Out} → P x → P y → P (b ⇒ x ∣ y)
@@ -75,7 +75,7 @@ then-says : {lo hi : ℕ} {o : Out} {f : Parsed → Out} → HaltsBy lo hi o →
 unfolding _⟫_
 then-says (goes {t}) h = h t
 then-says (says k) h = says k
-then-says fails h = fails
+then-says (fails l) h = fails l
 
 tones-says : (most : ℕ) (ts : List Tone) (t : Parsed) → HaltsBy tonesFull blocksFull (addTones most ts t)
 unfolding addTones
@@ -123,7 +123,7 @@ module _ (lent : Lent) where
   does-says model origin (opens n) t = goes
   does-says model origin closes t = wider (closed-says (lent .blocks) (t .body) t)
   does-says model origin panics t = says four
-  does-says model origin (errs n) t = fails
+  does-says model origin (errs n) t = fails (omega arith)
 
   module _ (s : List ℕ) where
     act-says : (model : ℕ) (origin : Origin) (p : Piece) (t : Parsed) → HaltsBy generalised blocksFull (act lent s model origin p t)
@@ -151,7 +151,7 @@ module _ (lent : Lent) where
   unfolding readOn halted
   after-tells (goes {t}) h = h t
   after-tells (says b) h = tells b
-  after-tells fails h = fails
+  after-tells (fails l) h = fails
 
   seeing-tells : {lo hi : ℕ} {x : See} {k : ℕ → Parsed → Verdict} → Sees lo hi x → (t : Parsed)
       → ((n : ℕ) (u : Parsed) → Tells lo hi (k n u)) → Tells lo hi (seeing x t k)

@@ -58,7 +58,7 @@ pub data Panics (s : List ℕ) (at : ℕ) (t : Parsed) : Type 0 where
 never-four : {A : Type 0} {o : Out} → HaltsBy tonesFull blocksFull o → o ≡ halt (Refusal generalised) → A
 never-four goes e = let z : _≡_ {A = ℕ} 0 1 = cc in absurd (omega arith)
 never-four (says {k = k} b) e = let z : k ≡ generalised = cc in absurd (omega (arith, b .low))
-never-four fails e = let z : _≡_ {A = ℕ} 0 1 = cc in absurd (omega arith)
+never-four (fails h) e = absurd (omega arith)
 
 -- a refused reading that halted did so by that refusal, and no reading that halted is done
 halted-by : (j : Halt) (k : ℕ) → halted j ≡ refused k → j ≡ Refusal k
@@ -99,7 +99,7 @@ module _ (lent : Lent) (s : List ℕ) (model : ℕ) where
   does-four origin (opens n) t e = never-four goes e
   does-four origin closes t e = never-four (closed-says (lent .blocks) (t .body) t) e
   does-four origin panics t e = refl
-  does-four origin (deed.errs n) t e = never-four (fails {n = n}) e
+  does-four origin (deed.errs n) t e = let z : _≡_ {A = ℕ} 0 1 = cc in absurd (omega arith)
 
   calm : {A : Type 0} → false ≡ true → A
   calm e = let z : _≡_ {A = ℕ} 1 0 = ap (λ (t : Bool). t ⇒ 0 ∣ 1) e in absurd (omega arith)

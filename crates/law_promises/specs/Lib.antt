@@ -1,6 +1,7 @@
 pub mod Demands
 pub mod Determined
 pub mod Numbers
+pub mod Unread
 pub mod Four
 pub mod Needs
 pub mod Playing

@@ -141,12 +141,12 @@ module _ (lent : Lent) (s : List ℕ) (model : ℕ) where
   act-four origin p t e = deed-four p (does-four origin (deedOf s p) t e)
 
   -- a thing of a TZX: a piece, or a kind not named
-  data Thing (at next : ℕ) (does : Parsed → Out) : Type 0 where
+  pub data Thing (at next : ℕ) (does : Parsed → Out) : Type 0 where
     whole : {kind from : ℕ} {piece : Piece} → cutAt s at full ≡ taken.Whole kind from next piece
         → does ≡ act lent s model (originAt kind from) piece → Thing at next does
     skip : next ≡ at + 1 → does ≡ on → Thing at next does
 
-  tzx-thing : (at next : ℕ) (does : Parsed → Out) → tzxSee lent s model at ≡ thing next does → Thing at next does
+  pub tzx-thing : (at next : ℕ) (does : Parsed → Out) → tzxSee lent s model at ≡ thing next does → Thing at next does
   unfolding tzxSee tzxOf
   tzx-thing at next does e = of (cutAt s at full) refl e
     where

@@ -39,7 +39,7 @@ bad-due (here (length48 {kind = kind} {from = from} {n = n} e d)) = (failure.Len
 bad-due (past e d c) = let x = bad-due c in (x .0, past e d (x .1))
 
 -- judging alters no error
-judged-bad : (r : Verdict) {f : Failure} → bitsJudged r ≡ failed f → r ≡ failed f
+pub judged-bad : (r : Verdict) {f : Failure} → bitsJudged r ≡ failed f → r ≡ failed f
 unfolding bitsJudged
 judged-bad (done t) {f} e = of (tooManyBits (t .blocks)) e
   where

@@ -24,3 +24,4 @@ pub mod Capacity
 pub mod Larger
 pub mod Overflow
 pub mod Words
+pub mod Unread

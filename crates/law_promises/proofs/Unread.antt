@@ -1,28 +1,31 @@
 -- WHAT BOTH ATTEMPTS MET IS HANDED ON EXACTLY WHERE BOTH ERR, and each report says what the bytes say. Assumes nothing.
 use Prim.Native.Nat.{ℕ, _+_, _≤_, _<_}
 use native.Mathlib.Omega.{arith}
-use borrow.Author.Tests.{le-leb, lt-leb, le-ltb, leb-true, leb-false, ltb-false, eqb-false}
+use borrow.Author.Tests.{le-leb, lt-leb, le-ltb, leb-true, leb-false, ltb-false, eqb-false, ne-eqb}
 use mathlib.Core.Path.{_≡_, refl, sym, ap, subst, _∙_}
 use mathlib.Core.Bool.{Bool, true, false, _&&_, not}
-use mathlib.Core.Logic.{_↔_, Iff·trans}
+use mathlib.Core.Logic.{_↔_, Iff·trans, ⊎-elim}
 use mathlib.Core.List.{List, [], _∷_}
-use lib.ListN.{length}
+use lib.ListN.{length, getD}
 use lib.Dec.{leb, ltb, eqb}
 use Rattle.refusals.specs.Refusals.{badModel, tapeLong, tapeBad, tonesFull, blocksFull}
 use Rattle.law_base.specs.Rules.{_⇒_, _∣_}
+use Rattle.law_base.proofs.Numbers.{lt-or-ge}
 use Rattle.cut_grammar.specs.declared.Piece.{Piece}
 use Rattle.cut_grammar.specs.declared.Piece.the-variants.{Standard, Turbo, Tone as PureTone, Pulses, Pure, Generalized, Pause, GroupStart}
 use Rattle.cut_grammar.specs.declared.Piece.the-variants.{GroupEnd, LoopStart, LoopEnd, Stop48, Text, Message, Archive, Hardware}
 use Rattle.cut_grammar.specs.declared.Piece.the-variants.{Custom, Glue}
 use Rattle.cut_grammar.specs.declared.GeneralizedData.{GeneralizedData}
+use Rattle.cut_grammar.specs.declared.Body.{Body}
+use Rattle.cut_grammar.specs.declared.Body.the-variants as body
 use Rattle.cut_grammar.specs.declared.Taken.{Taken}
 use Rattle.cut_grammar.specs.declared.Taken.the-variants as taken
 use Rattle.cut_grammar.specs.declared.TakenTap.{TakenTap}
 use Rattle.cut_grammar.specs.declared.TakenTap.the-variants as tap
 use Rattle.cut_grammar.specs.declared.Heading.{Heading}
 use Rattle.cut_grammar.specs.declared.Heading.the-variants as heading
-use Rattle.cut_grammar.specs.Cut.{signature, startsAt, headAt, cutAt, tapAt}
-use Rattle.cut_grammar.proofs.Cutting.{cut-from}
+use Rattle.cut_grammar.specs.Cut.{signature, startsAt, headAt, takenAs, cutAt, tapAt}
+use Rattle.cut_grammar.proofs.Cutting.{cut-there, cut-inside}
 use Rattle.cut_grammar.proofs.First.{cut-first, head-first, tap-first, tap-place}
 use Rattle.load_general.specs.General as general
 use Rattle.load_state.specs.declared.Halt.{Halt}
@@ -38,19 +41,39 @@ use Rattle.load_blocks.specs.Deeds.{stop48Deed, does as enact}
 use Rattle.load_source.specs.declared.Failure.{Failure}
 use Rattle.load_source.specs.declared.Failure.the-variants as failure
 use Rattle.load_source.specs.Meaning.{deedOf}
-use Rattle.load_source.specs.Source.{See, bad, thing, Verdict, done, failed, refused, act, halted, foldFrom, bitsJudged, full, tzxOf, tzxSee}
+use Rattle.load_source.specs.Source.{See, bad, thing, Verdict, done, failed, refused, act, halted, foldFrom, bitsJudged, tapKind, full, tzxOf, tzxSee}
 use Rattle.load_source.specs.Source.{headed, readTzx, tapOf, tapSee, readTap, Load, tzx, tapped, bothErr, no, orTap, orElse, loadOf}
 use Rattle.load_source.proofs.Rest.{tzx-sees, sees-piece, tap-sees}
 use Rattle.load_tape.specs.declared.Loaded.the-variants.{Unread, Refused}
 use Rattle.load_tape.specs.Load.{namedLoad, loadNamed, answerOf, refusalNo}
 use Rattle.law_every_load.proofs.Refusals.{HaltsBy, goes, says, fails, either, sound-says, sounds-say, closed-says}
-use Rattle.law_promises.specs.Numbers.{Admitted, loadNo, Errs, Headed, Comes, Due, ends, errs, stands, answers, ByTzx, ByTap}
+use Rattle.law_promises.specs.Numbers.{Admitted, loadNo, Errs, Headed, Comes, here, past, Due, ends, errs, stands, answers}
 use Rattle.law_promises.specs.Unread.{PieceMet, field-short, length48, TzxMet, head-short, head-other, at-piece, BlockMet, TapMet}
-use Rattle.law_promises.specs.Unread.{at-block}
+use Rattle.law_promises.specs.Unread.{data-short}
 use Rattle.law_promises.proofs.Runs.{comes-map, run-due}
 use Rattle.law_promises.proofs.Loads.{answers-no, tzx-headed}
 use Rattle.law_promises.proofs.Dues.{Thing, whole, skip, tzx-thing, tzx-bounded, tap-bounded}
 use Rattle.law_promises.proofs.Errors.{judged-bad}
+use Rattle.law_promises.proofs.Numbers.{given-3}
+
+-- a head of ten bytes or more that has another signature
+head-bad : (s : List ℕ) → headAt s ≡ heading.BadSignature → (10 ≤ length s) × (startsAt s 0 signature ≡ false)
+unfolding headAt
+head-bad s e = of (leb 10 (length s)) refl (startsAt s 0 signature) e
+  where
+    of : (a : Bool) → leb 10 (length s) ≡ a → (b : Bool)
+        → (a ⇒ (b ⇒ heading.Version (getD s 8 0) (getD s 9 0) ∣ heading.BadSignature) ∣ heading.Short 0 10) ≡ heading.BadSignature
+        → (10 ≤ length s) × (b ≡ false)
+    of true q true x = let z : _≡_ {A = ℕ} 0 1 = cc in absurd (omega arith)
+    of true q false x = (leb-true _ _ q, refl)
+    of false q b x = let z : _≡_ {A = ℕ} 0 1 = cc in absurd (omega arith)
+
+bad-head : (s : List ℕ) → 10 ≤ length s → startsAt s 0 signature ≡ false → headAt s ≡ heading.BadSignature
+unfolding headAt
+bad-head s h e = rw (le-leb 10 (length s) h, e)
+
+above : {n : ℕ} → (n ≡ 0 → ⊥) → 0 < n
+above {n} h = ⊎-elim (λ (t : 0 < n). t) (λ (t : n ≤ 0). absurd (h (omega arith))) (lt-or-ge 0 n)
 
 -- what adds blocks alone does not err
 never-errs : {A : Type 0} {o : Out} {kind at n : ℕ} → HaltsBy tonesFull blocksFull o → o ≡ halt (Length kind at n) → A
@@ -78,9 +101,271 @@ erring (deed.errs n) = true
 calm : {A : Type 0} → false ≡ true → A
 calm e = let z : _≡_ {A = ℕ} 1 0 = ap (λ (t : Bool). t ⇒ 0 ∣ 1) e in absurd (omega arith)
 
+-- a step that errs does so by such a deed, and says where its piece stands
+record ErredBy (origin : Origin) (d : Deed) (k p n : ℕ) : Type 0 where
+  deed : d ≡ deed.errs n
+  kind : k ≡ origin .kind
+  place : p ≡ origin .place
+
+-- a piece that errs is a 2A's, of a length that is not 0
+record ErringPiece (p : Piece) (n : ℕ) : Type 0 where
+  piece : p ≡ Stop48 n
+  length : 0 < n
+
+-- a piece stands where it was cut
+named-from : (kind at : ℕ) (x : Body) {k p next : ℕ} {piece : Piece} → takenAs kind at x ≡ taken.Whole k p next piece → p ≡ at
+unfolding takenAs
+named-from kind at (body.Whole y q) e = cc
+named-from kind at (body.Unknown described) e = absurd (let z : _≡_ {A = ℕ} 0 1 = cc in omega arith)
+named-from kind at (body.Short q v) e = absurd (let z : _≡_ {A = ℕ} 0 1 = cc in omega arith)
+named-from kind at (body.Overflow q) e = absurd (let z : _≡_ {A = ℕ} 0 1 = cc in omega arith)
+
+cut-from : (s : List ℕ) (at : ℕ) {k p next : ℕ} {piece : Piece} → cutAt s at full ≡ taken.Whole k p next piece → p ≡ at
+cut-from s at e = named-from (getD s at 0) at _ (sym (cut-there s at full (cut-inside s at full e)) ∙ e)
+
 module _ (lent : Lent) (s : List ℕ) (model : ℕ) where
-  -- a step that errs does so by such a deed, and says where it comes from
-  record ErredBy (origin : Origin) (d : Deed) (kind at n : ℕ) : Type 0 where
-    deed : d ≡ deed.errs n
-    kind : kind ≡ origin .kind
-    place : at ≡ origin .place
+  does-errs : (origin : Origin) (d : Deed) (t : Parsed) {kind at n : ℕ} → enact lent model origin d t ≡ halt (Length kind at n)
+      → ErredBy origin d kind at n
+  unfolding enact pend endGroup openLoop closeLoop
+  does-errs origin (adding only48 ds) t e =
+      never-errs (either (HaltsBy tonesFull blocksFull) (only48 && not (eqb model 0)) goes (sounds-say lent origin ds t)) e
+  does-errs origin (groups from size) t e = never-errs goes e
+  does-errs origin (texts from size) t e = never-errs goes e
+  does-errs origin groupEnds t e = never-errs goes e
+  does-errs origin (opens n) t e = never-errs goes e
+  does-errs origin closes t e = never-errs (closed-says (lent .blocks) (t .body) t) e
+  does-errs origin panics t e = let z : _≡_ {A = ℕ} 0 1 = cc in absurd (omega arith)
+  does-errs origin (deed.errs m) t {kind} {at} {n} e =
+      let z : m ≡ n = cc in
+      let k : origin .kind ≡ kind = cc in
+      let p : origin .place ≡ at = cc in
+      record { deed = ap deed.errs z; kind = sym k; place = sym p }
+
+  general-calm : (g : GeneralizedData) (x : general.Given) → erring (generalDeed g x) ≡ false
+  unfolding generalDeed erring
+  general-calm g general.refused4 = refl
+  general-calm g general.stop = refl
+  general-calm g (general.plain ts nil one last) = refl
+  general-calm g (general.toned ts) = refl
+
+  deed-errs : (p : Piece) (n : ℕ) → deedOf s p ≡ deed.errs n → erring (deedOf s p) ≡ true → ErringPiece p n
+  unfolding deedOf erring stop48Deed
+  deed-errs (Standard pause from size) n q e = calm e
+  deed-errs (Turbo d) n q e = calm e
+  deed-errs (PureTone half count) n q e = calm e
+  deed-errs (Pulses count from) n q e = calm e
+  deed-errs (Pure nil one last pause from size) n q e = calm e
+  deed-errs (Generalized g) n q e = calm (sym (general-calm g (general.generalOf s g)) ∙ e)
+  deed-errs (Pause ms) n q e = calm e
+  deed-errs (GroupStart from size) n q e = calm e
+  deed-errs GroupEnd n q e = calm e
+  deed-errs (LoopStart times) n q e = calm e
+  deed-errs LoopEnd n q e = calm e
+  deed-errs (Stop48 m) n q e = of (eqb m 0) refl q e
+    where
+      of : (z : Bool) → eqb m 0 ≡ z → (z ⇒ adds48 (stopSound ∷ []) ∣ deed.errs m) ≡ deed.errs n
+          → erring (z ⇒ adds48 (stopSound ∷ []) ∣ deed.errs m) ≡ true → ErringPiece (Stop48 m) n
+      of true y x f = calm f
+      of false y x f =
+          let i : m ≡ n = cc in
+          let j : m ≡ 0 → ⊥ = eqb-false m 0 y in
+          record { piece = ap Stop48 i; length = above (λ h. j (i ∙ h)) }
+  deed-errs (Text from size) n q e = calm e
+  deed-errs Message n q e = calm e
+  deed-errs Archive n q e = calm e
+  deed-errs Hardware n q e = calm e
+  deed-errs Custom n q e = calm e
+  deed-errs Glue n q e = calm e
+
+  act-errs : (origin : Origin) (p : Piece) (t : Parsed) {kind at n : ℕ} → act lent s model origin p t ≡ halt (Length kind at n)
+      → ErringPiece p n × ErredBy origin (deedOf s p) kind at n
+  unfolding act erring
+  act-errs origin p t {n = n} e =
+      let x = does-errs origin (deedOf s p) t e in (deed-errs p n (x .deed) (ap erring (x .deed)), x)
+
+  -- what errs at a place
+  bad-met : (at : ℕ) (f : Failure) → tzxSee lent s model at ≡ bad f → PieceMet s f at
+  unfolding tzxSee tzxOf
+  bad-met at f e = of (cutAt s at full) refl e
+    where
+      of : (c : Taken) → cutAt s at full ≡ c → tzxOf lent s model at c ≡ bad f → PieceMet s f at
+      of taken.End q x = let z : _≡_ {A = ℕ} 0 1 = cc in absurd (omega arith)
+      of (taken.Whole kind from m piece) q x = let z : _≡_ {A = ℕ} 0 1 = cc in absurd (omega arith)
+      of (taken.Unknown kind described) q x = let z : _≡_ {A = ℕ} 0 1 = cc in absurd (omega arith)
+      of (taken.Short kind p w) q x =
+          let z : failure.ShortPiece kind at p w ≡ f = cc in
+          let y = cut-first s at full kind p w .0 q in
+          subst (λ (g : Failure). PieceMet s g at) z (field-short (y .0) (y .1 .0) (y .1 .1))
+      of (taken.Overflow kind p) q x = let z : _≡_ {A = ℕ} 0 1 = cc in absurd (omega arith)
+
+  thing-met : (at next : ℕ) (does : Parsed → Out) (t : Parsed) {kind from n : ℕ} → Thing lent s model at next does
+      → does t ≡ halt (Length kind from n) → PieceMet s (failure.Length kind from n) at
+  thing-met at next does t {kind} {from} {n} (whole {kind = k} {from = p} {piece = piece} q x) y =
+      let a = act-errs (originAt k p) piece t (ap (λ (h : Parsed → Out). h t) (sym x) ∙ y) in
+      let i : p ≡ at = cut-from s at q in
+      let g : cutAt s at full ≡ taken.Whole k at next (Stop48 n) =
+      q ∙ ap (λ (b : ℕ). taken.Whole k b next piece) i ∙ ap (λ (z : Piece). taken.Whole k at next z) (a .0 .piece) in
+      let m : PieceMet s (failure.Length k at n) at = length48 g (a .0 .length) in
+      subst (λ (z : Failure). PieceMet s z at)
+      (ap (λ (b : ℕ). failure.Length b at n) (sym (a .1 .kind)) ∙ ap (λ (b : ℕ). failure.Length kind b n) (sym (a .1 .place ∙ i))) m
+  thing-met at next does t (skip q x) y =
+      let u = ap (λ (h : Parsed → Out). h t) (sym x) ∙ y in let z : _≡_ {A = ℕ} 0 1 = cc in absurd (omega arith)
+
+  due-met : {r : Verdict} {f : Failure} {at : ℕ} {t : Parsed} → Due (tzxSee lent s model) r at t → r ≡ failed f → PieceMet s f at
+  due-met (ends e) q = let z : _≡_ {A = ℕ} 0 1 = cc in absurd (omega arith)
+  due-met {f = f} (errs {at = at} {f = g} e) q = let z : g ≡ f = cc in bad-met at f (e ∙ ap bad z)
+  due-met (stands e) q = let z : _≡_ {A = ℕ} 0 1 = cc in absurd (omega arith)
+  due-met (answers {at = at} {next = next} {k = j} {does = does} {t = t} e d) q =
+      let x = halted-errs j q in
+      subst (λ (g : Failure). PieceMet s g at) (x .1 .1 .1 .1)
+      (thing-met at next does t (tzx-thing lent s model at next does e) (d ∙ ap halt (x .1 .1 .1 .0)))
+
+  met-due : {f : Failure} {at : ℕ} {t : Parsed} → PieceMet s f at → Due (tzxSee lent s model) (failed f) at t
+  unfolding tzxOf act deedOf stop48Deed enact halted
+  met-due (field-short {kind = kind} {at = at} {p = p} {w = w} h q x) =
+      errs (tzx-sees lent s model at (sym (cut-first s at full kind p w .1 (h, (q, x)))))
+  met-due {t = t} (length48 {kind = kind} {at = at} {n = n} q h) =
+      answers {k = Length kind at n} {t = t} (sees-piece lent s model at (sym q)) (rw (ne-eqb n 0 (λ e. omega arith)))
+
+  run : (f : Failure) → (foldFrom (tzxSee lent s model) (length s) 10 empty ≡ failed f)
+      ↔ Comes (tzxSee lent s model) (λ at t. PieceMet s f at) 10 empty
+  run f =
+      let y = run-due (tzx-bounded lent s model) (length s) 10 empty (failed f) (omega arith) in
+      (λ e. comes-map (λ at t d. due-met d refl) (y .0 e), λ c. y .1 (comes-map (λ at t m. met-due m) c))
+
+  -- THE TZX ATTEMPT errs by f exactly when it met f
+  pub tzx-met : (f : Failure) → (readTzx lent s model ≡ failed f) ↔ TzxMet lent s model f
+  unfolding readTzx headed bitsJudged
+  tzx-met f = (λ e. there (headAt s) refl e, back)
+    where
+      there : (h : Heading) → headAt s ≡ h → headed lent s model h ≡ failed f → TzxMet lent s model f
+      there (heading.Version major minor) q e = at-piece ((major, minor, q), run f .0 (judged-bad _ e))
+      there heading.BadSignature q e =
+          let z : failure.BadSignature ≡ f = cc in
+          let x = head-bad s q in
+          subst (λ (g : Failure). TzxMet lent s model g) z (head-other (x .0) (x .1))
+      there (heading.Short p w) q e =
+          let z : failure.Short p w ≡ f = cc in
+          subst (λ (g : Failure). TzxMet lent s model g) z (head-short (head-first s p w .0 q))
+
+      back : {g : Failure} → TzxMet lent s model g → readTzx lent s model ≡ failed g
+      back (head-short {p = p} {w = w} x) = rw (head-first s p w .1 x)
+      back (head-other h e) = rw (bad-head s h e)
+      back (at-piece {f = g} x) = tzx-headed lent s model (x .0) ∙ ap bitsJudged (run g .1 (x .1))
+
+module _ (lent : Lent) (s : List ℕ) where
+  tap-bad : (at : ℕ) (f : Failure) → tapSee lent s at ≡ bad f → BlockMet s f at
+  unfolding tapSee tapOf
+  tap-bad at f e = of (tapAt s at) refl e
+    where
+      of : (c : TakenTap) → tapAt s at ≡ c → tapOf lent s at c ≡ bad f → BlockMet s f at
+      of tap.End q x = let z : _≡_ {A = ℕ} 0 1 = cc in absurd (omega arith)
+      of tap.Lone q x = let z : _≡_ {A = ℕ} 0 1 = cc in absurd (omega arith)
+      of (tap.Block from size next) q x = let z : _≡_ {A = ℕ} 0 1 = cc in absurd (omega arith)
+      of (tap.Short p w) q x =
+          let z : failure.Short p w ≡ f = cc in
+          let y = tap-first s at p w .0 q in
+          let b = tap-place s at q in
+          subst (λ (g : Failure). BlockMet s g at) z (data-short (y .0) (b .0) (b .1) (y .1))
+
+  -- a block of a TAP does not err by what it adds
+  tap-thing : (at next : ℕ) (does : Parsed → Out) (t : Parsed) {kind from n : ℕ} → tapSee lent s at ≡ thing next does
+      → does t ≡ halt (Length kind from n) → ⊥
+  unfolding tapSee tapOf
+  tap-thing at next does t {kind} {from} {n} e d = of (tapAt s at) e
+    where
+      of : (c : TakenTap) → tapOf lent s at c ≡ thing next does → ⊥
+      of tap.End x = let z : _≡_ {A = ℕ} 0 1 = cc in omega arith
+      of tap.Lone x = let z : _≡_ {A = ℕ} 0 1 = cc in omega arith
+      of (tap.Block first size m) x =
+          let header = standardHeader s first size in
+          let g : addSound lent (originAt tapKind at) (standardSound header first size (standardPause header)) ≡ does = cc in
+          never-errs (sound-says lent (originAt tapKind at) (standardSound header first size (standardPause header)) t)
+          (ap (λ (h : Parsed → Out). h t) g ∙ d)
+      of (tap.Short p w) x = let z : _≡_ {A = ℕ} 0 1 = cc in omega arith
+
+  tap-due : {r : Verdict} {f : Failure} {at : ℕ} {t : Parsed} → Due (tapSee lent s) r at t → r ≡ failed f → BlockMet s f at
+  tap-due (ends e) q = let z : _≡_ {A = ℕ} 0 1 = cc in absurd (omega arith)
+  tap-due {f = f} (errs {at = at} {f = g} e) q = let z : g ≡ f = cc in tap-bad at f (e ∙ ap bad z)
+  tap-due (stands e) q = let z : _≡_ {A = ℕ} 0 1 = cc in absurd (omega arith)
+  tap-due (answers {at = at} {next = next} {k = j} {does = does} {t = t} e d) q =
+      let x = halted-errs j q in absurd (tap-thing at next does t e (d ∙ ap halt (x .1 .1 .1 .0)))
+
+  due-tap : {f : Failure} {at : ℕ} {t : Parsed} → BlockMet s f at → Due (tapSee lent s) (failed f) at t
+  unfolding tapOf
+  due-tap (data-short {at = at} {p = p} {w = w} h a b x) = errs (tap-sees lent s at (sym (tap-first s at p w .1 (h, x))))
+
+  -- THE TAP ATTEMPT errs by g exactly when it met g
+  pub tap-met : (g : Failure) → (readTap lent s ≡ failed g) ↔ TapMet lent s g
+  unfolding readTap
+  tap-met g =
+      let y = run-due (tap-bounded lent s) (length s) 0 empty (failed g) (omega arith) in
+      (λ e. comes-map (λ at t d. tap-due d refl) (y .0 e), λ c. y .1 (comes-map (λ at t m. due-tap m) c))
+
+  -- which is a field that came up short, behind a length: at 2 or later
+  short-data : {see : ℕ → See} {g : Failure} {at : ℕ} {t : Parsed} → Comes see (λ at t. BlockMet s g at) at t
+      → (p : ℕ) × ((w : ℕ) × ((g ≡ failure.Short p w) × (2 ≤ p)))
+  short-data (here (data-short {at = at} {p = p} {w = w} h a b x)) = (p, (w, (refl, omega arith)))
+  short-data (past e d c) = short-data c
+
+  pub tap-short : {g : Failure} → readTap lent s ≡ failed g → (p : ℕ) × ((w : ℕ) × ((g ≡ failure.Short p w) × (2 ≤ p)))
+  tap-short {g} e = short-data (tap-met g .0 e)
+
+-- A LOAD
+module _ (lent : Lent) (s : List ℕ) (model : ℕ) where
+  named-both : (l : Load) (f g : Failure) → (answerOf (namedLoad s l) ≡ Unread f g) ↔ (l ≡ bothErr f g)
+  unfolding answerOf namedLoad
+  named-both (tzx t) f g =
+      (λ e. let z : _≡_ {A = ℕ} 0 1 = cc in absurd (omega arith), λ e. let z : _≡_ {A = ℕ} 0 1 = cc in absurd (omega arith))
+  named-both (tapped t) f g =
+      (λ e. let z : _≡_ {A = ℕ} 0 1 = cc in absurd (omega arith), λ e. let z : _≡_ {A = ℕ} 0 1 = cc in absurd (omega arith))
+  named-both (bothErr x y) f g = (
+    λ e. let a : x ≡ f = cc in let b : y ≡ g = cc in ap (λ (i : Failure). bothErr i y) a ∙ ap (bothErr f) b,
+    λ e. let a : x ≡ f = cc in let b : y ≡ g = cc in ap (λ (i : Failure). Unread i y) a ∙ ap (Unread f) b,
+  )
+  named-both (no k) f g =
+      (λ e. let z : _≡_ {A = ℕ} 0 1 = cc in absurd (omega arith), λ e. let z : _≡_ {A = ℕ} 0 1 = cc in absurd (omega arith))
+
+  both-failed : (r q : Verdict) (f g : Failure) → orElse r q ≡ bothErr f g → (r ≡ failed f) × (q ≡ failed g)
+  unfolding orElse orTap
+  both-failed (done t) q f g e = let z : _≡_ {A = ℕ} 0 1 = cc in absurd (omega arith)
+  both-failed (failed x) (done t) f g e = let z : _≡_ {A = ℕ} 0 1 = cc in absurd (omega arith)
+  both-failed (failed x) (failed y) f g e = let a : x ≡ f = cc in let b : y ≡ g = cc in (ap failed a, ap failed b)
+  both-failed (failed x) (refused j) f g e = let z : _≡_ {A = ℕ} 0 1 = cc in absurd (omega arith)
+  both-failed (refused j) q f g e = let z : _≡_ {A = ℕ} 0 1 = cc in absurd (omega arith)
+
+  -- BOTH FAILURES ARE HANDED ON exactly where neither 1 nor 2 is given, the TZX reading fails by f and the TAP reading by g
+  pub unread-exactly : (f g : Failure) → (answerOf (loadNamed lent s model) ≡ Unread f g)
+      ↔ (Admitted 1048576 s model × ((readTzx lent s model ≡ failed f) × (readTap lent s ≡ failed g)))
+  unfolding loadNamed loadOf orElse orTap
+  unread-exactly f g = (
+    λ e. of (leb 3 model) refl (ltb 1048576 (length s)) refl (named-both (loadOf lent s model) f g .0 e),
+    λ h. named-both (loadOf lent s model) f g .1
+        (rw (lt-leb 3 model (h .0 .known), le-ltb 1048576 (length s) (h .0 .short), h .1 .0, h .1 .1)),
+  )
+    where
+      of : (a : Bool) → leb 3 model ≡ a → (b : Bool) → ltb 1048576 (length s) ≡ b
+          → (a ⇒ no badModel ∣ b ⇒ no tapeLong ∣ orElse (readTzx lent s model) (readTap lent s)) ≡ bothErr f g
+          → Admitted 1048576 s model × ((readTzx lent s model ≡ failed f) × (readTap lent s ≡ failed g))
+      of true p b q e = let z : _≡_ {A = ℕ} 0 1 = cc in absurd (omega arith)
+      of false p true q e = let z : _≡_ {A = ℕ} 0 1 = cc in absurd (omega arith)
+      of false p false q e =
+          (record { known = leb-false _ _ p; short = ltb-false _ _ q }, both-failed (readTzx lent s model) (readTap lent s) f g e)
+
+  -- THE REPORT SAYS WHAT THE BYTES SAY
+  pub unread-met : (f g : Failure) → (answerOf (loadNamed lent s model) ≡ Unread f g)
+      ↔ (Admitted 1048576 s model × (TzxMet lent s model f × TapMet lent s g))
+  unread-met f g =
+      let x = unread-exactly f g in
+      let y = tzx-met lent s model f in
+      let z = tap-met lent s g in
+      (λ e. let h = x .0 e in (h .0, (y .0 (h .1 .0), z .0 (h .1 .1))), λ h. x .1 (h .0, (y .1 (h .1 .0), z .1 (h .1 .1))))
+
+  -- 3 is never given without it
+  pub three-unread : answerOf (loadNamed lent s model) ≡ Refused tapeBad → ⊥
+  unfolding loadNamed
+  three-unread e =
+      let x = given-3 lent s model .0 (unfold refusalNo in ap refusalNo e) in
+      let y = unread-exactly (x .1 .0 .0) (x .1 .1 .0) .1 (x .0, (x .1 .0 .1, x .1 .1 .1)) in
+      let z : _≡_ {A = ℕ} 0 1 = cc in
+      omega arith

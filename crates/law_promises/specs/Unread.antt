@@ -33,12 +33,10 @@ pub data TzxMet (lent : Lent) (s : List ℕ) (model : ℕ) : Failure → Type 0 
   at-piece : {f : Failure} → ByTzx lent s model (λ at t. PieceMet s f at) → TzxMet lent s model f
 
 -- at a block of a TAP: its data, as many bytes as its length says
-pub record BlockMet (s : List ℕ) (p w at : ℕ) : Type 0 where
-  pub there : at + 1 < length s
-  pub place : p ≡ at + 2
-  pub width : w ≡ numberAt s at 2
-  pub fields : FirstShort (tapTrace s at) (fieldIn s p w)
+pub data BlockMet (s : List ℕ) : Failure → ℕ → Type 0 where
+  data-short : {at p w : ℕ} → at + 1 < length s → p ≡ at + 2 → w ≡ numberAt s at 2 → FirstShort (tapTrace s at) (fieldIn s p w)
+      → BlockMet s (Short p w) at
 
 -- THE TAP ATTEMPT
-pub data TapMet (lent : Lent) (s : List ℕ) : Failure → Type 0 where
-  at-block : {p w : ℕ} → ByTap lent s (λ at t. BlockMet s p w at) → TapMet lent s (Short p w)
+abbrev pub TapMet : Lent → List ℕ → Failure → Type 0
+TapMet lent s f = ByTap lent s (λ at t. BlockMet s f at)

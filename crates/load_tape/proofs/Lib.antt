@@ -2,3 +2,4 @@ pub mod Leaving
 mod Naming
 pub mod Models
 mod Examples
+mod Fallback

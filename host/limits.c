@@ -185,11 +185,44 @@ static void tone_rows(void) {
     load("a block is refused 5 where a tone row is broken", 0, LENT_BLOCKS, TONE_ROWS(2) - 1, 5, 0, 0);
 }
 
+/* What a load tells with 3, and that it does so in a row of eight words alone. */
+static void unread(const char *what, const word *wanted) {
+    mark_tables();
+    for (glyvrask_size room = 3; room <= GLYVRASK_UNREAD_WORDS + 1; room++) {
+        keep_all();
+        is(glyvrask_load(tape, used, 0, blocks, LENT_BLOCKS, tones, LENT_TONES, answer, room), GLYVRASK_TAPE_BAD, what);
+        check(zero(blocks, 0, LENT_BLOCKS) && zero(tones, 0, LENT_TONES), "  both tables are all zero");
+        if (room < GLYVRASK_UNREAD_WORDS) {
+            check(answer_kept(0), "  a shorter row stays");
+            continue;
+        }
+        for (glyvrask_size i = 0; i < GLYVRASK_UNREAD_WORDS; i++) is(answer[i], wanted[i], "  a word of it");
+        check(answer_kept(GLYVRASK_UNREAD_WORDS), "  words past it stay");
+    }
+}
+
+#define UNREAD(...) ((const word[GLYVRASK_UNREAD_WORDS]){__VA_ARGS__})
+
+static void unread_loads(void) {
+    used = 0, put(2, 2), put(0xFF, 1);
+    unread("a signature is short", UNREAD(0, 0, 0, 0, 10, 0, 2, 2));
+    used = 0;
+    for (unsigned n = 0; n < 10; n++) put(0xFF, 1);
+    unread("a signature is another", UNREAD(1, 0, 0, 0, 0, 0, 2, 65535));
+    tzx(), put(0x10, 1), put(0, 2), put(5, 2), put(0xAA, 1);
+    unread("the data of a piece are short", UNREAD(2, 0x10, 10, 15, 5, 0, 2, 22618));
+    tzx(), put(0x32, 1), put(1, 2), put(1, 1), put(0x20, 1), put(1, 2);
+    unread("a field is short of a body", UNREAD(2, 0x32, 10, 14, 1, 0, 2, 22618));
+    tzx(), put(0x20, 1), put(1, 2), put(0x2A, 1), put(1, 4);
+    unread("a 2A has a length", UNREAD(3, 0x2A, 13, 0, 0, 1, 2, 22618));
+}
+
 static void refused_loads(void) {
     example();
     load("model 3 is refused 1", 3, LENT_BLOCKS, LENT_TONES, 1, 0, 0);
     used = 0, put(2, 2), put(0xFF, 1);
     load("short data are refused 3", 0, LENT_BLOCKS, LENT_TONES, 3, 0, 0);
+    unread_loads();
     generalised(0);
     load("a generalised piece with no data symbol is refused 4", 0, LENT_BLOCKS, LENT_TONES, 4, 0, 0);
     tzx(), put(0x14, 1), put(10, 2), put(20, 2), put(9, 1), put(0, 2), put(1, 3), put(0x80, 1);

@@ -23,7 +23,7 @@ extern "C" {
 #endif
 
 /* THE NUMBERS FOR NO. 1 to 7 leave both lent tables all zero; 8 to 11 alter nothing. A refusal is its number alone: no word of
- * `answer` and no byte of `out` is written. */
+ * `answer` and no byte of `out` is written. Only a load's 3 has words (below); its number is the same whatever row is lent. */
 enum {
     GLYVRASK_OK = 0,
     GLYVRASK_MODEL = 1,       /* model is not 0 (48K), 1 (128K), 2 (Plus3) */
@@ -97,6 +97,20 @@ enum {
     GLYVRASK_PLAYED_WORDS = 10
 };
 
+/* WHERE THE BYTES RAN OUT, eight words that a load answers with 3: what the attempt to read a TZX met, then where the attempt to read
+ * a TAP ran out. The short field is the first in reading order that is not all there. Words that a cause doesn't name are 0. */
+enum {
+    GLYVRASK_CAUSE = 0,       /* 0 too few bytes for a TZX's head; 1 no TZX's signature; 2 a field of a piece is short; 3 a 2A's length isn't 0 */
+    GLYVRASK_CUT_KIND = 1,    /* causes 2, 3: the piece's kind */
+    GLYVRASK_CUT_PIECE = 2,   /* causes 2, 3: the place of its kind byte in the tape */
+    GLYVRASK_CUT_PLACE = 3,   /* causes 0, 2: the place of the short field */
+    GLYVRASK_CUT_WIDTH = 4,   /* causes 0, 2: how many bytes it has */
+    GLYVRASK_CUT_LENGTH = 5,  /* cause 3: the 2A's length */
+    GLYVRASK_TAP_PLACE = 6,   /* the place of the TAP block's data that is short */
+    GLYVRASK_TAP_WIDTH = 7,   /* the length that the block names */
+    GLYVRASK_UNREAD_WORDS = 8
+};
+
 /* The block number that stands for past the end. */
 #define GLYVRASK_PAST_END 4294967295u
 
@@ -112,7 +126,8 @@ unsigned glyvrask_listing(const unsigned char *tape, glyvrask_size tape_len, uns
  * but first in a load. */
 
 /* A load. answer: 0 format (0 TAP, 1 TZX), 1 blocks, 2 tone rows. Refusals: 10 (`answer` below 3 words: nothing is read, and
- * both tables stay), 1, 2, then as the reading goes 3 to 7. */
+ * both tables stay), 1, 2, then as the reading goes 3 to 7. With 3, GLYVRASK_UNREAD_WORDS words tell why, where `answer` has room for
+ * all of them; else it stays. */
 unsigned glyvrask_load(const unsigned char *tape, glyvrask_size tape_len, unsigned model,
                        glyvrask_word *blocks, glyvrask_size blocks_len,
                        glyvrask_word *tones, glyvrask_size tones_len,

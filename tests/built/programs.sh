@@ -1,5 +1,6 @@
 #!/bin/sh
-# The programs at the limits of what they read: no byte, one, and tapes of 65,535 bytes, of one more, of two more and of many more; the longest run of calls.
+# The programs at the limits of what they read: no byte, one, and tapes of 65,535 bytes (`unread`: of 1,048,576), of one more, of two more and of many more; the
+# longest run of calls.
 set -eu
 cd "$(dirname "$0")/../.."
 . host/kit.sh
@@ -24,7 +25,7 @@ says() { # PROGRAM INPUT LINE
     seen=$((seen + 1))
 }
 
-for program in list dump trace; do
+for program in list dump trace unread; do
     [ -x "target/bin/$program" ] || rt check "$program"
 done
 tap '\375\377' 65533 > "$room/full"
@@ -58,6 +59,26 @@ for tape in over two-over double; do
     says dump "in-$tape" 'refused 2'
     says trace "run-$tape" 'refused 2'
     says trace "long-run-$tape" 'refused 2'
+done
+# the same of 1,048,576 bytes: sixteen blocks of 65,534 bytes with their lengths, and one of 30 and its length, whose last byte the program has to read
+{
+    printf 4
+    for _ in 1 2 3 4 5 6 7 8 9 10 11 12 13 14 15 16; do tap '\376\377' 65534; done
+    tap '\036\0' 30
+} > "$room/in-most"
+says unread none 'refused 1'
+says unread no-model 'refused 1'
+says unread model 'read TAP'
+says unread in-full 'read TAP'
+says unread in-over 'read TAP'
+says unread in-double 'read TAP'
+says unread in-most 'read TAP'
+head -c 1048576 "$room/in-most" > "$room/in-cut"
+says unread in-cut 'refused 3'
+[ "$(sed -n 3p "$room/out")" = 'tap short place 1048546 width 30' ] || { echo "programs.sh: unread of a cut tape says $(sed -n 3p "$room/out")"; exit 1; }
+for more in x xx xxx; do
+    { cat "$room/in-most"; printf %s "$more"; } > "$room/in-more"
+    says unread in-more 'refused 2'
 done
 for run in run-full long-run-full; do
     run_host target/bin/trace < "$room/$run" > "$room/out"

@@ -60,11 +60,10 @@ for tape in over two-over double; do
     says trace "run-$tape" 'refused 2'
     says trace "long-run-$tape" 'refused 2'
 done
-# the same of 1,048,576 bytes: sixteen blocks of 65,534 bytes with their lengths, and one of 30 and its length, whose last byte the program has to read
+# 1,048,576 bytes are sixteen such blocks of 65,534 bytes; a tape of a byte less is short in the last, so that the program has to have read all of it
 {
     printf 4
     for _ in 1 2 3 4 5 6 7 8 9 10 11 12 13 14 15 16; do tap '\376\377' 65534; done
-    tap '\036\0' 30
 } > "$room/in-most"
 says unread none 'refused 1'
 says unread no-model 'refused 1'
@@ -75,7 +74,7 @@ says unread in-double 'read TAP'
 says unread in-most 'read TAP'
 head -c 1048576 "$room/in-most" > "$room/in-cut"
 says unread in-cut 'refused 3'
-[ "$(sed -n 3p "$room/out")" = 'tap short place 1048546 width 30' ] || { echo "programs.sh: unread of a cut tape says $(sed -n 3p "$room/out")"; exit 1; }
+[ "$(sed -n 3p "$room/out")" = 'tap short place 983042 width 65534' ] || { echo "programs.sh: unread of a cut tape says $(sed -n 3p "$room/out")"; exit 1; }
 for more in x xx xxx; do
     { cat "$room/in-most"; printf %s "$more"; } > "$room/in-more"
     says unread in-more 'refused 2'

@@ -8,12 +8,13 @@ use lib.Dec.{leb}
 use lib.ListN.{length, length-drop, getD, take, drop}
 use lib.Seq.{length-take-le, take-all}
 use borrow.Author.Tests.{lt-ltb}
+use Rattle.text_out.specs.Out.{refusedLine}
 use Rattle.law_base.specs.Rules.{_⇒_, _∣_}
 use Rattle.law_base.proofs.Numbers.{lt-or-ge}
 use Rattle.refusals.specs.Refusals.{badModel, tapeLong}
 use Rattle.io.specs.Counts.{Counts}
 use Rattle.listing.specs.Listing.{refused, listingOf}
-use Rattle.listing.specs.Printed.{printedNo, printedOf, Says}
+use Rattle.listing.specs.Printed.{printedOf, Says}
 use Rattle.prog_model.specs.Models.{modelOf}
 use Rattle.list.specs.Heard.{listingHeard}
 
@@ -35,7 +36,7 @@ answers : {t : List ℕ} {r : ℕ} {out : List ℕ} (input : List ℕ) → t ≡
     → Answers input r out
 answers {r = r} {out} input e s = ((s .count, sym (length-take-le r out (s .count))), s .front ∙ e)
 
-pub says-none : {r : ℕ} {out : List ℕ} (input : List ℕ) → length input ≤ 0 → Says (printedNo badModel) r out
+pub says-none : {r : ℕ} {out : List ℕ} (input : List ℕ) → length input ≤ 0 → Says (refusedLine badModel) r out
     → Answers input r out
 unfolding printedOf
 says-none input h s = answers input (sym (ap printedOf (heard-none input h))) s

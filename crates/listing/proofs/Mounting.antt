@@ -21,6 +21,7 @@ use Rattle.load_tape.specs.declared.Format.{Format}
 use Rattle.load_tape.specs.declared.Format.the-variants.{Tap, Tzx}
 use Rattle.load_tape.specs.declared.Loaded.{Loaded}
 use Rattle.load_tape.specs.Load.{namedTape, namedLoad, loadNamed, answerOf, refusalNo, blockTable, toneTable, Leaves}
+use Rattle.load_tape.proofs.Naming.{is-tape}
 use Rattle.law_every_load.specs.Sizes.{Bytes}
 use Rattle.law_every_load.specs.OfSource.{Reads, as-tzx, as-tap}
 use Rattle.law_every_load.proofs.Room.{load-within}
@@ -92,12 +93,6 @@ load-ready s model {f} {n} {k} {bt} {tt} b l = by-cases (loadOf (lentOf blockWor
         (rows-ready s model b (subst (λ (z : Load). Reads z t) (sym e) as-tap))
     by-cases (bothErr f g) e y = let a = y .answer in absurd (let z : _≡_ {A = ℕ} 0 1 = cc in omega arith)
     by-cases (no j) e y = let a = y .answer in absurd (let z : _≡_ {A = ℕ} 0 1 = cc in omega arith)
-
--- whether an answer is a tape's
-abbrev pub is-tape : Loaded → Bool
-is-tape (loaded.Tape f n k) = true
-is-tape (loaded.Unread f g) = false
-is-tape (loaded.Refused k) = false
 
 -- WHAT IS LISTED OF A LOAD, by its answer
 module _ (s : List ℕ) (model : ℕ) {bt tt : List ℕ} where

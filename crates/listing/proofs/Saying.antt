@@ -10,7 +10,7 @@ use lib.Seq.{take-length, take-append-le}
 use lib.Dec.{leb, ltb}
 use Rattle.law_base.specs.Rules.{_⇒_, _∣_}
 use Rattle.refusals.specs.Refusals.{badModel, tapeLong}
-use Rattle.text_out.specs.Out.{Wrote}
+use Rattle.text_out.specs.Out.{Wrote, refusedText, refusedLine}
 use Rattle.text_out.proofs.Writing.{wrote-counted, same-len}
 use Rattle.load_source.specs.Source.{Load, tzx, tapped, bothErr, no}
 use Rattle.load_tape.specs.declared.Format.the-variants.{Tap, Tzx}
@@ -18,7 +18,7 @@ use Rattle.load_tape.specs.Load.{answerOf, blockTable, toneTable, Leaves}
 use Rattle.law_every_load.specs.Sizes.{Bytes}
 use Rattle.listing.specs.Listing.{blockWords, toneWords, loadedOf, Listing, text, refused, mounted, listed, listingOf}
 use Rattle.listing.specs.Listing.{answerTo, bytesAfter}
-use Rattle.listing.specs.Printed.{printedNo, printedOf, Says}
+use Rattle.listing.specs.Printed.{printedOf, Says}
 use Rattle.text_listing.proofs.Showing.{name-part}
 use Rattle.text_listing.proofs.Texts.{decimal-long}
 use Rattle.text_listing.proofs.PageTexts.{text-most}
@@ -98,7 +98,7 @@ module _ (s out : List ℕ) (model : ℕ) {r : ℕ} {out′ : List ℕ} (b : Byt
   roomy t q = omega (arith, text-fits s model b q)
 
   -- below 32: the load's refusal, which is then printed; else the text
-  pub say-refusal : {n : ℕ} {out″ : List ℕ} → r < 32 → Says (printedNo r) n out″
+  pub say-refusal : {n : ℕ} {out″ : List ℕ} → r < 32 → Says (refusedLine r) n out″
       → Says (printedOf (listingOf s model)) n out″
   unfolding printedOf
   say-refusal h p = rw (refusal-told roomy told h) p
@@ -106,6 +106,6 @@ module _ (s out : List ℕ) (model : ℕ) {r : ℕ} {out′ : List ℕ} (b : Byt
   pub say-text : 32 ≤ r → Says (printedOf (listingOf s model)) r out′
   say-text h = text-told told h
 
-pub refused-most : (k : ℕ) → length (printedNo k) ≤ 29
-unfolding printedNo
+pub refused-most : (k : ℕ) → length (refusedLine k) ≤ 29
+unfolding refusedLine refusedText
 refused-most k = let a = decimal-long k in simp length-append (omega arith)

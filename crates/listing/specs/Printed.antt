@@ -3,15 +3,12 @@ use Prim.Native.Nat.{ℕ, _≤_}
 use mathlib.Core.Path.{_≡_}
 use mathlib.Core.List.{List, _++_}
 use lib.ListN.{length, take, drop}
-use Rattle.text_out.specs.Out.{ascii, decimal}
+use Rattle.text_out.specs.Out.{refusedLine}
 use Rattle.listing.specs.Listing.{Listing, text, refused}
-
-unfoldable pub printedNo : ℕ → List ℕ
-printedNo k = ascii "refused " ++ decimal k ++ ascii "\n"
 
 unfoldable pub printedOf : Listing → List ℕ
 printedOf (text t) = t
-printedOf (refused k) = printedNo k
+printedOf (refused k) = refusedLine k
 
 -- the first r bytes of `out` are the text
 pub record Says (t : List ℕ) (r : ℕ) (out : List ℕ) : Type 0 where

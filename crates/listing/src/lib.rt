@@ -11,13 +11,14 @@ use text_listing::put_listing;
 use text_out::put;
 use text_out::put_all;
 use text_out::put_decimal;
+ghost use Rattle.text_out.specs.Out.{refusedLine};
 ghost use mathlib.Core.Path.{_≡_};
 ghost use Prim.Native.Nat.{_<_, _≤_};
 ghost use lib.ListN.{length};
 ghost use Rattle.play_entries.specs.Mounted.{tapeOf};
 ghost use Rattle.text_listing.specs.Inner.{Ready};
 ghost use Rattle.text_listing.specs.Page.{listingText};
-ghost use Rattle.listing.specs.Printed.{printedNo, printedOf, Says};
+ghost use Rattle.listing.specs.Printed.{printedOf, Says};
 ghost use Rattle.listing.specs.Listing.{text, listingOf, answerTo, bytesAfter};
 
 // Bytes that hold the text: where `len` are as many, its most, which is 576 a row; else its own length, by a dry run.
@@ -97,7 +98,7 @@ pub extern "C" fn glyvrask_listing(tape: &[u8], model: u32, out: &mut [u8]) -> u
 // `refused n` and a line feed; our programs call it, and lend 32 bytes.
 pub fn say_refused(out: &mut [u8], k: u32) -> usize
     requires { ⌜ 32 ≤ length (now out) ⌝ }
-    ensures { λ r. ⌜ Says (printedNo k) r (now (out .exit)) ⌝ }
+    ensures { λ r. ⌜ Says (refusedLine k) r (now (out .exit)) ⌝ }
 {
     let a = put_all(out, 0, b"refused ");
     let b = put_decimal(out, a, k as u64);

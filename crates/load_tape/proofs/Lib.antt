@@ -1,5 +1,5 @@
 pub mod Leaving
-mod Naming
+pub mod Naming
 pub mod Models
 mod Examples
 mod Fallback

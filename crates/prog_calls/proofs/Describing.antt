@@ -8,6 +8,7 @@ use lib.Dec.{leb, eqb}
 use lib.ListN.{length, length-drop, getD, take, drop}
 use lib.Seq.{take-all}
 use borrow.Author.Tests.{lt-ltb, le-ltb, leb-true, eq-eqb, ne-eqb}
+use Rattle.text_out.specs.Out.{refusedLine}
 use Rattle.law_base.proofs.Tests.{first, second}
 use Rattle.refusals.specs.Refusals.{badModel, tapeLong, tapeBad, noPosition}
 use Rattle.rows.specs.Rows.{block, tone}
@@ -18,7 +19,6 @@ use Rattle.load_tape.specs.declared.Format.{Format}
 use Rattle.load_tape.specs.declared.Loaded.{Loaded}
 use Rattle.load_tape.specs.declared.Loaded.the-variants as loaded
 use Rattle.load_tape.specs.Load.{loadNamed, toneTable, Leaves}
-use Rattle.text_trace.specs.Lines.{refusedLine}
 use Rattle.prog_model.specs.Models.{modelOf}
 use Rattle.prog_calls.specs.Playback.{isPlayer, numberIn, callsIn, tapeFrom, tapeIn, countsIn, isDescription}
 use Rattle.prog_calls.specs.Trace.{runText, traceLent, loadedText, tapeText, describedText, traceText}

@@ -9,13 +9,13 @@ use lib.Dec.{ltb, leb, eqb}
 use lib.ListN.{length, length-drop, getD, take}
 use lib.Seq.{length-take-le, take-all, getD-take}
 use borrow.Author.Tests.{lt-ltb, le-leb, leb-true, ne-eqb}
+use Rattle.text_out.specs.Out.{refusedLine}
 use Rattle.law_base.specs.Rules.{_⇒_, _∣_}
 use Rattle.law_base.proofs.Numbers.{lt-or-ge}
 use Rattle.refusals.specs.Refusals.{badModel, tapeLong, noPosition}
 use Rattle.cut_fields.specs.declared.Read.{Read}
 use Rattle.cut_fields.specs.declared.Cursor.the-variants.{At, Short}
 use Rattle.cut_fields.specs.Field.{leAt, numberAt, fieldAt}
-use Rattle.text_trace.specs.Lines.{refusedLine}
 use Rattle.prog_model.specs.Models.{modelOf}
 use Rattle.prog_calls.specs.Playback.{isPlayer, callsIn, tapeFrom, tapeIn, isDescription}
 use Rattle.prog_calls.specs.Trace.{describedText, traceText}

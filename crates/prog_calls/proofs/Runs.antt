@@ -7,6 +7,7 @@ use mathlib.Core.Bool.{Bool, true, false}
 use mathlib.Core.List.{List, [], _∷_, _++_}
 use lib.ListN.{length, length-append}
 use borrow.Author.Tests.{le-ltb}
+use Rattle.text_out.specs.Out.{refusedLine}
 use Rattle.law_base.specs.Rules.{_⇒_, _∣_}
 use Rattle.refusals.specs.Refusals.{noPosition, badRow}
 use Rattle.rows.specs.Table.{putAll, rowsOf}
@@ -21,7 +22,7 @@ use Rattle.play_deck.specs.Deck.{judged, unless, playMeasured, playSource, bloc
 use Rattle.play_deck.specs.Calls.{positionIn}
 use Rattle.host_run.specs.Rows.{answerRow, callRow}
 use Rattle.host_run.specs.Runs.{playerOf, runRows, checkNo, roomNo, runNo, runTable}
-use Rattle.text_trace.specs.Lines.{refusedLine, measuredLine, sourceLine, lineOf}
+use Rattle.text_trace.specs.Lines.{measuredLine, sourceLine, lineOf}
 use Rattle.text_trace.proofs.Lengths.{line-length}
 use Rattle.prog_calls.specs.Answers.{placeIn}
 use Rattle.prog_calls.specs.Trace.{endsRun, runText}

@@ -12,11 +12,10 @@ use Rattle.rows.proofs.Tables.{rows-length}
 use Rattle.play_entries.specs.Places.{Tape}
 use Rattle.host_run.specs.declared.AnswerRow.{AnswerRow}
 use Rattle.host_run.specs.Rows.{answerRow}
-use Rattle.text_out.specs.Out.{Wrote}
+use Rattle.text_out.specs.Out.{Wrote, refusedLine}
 use Rattle.text_out.proofs.Writing.{same-len, wrote-whole, wrote-counted}
 use Rattle.text_out.proofs.Loops.{Goes, goes-on, goes-over}
 use Rattle.play_deck.specs.Deck.{blockAt}
-use Rattle.text_trace.specs.Lines.{refusedLine}
 use Rattle.text_trace.proofs.Lengths.{refused-length, line-length}
 use Rattle.prog_calls.specs.Answers.{placeIn, reachedIn}
 use Rattle.prog_calls.specs.Playback.{countsIn}

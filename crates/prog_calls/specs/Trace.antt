@@ -5,6 +5,7 @@ use mathlib.Core.Bool.{Bool, not, _&&_}
 use mathlib.Core.List.{List, [], _∷_, _++_}
 use lib.Dec.{ltb, eqb}
 use lib.ListN.{length, getD, take, drop}
+use Rattle.text_out.specs.Out.{refusedLine}
 use Rattle.io.specs.Counts.{Counts}
 use Rattle.law_base.specs.Rules.{_⇒_, _∣_}
 use Rattle.refusals.specs.Refusals.{badModel, tapeLong, tapeBad, noPosition}
@@ -22,7 +23,7 @@ use Rattle.load_source.specs.Source.{Load}
 use Rattle.load_tape.specs.declared.Loaded.{Loaded}
 use Rattle.load_tape.specs.declared.Loaded.the-variants as loaded
 use Rattle.load_tape.specs.Load.{loadNamed, answerOf, blockTable, toneTable}
-use Rattle.text_trace.specs.Lines.{refusedLine, lineOf}
+use Rattle.text_trace.specs.Lines.{lineOf}
 use Rattle.prog_model.specs.Models.{modelOf}
 use Rattle.prog_calls.specs.Playback.{numberIn, callsIn, tapeIn, countsIn, isDescription}
 

@@ -19,7 +19,7 @@ use Rattle.rows.proofs.WellLaws.{block-clauses, ranges-inside, tones-lent, tone
 use Rattle.play_entries.specs.declared.Duration.{Duration}
 use Rattle.play_entries.specs.Mounted.{tapeSize}
 use Rattle.text_out.specs.Out.{ascii, digits, decimal, Wrote, told, Fitted}
-use Rattle.text_out.proofs.Writing.{then, each-length, decimal-length, wrote-counted, dry-told}
+use Rattle.text_out.proofs.Writing.{then, each-length, decimal-length, wrote-fitted}
 use Rattle.text_name.specs.Names.{nameOf}
 use Rattle.text_listing.specs.Inner.{ReadyRow}
 use Rattle.text_listing.proofs.Lines.{row-well, row-short}
@@ -27,17 +27,6 @@ use Rattle.text_view.specs.View.{View, tonesFrom, rowView}
 use Rattle.text_view.specs.Dump.{hex, hexAll, toneText, tonesText, headText, viewLine}
 use Rattle.text_view.proofs.Parts.{hex-length, head-length}
 use Rattle.prog_tape.specs.Inner.{dataText, pulsesText}
-
--- a text that was written into bytes that have room for it, and how many of these it takes
-module _ {t out out′ : List ℕ} {n : ℕ} where
-  pub wrote-fitted : Wrote out 0 t out′ n → length t ≤ length out → Fitted t out out′ n
-  wrote-fitted w h = dry-told w w (omega (arith, wrote-counted w))
-
-  pub fitted-most : Fitted t out out′ n → n ≤ length out′
-  unfolding told
-  fitted-most f =
-      let e : out′ ≡ t ++ drop (length t) out = f .bytes ∙ rw (f .room) in
-      omega (arith, f .count, ap length e, length-append t (drop (length t) out))
 
 -- a word, a number and a line feed
 pub said-most : (word : List ℕ) (n : ℕ) → length word ≤ 8 → length (word ++ decimal n ++ ascii "\n") ≤ 32

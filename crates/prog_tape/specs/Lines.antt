@@ -4,13 +4,12 @@ use mathlib.Core.Path.{_≡_}
 use mathlib.Core.List.{List, [], _∷_, _++_}
 use lib.ListN.{length, getD}
 use Rattle.refusals.specs.Refusals.{tapeBad}
-use Rattle.text_out.specs.Out.{ascii, decimal, Fitted}
+use Rattle.text_out.specs.Out.{ascii, decimal, Fitted, refusedLine}
 use Rattle.load_source.specs.Source.{Load, tzx, tapped, bothErr, no}
 use Rattle.load_tape.specs.declared.Loaded.{Loaded}
 use Rattle.load_tape.specs.declared.Loaded.the-variants.{Tape, Unread, Refused}
 use Rattle.load_tape.specs.Load.{answerOf, blockTable, toneTable}
 use Rattle.text_listing.specs.Page.{formatText}
-use Rattle.listing.specs.Printed.{printedNo}
 use Rattle.text_view.specs.View.{View, blockList}
 use Rattle.text_view.specs.Dump.{viewLine}
 use Rattle.prog_tape.specs.declared.Opening.{Opening}
@@ -18,8 +17,8 @@ use Rattle.prog_tape.specs.declared.Opening.{Opening}
 -- `TAP n` or `TZX n`, n the number of blocks; or `refused n`
 unfoldable pub firstLine : Loaded → List ℕ
 firstLine (Tape format n tones) = formatText format ++ ascii " " ++ decimal n ++ ascii "\n"
-firstLine (Unread f g) = printedNo tapeBad
-firstLine (Refused k) = printedNo k
+firstLine (Unread f g) = refusedLine tapeBad
+firstLine (Refused k) = refusedLine k
 
 -- how many lines follow it
 unfoldable pub linesAfter : Loaded → ℕ

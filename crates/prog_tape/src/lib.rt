@@ -20,13 +20,12 @@ ghost use Rattle.rows.specs.Table.{get};
 ghost use Rattle.rows.specs.Rows.{block, tone};
 ghost use Rattle.rows.specs.Well.{wellBlock};
 ghost use Rattle.play_entries.specs.Mounted.{tapeSize};
-ghost use Rattle.text_out.specs.Out.{ascii, decimal, Wrote, Fitted};
+ghost use Rattle.text_out.specs.Out.{ascii, decimal, Wrote, Fitted, refusedLine};
 ghost use Rattle.text_name.specs.Names.{nameOf};
 ghost use Rattle.load_blocks.specs.Does.{lentOf};
 ghost use Rattle.load_tape.specs.Load.{loadNamed};
 ghost use Rattle.text_listing.specs.Inner.{ReadyRow};
 ghost use Rattle.text_listing.specs.Page.{formatText};
-ghost use Rattle.listing.specs.Printed.{printedNo};
 ghost use Rattle.text_view.specs.View.{tonesFrom, rowView};
 ghost use Rattle.text_view.specs.Dump.{hexAll, viewLine};
 ghost use Rattle.prog_tape.specs.Lines.{firstLine, linesAfter, Opens};
@@ -62,7 +61,7 @@ fn put_count(out: &mut [u8], format: Format, n: u64) -> usize
 // A refusal, which no line follows.
 fn put_no(out: &mut [u8], k: u32) -> Opening
     requires { ⌜ 32 ≤ length (now out) ⌝ }
-    ensures { λ o. ⌜ Fitted (printedNo k) (now (out .entry)) (now (out .exit)) (o .size) ⌝ }
+    ensures { λ o. ⌜ Fitted (refusedLine k) (now (out .entry)) (now (out .exit)) (o .size) ⌝ }
     ensures { λ o. ⌜ o .more ≡ 0 ⌝ }
 {
     let size = put_said(out, b"refused ", k as u64);

@@ -1,17 +1,16 @@
--- HOW LONG A REPORT CAN BE: no longer than 256 bytes, and its parts accordingly; what the programs ask of lent memory. Assumes nothing.
+-- HOW LONG A REPORT CAN BE: no longer than 256 bytes, and its parts accordingly. Assumes nothing.
 use Prim.Native.Nat.{ℕ, _+_, _≤_}
 use native.Mathlib.Omega.{arith}
-use mathlib.Core.Path.{_≡_, sym, ap, _∙_}
 use mathlib.Core.List.{List, _++_}
-use lib.ListN.{length, length-append, drop, replicate, length-replicate}
-use Rattle.text_out.specs.Out.{ascii, digits, decimal, Wrote, told, Fitted}
-use Rattle.text_out.proofs.Writing.{decimal-length, wrote-counted, dry-told}
+use lib.ListN.{length, length-append}
+use Rattle.text_out.specs.Out.{ascii, digits, decimal, Wrote, Fitted, refusedText, refusedLine}
+use Rattle.text_out.proofs.Writing.{decimal-length, wrote-fitted}
 use Rattle.load_source.specs.declared.Failure.{Failure}
 use Rattle.load_source.specs.declared.Failure.the-variants.{BadSignature, Short, ShortPiece, Length}
 use Rattle.load_tape.specs.declared.Format.the-variants.{Tap, Tzx}
 use Rattle.load_tape.specs.declared.Loaded.{Loaded}
 use Rattle.load_tape.specs.declared.Loaded.the-variants.{Tape, Unread, Refused}
-use Rattle.prog_unread.specs.Report.{pieceText, fieldText, failureText, tzxText, noLine, reportText}
+use Rattle.prog_unread.specs.Report.{pieceText, fieldText, failureText, tzxText, reportText}
 
 piece-length : (k a : ℕ) → length (pieceText k a) ≤ 53
 unfolding pieceText
@@ -47,7 +46,7 @@ module _ {d d1 : List ℕ} {at r : ℕ} where
   tzx-next f w = omega (arith, w .count, tzx-length f, length-append (tzxText f) (ascii "\n"))
 
 report-length : (a : Loaded) → length (reportText a) ≤ 256
-unfolding reportText noLine decimal digits
+unfolding reportText refusedLine refusedText decimal digits
 report-length (Tape Tap b t) = omega arith
 report-length (Tape Tzx b t) = omega arith
 report-length (Unread f g) = simp length-append (omega (arith, tzx-length f, failure-length g))
@@ -56,15 +55,4 @@ report-length (Refused k) = simp length-append (omega (arith, decimal-length k))
 -- a report that was written into bytes that have room for every one
 pub report-fits : {out out′ : List ℕ} {n : ℕ} (a : Loaded) → Wrote out 0 (reportText a) out′ n → 256 ≤ length out
     → Fitted (reportText a) out out′ n
-report-fits a w h = dry-told w w (omega (arith, wrote-counted w, report-length a))
-
--- what handing on the bytes written asks for
-pub report-within : {t out out′ : List ℕ} {n : ℕ} → Fitted t out out′ n → n ≤ length out′
-unfolding told
-report-within {t} {out} {out′} f =
-    let e : out′ ≡ t ++ drop (length t) out = f .bytes ∙ rw (f .room) in
-    omega (arith, f .count, ap length e, length-append t (drop (length t) out))
-
--- an array of zeros, whose length is not to be computed: of a million it is too deep
-pub zeros-counted : (n : ℕ) → n ≡ length (replicate {A = ℕ} n 0)
-zeros-counted n = sym (length-replicate n 0)
+report-fits a w h = wrote-fitted w (omega (arith, report-length a))

@@ -3,7 +3,7 @@ use Prim.Native.Nat.{ℕ, _*_}
 use mathlib.Core.List.{List, _++_}
 use Rattle.refusals.specs.Refusals.{tapeBad}
 use Rattle.rows.specs.Rows.{block, tone, blockMost, toneMost}
-use Rattle.text_out.specs.Out.{ascii, decimal}
+use Rattle.text_out.specs.Out.{ascii, decimal, refusedLine}
 use Rattle.load_source.specs.declared.Failure.{Failure}
 use Rattle.load_source.specs.declared.Failure.the-variants.{BadSignature, Short, ShortPiece, Length}
 use Rattle.load_tape.specs.declared.Format.the-variants.{Tap, Tzx}
@@ -32,17 +32,13 @@ tzxText (Short p w) = ascii "signature " ++ failureText (Short p w)
 tzxText (ShortPiece k a p w) = failureText (ShortPiece k a p w)
 tzxText (Length k a n) = failureText (Length k a n)
 
--- `refused n`
-unfoldable pub noLine : ℕ → List ℕ
-noLine k = ascii "refused " ++ decimal k ++ ascii "\n"
-
 -- THE TEXT of a load's answer: `read` and the format; `refused n`; refusal 3 with a line for each attempt
 unfoldable pub reportText : Loaded → List ℕ
 reportText (Tape Tap b t) = ascii "read TAP\n"
 reportText (Tape Tzx b t) = ascii "read TZX\n"
 reportText (Unread f g) =
-    noLine tapeBad ++ (ascii "tzx " ++ tzxText f ++ ascii "\n") ++ (ascii "tap " ++ failureText g ++ ascii "\n")
-reportText (Refused k) = noLine k
+    refusedLine tapeBad ++ (ascii "tzx " ++ tzxText f ++ ascii "\n") ++ (ascii "tap " ++ failureText g ++ ascii "\n")
+reportText (Refused k) = refusedLine k
 
 -- THE WORDS OF BOTH TABLES where every row has its place
 abbrev pub fullBlocks : ℕ

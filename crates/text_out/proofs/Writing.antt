@@ -56,6 +56,17 @@ dry-short {t = t} out p h =
     let r : fits t out ≡ false = lt-leb (length t) (length out) (omega (arith, wrote-counted p)) in
     (r, rw r)
 
+-- a text that was written into bytes that have room for it, and how many of these it takes
+module _ {t out out′ : List ℕ} {n : ℕ} where
+  pub wrote-fitted : Wrote out 0 t out′ n → length t ≤ length out → Fitted t out out′ n
+  wrote-fitted w h = dry-told w w (omega (arith, wrote-counted w))
+
+  pub fitted-most : Fitted t out out′ n → n ≤ length out′
+  unfolding told
+  fitted-most f =
+      let e : out′ ≡ t ++ drop (length t) out = f .bytes ∙ rw (f .room) in
+      omega (arith, f .count, ap length e, length-append t (drop (length t) out))
+
 -- one more digit is at most one more byte
 one-more : (b : Bool) (f x y : ℕ) (l : List ℕ) → length l ≤ f → length (b ⇒ (x ∷ []) ∣ l ++ (y ∷ [])) ≤ suc f
 one-more true f x y l h = omega arith

@@ -64,3 +64,10 @@ pub record Fitted (t out out′ : List ℕ) (n : ℕ) : Type 0 where
   pub count : n ≡ length t
   pub room : fits t out ≡ true
   pub bytes : out′ ≡ told t out
+
+-- `refused n` (rule 110), and the line of it
+unfoldable pub refusedText : ℕ → List ℕ
+refusedText k = ascii "refused " ++ decimal k
+
+unfoldable pub refusedLine : ℕ → List ℕ
+refusedLine k = refusedText k ++ ascii "\n"

@@ -3,7 +3,7 @@ use Prim.Native.Nat.{ℕ, _≤_}
 use native.Mathlib.Omega.{arith}
 use mathlib.Core.Bool.{Bool, true, false}
 use lib.ListN.{length, length-append}
-use Rattle.text_out.specs.Out.{digits, decimal}
+use Rattle.text_out.specs.Out.{digits, decimal, refusedText, refusedLine}
 use Rattle.text_out.proofs.Writing.{decimal-length}
 use Rattle.play_walk.specs.declared.Stand.{Stand}
 use Rattle.play_walk.specs.declared.Reached.{Reached}
@@ -11,7 +11,7 @@ use Rattle.play_walk.specs.declared.Reached.the-variants.{At, Stopped, Ended, N
 use Rattle.play_deck.specs.declared.Selected.{Selected}
 use Rattle.play_deck.specs.declared.Selected.the-variants.{Block, BadPosition, BadRow}
 use Rattle.text_trace.proofs.PlaceLengths.{place-length}
-use Rattle.text_trace.specs.Lines.{refusedText, refusedLine, selectedText, standLine, passedLine, sourceLine, measuredLine, lineOf}
+use Rattle.text_trace.specs.Lines.{selectedText, standLine, passedLine, sourceLine, measuredLine, lineOf}
 
 pub refused-length : (k : ℕ) → length (refusedText k) ≤ 28
 unfolding refusedText

@@ -3,20 +3,13 @@ use Prim.Native.Nat.{ℕ}
 use mathlib.Core.Bool.{Bool, true, false}
 use mathlib.Core.List.{List, _++_}
 use Rattle.refusals.specs.Refusals.{noPosition, badRow}
-use Rattle.text_out.specs.Out.{ascii, decimal}
+use Rattle.text_out.specs.Out.{ascii, decimal, refusedText, refusedLine}
 use Rattle.play_walk.specs.declared.Stand.{Stand}
 use Rattle.play_walk.specs.declared.Reached.{Reached}
 use Rattle.play_walk.specs.declared.Reached.the-variants.{At, Stopped, Ended, NotValid, NotFormed}
 use Rattle.play_deck.specs.declared.Selected.{Selected}
 use Rattle.play_deck.specs.declared.Selected.the-variants.{Block, BadPosition, BadRow}
 use Rattle.text_trace.specs.Places.{placeText}
-
--- `refused n`
-unfoldable pub refusedText : ℕ → List ℕ
-refusedText k = ascii "refused " ++ decimal k
-
-unfoldable pub refusedLine : ℕ → List ℕ
-refusedLine k = refusedText k ++ ascii "\n"
 
 -- the block's number; `refused n` where it is refused
 unfoldable pub selectedText : Selected → List ℕ

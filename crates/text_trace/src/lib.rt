@@ -11,8 +11,8 @@ use text_out::put;
 use text_out::put_all;
 use text_out::put_decimal;
 ghost use Prim.Native.Nat.{_+_, _^_, _<_};
-ghost use Rattle.text_out.specs.Out.{Wrote};
-ghost use Rattle.text_trace.specs.Lines.{refusedText, refusedLine, selectedText, standLine, passedLine, sourceLine};
+ghost use Rattle.text_out.specs.Out.{Wrote, refusedText, refusedLine};
+ghost use Rattle.text_trace.specs.Lines.{selectedText, standLine, passedLine, sourceLine};
 ghost use Rattle.text_trace.specs.Lines.{measuredLine, lineOf};
 
 // `refused n`

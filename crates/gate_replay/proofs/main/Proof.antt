@@ -3,18 +3,16 @@
 use borrow.Author.Needs.{needs}
 use Prim.Native.Nat.{ℕ, _+_, _*_, _≤_}
 use native.Mathlib.Omega.{arith}
-use mathlib.Core.Path.{_≡_, sym}
+use mathlib.Core.Path.{_≡_}
 use mathlib.Core.List.{List}
-use lib.ListN.{length, replicate, length-replicate}
+use lib.ListN.{length, replicate}
+use Rattle.law_base.proofs.Parts.{zeros-counted}
 use Rattle.gate_replay.proofs.main.Statement.{statement}
 use Rattle.gate_replay.proofs.main.Tie as tie
 
-counted : (n : ℕ) → n ≡ length (replicate {A = ℕ} n 0)
-counted n = sym (length-replicate n 0)
-
 room : (bytes : List ℕ) (t o : ℕ) → 65536 ≡ length bytes → 1200 + 2 * 65536 + 5 * t ≤ o
     → 1200 + 2 * length bytes + 5 * length (replicate {A = ℕ} t 0) ≤ length (replicate {A = ℕ} o 0)
-room bytes t o e h = omega (arith, counted t, counted o)
+room bytes t o e h = omega (arith, zeros-counted t, zeros-counted o)
 
 read-count-requires : tie.Need-read-count-requires
 read-count-requires c κs = search needs
@@ -32,7 +30,7 @@ slice-aggregate-replay-all-3 : tie.Need-slice-aggregate-replay-all-3
 slice-aggregate-replay-all-3 c = search needs
 
 slice-aggregate-replay-all-4 : tie.Need-slice-aggregate-replay-all-4
-slice-aggregate-replay-all-4 c = counted 1450000
+slice-aggregate-replay-all-4 c = zeros-counted 1450000
 
 replay-all-requires : tie.Need-replay-all-requires
 replay-all-requires c κs =

@@ -5,7 +5,7 @@ use mathlib.Core.Path.{_≡_}
 use lib.ListN.{length}
 use borrow.Author.Needs.{needs}
 use Rattle.law_base.proofs.Parts.{take-counted}
-use Rattle.prog_tape.proofs.Room.{fitted-most}
+use Rattle.text_out.proofs.Writing.{fitted-most}
 use Rattle.prog_tape.proofs.Lines.{line-left}
 use Rattle.gate_replay.proofs.print.Statement.{statement}
 use Rattle.gate_replay.proofs.print.Tie as tie

@@ -1,7 +1,7 @@
 -- `load_one` meets its contract: what is said is the front of the bytes lent. Assumes nothing.
 use borrow.Author.Needs.{needs}
 use Rattle.law_base.proofs.Parts.{take-counted}
-use Rattle.prog_unread.proofs.Lengths.{report-within}
+use Rattle.text_out.proofs.Writing.{fitted-most}
 use Rattle.gate_unread.proofs.load_one.Statement.{statement}
 use Rattle.gate_unread.proofs.load_one.Tie as tie
 
@@ -24,11 +24,11 @@ say-unread-requires : tie.Need-say-unread-requires
 say-unread-requires c κs = search needs
 
 slice-reshare-prefix-write-all : tie.Need-slice-reshare-prefix-write-all
-slice-reshare-prefix-write-all c = report-within (c .before .before .before .before .before .before .say-unread .ensures .0)
+slice-reshare-prefix-write-all c = fitted-most (c .before .before .before .before .before .before .say-unread .ensures .0)
 
 slice-aggregate-write-all : tie.Need-slice-aggregate-write-all
 slice-aggregate-write-all c =
-    take-counted _ _ (report-within (c .before .before .before .before .before .before .before .say-unread .ensures .0))
+    take-counted _ _ (fitted-most (c .before .before .before .before .before .before .before .say-unread .ensures .0))
 
 write-all-requires : tie.Need-write-all-requires
 write-all-requires c κs = search needs

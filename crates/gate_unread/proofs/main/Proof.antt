@@ -1,7 +1,7 @@
 -- `main` meets its contract. Lengths of the arrays are by a law, as lists of so many are not to be computed. Assumes nothing.
 use borrow.Author.Needs.{needs}
 use Rattle.prog_unread.specs.Report.{fullBlocks, fullTones}
-use Rattle.prog_unread.proofs.Lengths.{zeros-counted}
+use Rattle.law_base.proofs.Parts.{zeros-counted}
 use Rattle.gate_unread.proofs.main.Statement.{statement}
 use Rattle.gate_unread.proofs.main.Tie as tie
 

@@ -1,10 +1,10 @@
 -- `say_refused` meets its contract: three writes into bytes that have room. Assumes nothing.
 use native.Mathlib.Omega.{arith}
 use borrow.Author.Needs.{needs}
+use Rattle.text_out.specs.Out.{refusedText, refusedLine}
 use Rattle.text_out.proofs.Writing.{then}
 use Rattle.listing.proofs.Saying.{refused-most, says-written}
 use Rattle.text_listing.proofs.Texts.{decimal-long}
-use Rattle.listing.specs.Printed.{printedNo}
 use Rattle.listing.proofs.say_refused.Statement.{statement}
 use Rattle.listing.proofs.say_refused.Tie as tie
 
@@ -28,7 +28,7 @@ same-length : tie.Need-same-length
 same-length c = search needs
 
 returns : tie.Need-returns
-unfolding printedNo
+unfolding refusedLine refusedText
 returns c =
     let put-decimal = c .before .before .before .before .before .before in
     let put-all = put-decimal .before .before .before .before in

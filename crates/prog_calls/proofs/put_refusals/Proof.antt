@@ -1,9 +1,9 @@
 -- `put_refusals` meets its contract. Assumes nothing.
+use Rattle.text_out.specs.Out.{refusedLine}
 use Rattle.text_out.proofs.Writing.{same-len}
 use Prim.Native.Nat.{_-_, _≤_, _<_}
 use native.Mathlib.Omega.{arith}
 use Rattle.text_out.proofs.Loops.{Goes, goes-none, goes-on}
-use Rattle.text_trace.specs.Lines.{refusedLine}
 use Rattle.prog_calls.proofs.Saying.{sameFrom, same-next, same-over, refused-most}
 use borrow.Author.Needs.{needs}
 use Rattle.prog_calls.proofs.put_refusals.Statement.{statement}

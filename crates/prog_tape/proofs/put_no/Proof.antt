@@ -1,7 +1,7 @@
 -- `put_no` meets its contract. Assumes nothing.
 use borrow.Author.Needs.{needs}
 use mathlib.Core.Path.{refl}
-use Rattle.listing.specs.Printed.{printedNo}
+use Rattle.text_out.specs.Out.{refusedText, refusedLine}
 use Rattle.prog_tape.proofs.put_no.Statement.{statement}
 use Rattle.prog_tape.proofs.put_no.Tie as tie
 
@@ -15,7 +15,7 @@ same-length : tie.Need-same-length
 same-length c = search needs
 
 returns : tie.Need-returns
-unfolding printedNo
+unfolding refusedLine refusedText
 returns c = (c .before .before .put-said .ensures, refl)
 
 pub put-no-spec : {M : Type 1} → statement M

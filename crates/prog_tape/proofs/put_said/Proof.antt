@@ -2,7 +2,8 @@
 use borrow.Author.Needs.{needs}
 use native.Mathlib.Omega.{arith}
 use Rattle.text_out.proofs.Writing.{then, decimal-length}
-use Rattle.prog_tape.proofs.Room.{wrote-fitted, said-most}
+use Rattle.text_out.proofs.Writing.{wrote-fitted}
+use Rattle.prog_tape.proofs.Room.{said-most}
 use Rattle.prog_tape.proofs.put_said.Statement.{statement}
 use Rattle.prog_tape.proofs.put_said.Tie as tie
 

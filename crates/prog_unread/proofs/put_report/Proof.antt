@@ -1,8 +1,9 @@
 -- `put_report` meets its contract: each arm is one answer. Assumes nothing.
 use borrow.Author.Needs.{needs}
 use native.Mathlib.Omega.{arith}
+use Rattle.text_out.specs.Out.{refusedText, refusedLine}
 use Rattle.text_out.proofs.Writing.{then}
-use Rattle.prog_unread.specs.Report.{noLine, reportText}
+use Rattle.prog_unread.specs.Report.{reportText}
 use Rattle.prog_unread.proofs.Lengths.{number-next, tzx-next, report-fits}
 use Rattle.prog_unread.proofs.put_report.Statement.{statement}
 use Rattle.prog_unread.proofs.put_report.Tie as tie
@@ -103,7 +104,7 @@ same-length-3 : tie.Need-same-length-3
 same-length-3 c = search needs
 
 returns-3 : tie.Need-returns-3
-unfolding reportText noLine
+unfolding reportText refusedLine refusedText
 returns-3 c =
     let put-tzx = c .before .before .before .before .before .before .before in
     let put = put-tzx .before .before .before .before in
@@ -120,7 +121,7 @@ same-length-4 : tie.Need-same-length-4
 same-length-4 c = search needs
 
 returns-4 : tie.Need-returns-4
-unfolding reportText noLine
+unfolding reportText refusedLine refusedText
 returns-4 c =
     let put-said2 = c .before .before .before .before .before .before in
     let known = put-said2 .before .before .before .before in

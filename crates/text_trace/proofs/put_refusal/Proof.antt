@@ -1,5 +1,5 @@
 -- `put_refusal` meets its contract. Assumes nothing.
-use Rattle.text_trace.specs.Lines.{refusedLine}
+use Rattle.text_out.specs.Out.{refusedLine}
 use Rattle.text_trace.proofs.Lengths.{refused-length}
 use native.Mathlib.Omega.{arith}
 use Rattle.text_out.proofs.Writing.{then}

@@ -1,5 +1,5 @@
 -- `put_refused` meets its contract. Assumes nothing.
-use Rattle.text_trace.specs.Lines.{refusedText}
+use Rattle.text_out.specs.Out.{refusedText}
 use Rattle.text_out.proofs.Writing.{then}
 use borrow.Author.Needs.{needs}
 use Rattle.text_trace.proofs.put_refused.Statement.{statement}

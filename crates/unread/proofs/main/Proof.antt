@@ -3,7 +3,7 @@ use borrow.Author.Needs.{needs}
 use native.Mathlib.Omega.{arith}
 use mathlib.Core.Path.{sym}
 use Rattle.prog_unread.specs.Report.{fullBlocks, fullTones}
-use Rattle.prog_unread.proofs.Lengths.{zeros-counted}
+use Rattle.law_base.proofs.Parts.{zeros-counted}
 use Rattle.unread.proofs.main.Statement.{statement}
 use Rattle.unread.proofs.main.Tie as tie
 

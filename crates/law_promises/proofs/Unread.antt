@@ -11,6 +11,7 @@ use lib.Dec.{leb, ltb, eqb}
 use Rattle.refusals.specs.Refusals.{badModel, tapeLong, tapeBad, tonesFull, blocksFull}
 use Rattle.law_base.specs.Rules.{_⇒_, _∣_}
 use Rattle.law_base.proofs.Numbers.{lt-or-ge}
+use Rattle.cut_fields.specs.Field.{numberAt}
 use Rattle.cut_grammar.specs.declared.Piece.{Piece}
 use Rattle.cut_grammar.specs.declared.Piece.the-variants.{Standard, Turbo, Tone as PureTone, Pulses, Pure, Generalized, Pause, GroupStart}
 use Rattle.cut_grammar.specs.declared.Piece.the-variants.{GroupEnd, LoopStart, LoopEnd, Stop48, Text, Message, Archive, Hardware}
@@ -24,9 +25,12 @@ use Rattle.cut_grammar.specs.declared.TakenTap.{TakenTap}
 use Rattle.cut_grammar.specs.declared.TakenTap.the-variants as tap
 use Rattle.cut_grammar.specs.declared.Heading.{Heading}
 use Rattle.cut_grammar.specs.declared.Heading.the-variants as heading
+use Rattle.cut_grammar.specs.Kinds.{kindOf}
 use Rattle.cut_grammar.specs.Cut.{signature, startsAt, headAt, takenAs, cutAt, tapAt}
-use Rattle.cut_grammar.proofs.Cutting.{cut-there, cut-inside}
-use Rattle.cut_grammar.proofs.First.{cut-first, head-first, tap-first, tap-place}
+use Rattle.cut_grammar.specs.Trace.{trace, tapTrace, AllThere}
+use Rattle.cut_grammar.proofs.Cutting.{cut-there, cut-inside, cut-kind}
+use Rattle.cut_grammar.proofs.Stops.{cut-stop, stop-cut}
+use Rattle.cut_grammar.proofs.First.{cut-first, head-first, tap-first, tap-place, whole-there, unknown-kind, unknown-there, tap-there-all}
 use Rattle.load_general.specs.General as general
 use Rattle.load_state.specs.declared.Halt.{Halt}
 use Rattle.load_state.specs.declared.Halt.the-variants.{Refusal, Length}
@@ -41,8 +45,9 @@ use Rattle.load_blocks.specs.Deeds.{stop48Deed, does as enact}
 use Rattle.load_source.specs.declared.Failure.{Failure}
 use Rattle.load_source.specs.declared.Failure.the-variants as failure
 use Rattle.load_source.specs.Meaning.{deedOf}
-use Rattle.load_source.specs.Source.{See, bad, thing, Verdict, done, failed, refused, act, halted, foldFrom, bitsJudged, tapKind, full, tzxOf, tzxSee}
-use Rattle.load_source.specs.Source.{headed, readTzx, tapOf, tapSee, readTap, Load, tzx, tapped, bothErr, no, orTap, orElse, loadOf}
+use Rattle.load_source.specs.Source.{See, bad, thing, Verdict, done, failed, refused, act, halted, foldFrom, bitsJudged, tapKind, full}
+use Rattle.load_source.specs.Source.{tzxOf, tzxSee, headed, readTzx, tapOf, tapSee, readTap, Load, tzx, tapped, bothErr, no, orTap}
+use Rattle.load_source.specs.Source.{orElse, loadOf}
 use Rattle.load_source.proofs.Rest.{tzx-sees, sees-piece, tap-sees}
 use Rattle.load_tape.specs.declared.Loaded.the-variants.{Unread, Refused}
 use Rattle.load_tape.specs.Load.{namedLoad, loadNamed, answerOf, refusalNo}
@@ -123,7 +128,46 @@ named-from kind at (body.Overflow q) e = absurd (let z : _≡_ {A = ℕ} 0 1 = c
 cut-from : (s : List ℕ) (at : ℕ) {k p next : ℕ} {piece : Piece} → cutAt s at full ≡ taken.Whole k p next piece → p ≡ at
 cut-from s at e = named-from (getD s at 0) at _ (sym (cut-there s at full (cut-inside s at full e)) ∙ e)
 
+-- a 2A at a place, of a length n that is not 0 and that its four bytes say
+abbrev pub LengthAt : List ℕ → ℕ → ℕ → ℕ → Type 0
+LengthAt s kind at n =
+    (kind ≡ 0x2A) × ((n ≡ numberAt s (at + 1) 4) × ((getD s at 0 ≡ 0x2A) × ((at + 5 ≤ length s) × (0 < n))))
+
+met-length : (s : List ℕ) {f : Failure} {place : ℕ} → PieceMet s f place → {kind at n : ℕ} → f ≡ failure.Length kind at n
+    → LengthAt s kind at n
+met-length s (field-short h q x) e = let z : _≡_ {A = ℕ} 0 1 = cc in absurd (omega arith)
+met-length s (length48 {kind = k} {at = a} {n = m} q h) {kind} {at} {n} e =
+    let i : k ≡ kind = cc in
+    let j : a ≡ at = cc in
+    let l : m ≡ n = cc in
+    let x = cut-stop s a full q in
+    rw (← i, ← j, ← l) (x .0, (x .1 .0, (sym (cut-kind s a full q) ∙ x .0, (x .1 .1 .1, h))))
+
+-- A LENGTH IS REPORTED exactly of a 2A that is whole: the number that its four bytes say, where it is not 0
+pub length-met : (s : List ℕ) (kind at n : ℕ) → PieceMet s (failure.Length kind at n) at ↔ LengthAt s kind at n
+length-met s kind at n = (
+  λ m. met-length s m refl,
+  λ x. let h : 0 < numberAt s (at + 1) 4 = omega (arith, x .1 .0, x .1 .1 .1 .1) in
+      rw (x .0, x .1 .0) (length48 (stop-cut s at full (x .1 .1 .0) (x .1 .1 .1 .0)) h),
+)
+
 module _ (lent : Lent) (s : List ℕ) (model : ℕ) where
+  -- WHAT A READING PASSES IS ALL THERE: a whole piece, or an unknown kind
+  pub passed-there : (at next : ℕ) (does : Parsed → Out) → tzxSee lent s model at ≡ thing next does
+      → AllThere (trace (kindOf full (getD s at 0)) s (at + 1))
+  unfolding tzxSee tzxOf
+  passed-there at next does e = of (cutAt s at full) refl e
+    where
+      of : (c : Taken) → cutAt s at full ≡ c → tzxOf lent s model at c ≡ thing next does
+          → AllThere (trace (kindOf full (getD s at 0)) s (at + 1))
+      of taken.End q x = let z : _≡_ {A = ℕ} 0 1 = cc in absurd (omega arith)
+      of (taken.Whole kind from m piece) q x =
+          subst (λ (k : ℕ). AllThere (trace (kindOf full k) s (at + 1))) (cut-kind s at full q) (whole-there s at full q)
+      of (taken.Unknown kind described) q x =
+          subst (λ (k : ℕ). AllThere (trace (kindOf full k) s (at + 1))) (unknown-kind s at full q .1) (unknown-there s at full q)
+      of (taken.Short kind p w) q x = let z : _≡_ {A = ℕ} 0 1 = cc in absurd (omega arith)
+      of (taken.Overflow kind p) q x = let z : _≡_ {A = ℕ} 0 1 = cc in absurd (omega arith)
+
   does-errs : (origin : Origin) (d : Deed) (t : Parsed) {kind at n : ℕ} → enact lent model origin d t ≡ halt (Length kind at n)
       → ErredBy origin d kind at n
   unfolding enact pend endGroup openLoop closeLoop
@@ -268,6 +312,17 @@ module _ (lent : Lent) (s : List ℕ) where
           let b = tap-place s at q in
           subst (λ (g : Failure). BlockMet s g at) z (data-short (y .0) (b .0) (b .1) (y .1))
 
+  -- WHAT A READING PASSES IS ALL THERE: a block of a TAP
+  pub tap-passed-there : (at next : ℕ) (does : Parsed → Out) → tapSee lent s at ≡ thing next does → AllThere (tapTrace s at)
+  unfolding tapSee tapOf
+  tap-passed-there at next does e = of (tapAt s at) refl e
+    where
+      of : (c : TakenTap) → tapAt s at ≡ c → tapOf lent s at c ≡ thing next does → AllThere (tapTrace s at)
+      of tap.End q x = let z : _≡_ {A = ℕ} 0 1 = cc in absurd (omega arith)
+      of tap.Lone q x = let z : _≡_ {A = ℕ} 0 1 = cc in absurd (omega arith)
+      of (tap.Block from size m) q x = tap-there-all s at q
+      of (tap.Short p w) q x = let z : _≡_ {A = ℕ} 0 1 = cc in absurd (omega arith)
+
   -- a block of a TAP does not err by what it adds
   tap-thing : (at next : ℕ) (does : Parsed → Out) (t : Parsed) {kind from n : ℕ} → tapSee lent s at ≡ thing next does
       → does t ≡ halt (Length kind from n) → ⊥
@@ -360,6 +415,22 @@ module _ (lent : Lent) (s : List ℕ) (model : ℕ) where
       let y = tzx-met lent s model f in
       let z = tap-met lent s g in
       (λ e. let h = x .0 e in (h .0, (y .0 (h .1 .0), z .0 (h .1 .1))), λ h. x .1 (h .0, (y .1 (h .1 .0), z .1 (h .1 .1))))
+
+  -- a length that is reported is a 2A's
+  comes-length : {see : ℕ → See} {f : Failure} {p : ℕ} {t : Parsed} → Comes see (λ at t. PieceMet s f at) p t → {kind at n : ℕ}
+      → f ≡ failure.Length kind at n → LengthAt s kind at n
+  comes-length (here m) e = met-length s m e
+  comes-length (past q d c) e = comes-length c e
+
+  tzx-length : {f : Failure} → TzxMet lent s model f → {kind at n : ℕ} → f ≡ failure.Length kind at n → LengthAt s kind at n
+  tzx-length (head-short x) e = let z : _≡_ {A = ℕ} 0 1 = cc in absurd (omega arith)
+  tzx-length (head-other h q) e = let z : _≡_ {A = ℕ} 0 1 = cc in absurd (omega arith)
+  tzx-length (at-piece x) e = comes-length (x .1) e
+
+  -- A REPORT OF A LENGTH IS OF A 2A, and says its length
+  pub length-told : {kind at n : ℕ} {g : Failure} → answerOf (loadNamed lent s model) ≡ Unread (failure.Length kind at n) g
+      → LengthAt s kind at n
+  length-told {kind} {at} {n} {g} e = tzx-length (unread-met (failure.Length kind at n) g .0 e .1 .0) refl
 
   -- 3 is never given without it
   pub three-unread : answerOf (loadNamed lent s model) ≡ Refused tapeBad → ⊥

@@ -5,7 +5,7 @@ use borrow.Author.Tests.{le-leb, lt-leb, le-ltb, leb-true, leb-false, ltb-false,
 use mathlib.Core.Path.{_≡_, refl, sym, ap, subst, _∙_}
 use mathlib.Core.Bool.{Bool, true, false, _&&_, not}
 use mathlib.Core.Logic.{_↔_, Iff·trans, ⊎-elim}
-use mathlib.Core.List.{List, [], _∷_}
+use mathlib.Core.List.{List, [], _∷_, _++_}
 use lib.ListN.{length, getD}
 use lib.Dec.{leb, ltb, eqb}
 use Rattle.refusals.specs.Refusals.{badModel, tapeLong, tapeBad, tonesFull, blocksFull}
@@ -27,7 +27,8 @@ use Rattle.cut_grammar.specs.declared.Heading.{Heading}
 use Rattle.cut_grammar.specs.declared.Heading.the-variants as heading
 use Rattle.cut_grammar.specs.Kinds.{kindOf}
 use Rattle.cut_grammar.specs.Cut.{signature, startsAt, headAt, takenAs, cutAt, tapAt}
-use Rattle.cut_grammar.specs.Trace.{trace, tapTrace, AllThere}
+use Rattle.cut_grammar.specs.Trace.{Field, fieldIn, trace, headTrace, tapTrace, FirstShort, this, later, AllThere}
+use Rattle.cut_grammar.specs.Trace.{nil as no-field, cons}
 use Rattle.cut_grammar.proofs.Cutting.{cut-there, cut-inside, cut-kind}
 use Rattle.cut_grammar.proofs.Stops.{cut-stop, stop-cut}
 use Rattle.cut_grammar.proofs.First.{cut-first, head-first, tap-first, tap-place, whole-there, unknown-kind, unknown-there, tap-there-all}
@@ -52,9 +53,9 @@ use Rattle.load_source.proofs.Rest.{tzx-sees, sees-piece, tap-sees}
 use Rattle.load_tape.specs.declared.Loaded.the-variants.{Unread, Refused}
 use Rattle.load_tape.specs.Load.{namedLoad, loadNamed, answerOf, refusalNo}
 use Rattle.law_every_load.proofs.Refusals.{HaltsBy, goes, says, fails, either, sound-says, sounds-say, closed-says}
-use Rattle.law_promises.specs.Numbers.{Admitted, loadNo, Errs, Headed, Comes, here, past, Due, ends, errs, stands, answers}
+use Rattle.law_promises.specs.Numbers.{Admitted, loadNo, Errs, Headed, ByTzx, Comes, here, past, Due, ends, errs, stands, answers}
 use Rattle.law_promises.specs.Unread.{PieceMet, field-short, length48, TzxMet, head-short, head-other, at-piece, BlockMet, TapMet}
-use Rattle.law_promises.specs.Unread.{data-short}
+use Rattle.law_promises.specs.Unread.{data-short, ShortAt}
 use Rattle.law_promises.proofs.Runs.{comes-map, run-due}
 use Rattle.law_promises.proofs.Loads.{answers-no, tzx-headed}
 use Rattle.law_promises.proofs.Dues.{Thing, whole, skip, tzx-thing, tzx-bounded, tap-bounded}
@@ -128,6 +129,53 @@ named-from kind at (body.Overflow q) e = absurd (let z : _≡_ {A = ℕ} 0 1 = c
 cut-from : (s : List ℕ) (at : ℕ) {k p next : ℕ} {piece : Piece} → cutAt s at full ≡ taken.Whole k p next piece → p ≡ at
 cut-from s at e = named-from (getD s at 0) at _ (sym (cut-there s at full (cut-inside s at full e)) ∙ e)
 
+-- behind fields that are all there, the first short field of the others is the first of all
+behind : {xs ys : List Field} {f : Field} → AllThere xs → FirstShort ys f → FirstShort (xs ++ ys) f
+behind no-field m = m
+behind (cons h rest) m = later h (behind rest m)
+
+-- THE FIELDS OF AN ATTEMPT in reading order: of each thing that it passes, then of what stands where it comes to
+unfoldable pub attemptTrace : (ℕ → List Field) → {see : ℕ → See} {P : ℕ → Parsed → Type 0} {at : ℕ} {t : Parsed} → Comes see P at t
+    → List Field
+attemptTrace fields (here {at = at} m) = fields at
+attemptTrace fields (past {at = at} e d c) = fields at ++ attemptTrace fields c
+
+-- where all that is passed is there, the first short field of the place that it comes to is the first of the attempt
+attempt-first : (fields : ℕ → List Field) {see : ℕ → See} {P : ℕ → Parsed → Type 0} {p w : ℕ}
+    → ((at next : ℕ) (does : Parsed → Out) → see at ≡ thing next does → AllThere (fields at))
+    → ((at : ℕ) (t : Parsed) → P at t → ShortAt (fields at) p w)
+    → {at : ℕ} {t : Parsed} (c : Comes see P at t) → ShortAt (attemptTrace fields c) p w
+unfolding attemptTrace
+attempt-first fields there short (here {at = at} {t = t} m) = short at t m
+attempt-first fields there short (past {at = at} {next = next} {does = does} e d c) =
+    let x = attempt-first fields there short c in (x .0, behind (there at next does e) (x .1))
+
+-- the head of a TZX that has a version is there
+headed-there : (s : List ℕ) → Headed s → AllThere (headTrace s)
+unfolding headTrace
+headed-there s h =
+    ⊎-elim
+    (λ (t : length s < 10). absurd (not-short (sym (head-first s 0 10 .1 (this t)) ∙ h .2)))
+    (λ (t : 10 ≤ length s). cons t no-field)
+    (lt-or-ge (length s) 10)
+  where
+    not-short : {p w major minor : ℕ} → heading.Short p w ≡ heading.Version major minor → ⊥
+    not-short q = let z : _≡_ {A = ℕ} 0 1 = cc in omega arith
+
+-- a piece: its kind byte, and the fields of its kind
+abbrev pub pieceTrace : List ℕ → ℕ → List Field
+pieceTrace s at = fieldIn s at 1 ∷ trace (kindOf full (getD s at 0)) s (at + 1)
+
+piece-short : (s : List ℕ) {f : Failure} {at : ℕ} → PieceMet s f at → {kind from p w : ℕ} → f ≡ failure.ShortPiece kind from p w
+    → ShortAt (pieceTrace s at) p w
+piece-short s (field-short {kind = k} {at = at} {p = q} {w = v} h i x) {p = p} {w} e =
+    let a : q ≡ p = cc in
+    let b : v ≡ w = cc in
+    let l : at + 1 ≤ length s = omega arith in
+    let y = subst (λ (j : ℕ). ShortAt (trace (kindOf full j) s (at + 1)) q v) i x in
+    rw (← a, ← b) (y .0, later l (y .1))
+piece-short s (length48 q h) e = let z : _≡_ {A = ℕ} 0 1 = cc in absurd (omega arith)
+
 -- a 2A at a place, of a length n that is not 0 and that its four bytes say
 abbrev pub LengthAt : List ℕ → ℕ → ℕ → ℕ → Type 0
 LengthAt s kind at n =
@@ -152,21 +200,38 @@ length-met s kind at n = (
 )
 
 module _ (lent : Lent) (s : List ℕ) (model : ℕ) where
-  -- WHAT A READING PASSES IS ALL THERE: a whole piece, or an unknown kind
-  pub passed-there : (at next : ℕ) (does : Parsed → Out) → tzxSee lent s model at ≡ thing next does
-      → AllThere (trace (kindOf full (getD s at 0)) s (at + 1))
+  -- WHAT A READING PASSES IS ALL THERE, its kind byte too: a whole piece, or an unknown kind
+  pub passed-piece : (at next : ℕ) (does : Parsed → Out) → tzxSee lent s model at ≡ thing next does → AllThere (pieceTrace s at)
   unfolding tzxSee tzxOf
-  passed-there at next does e = of (cutAt s at full) refl e
+  passed-piece at next does e = of (cutAt s at full) refl e
     where
       of : (c : Taken) → cutAt s at full ≡ c → tzxOf lent s model at c ≡ thing next does
-          → AllThere (trace (kindOf full (getD s at 0)) s (at + 1))
+          → AllThere (pieceTrace s at)
       of taken.End q x = let z : _≡_ {A = ℕ} 0 1 = cc in absurd (omega arith)
       of (taken.Whole kind from m piece) q x =
-          subst (λ (k : ℕ). AllThere (trace (kindOf full k) s (at + 1))) (cut-kind s at full q) (whole-there s at full q)
+          let h : at + 1 ≤ length s = omega (arith, cut-inside s at full q) in
+          cons h (subst (λ (k : ℕ). AllThere (trace (kindOf full k) s (at + 1))) (cut-kind s at full q) (whole-there s at full q))
       of (taken.Unknown kind described) q x =
-          subst (λ (k : ℕ). AllThere (trace (kindOf full k) s (at + 1))) (unknown-kind s at full q .1) (unknown-there s at full q)
+          let i = unknown-kind s at full q in
+          let h : at + 1 ≤ length s = omega (arith, i .0) in
+          cons h (subst (λ (k : ℕ). AllThere (trace (kindOf full k) s (at + 1))) (i .1) (unknown-there s at full q))
       of (taken.Short kind p w) q x = let z : _≡_ {A = ℕ} 0 1 = cc in absurd (omega arith)
       of (taken.Overflow kind p) q x = let z : _≡_ {A = ℕ} 0 1 = cc in absurd (omega arith)
+
+  -- and so are the fields of its kind
+  pub passed-there : (at next : ℕ) (does : Parsed → Out) → tzxSee lent s model at ≡ thing next does
+      → AllThere (trace (kindOf full (getD s at 0)) s (at + 1))
+  passed-there at next does e = of (passed-piece at next does e)
+    where
+      of : {f : Field} {fs : List Field} → AllThere (f ∷ fs) → AllThere fs
+      of (cons h m) = m
+
+  -- THE FIELD THAT A TZX ATTEMPT TELLS IS THE FIRST OF THE WHOLE ATTEMPT that is not all there: behind the head, in reading order
+  pub told-first : {kind at p w : ℕ} (h : ByTzx lent s model (λ from t. PieceMet s (failure.ShortPiece kind at p w) from))
+      → ShortAt (headTrace s ++ attemptTrace (pieceTrace s) (h .1)) p w
+  told-first h =
+      let x = attempt-first (pieceTrace s) passed-piece (λ from t m. piece-short s m refl) (h .1) in
+      (x .0, behind (headed-there s (h .0)) (x .1))
 
   does-errs : (origin : Origin) (d : Deed) (t : Parsed) {kind at n : ℕ} → enact lent model origin d t ≡ halt (Length kind at n)
       → ErredBy origin d kind at n
@@ -322,6 +387,14 @@ module _ (lent : Lent) (s : List ℕ) where
       of tap.Lone q x = let z : _≡_ {A = ℕ} 0 1 = cc in absurd (omega arith)
       of (tap.Block from size m) q x = tap-there-all s at q
       of (tap.Short p w) q x = let z : _≡_ {A = ℕ} 0 1 = cc in absurd (omega arith)
+
+  block-short : {f : Failure} {at : ℕ} → BlockMet s f at → {p w : ℕ} → f ≡ failure.Short p w → ShortAt (tapTrace s at) p w
+  block-short (data-short {p = q} {w = v} h a b x) {p} {w} e =
+      let i : q ≡ p = cc in let j : v ≡ w = cc in rw (← i, ← j) (length s, x)
+
+  -- THE FIELD THAT A TAP ATTEMPT TELLS IS THE FIRST OF THE WHOLE ATTEMPT that is not all there
+  pub tap-told-first : {p w : ℕ} (c : TapMet lent s (failure.Short p w)) → ShortAt (attemptTrace (tapTrace s) c) p w
+  tap-told-first c = attempt-first (tapTrace s) tap-passed-there (λ at t m. block-short m refl) c
 
   -- a block of a TAP does not err by what it adds
   tap-thing : (at next : ℕ) (does : Parsed → Out) (t : Parsed) {kind from n : ℕ} → tapSee lent s at ≡ thing next does

@@ -12,6 +12,7 @@ use Rattle.law_base.proofs.Numbers.{lt-or-ge}
 use Rattle.cut_fields.specs.declared.Cursor.the-variants.{At}
 use Rattle.cut_grammar.specs.declared.Piece.{Piece}
 use Rattle.cut_grammar.specs.declared.Body.{Body}
+use Rattle.cut_grammar.specs.declared.Body.the-variants as body
 use Rattle.cut_grammar.specs.declared.Taken.the-variants as taken
 use Rattle.cut_grammar.specs.Grammar.{readAt}
 use Rattle.cut_grammar.specs.Kinds.{kindOf}
@@ -27,6 +28,14 @@ named-ends {a} {b} kind at {next = next} (ends {p = q} h t) e = let i : q ≡ ne
 named-ends kind at none e = absurd (let z : _≡_ {A = ℕ} 0 1 = cc in omega arith)
 named-ends kind at short e = absurd (let z : _≡_ {A = ℕ} 0 1 = cc in omega arith)
 named-ends kind at wide e = absurd (let z : _≡_ {A = ℕ} 0 1 = cc in omega arith)
+
+-- a piece is named by its kind
+named-kind : (kind at : ℕ) (x : Body) {k p next : ℕ} {piece : Piece} → takenAs kind at x ≡ taken.Whole k p next piece → k ≡ kind
+unfolding takenAs
+named-kind kind at (body.Whole y q) e = cc
+named-kind kind at (body.Unknown described) e = absurd (let z : _≡_ {A = ℕ} 0 1 = cc in omega arith)
+named-kind kind at (body.Short q w) e = absurd (let z : _≡_ {A = ℕ} 0 1 = cc in omega arith)
+named-kind kind at (body.Overflow q) e = absurd (let z : _≡_ {A = ℕ} 0 1 = cc in omega arith)
 
 -- a place inside the tape has a kind byte
 pub cut-there : (s : List ℕ) (at full : ℕ) → at < length s
@@ -46,6 +55,10 @@ module _ (s : List ℕ) (at full : ℕ) {k a next : ℕ} {piece : Piece} (e : cu
   cut-inside =
       ⊎-elim (λ (h : at < length s). h) (λ (h : length s ≤ at). absurd (never (sym (cut-end s at full h) ∙ e)))
       (lt-or-ge at (length s))
+
+  -- its kind is its first byte
+  pub cut-kind : k ≡ getD s at 0
+  cut-kind = named-kind (getD s at 0) at _ (sym (cut-there s at full cut-inside) ∙ e)
 
   -- forward, and inside the tape
   pub cut-forward : (at < next) × (next ≤ length s)

@@ -15,7 +15,7 @@ use Rattle.cut_grammar.specs.declared.Taken.the-variants as taken
 use Rattle.cut_grammar.specs.declared.TakenTap.the-variants as tap
 use Rattle.cut_grammar.specs.declared.Heading.the-variants as head
 use Rattle.cut_grammar.specs.Grammar.{passAt, countedAt, textsAt, wholeAt, sealed, enclosed, fittingAt, readAt, binaryDigits}
-use Rattle.cut_grammar.specs.Grammar.{unknownAt, orFull, heldIf}
+use Rattle.cut_grammar.specs.Grammar.{orFull, heldIf}
 use Rattle.cut_grammar.specs.Kinds.{kind10, kind11, kind12, kind13, kind14, stream19, kind19, kind20, kind21, kind22, kind24}
 use Rattle.cut_grammar.specs.Kinds.{kind25, kind2A, kind30, kind31, info32, kind32, kind33, kind35, kind5A, kinds, kindOf}
 use Rattle.cut_grammar.specs.Cut.{signature, startsAt, headAt, takenAs, cutAt, tapBlock, tapAt}

@@ -2,16 +2,15 @@
 -- head of a TZX and of a block of a TAP. Such a field begins at or before the end of the bytes that it is read from. Assumes nothing.
 use Prim.Native.Nat.{ℕ, zero, suc, _+_, _≤_, _<_}
 use mathlib.Core.Path.{_≡_, refl, sym, _∙_}
-use mathlib.Core.Bool.{Bool, true, false, cond, _||_}
+use mathlib.Core.Bool.{Bool, true, false}
 use mathlib.Core.List.{List, [], _∷_}
 use mathlib.Core.Logic.{_↔_, _⊎_, inl, inr, ⊎-elim}
 use native.Mathlib.Omega.{arith}
 use native.Mathlib.Nat.{le-refl}
 use lib.ListN.{length, getD, take, length-take}
-use lib.Dec.{leb, eqb}
-use borrow.Author.Tests.{le-leb, lt-leb, eqb-true}
+use lib.Dec.{leb}
+use borrow.Author.Tests.{le-leb, lt-leb}
 use Rattle.law_base.specs.Rules.{_⇒_, _∣_}
-use Rattle.law_base.specs.Arms.{Arm, _▸_, lookup, between}
 use Rattle.law_base.proofs.Numbers.{lt-or-ge}
 use Rattle.cut_fields.specs.declared.Cursor.{Cursor}
 use Rattle.cut_fields.specs.declared.Cursor.the-variants.{At}
@@ -32,9 +31,10 @@ use Rattle.cut_grammar.specs.Kinds.{kind10, kind11, kind12, kind13, kind
 use Rattle.cut_grammar.specs.Kinds.{kind2A, kind30, kind31, info32, kind32, kind33, kind35, kind5A, unread, kinds, kindOf}
 use Rattle.cut_grammar.specs.Cut.{signature, startsAt, headAt, takenAs, cutAt, tapBlock, tapAt}
 use Rattle.cut_grammar.specs.Trace.{Field, fieldIn, eachTrace, groupsTrace, countedTrace, textsTrace, passTrace, trace, headTrace}
-use Rattle.cut_grammar.specs.Trace.{tapTrace, IsThere, NotAllThere, FirstShort, this, later}
-use Rattle.cut_grammar.proofs.Cutting.{cut-there, cut-end}
-use Rattle.cut_grammar.proofs.CuttingTap.{tap-there, tap-lone, tap-end}
+use Rattle.cut_grammar.specs.Trace.{tapTrace, IsThere, NotAllThere, FirstShort, this, later, AllThere, nil, cons}
+use Rattle.cut_grammar.proofs.Cutting.{cut-there, cut-end, cut-inside, cut-kind}
+use Rattle.cut_grammar.proofs.Others.{EveryRow, no-more, _&_, found-row}
+use Rattle.cut_grammar.proofs.CuttingTap.{tap-there, tap-lone, tap-end, tap-forward}
 
 -- an answer that meets fields read from the first l bytes at the most: short at the first that is not there, else not short
 data Meets (l : ℕ) : Body → List Field → Type 0 where
@@ -243,6 +243,64 @@ cut-first s at full k p w = (there, back)
         let r = short-first (kindOf full k) s (at + 1) (omega arith) p w .1 (x .1 .1) in
         cut-there s at full h ∙ rw (← x .1 .0, r)
 
+-- an answer that is not short has met fields that are all there
+meets-there : {l : ℕ} {b : Body} {fs : List Field} → Meets l b fs → ((p w : ℕ) → b ≡ Short p w → ⊥) → AllThere fs
+meets-there (short {p} {w = w} t h i) n = absurd (n p w refl)
+meets-there (past t m) n = cons t (meets-there m n)
+meets-there ended n = nil
+meets-there none n = nil
+meets-there wide n = nil
+
+-- of fields that are all there none is short
+pub there-none : {fs : List Field} {f : Field} → AllThere fs → FirstShort fs f → ⊥
+there-none (cons h m) (this t) = omega arith
+there-none (cons h m) (later t n) = there-none m n
+
+-- A PIECE THAT IS NOT SHORT HAS ALL ITS FIELDS
+pub piece-there : (s : List ℕ) (at full : ℕ) → at < length s → ((k p w : ℕ) → cutAt s at full ≡ taken.Short k p w → ⊥)
+    → AllThere (trace (kindOf full (getD s at 0)) s (at + 1))
+unfolding takenAs
+piece-there s at full h n =
+    meets-there (traced (kindOf full (getD s at 0)) s .meets (at + 1) (omega arith))
+    (λ p w e. n (getD s at 0) p w (cut-there s at full h ∙ rw e))
+
+-- A WHOLE PIECE HAS ALL ITS FIELDS
+pub whole-there : (s : List ℕ) (at full : ℕ) {k a next : ℕ} {piece : Piece} → cutAt s at full ≡ taken.Whole k a next piece
+    → AllThere (trace (kindOf full k) s (at + 1))
+whole-there s at full {k} {a} {next} {piece} e =
+    rw (cut-kind s at full e) (piece-there s at full (cut-inside s at full e) (λ j p w q. not-short (sym e ∙ q)))
+  where
+    not-short : {j p w : ℕ} → taken.Whole k a next piece ≡ taken.Short j p w → ⊥
+    not-short q = let z : _≡_ {A = ℕ} 0 1 = cc in omega arith
+
+-- a body under its name
+named-unknown : (kind at : ℕ) (b : Body) {k : ℕ} {described : Bool} → takenAs kind at b ≡ taken.Unknown k described → k ≡ kind
+unfolding takenAs
+named-unknown kind at (Unknown d) e = cc
+named-unknown kind at (Whole y q) e = absurd (let z : _≡_ {A = ℕ} 0 1 = cc in omega arith)
+named-unknown kind at (Short q v) e = absurd (let z : _≡_ {A = ℕ} 0 1 = cc in omega arith)
+named-unknown kind at (Overflow q) e = absurd (let z : _≡_ {A = ℕ} 0 1 = cc in omega arith)
+
+module _ (s : List ℕ) (at full : ℕ) {k : ℕ} {described : Bool} (e : cutAt s at full ≡ taken.Unknown k described) where
+  no-end : taken.End ≡ taken.Unknown k described → ⊥
+  no-end q = let z : _≡_ {A = ℕ} 0 1 = cc in omega arith
+
+  not-short : {j p w : ℕ} → taken.Unknown k described ≡ taken.Short j p w → ⊥
+  not-short q = let z : _≡_ {A = ℕ} 0 1 = cc in omega arith
+
+  -- an unknown kind is the byte at its place
+  pub unknown-kind : (at < length s) × (k ≡ getD s at 0)
+  unknown-kind =
+      ⊎-elim
+      (λ (h : at < length s). (h, named-unknown (getD s at 0) at _ (sym (cut-there s at full h) ∙ e)))
+      (λ (h : length s ≤ at). absurd (no-end (sym (cut-end s at full h) ∙ e)))
+      (lt-or-ge at (length s))
+
+  -- AN UNKNOWN KIND HAS ALL ITS FIELDS
+  pub unknown-there : AllThere (trace (kindOf full k) s (at + 1))
+  unknown-there =
+      let i = unknown-kind in rw (i .1) (piece-there s at full (i .0) (λ j p w q. not-short (sym e ∙ q)))
+
 -- a layout without a body of its own length, whatever it reads
 abbrev Open : Layout → Type 0
 Open (number w rest) = (v : ℕ) → Open (rest v)
@@ -305,62 +363,45 @@ first-end (so m) (this t) = refl
 first-end (so m) (later t n) = first-end m n
 
 -- of all rows of the grammar's table, 32's alone has a body of its own length
-data Row : Arm Layout → Type 0 where
-  free : (kind : ℕ) (l : Layout) → Open l → Row (kind ▸ l)
-  bodied : (l : Layout) → Row (0x32 ▸ l)
+data Row : ℕ → Layout → Type 0 where
+  free : {kind : ℕ} (l : Layout) → Open l → Row kind l
+  bodied : Row 0x32 kind32
 
-infixr 20 _&_
-data Rows : List (Arm Layout) → Type 0 where
-  no-more : Rows []
-  _&_ : {a : Arm Layout} {more : List (Arm Layout)} → Row a → Rows more → Rows (a ∷ more)
+row-open : {kind : ℕ} {l : Layout} → Row kind l → (kind ≡ 0x32 → ⊥) → Open l
+row-open (free l o) n = o
+row-open bodied n = absurd (n refl)
 
-found : (arms : List (Arm Layout)) (x : ℕ) (d : Layout) → (x ≡ 0x32 → ⊥) → Rows arms → Open d → Open (lookup arms x d)
-found [] x d n no-more k = k
-found (a ∷ more) x d n (h & rest) k = by-row h (found more x d n rest k)
-  where
-    by-key : (t : Bool) (l : Layout) → Open l → Open (lookup more x d) → Open (cond t l (lookup more x d))
-    by-key true l h r = h
-    by-key false l h r = r
-
-    not-32 : (t : Bool) (l : Layout) → eqb x 0x32 ≡ t → Open (lookup more x d) → Open (cond t l (lookup more x d))
-    not-32 true l e r = absurd (n (eqb-true x 0x32 e))
-    not-32 false l e r = r
-
-    by-row : {b : Arm Layout} → Row b → Open (lookup more x d) → Open (cond (eqb x (b .key)) (b .val) (lookup more x d))
-    by-row (free kind l h) r = by-key (eqb x kind) l h r
-    by-row (bodied l) r = not-32 (eqb x 0x32) l refl r
-
-each-row : (full : ℕ) → Rows (kinds full)
+each-row : (full : ℕ) → EveryRow Row (kinds full)
 unfolding kinds kind10 kind11 kind12 kind13 kind14 stream19 kind19 kind20 kind21 kind22 kind24 kind25
     kind2A kind30 kind31 kind33 kind35 kind5A
 each-row full =
-    free 0x10 kind10 (λ _ _ _. tt) &
-    free 0x11 kind11 (λ _ _ _ _ _ _ _ _ _ _. tt) &
-    free 0x12 kind12 (λ _ _. tt) &
-    free 0x13 kind13 (λ _ _. tt) &
-    free 0x14 kind14 (λ _ _ _ _ _ _. tt) &
-    free 0x19 (kind19 full) (λ _ _ _ _ _ _ _ _ _ _ _ _. tt) &
-    free 0x20 kind20 (λ _. tt) &
-    free 0x21 kind21 (λ _ _. tt) &
-    free 0x22 kind22 tt &
-    free 0x23 unread tt &
-    free 0x24 kind24 (λ _. tt) &
-    free 0x25 kind25 tt &
-    free 0x2A kind2A (λ _. tt) &
-    free 0x2B unread tt &
-    free 0x30 kind30 (λ _ _. tt) &
-    free 0x31 kind31 (λ _ _ _. tt) &
-    bodied kind32 &
-    free 0x33 kind33 (λ _. tt) &
-    free 0x34 unread tt &
-    free 0x35 kind35 (λ _ _. tt) &
-    free 0x40 unread tt &
-    free 0x5A kind5A tt &
+    free kind10 (λ _ _ _. tt) &
+    free kind11 (λ _ _ _ _ _ _ _ _ _ _. tt) &
+    free kind12 (λ _ _. tt) &
+    free kind13 (λ _ _. tt) &
+    free kind14 (λ _ _ _ _ _ _. tt) &
+    free (kind19 full) (λ _ _ _ _ _ _ _ _ _ _ _ _. tt) &
+    free kind20 (λ _. tt) &
+    free kind21 (λ _ _. tt) &
+    free kind22 tt &
+    free unread tt &
+    free kind24 (λ _. tt) &
+    free kind25 tt &
+    free kind2A (λ _. tt) &
+    free unread tt &
+    free kind30 (λ _ _. tt) &
+    free kind31 (λ _ _ _. tt) &
+    bodied &
+    free kind33 (λ _. tt) &
+    free unread tt &
+    free kind35 (λ _ _. tt) &
+    free unread tt &
+    free kind5A tt &
     no-more
 
 other-open : (full kind : ℕ) → (kind ≡ 0x32 → ⊥) → Open (kindOf full kind)
 unfolding kindOf
-other-open full kind n = found (kinds full) kind (unknown (between 0x15 0x18 kind || between 0x26 0x28 kind)) n (each-row full) tt
+other-open full kind = row-open (found-row Row (kinds full) kind (unknown _) (each-row full) (free (unknown _) tt))
 
 -- in a 32: the length and the body itself are read from the tape, what stands in the body from the body
 end-32 : (s : List ℕ) (q : ℕ) {f : Field} → FirstShort (trace kind32 s q) f
@@ -492,3 +533,18 @@ pub tap-inside : (s : List ℕ) (at : ℕ) {p w : ℕ} → tapAt s at ≡ tap.Sh
 tap-inside s at r =
     let x = tap-short s at r in
     (rw (x .place) (omega (arith, x .two)), rw (x .place, x .width) (x .over))
+
+-- A BLOCK OF A TAP HAS ALL ITS FIELDS
+pub tap-there-all : (s : List ℕ) (at : ℕ) {from size next : ℕ} → tapAt s at ≡ tap.Block from size next
+    → AllThere (tapTrace s at)
+unfolding tapTrace countedTrace
+tap-there-all s at {from} {size} {next} e =
+    let m = tap-forward s at e in
+    let h : at + 2 ≤ length s = omega (arith, m .0, m .1) in
+    ⊎-elim
+    (λ (t : length s < at + 2 + numberAt s at 2). absurd (not-short (sym (tap-data s at (omega arith) t) ∙ e)))
+    (λ (t : at + 2 + numberAt s at 2 ≤ length s). cons h (cons t nil))
+    (lt-or-ge (length s) (at + 2 + numberAt s at 2))
+  where
+    not-short : {p w : ℕ} → tap.Short p w ≡ tap.Block from size next → ⊥
+    not-short q = let z : _≡_ {A = ℕ} 0 1 = cc in omega arith

@@ -4,6 +4,7 @@ pub mod Others
 pub mod Sorts
 pub mod Places
 pub mod PulsePlaces
+pub mod Stops
 pub mod CuttingTap
 pub mod Turns
 pub mod First

@@ -1,11 +1,12 @@
 -- A layout that gives no piece of a sort gives none, whatever it reads; what holds of every row of the grammar's table. Assumes nothing.
 use Prim.Native.Nat.{ℕ}
-use mathlib.Core.Path.{_≡_, sym, ap, _∙_}
+use mathlib.Core.Path.{_≡_, refl, sym, ap, subst, _∙_}
 use mathlib.Core.Bool.{Bool, true, false, cond}
 use mathlib.Core.List.{List, [], _∷_}
 use native.Mathlib.Omega.{arith}
 use lib.ListN.{take}
 use lib.Dec.{leb, eqb}
+use borrow.Author.Tests.{eqb-true}
 use Rattle.law_base.specs.Rules.{_⇒_, _∣_}
 use Rattle.law_base.specs.Arms.{Arm, lookup}
 use Rattle.cut_fields.specs.declared.Cursor.{Cursor}
@@ -81,20 +82,28 @@ module _ (is : Piece → Bool) where
   other-none (whole x) o s c = whole-other x c o
   other-none (unknown described) o s c = unknown-other described c
 
--- what holds of every row of a table, a row after the other
+-- what holds of every row of a table, of its key and its value, a row after the other
 infixr 20 _&_
-pub data Every {A : Type 0} (P : A → Type 0) : List (Arm A) → Type 0 where
-  no-more : Every P []
-  _&_ : {a : Arm A} {more : List (Arm A)} → P (a .val) → Every P more → Every P (a ∷ more)
+pub data EveryRow {A : Type 0} (P : ℕ → A → Type 0) : List (Arm A) → Type 0 where
+  no-more : EveryRow P []
+  _&_ : {a : Arm A} {more : List (Arm A)} → P (a .key) (a .val) → EveryRow P more → EveryRow P (a ∷ more)
 
--- what holds of every row of a table holds of what is found there
-pub found-every : {A : Type 0} (P : A → Type 0) (arms : List (Arm A)) (x : ℕ) (d : A) → Every P arms → P d → P (lookup arms x d)
-found-every P [] x d no-more k = k
-found-every P (a ∷ more) x d (h & rest) k = by-cases (eqb x (a .key)) (found-every P more x d rest k)
+-- and of its value alone
+abbrev pub Every : {A : Type 0} → (A → Type 0) → List (Arm A) → Type 0
+Every P arms = EveryRow (λ _. P) arms
+
+-- what holds of every row of a table holds of what is found there, and of the key that found it
+pub found-row : {A : Type 0} (P : ℕ → A → Type 0) (arms : List (Arm A)) (x : ℕ) (d : A) → EveryRow P arms → P x d
+    → P x (lookup arms x d)
+found-row P [] x d no-more k = k
+found-row P (a ∷ more) x d (h & rest) k = by-cases (eqb x (a .key)) refl (found-row P more x d rest k)
   where
-    by-cases : (t : Bool) → P (lookup more x d) → P (cond t (a .val) (lookup more x d))
-    by-cases true r = h
-    by-cases false r = r
+    by-cases : (t : Bool) → eqb x (a .key) ≡ t → P x (lookup more x d) → P x (cond t (a .val) (lookup more x d))
+    by-cases true e r = subst (λ (k : ℕ). P k (a .val)) (sym (eqb-true x (a .key) e)) h
+    by-cases false e r = r
+
+pub found-every : {A : Type 0} (P : A → Type 0) (arms : List (Arm A)) (x : ℕ) (d : A) → Every P arms → P d → P (lookup arms x d)
+found-every P arms x d every k = found-row (λ _. P) arms x d every k
 
 -- a body under its name
 pub unnamed : (kind at : ℕ) (b : Body) {k a next : ℕ} {x : Piece} → takenAs kind at b ≡ taken.Whole k a next x

@@ -24,13 +24,13 @@ use Rattle.cut_grammar.specs.declared.Body.{Body}
 use Rattle.cut_grammar.specs.declared.Body.the-variants.{Whole, Short, Overflow}
 use Rattle.cut_grammar.specs.declared.Taken.the-variants as taken
 use Rattle.cut_grammar.specs.Grammar.{Layout, passAt, wholeAt, fittingAt, readAt, bitsOf, orFull, heldIf}
-use Rattle.cut_grammar.specs.Kinds.{kind13, stream19, kind19}
+use Rattle.cut_grammar.specs.Kinds.{kind13, stream19, kind19, kind2A}
 use Rattle.cut_grammar.specs.Cut.{cutAt}
 use Rattle.cut_grammar.specs.Steps.{head19}
 use Rattle.cut_grammar.specs.Places.{Places, Found19}
 use Rattle.cut_grammar.proofs.Cutting.{cut-there, cut-inside, cut-forward}
 use Rattle.cut_grammar.proofs.Others.{Other, other-none, unnamed}
-use Rattle.cut_grammar.proofs.Sorts.{sortOf, isGeneral, isListed, RowSort, pulses, general, other, row-of}
+use Rattle.cut_grammar.proofs.Sorts.{sortOf, isGeneral, isListed, RowSort, pulses, general, stop48, other, row-of}
 
 -- the end of 19: its data bytes are there, and their bits fit
 record Streamed (s : List ℕ) (bits : ℕ) (g₀ g : GeneralizedData) (c : Cursor) (next : ℕ) : Type 0 where
@@ -133,10 +133,11 @@ unfolding readAt kind19 passAt head19
 general-placed full s c = tables full s _ _ _ (head19 s c .cursor) _ _ _ refl refl refl refl refl refl refl refl refl refl refl
 
 -- of all rows, that of 19 alone gives a 19
-rows-placed : {full : ℕ} {l : Layout} → RowSort full l → (s : List ℕ) (c : Cursor) → Placed full s (readAt l s c)
-unfolding sortOf kind13
+rows-placed : {full kind : ℕ} {l : Layout} → RowSort full kind l → (s : List ℕ) (c : Cursor) → Placed full s (readAt l s c)
+unfolding sortOf kind13 kind2A
 rows-placed pulses s c = other-placed isGeneral (λ _. refl) kind13 (λ _ _. refl) s c
 rows-placed {full} general s c = general-placed full s c
+rows-placed stop48 s c = other-placed isGeneral (λ _. refl) kind2A (λ _. refl) s c
 rows-placed (other l o) s c = other-placed isListed (λ _. refl) l o s c
 
 -- a whole 19 has its tables where its places say

@@ -17,11 +17,11 @@ use Rattle.cut_grammar.specs.declared.Body.{Body}
 use Rattle.cut_grammar.specs.declared.Body.the-variants.{Whole, Short}
 use Rattle.cut_grammar.specs.declared.Taken.the-variants as taken
 use Rattle.cut_grammar.specs.Grammar.{Layout, passAt, wholeAt, readAt}
-use Rattle.cut_grammar.specs.Kinds.{kind13, stream19, kind19}
+use Rattle.cut_grammar.specs.Kinds.{kind13, stream19, kind19, kind2A}
 use Rattle.cut_grammar.specs.Cut.{cutAt}
 use Rattle.cut_grammar.proofs.Cutting.{cut-there, cut-inside, cut-forward}
 use Rattle.cut_grammar.proofs.Others.{Other, other-none, unnamed}
-use Rattle.cut_grammar.proofs.Sorts.{sortOf, isPulses, isListed, RowSort, pulses, general, other, row-of}
+use Rattle.cut_grammar.proofs.Sorts.{sortOf, isPulses, isListed, RowSort, pulses, general, stop48, other, row-of}
 
 -- pulses that end at `next`
 abbrev Ended : Body → Type 0
@@ -46,10 +46,11 @@ unfolding readAt kind13 passAt
 pulses-ended s c = whole-ended s (fieldAt s c 1 .value) (fieldAt s c 1 .cursor) _ refl
 
 -- of all rows, that of 13 alone gives pulses
-rows-ended : {full : ℕ} {l : Layout} → RowSort full l → (s : List ℕ) (c : Cursor) → Ended (readAt l s c)
-unfolding sortOf kind19 stream19
+rows-ended : {full kind : ℕ} {l : Layout} → RowSort full kind l → (s : List ℕ) (c : Cursor) → Ended (readAt l s c)
+unfolding sortOf kind19 stream19 kind2A
 rows-ended pulses s c = pulses-ended s c
 rows-ended {full} general s c = other-ended isPulses (λ _ _. refl) (kind19 full) (λ _ _ _ _ _ _ _ _ _ _ _ _. refl) s c
+rows-ended stop48 s c = other-ended isPulses (λ _ _. refl) kind2A (λ _. refl) s c
 rows-ended (other l o) s c = other-ended isListed (λ _ _. refl) l o s c
 
 -- a whole 13 ends where its pulses do, inside the tape

@@ -72,3 +72,8 @@ NotAllThere f = f .end < f .place + f .width
 pub data FirstShort : List Field → Field → Type 0 where
   this : {f : Field} {fs : List Field} → NotAllThere f → FirstShort (f ∷ fs) f
   later : {f g : Field} {fs : List Field} → IsThere f → FirstShort fs g → FirstShort (f ∷ fs) g
+
+-- FIELDS THAT ARE ALL THERE, each of them
+pub data AllThere : List Field → Type 0 where
+  nil : AllThere []
+  cons : {f : Field} {fs : List Field} → IsThere f → AllThere fs → AllThere (f ∷ fs)

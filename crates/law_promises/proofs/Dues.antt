@@ -2,7 +2,7 @@
 -- 7 at the end. Assumes nothing.
 use Prim.Native.Nat.{ℕ, _+_, _≤_, _<_}
 use native.Mathlib.Omega.{arith}
-use borrow.Author.Tests.{lt-ltb, ltb-true}
+use borrow.Author.Tests.{lt-ltb, ltb-true, eqb-false}
 use mathlib.Core.Path.{_≡_, refl, sym, ap, subst, _∙_}
 use mathlib.Core.Bool.{Bool, true, false, _&&_, not}
 use mathlib.Core.Logic.{_↔_}
@@ -60,6 +60,12 @@ never-four goes e = let z : _≡_ {A = ℕ} 0 1 = cc in absurd (omega arith)
 never-four (says {k = k} b) e = let z : k ≡ generalised = cc in absurd (omega (arith, b .low))
 never-four (fails h) e = absurd (omega arith)
 
+-- nor does it err
+pub never-errs : {A : Type 0} {o : Out} {k a n : ℕ} → HaltsBy tonesFull blocksFull o → o ≡ halt (Length k a n) → A
+never-errs goes e = let z : _≡_ {A = ℕ} 0 1 = cc in absurd (omega arith)
+never-errs (says b) e = let z : _≡_ {A = ℕ} 0 1 = cc in absurd (omega arith)
+never-errs (fails h) e = absurd (omega arith)
+
 -- a refused reading that halted did so by that refusal, and no reading that halted is done
 halted-by : (j : Halt) (k : ℕ) → halted j ≡ refused k → j ≡ Refusal k
 unfolding halted
@@ -71,74 +77,103 @@ unfolding halted
 halted-never (Refusal j) e = let z : _≡_ {A = ℕ} 0 1 = cc in omega arith
 halted-never (Length kind at n) e = let z : _≡_ {A = ℕ} 0 1 = cc in omega arith
 
--- the piece is a generalised one, and refused by 4
-unfoldable panicking : Deed → Bool
-panicking (adding only48 ds) = false
-panicking (groups from size) = false
-panicking (texts from size) = false
-panicking groupEnds = false
-panicking (opens n) = false
-panicking closes = false
-panicking panics = true
-panicking (deed.errs n) = false
+-- a deed that halts by itself: a panic, an error
+unfoldable stops : Deed → Bool
+stops (adding only48 ds) = false
+stops (groups from size) = false
+stops (texts from size) = false
+stops groupEnds = false
+stops (opens n) = false
+stops closes = false
+stops panics = true
+stops (deed.errs n) = true
 
--- a piece is so
+-- a piece whose deed panics, and one whose deed errs; no other halts by itself
 data Refused4 (s : List ℕ) : Piece → Type 0 where
   is : {g : GeneralizedData} → general.generalOf s g ≡ general.refused4 → Refused4 s (Generalized g)
 
+data ByItself (s : List ℕ) : Piece → Deed → Type 0 where
+  never : {p : Piece} {d : Deed} → stops d ≡ false → ByItself s p d
+  four : {p : Piece} → Refused4 s p → ByItself s p panics
+  wrong : {n : ℕ} → (n ≡ 0 → ⊥) → ByItself s (Stop48 n) (deed.errs n)
+
+general-itself : (s : List ℕ) (g : GeneralizedData) (x : general.Given) → general.generalOf s g ≡ x
+    → ByItself s (Generalized g) (generalDeed g x)
+unfolding generalDeed stops
+general-itself s g general.refused4 e = four (is e)
+general-itself s g general.stop e = never refl
+general-itself s g (general.plain ts nil one last) e = never refl
+general-itself s g (general.toned ts) e = never refl
+
+-- of the table's deeds a 19's alone panics, and a 2A's alone errs
+itself : (s : List ℕ) (p : Piece) → ByItself s p (deedOf s p)
+unfolding deedOf stops stop48Deed
+itself s (Standard pause from size) = never refl
+itself s (Turbo d) = never refl
+itself s (PureTone half count) = never refl
+itself s (Pulses count from) = never refl
+itself s (Pure nil one last pause from size) = never refl
+itself s (Generalized g) = general-itself s g (general.generalOf s g) refl
+itself s (Pause n) = never refl
+itself s (GroupStart from size) = never refl
+itself s GroupEnd = never refl
+itself s (LoopStart times) = never refl
+itself s LoopEnd = never refl
+itself s (Stop48 n) = of (eqb n 0) refl
+  where
+    of : (z : Bool) → eqb n 0 ≡ z → ByItself s (Stop48 n) (z ⇒ adds48 (stopSound ∷ []) ∣ deed.errs n)
+    of true e = never refl
+    of false e = wrong (eqb-false n 0 e)
+itself s (Text from size) = never refl
+itself s Message = never refl
+itself s Archive = never refl
+itself s Hardware = never refl
+itself s Custom = never refl
+itself s Glue = never refl
+
+-- what a piece is whose step errs, and where the step says that it stands
+pub record Erred (p : Piece) (origin : Origin) (k a n : ℕ) : Type 0 where
+  pub piece : p ≡ Stop48 n
+  pub length : n ≡ 0 → ⊥
+  pub kind : k ≡ origin .kind
+  pub place : a ≡ origin .place
+
 module _ (lent : Lent) (s : List ℕ) (model : ℕ) where
-  -- only `panics` is refused by 4, and only a 19 of the table is `panics`
-  does-four : (origin : Origin) (d : Deed) (t : Parsed) → enact lent model origin d t ≡ halt (Refusal generalised)
-      → panicking d ≡ true
-  unfolding enact panicking pend endGroup openLoop closeLoop
-  does-four origin (adding only48 ds) t e =
-      never-four (either (HaltsBy tonesFull blocksFull) (only48 && not (eqb model 0)) goes (sounds-say lent origin ds t)) e
-  does-four origin (groups from size) t e = never-four goes e
-  does-four origin (texts from size) t e = never-four goes e
-  does-four origin groupEnds t e = never-four goes e
-  does-four origin (opens n) t e = never-four goes e
-  does-four origin closes t e = never-four (closed-says (lent .blocks) (t .body) t) e
-  does-four origin panics t e = refl
-  does-four origin (deed.errs n) t e = let z : _≡_ {A = ℕ} 0 1 = cc in absurd (omega arith)
-
-  calm : {A : Type 0} → false ≡ true → A
-  calm e = let z : _≡_ {A = ℕ} 1 0 = ap (λ (t : Bool). t ⇒ 0 ∣ 1) e in absurd (omega arith)
-
-  general-four : (g : GeneralizedData) (x : general.Given) → panicking (generalDeed g x) ≡ true → x ≡ general.refused4
-  unfolding generalDeed panicking
-  general-four g general.refused4 e = refl
-  general-four g general.stop e = calm e
-  general-four g (general.plain ts nil one last) e = calm e
-  general-four g (general.toned ts) e = calm e
-
-  deed-four : (p : Piece) → panicking (deedOf s p) ≡ true → Refused4 s p
-  unfolding deedOf panicking stop48Deed
-  deed-four (Standard pause from size) e = calm e
-  deed-four (Turbo d) e = calm e
-  deed-four (PureTone half count) e = calm e
-  deed-four (Pulses count from) e = calm e
-  deed-four (Pure nil one last pause from size) e = calm e
-  deed-four (Generalized g) e = is (general-four g (general.generalOf s g) e)
-  deed-four (Pause n) e = calm e
-  deed-four (GroupStart from size) e = calm e
-  deed-four GroupEnd e = calm e
-  deed-four (LoopStart times) e = calm e
-  deed-four LoopEnd e = calm e
-  deed-four (Stop48 n) e = of (eqb n 0) e
-    where
-      of : (z : Bool) → panicking (z ⇒ adds48 (stopSound ∷ []) ∣ deed.errs n) ≡ true → Refused4 s (Stop48 n)
-      of true f = calm f
-      of false f = calm f
-  deed-four (Text from size) e = calm e
-  deed-four Message e = calm e
-  deed-four Archive e = calm e
-  deed-four Hardware e = calm e
-  deed-four Custom e = calm e
-  deed-four Glue e = calm e
+  -- any other deed halts by 5 or 6 alone
+  others-say : (origin : Origin) (d : Deed) (t : Parsed) → stops d ≡ false → HaltsBy tonesFull blocksFull (enact lent model origin d t)
+  unfolding enact stops pend endGroup openLoop closeLoop
+  others-say origin (adding only48 ds) t e =
+      either (HaltsBy tonesFull blocksFull) (only48 && not (eqb model 0)) goes (sounds-say lent origin ds t)
+  others-say origin (groups from size) t e = goes
+  others-say origin (texts from size) t e = goes
+  others-say origin groupEnds t e = goes
+  others-say origin (opens n) t e = goes
+  others-say origin closes t e = closed-says (lent .blocks) (t .body) t
+  others-say origin panics t e = absurd (let z : _≡_ {A = ℕ} 0 1 = ap (λ (b : Bool). b ⇒ 0 ∣ 1) e in omega arith)
+  others-say origin (deed.errs n) t e = absurd (let z : _≡_ {A = ℕ} 0 1 = ap (λ (b : Bool). b ⇒ 0 ∣ 1) e in omega arith)
 
   act-four : (origin : Origin) (p : Piece) (t : Parsed) → act lent s model origin p t ≡ halt (Refusal generalised) → Refused4 s p
-  unfolding act
-  act-four origin p t e = deed-four p (does-four origin (deedOf s p) t e)
+  unfolding act enact
+  act-four origin p t e = of (itself s p) e
+    where
+      of : {q : Piece} {d : Deed} → ByItself s q d → enact lent model origin d t ≡ halt (Refusal generalised) → Refused4 s q
+      of (never {d = d} h) x = never-four (others-say origin d t h) x
+      of (four h) x = h
+      of (wrong h) x = let z : _≡_ {A = ℕ} 0 1 = cc in absurd (omega arith)
+
+  pub act-errs : (origin : Origin) (p : Piece) (t : Parsed) {k a n : ℕ} → act lent s model origin p t ≡ halt (Length k a n)
+      → Erred p origin k a n
+  unfolding act enact
+  act-errs origin p t {k} {a} {n} e = of (itself s p) e
+    where
+      of : {q : Piece} {d : Deed} → ByItself s q d → enact lent model origin d t ≡ halt (Length k a n) → Erred q origin k a n
+      of (never {d = d} h) x = never-errs (others-say origin d t h) x
+      of (four h) x = let z : _≡_ {A = ℕ} 0 1 = cc in absurd (omega arith)
+      of (wrong {n = m} h) x =
+          let z : m ≡ n = cc in
+          let i : origin .kind ≡ k = cc in
+          let j : origin .place ≡ a = cc in
+          record { piece = ap Stop48 z; length = λ y. h (z ∙ y); kind = sym i; place = sym j }
 
   -- a thing of a TZX: a piece, or a kind not named
   pub data Thing (at next : ℕ) (does : Parsed → Out) : Type 0 where

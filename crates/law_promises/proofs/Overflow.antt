@@ -5,14 +5,13 @@ use native.Mathlib.Omega.{arith}
 use native.Mathlib.Nat.{le-refl, pow-suc, mul-zero}
 use borrow.Author.Tests.{eqb-true, eqb-false, eq-eqb, le-leb, leb-false, lt-leb}
 use mathlib.Core.Path.{_≡_, refl, sym, ap, _∙_}
-use mathlib.Core.Bool.{Bool, true, false, cond, _||_}
+use mathlib.Core.Bool.{Bool, true, false}
 use mathlib.Core.Logic.{_↔_, ⊎-elim}
 use mathlib.Core.List.{List, [], _∷_}
 use lib.ListN.{length, getD, take}
 use lib.Dec.{leb, eqb}
 use Rattle.law_base.proofs.Numbers.{lt-or-ge}
 use Rattle.law_base.specs.Rules.{_⇒_, _∣_}
-use Rattle.law_base.specs.Arms.{Arm, _▸_, lookup, between}
 use Rattle.cut_fields.specs.declared.Cursor.{Cursor}
 use Rattle.cut_fields.specs.declared.Cursor.the-variants.{At}
 use Rattle.cut_fields.specs.declared.Cursor.the-variants as cursor
@@ -36,6 +35,7 @@ use Rattle.cut_grammar.specs.Steps.{head19}
 use Rattle.cut_grammar.specs.Ends.{stands, Ends, ends, none, short, wide}
 use Rattle.cut_grammar.proofs.Layouts.{forward}
 use Rattle.cut_grammar.proofs.Cutting.{cut-there}
+use Rattle.cut_grammar.proofs.Others.{EveryRow, no-more, _&_, found-row}
 use Rattle.load_source.specs.Source.{full}
 use Rattle.law_promises.specs.Four.{totpAt, nppAt, aspAt, totdAt, npdAt, asdAt, nbAt, dataAt, Overflows}
 
@@ -89,62 +89,45 @@ steady-never (whole x) o s c = whole-never x c
 steady-never (unknown described) o s c = unknown-never described c
 
 -- of all rows of the grammar's table, 19's alone counts bits
-data Row : Arm Layout → Type 0 where
-  calm : (kind : ℕ) (l : Layout) → Steady l → Row (kind ▸ l)
-  counts : (l : Layout) → Row (0x19 ▸ l)
+data Row : ℕ → Layout → Type 0 where
+  steady : {kind : ℕ} (l : Layout) → Steady l → Row kind l
+  counts : (l : Layout) → Row 0x19 l
 
-infixr 20 _&_
-data Rows : List (Arm Layout) → Type 0 where
-  no-more : Rows []
-  _&_ : {a : Arm Layout} {more : List (Arm Layout)} → Row a → Rows more → Rows (a ∷ more)
+row-steady : {kind : ℕ} {l : Layout} → Row kind l → (kind ≡ 0x19 → ⊥) → Steady l
+row-steady (steady l h) n = h
+row-steady (counts l) n = absurd (n refl)
 
-found : (arms : List (Arm Layout)) (x : ℕ) (d : Layout) → (x ≡ 0x19 → ⊥) → Rows arms → Steady d → Steady (lookup arms x d)
-found [] x d n no-more k = k
-found (a ∷ more) x d n (h & rest) k = by-row h (found more x d n rest k)
-  where
-    by-key : (t : Bool) (l : Layout) → Steady l → Steady (lookup more x d) → Steady (cond t l (lookup more x d))
-    by-key true l h r = h
-    by-key false l h r = r
-
-    not-19 : (t : Bool) (l : Layout) → eqb x 0x19 ≡ t → Steady (lookup more x d) → Steady (cond t l (lookup more x d))
-    not-19 true l e r = absurd (n (eqb-true x 0x19 e))
-    not-19 false l e r = r
-
-    by-row : {b : Arm Layout} → Row b → Steady (lookup more x d) → Steady (cond (eqb x (b .key)) (b .val) (lookup more x d))
-    by-row (calm kind l h) r = by-key (eqb x kind) l h r
-    by-row (counts l) r = not-19 (eqb x 0x19) l refl r
-
-each-row : (most : ℕ) → Rows (kinds most)
+each-row : (most : ℕ) → EveryRow Row (kinds most)
 unfolding kinds kind10 kind11 kind12 kind13 kind14 kind20 kind21 kind22 kind24 kind25
     kind2A kind30 kind31 info32 kind32 kind33 kind35 kind5A
 each-row most =
-    calm 0x10 kind10 (λ _ _ _. tt) &
-    calm 0x11 kind11 (λ _ _ _ _ _ _ _ _ _ _. tt) &
-    calm 0x12 kind12 (λ _ _. tt) &
-    calm 0x13 kind13 (λ _ _. tt) &
-    calm 0x14 kind14 (λ _ _ _ _ _ _. tt) &
+    steady kind10 (λ _ _ _. tt) &
+    steady kind11 (λ _ _ _ _ _ _ _ _ _ _. tt) &
+    steady kind12 (λ _ _. tt) &
+    steady kind13 (λ _ _. tt) &
+    steady kind14 (λ _ _ _ _ _ _. tt) &
     counts (kind19 most) &
-    calm 0x20 kind20 (λ _. tt) &
-    calm 0x21 kind21 (λ _ _. tt) &
-    calm 0x22 kind22 tt &
-    calm 0x23 unread tt &
-    calm 0x24 kind24 (λ _. tt) &
-    calm 0x25 kind25 tt &
-    calm 0x2A kind2A (λ _. tt) &
-    calm 0x2B unread tt &
-    calm 0x30 kind30 (λ _ _. tt) &
-    calm 0x31 kind31 (λ _ _ _. tt) &
-    calm 0x32 kind32 (λ _ _. tt) &
-    calm 0x33 kind33 (λ _. tt) &
-    calm 0x34 unread tt &
-    calm 0x35 kind35 (λ _ _. tt) &
-    calm 0x40 unread tt &
-    calm 0x5A kind5A tt &
+    steady kind20 (λ _. tt) &
+    steady kind21 (λ _ _. tt) &
+    steady kind22 tt &
+    steady unread tt &
+    steady kind24 (λ _. tt) &
+    steady kind25 tt &
+    steady kind2A (λ _. tt) &
+    steady unread tt &
+    steady kind30 (λ _ _. tt) &
+    steady kind31 (λ _ _ _. tt) &
+    steady kind32 (λ _ _. tt) &
+    steady kind33 (λ _. tt) &
+    steady unread tt &
+    steady kind35 (λ _ _. tt) &
+    steady unread tt &
+    steady kind5A tt &
     no-more
 
 other-steady : (most kind : ℕ) → (kind ≡ 0x19 → ⊥) → Steady (kindOf most kind)
 unfolding kindOf
-other-steady most kind n = found (kinds most) kind (unknown (between 0x15 0x18 kind || between 0x26 0x28 kind)) n (each-row most) tt
+other-steady most kind = row-steady (found-row Row (kinds most) kind (unknown _) (each-row most) (steady (unknown _) tt))
 
 -- the end of a 19: where its data alphabet ended, and how many bits its data have
 module _ (s : List ℕ) (bits : ℕ) (g : GeneralizedData) where

@@ -1,21 +1,18 @@
 -- WHAT BOTH ATTEMPTS MET IS HANDED ON EXACTLY WHERE BOTH ERR, and each report says what the bytes say. Assumes nothing.
 use Prim.Native.Nat.{ℕ, _+_, _≤_, _<_}
 use native.Mathlib.Omega.{arith}
-use borrow.Author.Tests.{le-leb, lt-leb, le-ltb, leb-true, leb-false, ltb-false, eqb-false, ne-eqb}
+use borrow.Author.Tests.{le-leb, lt-leb, le-ltb, leb-true, leb-false, ltb-false, ne-eqb}
 use mathlib.Core.Path.{_≡_, refl, sym, ap, subst, _∙_}
-use mathlib.Core.Bool.{Bool, true, false, _&&_, not}
-use mathlib.Core.Logic.{_↔_, Iff·trans, ⊎-elim}
-use mathlib.Core.List.{List, [], _∷_}
+use mathlib.Core.Bool.{Bool, true, false, not}
+use mathlib.Core.Logic.{_↔_, ⊎-elim}
+use mathlib.Core.List.{List, _∷_, _++_}
 use lib.ListN.{length, getD}
-use lib.Dec.{leb, ltb, eqb}
-use Rattle.refusals.specs.Refusals.{badModel, tapeLong, tapeBad, tonesFull, blocksFull}
+use lib.Dec.{leb, ltb}
+use Rattle.refusals.specs.Refusals.{badModel, tapeLong, tapeBad}
 use Rattle.law_base.specs.Rules.{_⇒_, _∣_}
 use Rattle.law_base.proofs.Numbers.{lt-or-ge}
 use Rattle.cut_grammar.specs.declared.Piece.{Piece}
-use Rattle.cut_grammar.specs.declared.Piece.the-variants.{Standard, Turbo, Tone as PureTone, Pulses, Pure, Generalized, Pause, GroupStart}
-use Rattle.cut_grammar.specs.declared.Piece.the-variants.{GroupEnd, LoopStart, LoopEnd, Stop48, Text, Message, Archive, Hardware}
-use Rattle.cut_grammar.specs.declared.Piece.the-variants.{Custom, Glue}
-use Rattle.cut_grammar.specs.declared.GeneralizedData.{GeneralizedData}
+use Rattle.cut_grammar.specs.declared.Piece.the-variants.{Stop48}
 use Rattle.cut_grammar.specs.declared.Body.{Body}
 use Rattle.cut_grammar.specs.declared.Body.the-variants as body
 use Rattle.cut_grammar.specs.declared.Taken.{Taken}
@@ -24,35 +21,36 @@ use Rattle.cut_grammar.specs.declared.TakenTap.{TakenTap}
 use Rattle.cut_grammar.specs.declared.TakenTap.the-variants as tap
 use Rattle.cut_grammar.specs.declared.Heading.{Heading}
 use Rattle.cut_grammar.specs.declared.Heading.the-variants as heading
+use Rattle.cut_grammar.specs.Kinds.{kindOf}
 use Rattle.cut_grammar.specs.Cut.{signature, startsAt, headAt, takenAs, cutAt, tapAt}
-use Rattle.cut_grammar.proofs.Cutting.{cut-there, cut-inside}
-use Rattle.cut_grammar.proofs.First.{cut-first, head-first, tap-first, tap-place}
-use Rattle.load_general.specs.General as general
+use Rattle.cut_grammar.specs.Trace.{Field, trace, headTrace, tapTrace, FirstShort, this, later, AllThere}
+use Rattle.cut_grammar.specs.Trace.{nil as no-field, cons}
+use Rattle.cut_grammar.proofs.Cutting.{cut-there, cut-inside, cut-kind}
+use Rattle.cut_grammar.proofs.Stops.{cut-stop, stop-cut}
+use Rattle.cut_grammar.proofs.First.{cut-first, head-first, tap-first, tap-place, whole-there, unknown-kind, unknown-there, tap-there-all}
 use Rattle.load_state.specs.declared.Halt.{Halt}
 use Rattle.load_state.specs.declared.Halt.the-variants.{Refusal, Length}
-use Rattle.load_state.specs.Parser.{Parsed, Out, on, no as halt, empty, pend, endGroup, openLoop, closeLoop}
-use Rattle.load_blocks.specs.declared.Origin.{Origin}
+use Rattle.load_state.specs.Parser.{Parsed, Out, no as halt, empty}
 use Rattle.load_blocks.specs.Sounds.{originAt, addSound}
-use Rattle.load_blocks.specs.Blocks.{standardHeader, standardPause, standardSound, stopSound}
+use Rattle.load_blocks.specs.Blocks.{standardHeader, standardPause, standardSound}
 use Rattle.load_blocks.specs.Adds.{Lent}
-use Rattle.load_blocks.specs.Deeds as deed
-use Rattle.load_blocks.specs.Deeds.{Deed, adding, adds48, groups, texts, groupEnds, opens, closes, panics, generalDeed}
 use Rattle.load_blocks.specs.Deeds.{stop48Deed, does as enact}
 use Rattle.load_source.specs.declared.Failure.{Failure}
 use Rattle.load_source.specs.declared.Failure.the-variants as failure
 use Rattle.load_source.specs.Meaning.{deedOf}
-use Rattle.load_source.specs.Source.{See, bad, thing, Verdict, done, failed, refused, act, halted, foldFrom, bitsJudged, tapKind, full, tzxOf, tzxSee}
-use Rattle.load_source.specs.Source.{headed, readTzx, tapOf, tapSee, readTap, Load, tzx, tapped, bothErr, no, orTap, orElse, loadOf}
+use Rattle.load_source.specs.Source.{See, bad, thing, Verdict, done, failed, refused, act, halted, foldFrom, bitsJudged, tapKind, full}
+use Rattle.load_source.specs.Source.{tzxOf, tzxSee, headed, readTzx, tapOf, tapSee, readTap, Load, tzx, tapped, bothErr, no, orTap}
+use Rattle.load_source.specs.Source.{orElse, loadOf}
 use Rattle.load_source.proofs.Rest.{tzx-sees, sees-piece, tap-sees}
 use Rattle.load_tape.specs.declared.Loaded.the-variants.{Unread, Refused}
 use Rattle.load_tape.specs.Load.{namedLoad, loadNamed, answerOf, refusalNo}
-use Rattle.law_every_load.proofs.Refusals.{HaltsBy, goes, says, fails, either, sound-says, sounds-say, closed-says}
-use Rattle.law_promises.specs.Numbers.{Admitted, loadNo, Errs, Headed, Comes, here, past, Due, ends, errs, stands, answers}
+use Rattle.law_every_load.proofs.Refusals.{says, fails, sound-says}
+use Rattle.law_promises.specs.Numbers.{Admitted, Headed, ByTzx, Comes, here, past, Due, ends, errs, stands, answers}
 use Rattle.law_promises.specs.Unread.{PieceMet, field-short, length48, TzxMet, head-short, head-other, at-piece, BlockMet, TapMet}
-use Rattle.law_promises.specs.Unread.{data-short}
+use Rattle.law_promises.specs.Unread.{data-short, ShortAt, attemptTrace, pieceTrace}
 use Rattle.law_promises.proofs.Runs.{comes-map, run-due}
-use Rattle.law_promises.proofs.Loads.{answers-no, tzx-headed}
-use Rattle.law_promises.proofs.Dues.{Thing, whole, skip, tzx-thing, tzx-bounded, tap-bounded}
+use Rattle.law_promises.proofs.Loads.{tzx-headed}
+use Rattle.law_promises.proofs.Dues.{Thing, whole, skip, never-errs, act-errs, tzx-thing, tzx-bounded, tap-bounded}
 use Rattle.law_promises.proofs.Errors.{judged-bad}
 use Rattle.law_promises.proofs.Numbers.{given-3}
 
@@ -75,42 +73,11 @@ bad-head s h e = rw (le-leb 10 (length s) h, e)
 above : {n : ℕ} → (n ≡ 0 → ⊥) → 0 < n
 above {n} h = ⊎-elim (λ (t : 0 < n). t) (λ (t : n ≤ 0). absurd (h (omega arith))) (lt-or-ge 0 n)
 
--- what adds blocks alone does not err
-never-errs : {A : Type 0} {o : Out} {kind at n : ℕ} → HaltsBy tonesFull blocksFull o → o ≡ halt (Length kind at n) → A
-never-errs goes e = let z : _≡_ {A = ℕ} 0 1 = cc in absurd (omega arith)
-never-errs (says b) e = let z : _≡_ {A = ℕ} 0 1 = cc in absurd (omega arith)
-never-errs (fails h) e = absurd (omega arith)
-
 halted-errs : (j : Halt) {f : Failure} → halted j ≡ failed f
     → (kind : ℕ) × ((at : ℕ) × ((n : ℕ) × ((j ≡ Length kind at n) × (failure.Length kind at n ≡ f))))
 unfolding halted
 halted-errs (Refusal k) e = let z : _≡_ {A = ℕ} 0 1 = cc in absurd (omega arith)
 halted-errs (Length kind at n) {f} e = let z : failure.Length kind at n ≡ f = cc in (kind, (at, (n, (refl, z))))
-
--- a deed that errs
-unfoldable erring : Deed → Bool
-erring (adding only48 ds) = false
-erring (groups from size) = false
-erring (texts from size) = false
-erring groupEnds = false
-erring (opens n) = false
-erring closes = false
-erring panics = false
-erring (deed.errs n) = true
-
-calm : {A : Type 0} → false ≡ true → A
-calm e = let z : _≡_ {A = ℕ} 1 0 = ap (λ (t : Bool). t ⇒ 0 ∣ 1) e in absurd (omega arith)
-
--- a step that errs does so by such a deed, and says where its piece stands
-record ErredBy (origin : Origin) (d : Deed) (k p n : ℕ) : Type 0 where
-  deed : d ≡ deed.errs n
-  kind : k ≡ origin .kind
-  place : p ≡ origin .place
-
--- a piece that errs is a 2A's, of a length that is not 0
-record ErringPiece (p : Piece) (n : ℕ) : Type 0 where
-  piece : p ≡ Stop48 n
-  length : 0 < n
 
 -- a piece stands where it was cut
 named-from : (kind at : ℕ) (x : Body) {k p next : ℕ} {piece : Piece} → takenAs kind at x ≡ taken.Whole k p next piece → p ≡ at
@@ -123,65 +90,76 @@ named-from kind at (body.Overflow q) e = absurd (let z : _≡_ {A = ℕ} 0 1 = c
 cut-from : (s : List ℕ) (at : ℕ) {k p next : ℕ} {piece : Piece} → cutAt s at full ≡ taken.Whole k p next piece → p ≡ at
 cut-from s at e = named-from (getD s at 0) at _ (sym (cut-there s at full (cut-inside s at full e)) ∙ e)
 
+-- behind fields that are all there, the first short field of the others is the first of all
+behind : {xs ys : List Field} {f : Field} → AllThere xs → FirstShort ys f → FirstShort (xs ++ ys) f
+behind no-field m = m
+behind (cons h rest) m = later h (behind rest m)
+
+-- where all that is passed is there, the first short field of the place that it comes to is the first of the attempt
+attempt-first : (fields : ℕ → List Field) {see : ℕ → See} {P : ℕ → Parsed → Type 0} {p w : ℕ}
+    → ((at next : ℕ) (does : Parsed → Out) → see at ≡ thing next does → AllThere (fields at))
+    → ((at : ℕ) (t : Parsed) → P at t → ShortAt (fields at) p w)
+    → {at : ℕ} {t : Parsed} (c : Comes see P at t) → ShortAt (attemptTrace fields c) p w
+unfolding attemptTrace
+attempt-first fields there short (here {at = at} {t = t} m) = short at t m
+attempt-first fields there short (past {at = at} {next = next} {does = does} e d c) =
+    let x = attempt-first fields there short c in (x .0, behind (there at next does e) (x .1))
+
+-- the head of a TZX that has a version is there
+headed-there : (s : List ℕ) → Headed s → AllThere (headTrace s)
+unfolding headTrace
+headed-there s h =
+    ⊎-elim
+    (λ (t : length s < 10). absurd (not-short (sym (head-first s 0 10 .1 (this t)) ∙ h .2)))
+    (λ (t : 10 ≤ length s). cons t no-field)
+    (lt-or-ge (length s) 10)
+  where
+    not-short : {p w major minor : ℕ} → heading.Short p w ≡ heading.Version major minor → ⊥
+    not-short q = let z : _≡_ {A = ℕ} 0 1 = cc in omega arith
+
+piece-short : (s : List ℕ) {f : Failure} {at : ℕ} → PieceMet s f at → {kind from p w : ℕ} → f ≡ failure.ShortPiece kind from p w
+    → ShortAt (pieceTrace s at) p w
+piece-short s (field-short {kind = k} {at = at} {p = q} {w = v} h i x) {p = p} {w} e =
+    let a : q ≡ p = cc in
+    let b : v ≡ w = cc in
+    let l : at + 1 ≤ length s = omega arith in
+    let y = subst (λ (j : ℕ). ShortAt (trace (kindOf full j) s (at + 1)) q v) i x in
+    rw (← a, ← b) (y .0, later l (y .1))
+piece-short s (length48 b h q z) e = let z : _≡_ {A = ℕ} 0 1 = cc in absurd (omega arith)
+
 module _ (lent : Lent) (s : List ℕ) (model : ℕ) where
-  does-errs : (origin : Origin) (d : Deed) (t : Parsed) {kind at n : ℕ} → enact lent model origin d t ≡ halt (Length kind at n)
-      → ErredBy origin d kind at n
-  unfolding enact pend endGroup openLoop closeLoop
-  does-errs origin (adding only48 ds) t e =
-      never-errs (either (HaltsBy tonesFull blocksFull) (only48 && not (eqb model 0)) goes (sounds-say lent origin ds t)) e
-  does-errs origin (groups from size) t e = never-errs goes e
-  does-errs origin (texts from size) t e = never-errs goes e
-  does-errs origin groupEnds t e = never-errs goes e
-  does-errs origin (opens n) t e = never-errs goes e
-  does-errs origin closes t e = never-errs (closed-says (lent .blocks) (t .body) t) e
-  does-errs origin panics t e = let z : _≡_ {A = ℕ} 0 1 = cc in absurd (omega arith)
-  does-errs origin (deed.errs m) t {kind} {at} {n} e =
-      let z : m ≡ n = cc in
-      let k : origin .kind ≡ kind = cc in
-      let p : origin .place ≡ at = cc in
-      record { deed = ap deed.errs z; kind = sym k; place = sym p }
-
-  general-calm : (g : GeneralizedData) (x : general.Given) → erring (generalDeed g x) ≡ false
-  unfolding generalDeed erring
-  general-calm g general.refused4 = refl
-  general-calm g general.stop = refl
-  general-calm g (general.plain ts nil one last) = refl
-  general-calm g (general.toned ts) = refl
-
-  deed-errs : (p : Piece) (n : ℕ) → deedOf s p ≡ deed.errs n → erring (deedOf s p) ≡ true → ErringPiece p n
-  unfolding deedOf erring stop48Deed
-  deed-errs (Standard pause from size) n q e = calm e
-  deed-errs (Turbo d) n q e = calm e
-  deed-errs (PureTone half count) n q e = calm e
-  deed-errs (Pulses count from) n q e = calm e
-  deed-errs (Pure nil one last pause from size) n q e = calm e
-  deed-errs (Generalized g) n q e = calm (sym (general-calm g (general.generalOf s g)) ∙ e)
-  deed-errs (Pause ms) n q e = calm e
-  deed-errs (GroupStart from size) n q e = calm e
-  deed-errs GroupEnd n q e = calm e
-  deed-errs (LoopStart times) n q e = calm e
-  deed-errs LoopEnd n q e = calm e
-  deed-errs (Stop48 m) n q e = of (eqb m 0) refl q e
+  -- WHAT A READING PASSES IS ALL THERE, its kind byte too: a whole piece, or an unknown kind
+  pub passed-piece : (at next : ℕ) (does : Parsed → Out) → tzxSee lent s model at ≡ thing next does → AllThere (pieceTrace s at)
+  unfolding tzxSee tzxOf
+  passed-piece at next does e = of (cutAt s at full) refl e
     where
-      of : (z : Bool) → eqb m 0 ≡ z → (z ⇒ adds48 (stopSound ∷ []) ∣ deed.errs m) ≡ deed.errs n
-          → erring (z ⇒ adds48 (stopSound ∷ []) ∣ deed.errs m) ≡ true → ErringPiece (Stop48 m) n
-      of true y x f = calm f
-      of false y x f =
-          let i : m ≡ n = cc in
-          let j : m ≡ 0 → ⊥ = eqb-false m 0 y in
-          record { piece = ap Stop48 i; length = above (λ h. j (i ∙ h)) }
-  deed-errs (Text from size) n q e = calm e
-  deed-errs Message n q e = calm e
-  deed-errs Archive n q e = calm e
-  deed-errs Hardware n q e = calm e
-  deed-errs Custom n q e = calm e
-  deed-errs Glue n q e = calm e
+      of : (c : Taken) → cutAt s at full ≡ c → tzxOf lent s model at c ≡ thing next does
+          → AllThere (pieceTrace s at)
+      of taken.End q x = let z : _≡_ {A = ℕ} 0 1 = cc in absurd (omega arith)
+      of (taken.Whole kind from m piece) q x =
+          let h : at + 1 ≤ length s = omega (arith, cut-inside s at full q) in
+          cons h (subst (λ (k : ℕ). AllThere (trace (kindOf full k) s (at + 1))) (cut-kind s at full q) (whole-there s at full q))
+      of (taken.Unknown kind described) q x =
+          let i = unknown-kind s at full q in
+          let h : at + 1 ≤ length s = omega (arith, i .0) in
+          cons h (subst (λ (k : ℕ). AllThere (trace (kindOf full k) s (at + 1))) (i .1) (unknown-there s at full q))
+      of (taken.Short kind p w) q x = let z : _≡_ {A = ℕ} 0 1 = cc in absurd (omega arith)
+      of (taken.Overflow kind p) q x = let z : _≡_ {A = ℕ} 0 1 = cc in absurd (omega arith)
 
-  act-errs : (origin : Origin) (p : Piece) (t : Parsed) {kind at n : ℕ} → act lent s model origin p t ≡ halt (Length kind at n)
-      → ErringPiece p n × ErredBy origin (deedOf s p) kind at n
-  unfolding act erring
-  act-errs origin p t {n = n} e =
-      let x = does-errs origin (deedOf s p) t e in (deed-errs p n (x .deed) (ap erring (x .deed)), x)
+  -- and so are the fields of its kind
+  pub passed-there : (at next : ℕ) (does : Parsed → Out) → tzxSee lent s model at ≡ thing next does
+      → AllThere (trace (kindOf full (getD s at 0)) s (at + 1))
+  passed-there at next does e = of (passed-piece at next does e)
+    where
+      of : {f : Field} {fs : List Field} → AllThere (f ∷ fs) → AllThere fs
+      of (cons h m) = m
+
+  -- THE FIELD THAT A TZX ATTEMPT TELLS IS THE FIRST OF THE WHOLE ATTEMPT that is not all there: behind the head, in reading order
+  pub told-first : {kind at p w : ℕ} (h : ByTzx lent s model (λ from t. PieceMet s (failure.ShortPiece kind at p w) from))
+      → ShortAt (headTrace s ++ attemptTrace (pieceTrace s) (h .1)) p w
+  told-first h =
+      let x = attempt-first (pieceTrace s) passed-piece (λ from t m. piece-short s m refl) (h .1) in
+      (x .0, behind (headed-there s (h .0)) (x .1))
 
   -- what errs at a place
   bad-met : (at : ℕ) (f : Failure) → tzxSee lent s model at ≡ bad f → PieceMet s f at
@@ -201,13 +179,12 @@ module _ (lent : Lent) (s : List ℕ) (model : ℕ) where
   thing-met : (at next : ℕ) (does : Parsed → Out) (t : Parsed) {kind from n : ℕ} → Thing lent s model at next does
       → does t ≡ halt (Length kind from n) → PieceMet s (failure.Length kind from n) at
   thing-met at next does t {kind} {from} {n} (whole {kind = k} {from = p} {piece = piece} q x) y =
-      let a = act-errs (originAt k p) piece t (ap (λ (h : Parsed → Out). h t) (sym x) ∙ y) in
-      let i : p ≡ at = cut-from s at q in
-      let g : cutAt s at full ≡ taken.Whole k at next (Stop48 n) =
-      q ∙ ap (λ (b : ℕ). taken.Whole k b next piece) i ∙ ap (λ (z : Piece). taken.Whole k at next z) (a .0 .piece) in
-      let m : PieceMet s (failure.Length k at n) at = length48 g (a .0 .length) in
+      let a = act-errs lent s model (originAt k p) piece t (ap (λ (h : Parsed → Out). h t) (sym x) ∙ y) in
+      let c = q ∙ ap (λ (z : Piece). taken.Whole k p next z) (a .piece) in
+      let i = cut-stop s at full c in
+      let m = length48 (sym (cut-kind s at full c) ∙ i .0) (i .1 .1 .1) (i .1 .0) (above (a .length)) in
       subst (λ (z : Failure). PieceMet s z at)
-      (ap (λ (b : ℕ). failure.Length b at n) (sym (a .1 .kind)) ∙ ap (λ (b : ℕ). failure.Length kind b n) (sym (a .1 .place ∙ i))) m
+      (ap (λ (b : ℕ). failure.Length b at n) (sym (a .kind ∙ i .0)) ∙ ap (λ (b : ℕ). failure.Length kind b n) (sym (a .place ∙ cut-from s at q))) m
   thing-met at next does t (skip q x) y =
       let u = ap (λ (h : Parsed → Out). h t) (sym x) ∙ y in let z : _≡_ {A = ℕ} 0 1 = cc in absurd (omega arith)
 
@@ -224,8 +201,9 @@ module _ (lent : Lent) (s : List ℕ) (model : ℕ) where
   unfolding tzxOf act deedOf stop48Deed enact halted
   met-due (field-short {kind = kind} {at = at} {p = p} {w = w} h q x) =
       errs (tzx-sees lent s model at (sym (cut-first s at full kind p w .1 (h, (q, x)))))
-  met-due {t = t} (length48 {kind = kind} {at = at} {n = n} q h) =
-      answers {k = Length kind at n} {t = t} (sees-piece lent s model at (sym q)) (rw (ne-eqb n 0 (λ e. omega arith)))
+  met-due {t = t} (length48 {at = at} {n = n} b h e z) =
+      let c = stop-cut s at full b h ∙ ap (λ (m : ℕ). taken.Whole 0x2A at (at + 5) (Stop48 m)) (sym e) in
+      answers {k = Length 0x2A at n} {t = t} (sees-piece lent s model at (sym c)) (rw (ne-eqb n 0 (λ q. omega arith)))
 
   run : (f : Failure) → (foldFrom (tzxSee lent s model) (length s) 10 empty ≡ failed f)
       ↔ Comes (tzxSee lent s model) (λ at t. PieceMet s f at) 10 empty
@@ -267,6 +245,25 @@ module _ (lent : Lent) (s : List ℕ) where
           let y = tap-first s at p w .0 q in
           let b = tap-place s at q in
           subst (λ (g : Failure). BlockMet s g at) z (data-short (y .0) (b .0) (b .1) (y .1))
+
+  -- WHAT A READING PASSES IS ALL THERE: a block of a TAP
+  pub tap-passed-there : (at next : ℕ) (does : Parsed → Out) → tapSee lent s at ≡ thing next does → AllThere (tapTrace s at)
+  unfolding tapSee tapOf
+  tap-passed-there at next does e = of (tapAt s at) refl e
+    where
+      of : (c : TakenTap) → tapAt s at ≡ c → tapOf lent s at c ≡ thing next does → AllThere (tapTrace s at)
+      of tap.End q x = let z : _≡_ {A = ℕ} 0 1 = cc in absurd (omega arith)
+      of tap.Lone q x = let z : _≡_ {A = ℕ} 0 1 = cc in absurd (omega arith)
+      of (tap.Block from size m) q x = tap-there-all s at q
+      of (tap.Short p w) q x = let z : _≡_ {A = ℕ} 0 1 = cc in absurd (omega arith)
+
+  block-short : {f : Failure} {at : ℕ} → BlockMet s f at → {p w : ℕ} → f ≡ failure.Short p w → ShortAt (tapTrace s at) p w
+  block-short (data-short {p = q} {w = v} h a b x) {p} {w} e =
+      let i : q ≡ p = cc in let j : v ≡ w = cc in rw (← i, ← j) (length s, x)
+
+  -- THE FIELD THAT A TAP ATTEMPT TELLS IS THE FIRST OF THE WHOLE ATTEMPT that is not all there
+  pub tap-told-first : {p w : ℕ} (c : TapMet lent s (failure.Short p w)) → ShortAt (attemptTrace (tapTrace s) c) p w
+  tap-told-first c = attempt-first (tapTrace s) tap-passed-there (λ at t m. block-short m refl) c
 
   -- a block of a TAP does not err by what it adds
   tap-thing : (at next : ℕ) (does : Parsed → Out) (t : Parsed) {kind from n : ℕ} → tapSee lent s at ≡ thing next does

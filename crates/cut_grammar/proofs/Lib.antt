@@ -8,4 +8,6 @@ pub mod Stops
 pub mod CuttingTap
 pub mod Turns
 pub mod First
+pub mod FirstEnds
+pub mod FirstHeads
 pub mod Examples

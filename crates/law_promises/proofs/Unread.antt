@@ -27,7 +27,8 @@ use Rattle.cut_grammar.specs.Trace.{Field, trace, headTrace, tapTrace, FirstSho
 use Rattle.cut_grammar.specs.Trace.{nil as no-field, cons}
 use Rattle.cut_grammar.proofs.Cutting.{cut-there, cut-inside, cut-kind}
 use Rattle.cut_grammar.proofs.Stops.{cut-stop, stop-cut}
-use Rattle.cut_grammar.proofs.First.{cut-first, head-first, tap-first, tap-place, whole-there, unknown-kind, unknown-there, tap-there-all}
+use Rattle.cut_grammar.proofs.First.{cut-first, whole-there, unknown-kind, unknown-there}
+use Rattle.cut_grammar.proofs.FirstHeads.{head-first, tap-first, tap-place, tap-there-all}
 use Rattle.load_state.specs.declared.Halt.{Halt}
 use Rattle.load_state.specs.declared.Halt.the-variants.{Refusal, Length}
 use Rattle.load_state.specs.Parser.{Parsed, Out, no as halt, empty}

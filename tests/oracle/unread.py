@@ -1,7 +1,8 @@
 #!/usr/bin/env python3
 """Makes the tapes of which `gate_unread` says in the gate how they are read, or why not, and what it has to say.
 
-    tests/oracle/unread.py ORACLE OUT        ORACLE has the oracle's `build` and `corpus.py`; OUT gets `stdin` and `stdout` (crates/gate_unread)
+    tests/oracle/unread.py ORACLE OUT [N]    ORACLE has the oracle's `build` and `corpus.py`; OUT gets `stdin` and `stdout` (crates/gate_unread); N tapes are
+                                             generated, 900 for the gate, of which long ones are left out
     tests/oracle/unread.py one MODEL FILE    the answer for a file, without the oracle: refusals 5 to 7 are not seen, 4 only where bits overflow; MODEL is 4, 1 or 3
 
 That a tape is read, or the number that refuses it, is the Rust's answer. Where the bytes ran out the Rust doesn't say: that is from a second cutter, written
@@ -415,7 +416,7 @@ def inside(tape, tzx, tap):
     return within
 
 
-def main(home, out):
+def main(home, out, generate=GENERATED):
     check_rows()
     records, answers, tally, kinds, more = [], [], Counter(), Counter(), Counter()
     with tempfile.TemporaryDirectory() as folder:
@@ -440,7 +441,7 @@ def main(home, out):
 
         for tape, _, _ in ROWS:
             add(tape, 0)
-        generated = [tape for tape in oracle.corpus(2026, GENERATED) if len(tape) <= LONGEST_GENERATED]
+        generated = [tape for tape in oracle.corpus(2026, int(generate)) if len(tape) <= LONGEST_GENERATED]
         sorts = [each_kind_cut(), damaged(), lengths(), archives(), generalised_cut(), overflows(), panics(), stops48(), signatures(), taps()]
         sorts += [fallbacks(), tables_full(), too_many_bits(), generated]
         for sort in sorts:
@@ -470,7 +471,7 @@ def one(model, path):
 if __name__ == "__main__":
     if len(sys.argv) == 4 and sys.argv[1] == "one":
         sys.stdout.write(one(*sys.argv[2:]))
-    elif len(sys.argv) == 3:
-        main(sys.argv[1], sys.argv[2])
+    elif len(sys.argv) in (3, 4):
+        main(*sys.argv[1:])
     else:
         sys.exit(__doc__)

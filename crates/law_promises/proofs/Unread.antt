@@ -359,6 +359,24 @@ module _ (lent : Lent) (s : List ℕ) (model : ℕ) where
       let z = tap-met lent s g in
       (λ e. let h = x .0 e in (h .0, (y .0 (h .1 .0), z .0 (h .1 .1))), λ h. x .1 (h .0, (y .1 (h .1 .0), z .1 (h .1 .1))))
 
+  -- so a short field of a piece that a load tells is the first of the whole attempt, and a TAP's is the first of that one
+  pub load-told-first : {kind at p w : ℕ} {g : Failure} → answerOf (loadNamed lent s model) ≡ Unread (failure.ShortPiece kind at p w) g
+      → (h : ByTzx lent s model (λ from t. PieceMet s (failure.ShortPiece kind at p w) from))
+      × ShortAt (headTrace s ++ attemptTrace (pieceTrace s) (h .1)) p w
+  load-told-first {kind} {at} {p} {w} {g} e = of (unread-met (failure.ShortPiece kind at p w) g .0 e .1 .0) refl
+    where
+      of : {f : Failure} → TzxMet lent s model f → f ≡ failure.ShortPiece kind at p w
+          → (h : ByTzx lent s model (λ from t. PieceMet s (failure.ShortPiece kind at p w) from))
+          × ShortAt (headTrace s ++ attemptTrace (pieceTrace s) (h .1)) p w
+      of (head-short x) q = let z : _≡_ {A = ℕ} 0 1 = cc in absurd (omega arith)
+      of (head-other x y) q = let z : _≡_ {A = ℕ} 0 1 = cc in absurd (omega arith)
+      of (at-piece {f = f} x) q =
+          let h = subst (λ (c : Failure). ByTzx lent s model (λ from t. PieceMet s c from)) q x in (h, told-first lent s model h)
+
+  pub load-told-first-tap : {p w : ℕ} {f : Failure} → answerOf (loadNamed lent s model) ≡ Unread f (failure.Short p w)
+      → (c : TapMet lent s (failure.Short p w)) × ShortAt (attemptTrace (tapTrace s) c) p w
+  load-told-first-tap {p} {w} {f} e = let c = unread-met f (failure.Short p w) .0 e .1 .1 in (c, tap-told-first lent s c)
+
   -- 3 is never given without it
   pub three-unread : answerOf (loadNamed lent s model) ≡ Refused tapeBad → ⊥
   unfolding loadNamed

@@ -1,18 +1,16 @@
 -- The queries of a mounted tape (rules 28, 30, 31, 36, 112). Definitions alone; assumes nothing.
-use Prim.Native.Nat.{ℕ, zero, suc}
-use mathlib.Core.Bool.{_&&_}
+use Prim.Native.Nat.{ℕ, zero, suc, _+_}
+use mathlib.Core.Bool.{Bool, true, _&&_, _||_}
 use mathlib.Core.List.{List}
 use mathlib.Core.Path.{_≡_}
 use lib.Dec.{ltb, leb, eqb}
 use lib.ListN.{length}
 use Rattle.law_base.specs.Rules.{_⇒_, _∣_}
 use Rattle.refusals.specs.Refusals.{noBlock, noRoom, badRow}
-use Rattle.law_pulses.specs.Play.{comesTo}
-use Rattle.law_pulses.specs.Source.{isEnded}
 use Rattle.text_out.specs.Out.{fits, told}
-use Rattle.play_entries.specs.Entries.{entriesOf, lastsOf}
-use Rattle.play_entries.specs.Places.{Tape, blockIn, listFrom, loadTime}
-use Rattle.play_entries.specs.Mounted.{overfull, wellRow, formed}
+use Rattle.play_entries.specs.Places.{Tape, blockIn}
+use Rattle.play_entries.specs.Stored.{rowLasts, rowsTime}
+use Rattle.play_entries.specs.Mounted.{overfull, wellRow}
 use Rattle.text_name.specs.Names.{nameOf}
 use Rattle.ask.specs.declared.Number.{Number}
 use Rattle.ask.specs.declared.Number.the-variants as number
@@ -63,9 +61,9 @@ sizeOf w i = numberUnless (refusalOf w i) (number.Is (blockIn w i .size))
 unfoldable pub selectableOf : Tape → ℕ → Mark
 selectableOf w i = markUnless (refusalOf w i) (mark.Is (eqb (blockIn w i .selectable) 1))
 
--- its T-states with its pause, or that it never ends
+-- its T-states with its pause, or that it never ends, by its row's words
 unfoldable pub timeOf : Tape → ℕ → Time
-timeOf w i = timeUnless (refusalOf w i) (lasting.Lasts (lastsOf (entriesOf (w .bytes) (w .tones) i (blockIn w i))))
+timeOf w i = timeUnless (refusalOf w i) (lasting.Lasts (rowLasts (blockIn w i)))
 
 -- its name, as text
 abbrev pub nameIn : Tape → ℕ → List ℕ
@@ -82,15 +80,16 @@ nameAnswer w i out = numberUnless (refusalOf w i) (lengthOrNoRoom (nameIn w i) o
 unfoldable pub nameBytes : Tape → ℕ → List ℕ → List ℕ
 nameBytes w i out = eqb (refusalOf w i) 0 ⇒ told (nameIn w i) out ∣ out
 
--- LOADING TIME. Of the rows up to and including the first stop each is needed, also behind the last pulse, and none beyond:
--- v is the tape up to the first row that is not well formed, and a list that ends where v is cut has come to that row
-unfoldable pub loadingIn : Tape → Tape → Number
-loadingIn w v =
-    (isEnded (comesTo (listFrom v 0)) && ltb (v .count) (w .count)) ⇒ number.Refused badRow
-    ∣ number.Is (loadTime v)
+-- LOADING TIME, by the rows' words. Of the n rows from block b on those up to and including the first stop are needed, also behind the last sound
+unfoldable pub wellToStop : Tape → ℕ → ℕ → Bool
+wellToStop w b zero = true
+wellToStop w b (suc n) = wellRow w b && (eqb (blockIn w b .endless) 1 || wellToStop w (b + 1) n)
 
 unfoldable pub loadingOf : Tape → Number
-loadingOf w = overfull w ⇒ number.Refused badRow ∣ loadingIn w (formed w 0)
+loadingOf w =
+    overfull w ⇒ number.Refused badRow
+    ∣ wellToStop w 0 (w .count) ⇒ number.Is (rowsTime w)
+    ∣ number.Refused badRow
 
 -- the number for no (rule 20) is 0 in each answer, but for a name's where the lent bytes are shorter than it: 10
 pub record EachAnswered (w : Tape) (i : ℕ) : Type 0 where

@@ -5,6 +5,7 @@ mod naming;
 pub use loading::loading_time;
 pub use naming::block_name;
 use play_entries::Duration;
+use play_loading::row_lasts;
 use play_phases::row_well;
 use refusals::BAD_ROW;
 use refusals::NO_BLOCK;
@@ -95,7 +96,7 @@ pub fn block_selectable(tape: &[u8], tones: &[u64], blocks: &[u64], count: u64, 
     Mark::Is(r.selectable == 1)
 }
 
-// Its T-states with its pause, or that it never ends.
+// Its T-states with its pause by its row's words, or that it never ends.
 pub fn block_time(tape: &[u8], tones: &[u64], blocks: &[u64], count: u64, i: u64) -> Time
     ensures { λ r. ⌜ r ≡ timeOf (tapeOf (now (tape .entry)) (now (tones .entry)) (now (blocks .entry)) count) i ⌝ }
 {
@@ -104,5 +105,5 @@ pub fn block_time(tape: &[u8], tones: &[u64], blocks: &[u64], count: u64, i: u64
         return Time::Refused(k);
     }
     let r = block_at(blocks, i as usize);
-    Time::Lasts(play_times::block_time(tape, tones, r))
+    Time::Lasts(row_lasts(r))
 }

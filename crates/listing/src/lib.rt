@@ -12,7 +12,8 @@ use text_out::put;
 use text_out::put_all;
 use text_out::put_decimal;
 ghost use mathlib.Core.Path.{_≡_};
-ghost use Prim.Native.Nat.{_<_, _≤_};
+ghost use mathlib.Core.List.{List};
+ghost use Prim.Native.Nat.{ℕ, _<_, _≤_};
 ghost use lib.ListN.{length};
 ghost use Rattle.play_entries.specs.Mounted.{tapeOf};
 ghost use Rattle.text_out.specs.Out.{refusedLine};
@@ -22,52 +23,36 @@ ghost use Rattle.listing.specs.Printed.{printedOf, Says};
 ghost use Rattle.listing.specs.Listing.{text, listingOf, answerTo, bytesAfter};
 
 // Bytes that hold the text: where `len` are as many, its most, which is 576 a row; else its own length, by a dry run.
-fn enough(
-    len: usize,
-    model: u32,
-    format: Format,
-    tape: &[u8],
-    tones: &[u64],
-    blocks: &[u64],
-    n: u64,
-) -> usize
-    requires { ⌜ Ready (now tape) (now tones) (now blocks) n ⌝ }
-    ensures { λ k.
-        ⌜ length (listingText model format (tapeOf (now (tape .entry)) (now (tones .entry)) (now (blocks .entry)) n)) ≤ k ⌝ }
-    ensures { λ k. ⌜ (len < k
-        → k ≡ length (listingText model format (tapeOf (now (tape .entry)) (now (tones .entry)) (now (blocks .entry)) n))) ⌝ }
+fn enough(len: usize, model: u32, format: Format, tape: &[u8], blocks: &[u64], n: u64) -> usize
+    requires { ⌜ Ready (now tape) (now blocks) n ⌝ }
+    ensures { λ k. ⌜ ((tones : List ℕ)
+        → length (listingText model format (tapeOf (now (tape .entry)) tones (now (blocks .entry)) n)) ≤ k) ⌝ }
+    ensures { λ k. ⌜ ((tones : List ℕ) → len < k
+        → k ≡ length (listingText model format (tapeOf (now (tape .entry)) tones (now (blocks .entry)) n))) ⌝ }
 {
     let most = 77 + 576 * n as usize;
     if most <= len {
         return most;
     }
     let mut none = [0u8; 1];
-    put_listing(&mut none, model, format, tape, tones, blocks, n)
+    put_listing(&mut none, model, format, tape, blocks, n)
 }
 
 // The text where `out` has room for it, and its length; else 10, and no byte is written.
-fn tell(
-    out: &mut [u8],
-    model: u32,
-    format: Format,
-    tape: &[u8],
-    tones: &[u64],
-    blocks: &[u64],
-    n: u64,
-) -> u32
-    requires { ⌜ Ready (now tape) (now tones) (now blocks) n ⌝ }
-    ensures { λ r. ⌜ r
-        ≡ answerTo (text (listingText model format (tapeOf (now (tape .entry)) (now (tones .entry)) (now (blocks .entry)) n)))
-        (now (out .entry)) ⌝ }
-    ensures { λ _. ⌜ now (out .exit)
-        ≡ bytesAfter (text (listingText model format (tapeOf (now (tape .entry)) (now (tones .entry)) (now (blocks .entry)) n)))
-        (now (out .entry)) ⌝ }
+fn tell(out: &mut [u8], model: u32, format: Format, tape: &[u8], blocks: &[u64], n: u64) -> u32
+    requires { ⌜ Ready (now tape) (now blocks) n ⌝ }
+    ensures { λ r. ⌜ ((tones : List ℕ) → r
+        ≡ answerTo (text (listingText model format (tapeOf (now (tape .entry)) tones (now (blocks .entry)) n)))
+        (now (out .entry))) ⌝ }
+    ensures { λ _. ⌜ ((tones : List ℕ) → now (out .exit)
+        ≡ bytesAfter (text (listingText model format (tapeOf (now (tape .entry)) tones (now (blocks .entry)) n)))
+        (now (out .entry))) ⌝ }
 {
-    let k = enough(out.len(), model, format, tape, tones, blocks, n);
+    let k = enough(out.len(), model, format, tape, blocks, n);
     if out.len() < k {
         return NO_ROOM;
     }
-    put_listing(out, model, format, tape, tones, blocks, n) as u32
+    put_listing(out, model, format, tape, blocks, n) as u32
 }
 
 // The listing of a tape's bytes for a model; the text's length, or the refusal's number.
@@ -89,7 +74,7 @@ pub extern "C" fn glyvrask_listing(tape: &[u8], model: u32, out: &mut [u8]) -> u
             format,
             blocks: n,
             tones: _,
-        } => tell(out, model, format, tape, &tones, &blocks, n),
+        } => tell(out, model, format, tape, &blocks, n),
         Loaded::Unread { tzx: _, tap: _ } => TAPE_BAD,
         Loaded::Refused(k) => k,
     }

@@ -39,16 +39,16 @@ adds48 ds = adding true ds
 abbrev pub noDeed : Deed
 noDeed = adds []
 
--- THE INTERPRETER, for a piece of this origin
-unfoldable pub does : Lent → ℕ → Origin → Deed → Parsed → Out
-does lent model origin (adding only48 ds) t = (only48 && not (eqb model 0)) ⇒ on t ∣ addSounds lent origin ds t
-does lent model origin (groups from size) t = pend (First from size) t
-does lent model origin (texts from size) t = pend (Text from size) t
-does lent model origin groupEnds t = endGroup t
-does lent model origin (opens n) t = openLoop n t
-does lent model origin closes t = closeLoop (lent .blocks) t
-does lent model origin panics t = no (Refusal generalised)
-does lent model origin (errs n) t = no (Length (origin .kind) (origin .place) n)
+-- THE INTERPRETER, for a piece of this origin in the tape s
+unfoldable pub does : Lent → List ℕ → ℕ → Origin → Deed → Parsed → Out
+does lent s model origin (adding only48 ds) t = (only48 && not (eqb model 0)) ⇒ on t ∣ addSounds lent s origin ds t
+does lent s model origin (groups from size) t = pend (First from size) t
+does lent s model origin (texts from size) t = pend (Text from size) t
+does lent s model origin groupEnds t = endGroup t
+does lent s model origin (opens n) t = openLoop n t
+does lent s model origin closes t = closeLoop (lent .blocks) t
+does lent s model origin panics t = no (Refusal generalised)
+does lent s model origin (errs n) t = no (Length (origin .kind) (origin .place) n)
 
 -- the blocks of a deed
 unfoldable pub soundsOf : Deed → List Sound

@@ -4,6 +4,7 @@ use mathlib.Core.List.{List, [], _∷_}
 use lib.ListN.{length}
 use Rattle.rows.specs.declared.Block.{Block}
 use Rattle.rows.specs.declared.Tone.{Tone}
+use Rattle.play_entries.specs.Figures.{sounding}
 use Rattle.load_state.specs.Parser.{Parsed, Out, on, _⟫_}
 use Rattle.load_blocks.specs.declared.Origin.{Origin}
 use Rattle.load_blocks.specs.declared.Bits.{Bits}
@@ -58,15 +59,17 @@ rowFor origin tone tones bits ending selectable =
       sort = 0;
       level = 0;
       played = 0;
+      sound = 0;
     }
 
-unfoldable pub rowOf : Origin → Sound → ℕ → Block
-rowOf origin d tone = rowFor origin tone (length (d .tones)) (d .bits) (d .ending) (d .selectable)
+-- in the tape s, with what it sounds
+unfoldable pub rowOf : List ℕ → Origin → Sound → ℕ → Block
+rowOf s origin d tone = sounding s (d .tones) (rowFor origin tone (length (d .tones)) (d .bits) (d .ending) (d .selectable))
 
-module _ (lent : Lent) (origin : Origin) where
+module _ (lent : Lent) (s : List ℕ) (origin : Origin) where
   -- 5, then 6
   unfoldable pub addSound : Sound → Parsed → Out
-  addSound d t = addRows lent (d .tones) (rowOf origin d (length (t .tones))) t
+  addSound d t = addRows lent (d .tones) (rowOf s origin d (length (t .tones))) t
 
   unfoldable pub addSounds : List Sound → Parsed → Out
   addSounds [] t = on t

@@ -4,11 +4,15 @@ use load_state::State;
 use load_state::Step;
 use load_state::add_block;
 use load_state::add_tone;
+use play_times::data_figure;
+use play_times::tone_figure;
 use rows::Block;
 use rows::Tone;
+use rows::with_sound;
 ghost use mathlib.Core.Path.{_≡_};
 ghost use mathlib.Core.List.{List, [], _∷_};
 ghost use Prim.Native.Nat.{ℕ};
+ghost use Rattle.play_entries.specs.Figures.{sounding};
 ghost use Rattle.load_blocks.specs.Adds.{addRows};
 ghost use Rattle.load_blocks.specs.Sounds.{noBits, endsAfter, endsInStop, rowFor, addSound};
 ghost use Rattle.load_blocks.specs.Blocks.{standardHeader, standardCycles, standardPause, standardSound};
@@ -58,6 +62,7 @@ fn row(origin: Origin, tone: u64, tones: u64, bits: Bits, ending: Ending, select
         sort: 0,
         level: 0,
         played: 0,
+        sound: 0,
     }
 }
 
@@ -110,8 +115,8 @@ pub fn stop_row(origin: Origin, tone: u64) -> Block
     row(origin, tone, 0, no_bits(), ending, 1)
 }
 
-// One tone row and a block.
-pub fn one_tone(s: State, blocks: &mut [u64], tones: &mut [u64], a: Tone, r: Block) -> Step
+// One tone row, and a block that has its sound.
+fn put_one(s: State, blocks: &mut [u64], tones: &mut [u64], a: Tone, r: Block) -> Step
     ensures { λ x. ⌜ Does (λ lent. addRows lent (a ∷ []) r) s x (now (blocks .entry)) (now (tones .entry)) (now (blocks .exit))
         (now (tones .exit)) ⌝ }
 {
@@ -121,8 +126,36 @@ pub fn one_tone(s: State, blocks: &mut [u64], tones: &mut [u64], a: Tone, r: Blo
     }
 }
 
-// Two tone rows and a block.
+// Two tone rows, and a block that has its sound.
+fn put_two(s: State, blocks: &mut [u64], tones: &mut [u64], a: Tone, b: Tone, r: Block) -> Step
+    ensures { λ x. ⌜ Does (λ lent. addRows lent (a ∷ b ∷ []) r) s x (now (blocks .entry)) (now (tones .entry)) (now (blocks .exit))
+        (now (tones .exit)) ⌝ }
+{
+    match add_tone(s, tones, a) {
+        Step::On(next) => put_one(next, blocks, tones, b, r),
+        Step::No(k) => Step::No(k),
+    }
+}
+
+// One tone row and a block, with what both sound.
+pub fn one_tone(
+    tape: &[u8],
+    s: State,
+    blocks: &mut [u64],
+    tones: &mut [u64],
+    a: Tone,
+    r: Block,
+) -> Step
+    ensures { λ x. ⌜ Does (λ lent. addRows lent (a ∷ []) (sounding (now (tape .entry)) (a ∷ []) r)) s x (now (blocks .entry))
+        (now (tones .entry)) (now (blocks .exit)) (now (tones .exit)) ⌝ }
+{
+    let sound = tone_figure(r, a) + data_figure(tape, r);
+    put_one(s, blocks, tones, a, with_sound(sound, r))
+}
+
+// Two tone rows and a block, with what all sound.
 pub fn two_tones(
+    tape: &[u8],
     s: State,
     blocks: &mut [u64],
     tones: &mut [u64],
@@ -130,13 +163,11 @@ pub fn two_tones(
     b: Tone,
     r: Block,
 ) -> Step
-    ensures { λ x. ⌜ Does (λ lent. addRows lent (a ∷ b ∷ []) r) s x (now (blocks .entry)) (now (tones .entry)) (now (blocks .exit))
-        (now (tones .exit)) ⌝ }
+    ensures { λ x. ⌜ Does (λ lent. addRows lent (a ∷ b ∷ []) (sounding (now (tape .entry)) (a ∷ b ∷ []) r)) s x
+        (now (blocks .entry)) (now (tones .entry)) (now (blocks .exit)) (now (tones .exit)) ⌝ }
 {
-    match add_tone(s, tones, a) {
-        Step::On(next) => one_tone(next, blocks, tones, b, r),
-        Step::No(k) => Step::No(k),
-    }
+    let sound = tone_figure(r, a) + tone_figure(r, b) + data_figure(tape, r);
+    put_two(s, blocks, tones, a, b, with_sound(sound, r))
 }
 
 // Whether a standard block is a header.
@@ -162,6 +193,7 @@ fn standard_cycles(header: bool) -> u64
 
 // 10, and a block of a TAP.
 pub fn standard_data_block(
+    tape: &[u8],
     s: State,
     blocks: &mut [u64],
     tones: &mut [u64],
@@ -171,8 +203,8 @@ pub fn standard_data_block(
     size: u32,
     pause: u64,
 ) -> Step
-    ensures { λ x. ⌜ Does (λ lent. addSound lent origin (standardSound header start size pause)) s x (now (blocks .entry))
-        (now (tones .entry)) (now (blocks .exit)) (now (tones .exit)) ⌝ }
+    ensures { λ x. ⌜ Does (λ lent. addSound lent (now (tape .entry)) origin (standardSound header start size pause)) s x
+        (now (blocks .entry)) (now (tones .entry)) (now (blocks .exit)) (now (tones .exit)) ⌝ }
 {
     let pilot = Tone {
         num: standard_cycles(header),
@@ -194,7 +226,7 @@ pub fn standard_data_block(
         last: 8,
     };
     let r = data_row(origin, s.tones, 2, bits, pause);
-    two_tones(s, blocks, tones, pilot, sync, r)
+    two_tones(tape, s, blocks, tones, pilot, sync, r)
 }
 
 // A block without tone rows.

@@ -15,12 +15,20 @@ use load_state::State;
 use load_state::Step;
 use load_state::add_block;
 use load_stops::stop_block;
+use play_times::data_figure;
+use play_times::tones_figure;
 use refusals::GENERALISED;
 use refusals::TONES_FULL;
+use rows::Block;
 use rows::Tone;
+use rows::with_sound;
 ghost use mathlib.Core.Path.{_≡_};
+ghost use mathlib.Core.List.{List};
 ghost use Prim.Native.Nat.{ℕ, _+_, _*_, _≤_};
 ghost use lib.ListN.{length};
+ghost use Rattle.rows.specs.Table.{capacityOf};
+ghost use Rattle.rows.specs.Rows.{tone, toneMost};
+ghost use Rattle.play_entries.specs.Figures.{Owns, sounding};
 ghost use Rattle.load_general.specs.General.{generalOf};
 ghost use Rattle.load_general.specs.Held.{Held};
 ghost use Rattle.load_blocks.specs.Sounds.{addSounds};
@@ -48,7 +56,7 @@ pub fn pulse_blocks(
     n: u64,
 ) -> Step
     requires { ⌜ from + n * 4 ≤ length (now tape) ⌝ }
-    ensures { λ x. ⌜ Does (λ lent. addSounds lent origin (pairSounds (now (tape .entry)) from 0 n)) s0 x (now (blocks .entry))
+    ensures { λ x. ⌜ Does (λ lent. addSounds lent (now (tape .entry)) origin (pairSounds (now (tape .entry)) from 0 n)) s0 x (now (blocks .entry))
         (now (tones .entry)) (now (blocks .exit)) (now (tones .exit)) ⌝ }
 {
     let mut s = s0;
@@ -62,7 +70,7 @@ pub fn pulse_blocks(
             wave: 0,
         };
         let r = bare_row(origin, s.tones, 1, 0);
-        match one_tone(s, blocks, tones, pair, r) {
+        match one_tone(tape, s, blocks, tones, pair, r) {
             Step::On(next) => s = next,
             Step::No(k) => return Step::No(k),
         }
@@ -86,6 +94,15 @@ fn with_used(s: State, tones: u64) -> State
     }
 }
 
+// A row with what it sounds, its tone rows read back from the table; its callers know them to be lent.
+fn sounding(tape: &[u8], tones: &[u64], r: Block) -> Block
+    requires { ⌜ r .tone + r .tones ≤ capacityOf tone toneMost (now tones) ⌝ }
+    ensures { λ b. ⌜ ((ts : List Tone) → Owns (now (tones .entry)) r ts → b ≡ sounding (now (tape .entry)) ts r) ⌝ }
+{
+    let sound = tones_figure(tones, r) + data_figure(tape, r);
+    with_sound(sound, r)
+}
+
 // 19; its callers know the piece to be one of this tape.
 pub fn generalized_data_block(
     tape: &[u8],
@@ -97,7 +114,7 @@ pub fn generalized_data_block(
 ) -> Step
     requires { ⌜ Held (now tape) g ⌝ }
     ensures { λ x. ⌜ ((model : ℕ)
-        → Does (λ lent. does lent model origin (generalDeed g (generalOf (now (tape .entry)) g))) s x (now (blocks .entry))
+        → Does (λ lent. does lent (now (tape .entry)) model origin (generalDeed g (generalOf (now (tape .entry)) g))) s x (now (blocks .entry))
         (now (tones .entry)) (now (blocks .exit)) (now (tones .exit))) ⌝ }
 {
     match general(tape, g, tones, s.tones as usize) {
@@ -118,11 +135,19 @@ pub fn generalized_data_block(
                 last: last as u64,
             };
             let r = data_row(origin, s.tones, rows, bits, g.pause as u64 * 3500);
-            add_block(with_used(s, s.tones + rows), blocks, r)
+            add_block(
+                with_used(s, s.tones + rows),
+                blocks,
+                sounding(tape, tones, r),
+            )
         }
         Made::Tones { rows } => {
             let r = data_row(origin, s.tones, rows, no_bits(), g.pause as u64 * 3500);
-            add_block(with_used(s, s.tones + rows), blocks, r)
+            add_block(
+                with_used(s, s.tones + rows),
+                blocks,
+                sounding(tape, tones, r),
+            )
         }
     }
 }

@@ -30,7 +30,7 @@ use Rattle.load_source.specs.Meaning.{deedOf}
 
 -- what a piece of this origin does
 unfoldable pub act : Lent → List ℕ → ℕ → Origin → Piece → Parsed → Out
-act lent s model origin p t = does lent model origin (deedOf s p) t
+act lent s model origin p t = does lent s model origin (deedOf s p) t
 
 -- what stands at a place: the end; a failure; a refusal; or a thing, the place past it and what it does
 pub data See : Type 0 where
@@ -110,7 +110,7 @@ module _ (lent : Lent) (s : List ℕ) where
   tapOf at tap.Lone = theEnd
   tapOf at (tap.Block from size next) =
       let header = standardHeader s from size in
-      thing next (addSound lent (originAt tapKind at) (standardSound header from size (standardPause header)))
+      thing next (addSound lent s (originAt tapKind at) (standardSound header from size (standardPause header)))
   tapOf at (tap.Short p w) = bad (failure.Short p w)
 
   unfoldable pub tapSee : ℕ → See

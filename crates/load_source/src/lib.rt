@@ -89,10 +89,10 @@ pub fn act(
         Piece::Standard { pause, from, size } => {
             let header = is_header(tape, from, size);
             let pause = pause as u64 * 3500;
-            standard_data_block(s, blocks, tones, origin, header, from, size, pause)
+            standard_data_block(tape, s, blocks, tones, origin, header, from, size, pause)
         }
-        Piece::Turbo(d) => turbo_data_block(s, blocks, tones, origin, d),
-        Piece::Tone { half, count } => pure_tone_block(s, blocks, tones, origin, half, count),
+        Piece::Turbo(d) => turbo_data_block(tape, s, blocks, tones, origin, d),
+        Piece::Tone { half, count } => pure_tone_block(tape, s, blocks, tones, origin, half, count),
         Piece::Pulses { count, from } => {
             pulse_blocks(tape, s, blocks, tones, origin, from, (count / 2) as u64)
         }
@@ -111,7 +111,7 @@ pub fn act(
                 one: one as u64,
                 last: last as u64,
             };
-            pure_data_block(s, blocks, tones, origin, bits, pause)
+            pure_data_block(tape, s, blocks, tones, origin, bits, pause)
         }
         Piece::Generalized(g) => generalized_data_block(tape, s, blocks, tones, origin, g),
         Piece::Pause { ms } => pause_block(s, blocks, origin, ms),

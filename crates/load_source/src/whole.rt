@@ -101,7 +101,17 @@ pub fn read_tap(tape: &[u8], blocks: &mut [u64], tones: &mut [u64]) -> Reading
                     kind: TAP_KIND,
                     place: at,
                 };
-                match standard_data_block(s, blocks, tones, origin, header, from, size, pause) {
+                match standard_data_block(
+                    tape,
+                    s,
+                    blocks,
+                    tones,
+                    origin,
+                    header,
+                    from,
+                    size,
+                    pause,
+                ) {
                     Step::On(after) => {
                         s = after;
                         at = next;

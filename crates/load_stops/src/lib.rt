@@ -15,8 +15,8 @@ ghost use Rattle.load_blocks.specs.Does.{Does};
 
 // 20
 pub fn pause_block(s: State, blocks: &mut [u64], origin: Origin, pause: u32) -> Step
-    ensures { λ x. ⌜ ((tt : List ℕ)
-        → Does (λ lent. addSound lent origin (pauseSound pause)) s x (now (blocks .entry)) tt (now (blocks .exit)) tt) ⌝ }
+    ensures { λ x. ⌜ ((tape tt : List ℕ)
+        → Does (λ lent. addSound lent tape origin (pauseSound pause)) s x (now (blocks .entry)) tt (now (blocks .exit)) tt) ⌝ }
 {
     if pause == 0 {
         return no_tone(s, blocks, stop_row(origin, s.tones));
@@ -27,15 +27,15 @@ pub fn pause_block(s: State, blocks: &mut [u64], origin: Origin, pause: u32) -> 
 // A stop block.
 pub fn stop_block(s: State, blocks: &mut [u64], origin: Origin) -> Step
     ensures { λ x.
-        ⌜ ((tt : List ℕ) → Does (λ lent. addSound lent origin stopSound) s x (now (blocks .entry)) tt (now (blocks .exit)) tt) ⌝ }
+        ⌜ ((tape tt : List ℕ) → Does (λ lent. addSound lent tape origin stopSound) s x (now (blocks .entry)) tt (now (blocks .exit)) tt) ⌝ }
 {
     no_tone(s, blocks, stop_row(origin, s.tones))
 }
 
 // 2A of a length: an error but for 0; then a stop block on the 48K, nothing on the others.
 pub fn stop_on_48(model: u32, s: State, blocks: &mut [u64], origin: Origin, length: u32) -> Step
-    ensures { λ x. ⌜ ((tt : List ℕ)
-        → Does (λ lent. does lent model origin (stop48Deed length)) s x (now (blocks .entry)) tt (now (blocks .exit)) tt) ⌝ }
+    ensures { λ x. ⌜ ((tape tt : List ℕ)
+        → Does (λ lent. does lent tape model origin (stop48Deed length)) s x (now (blocks .entry)) tt (now (blocks .exit)) tt) ⌝ }
 {
     if length != 0 {
         return Step::No(Halt::Length {

@@ -15,13 +15,14 @@ ghost use Rattle.load_blocks.specs.Does.{Does};
 
 // 11
 pub fn turbo_data_block(
+    tape: &[u8],
     s: State,
     blocks: &mut [u64],
     tones: &mut [u64],
     origin: Origin,
     d: TurboData,
 ) -> Step
-    ensures { λ x. ⌜ Does (λ lent. addSound lent origin (turboSound d)) s x (now (blocks .entry)) (now (tones .entry))
+    ensures { λ x. ⌜ Does (λ lent. addSound lent (now (tape .entry)) origin (turboSound d)) s x (now (blocks .entry)) (now (tones .entry))
         (now (blocks .exit)) (now (tones .exit)) ⌝ }
 {
     let pilot = Tone {
@@ -44,11 +45,12 @@ pub fn turbo_data_block(
         last: d.last as u64,
     };
     let r = data_row(origin, s.tones, 2, bits, d.pause as u64 * 3500);
-    two_tones(s, blocks, tones, pilot, sync, r)
+    two_tones(tape, s, blocks, tones, pilot, sync, r)
 }
 
 // 14: `bits` are the row's, the pause is in ms.
 pub fn pure_data_block(
+    tape: &[u8],
     s: State,
     blocks: &mut [u64],
     tones: &mut [u64],
@@ -56,7 +58,7 @@ pub fn pure_data_block(
     bits: Bits,
     pause: u32,
 ) -> Step
-    ensures { λ x. ⌜ Does (λ lent. addSound lent origin (pureSound bits (ms pause))) s x (now (blocks .entry)) (now (tones .entry))
+    ensures { λ x. ⌜ Does (λ lent. addSound lent (now (tape .entry)) origin (pureSound bits (ms pause))) s x (now (blocks .entry)) (now (tones .entry))
         (now (blocks .exit)) (now (tones .exit)) ⌝ }
 {
     let pilot = Tone {
@@ -72,11 +74,12 @@ pub fn pure_data_block(
         wave: 0,
     };
     let r = data_row(origin, s.tones, 2, bits, pause as u64 * 3500);
-    two_tones(s, blocks, tones, pilot, sync, r)
+    two_tones(tape, s, blocks, tones, pilot, sync, r)
 }
 
 // 12
 pub fn pure_tone_block(
+    tape: &[u8],
     s: State,
     blocks: &mut [u64],
     tones: &mut [u64],
@@ -84,7 +87,7 @@ pub fn pure_tone_block(
     half: u32,
     count: u32,
 ) -> Step
-    ensures { λ x. ⌜ Does (λ lent. addSound lent origin (toneSound (pureToneTones half count))) s x (now (blocks .entry))
+    ensures { λ x. ⌜ Does (λ lent. addSound lent (now (tape .entry)) origin (toneSound (pureToneTones half count))) s x (now (blocks .entry))
         (now (tones .entry)) (now (blocks .exit)) (now (tones .exit)) ⌝ }
 {
     let whole = Tone {
@@ -95,7 +98,7 @@ pub fn pure_tone_block(
     };
     if count % 2 == 0 {
         let r = bare_row(origin, s.tones, 1, 0);
-        return one_tone(s, blocks, tones, whole, r);
+        return one_tone(tape, s, blocks, tones, whole, r);
     }
     let odd = Tone {
         num: 1,
@@ -104,5 +107,5 @@ pub fn pure_tone_block(
         wave: 0,
     };
     let r = bare_row(origin, s.tones, 2, 0);
-    two_tones(s, blocks, tones, odd, whole, r)
+    two_tones(tape, s, blocks, tones, odd, whole, r)
 }

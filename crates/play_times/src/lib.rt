@@ -1,43 +1,49 @@
-// The times of tones, data and blocks, each a step a tone row and a data byte.
-use play_entries::Duration;
+// The times of tones and data, each a step a tone row and a data byte: what a row sounds, which a load writes in it.
 use play_phases::bits_at;
 use play_phases::cycle_time;
 use play_phases::cycles_of;
 use play_phases::row_tone;
+use play_phases::size_of;
 use rows::Block;
 use rows::Tone;
+use rows_well::numbers_well;
+use rows_well::ranges;
+use rows_well::tone_well;
 ghost use mathlib.Core.Path.{_≡_};
 ghost use mathlib.Core.Bool.{true};
 ghost use mathlib.Core.List.{List};
-ghost use Prim.Native.Nat.{ℕ, _+_, _^_, _<_, _≤_};
+ghost use Prim.Native.Nat.{ℕ, _+_, _<_, _≤_};
 ghost use lib.ListN.{length};
 ghost use Rattle.law_pulses.specs.Play.{Level, time};
 ghost use Rattle.law_pulses.specs.Runs.{run};
 ghost use Rattle.rows.specs.Table.{capacityOf};
 ghost use Rattle.rows.specs.Rows.{tone, toneMost};
-ghost use Rattle.rows.specs.Well.{wellTone, wellTones, wellNumbers, wellBlock};
-ghost use Rattle.play_entries.specs.Entries.{toneOf, tonesOf, bitEntries, byteEntries, dataOf, soundOf, entriesOf, lastsOf};
-ghost use Rattle.play_entries.specs.Mounted.{tapeSize};
+ghost use Rattle.rows.specs.Well.{wellNumbers};
+ghost use Rattle.play_entries.specs.Entries.{bitEntries, byteEntries};
 ghost use Rattle.play_entries.specs.Counted.{onesFrom, bitsTime};
+ghost use Rattle.play_entries.specs.Figures.{toneFigure, tonesFigure, dataFigure, Owns};
 
-// T-states of a tone row, which its callers know to be well formed.
-pub fn tone_time(r: Block, t: Tone) -> u64
-    requires { ⌜ wellTone t ≡ true ⌝ }
-    ensures { λ n. ⌜ ((b i : ℕ) (v : ℕ → Level) → n ≡ time (toneOf b i r t v)) ⌝ }
+// T-states of a tone row; 0 for one that isn't well formed.
+pub fn tone_figure(r: Block, t: Tone) -> u64
+    ensures { λ n. ⌜ n ≡ toneFigure r t ⌝ }
+    ensures { λ n. ⌜ n ≤ 8589672450 ⌝ }
 {
+    if !tone_well(t) {
+        return 0;
+    }
     cycles_of(r, t) * cycle_time(r, t)
 }
 
-// T-states of a block's tone rows, which its callers know to be lent and well formed.
-pub fn tones_time(tones: &[u64], r: Block) -> u64
+// T-states of a block's tone rows, which its callers know to be lent.
+pub fn tones_figure(tones: &[u64], r: Block) -> u64
     requires { ⌜ r .tone + r .tones ≤ capacityOf tone toneMost (now tones) ⌝ }
-    requires { ⌜ wellTones (now tones) (r .tone) (r .tones) ≡ true ⌝ }
-    ensures { λ t. ⌜ ((b : ℕ) → t ≡ time (tonesOf (now (tones .entry)) b r)) ⌝ }
+    ensures { λ n. ⌜ ((ts : List Tone) → Owns (now (tones .entry)) r ts → n ≡ tonesFigure r ts) ⌝ }
+    ensures { λ n. ⌜ n ≤ 562932773683200 ⌝ }
 {
     let mut sum = 0;
     let mut i = 0;
     while i < r.tones {
-        sum += tone_time(r, row_tone(tones, r, i));
+        sum += tone_figure(r, row_tone(tones, r, i));
         i += 1;
     }
     sum
@@ -86,44 +92,20 @@ fn ones(tape: &[u8], from: u64, n: u64) -> u32
     sum
 }
 
-// T-states of a block's data, which its callers know to lie in the tape and to be within its limit, in a row whose numbers are well formed.
-pub fn data_time(tape: &[u8], r: Block) -> u64
-    requires { ⌜ (r .start + r .size ≤ length (now tape)) × (r .size ≤ 1048576) ⌝ }
-    requires { ⌜ wellNumbers r ≡ true ⌝ }
-    ensures { λ t. ⌜ ((b : ℕ) (c : Level) → t ≡ time (dataOf (now (tape .entry)) b r c)) ⌝ }
+// T-states of a block's data; 0 where they aren't all in the tape, or the row's numbers aren't well formed.
+pub fn data_figure(tape: &[u8], r: Block) -> u64
+    ensures { λ n. ⌜ n ≡ dataFigure (now (tape .entry)) r ⌝ }
+    ensures { λ n. ⌜ n ≤ 1099494850560 ⌝ }
 {
     if r.size == 0 {
         return 0;
     }
+    if !ranges(r.start, r.size, size_of(tape)) {
+        return 0;
+    }
+    if !numbers_well(r) {
+        return 0;
+    }
     let last = r.size - 1;
     counted_time(ones(tape, r.start, last) as u64, 8 * last, r) + byte_time(tape, r, last)
-}
-
-// T-states of a block without its pause; its callers know the row to be well formed.
-pub fn sound_time(tape: &[u8], tones: &[u64], r: Block) -> u64
-    requires { ⌜ wellBlock (tapeSize (now tape)) (now tones) r ≡ true ⌝ }
-    ensures { λ t. ⌜ ((b : ℕ) → t ≡ time (soundOf (now (tape .entry)) (now (tones .entry)) b r)) ⌝ }
-{
-    tones_time(tones, r) + data_time(tape, r)
-}
-
-// What a row lasts by its sound's T-states: with its pause, or that it never ends; its callers know them to be those of a well-formed row.
-pub fn lasts(sound: u64, r: Block) -> Duration
-    requires { ⌜ (sound < 2 ^ 50) × (wellNumbers r ≡ true) ⌝ }
-    ensures { λ d. ⌜ ((tape tones : List ℕ) (b : ℕ) → sound ≡ time (soundOf tape tones b r)
-        → d ≡ lastsOf (entriesOf tape tones b r)) ⌝ }
-{
-    if r.endless == 1 {
-        Duration::Endless
-    } else {
-        Duration::T(sound + r.pause)
-    }
-}
-
-// T-states of a block with its pause, or that it never ends; its callers know the row to be well formed.
-pub fn block_time(tape: &[u8], tones: &[u64], r: Block) -> Duration
-    requires { ⌜ wellBlock (tapeSize (now tape)) (now tones) r ≡ true ⌝ }
-    ensures { λ d. ⌜ ((b : ℕ) → d ≡ lastsOf (entriesOf (now (tape .entry)) (now (tones .entry)) b r)) ⌝ }
-{
-    lasts(sound_time(tape, tones, r), r)
 }

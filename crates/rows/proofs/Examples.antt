@@ -51,7 +51,7 @@ blank-well = refl
 
 -- a block with 19 bytes of a tape of 20 and two tone rows; the table's third row is bad, its fourth broken
 abbrev row : List ℕ
-row = 0 ∷ 2 ∷ 1 ∷ 19 ∷ 855 ∷ 1710 ∷ 8 ∷ 3500000 ∷ 0 ∷ 1 ∷ 0 ∷ 0 ∷ 0 ∷ 0 ∷ 0 ∷ 0 ∷ []
+row = 0 ∷ 2 ∷ 1 ∷ 19 ∷ 855 ∷ 1710 ∷ 8 ∷ 3500000 ∷ 0 ∷ 1 ∷ 0 ∷ 0 ∷ 0 ∷ 0 ∷ 0 ∷ 0 ∷ 17484154 ∷ []
 
 abbrev table : List ℕ
 table = 65535 ∷ 65535 ∷ 65535 ∷ 0 ∷ 0 ∷ 0 ∷ 0 ∷ 0 ∷ 1 ∷ 1 ∷ 65536 ∷ 0 ∷ 1 ∷ []
@@ -94,6 +94,11 @@ blocks =
     ((13, 1) ∷ (14, 1) ∷ (15, 1) ∷ [], true) ∷
     ((14, 2) ∷ [], false) ∷
     ((15, 2) ∷ [], false) ∷
+    -- sound, of a stop too, whatever the list says
+    ((16, 1125899906842623) ∷ [], true) ∷
+    ((16, 1125899906842624) ∷ [], false) ∷
+    ((16, 1125899906842623) ∷ (8, 1) ∷ [], true) ∷
+    ((16, 1125899906842624) ∷ (8, 1) ∷ [], false) ∷
     -- data range
     ((3, 19) ∷ [], true) ∷
     ((3, 20) ∷ [], false) ∷

@@ -8,12 +8,12 @@ ghost use mathlib.Core.Path.{_≡_};
 ghost use Prim.Native.Nat.{_+_, _*_, _≤_};
 ghost use lib.ListN.{length};
 ghost use Rattle.rows.specs.Rows.{tone};
-ghost use Rattle.rows.specs.Well.{inside, wellTones, wellRanges, wellPause, wellLast, wellNumbers, wellLevels, wellCases, wellBlock};
+ghost use Rattle.rows.specs.Well.{inside, wellTones, wellRanges, wellPause, wellLast, wellNumbers, wellSound, wellLevels, wellCases, wellTone, wellBlock};
 ghost use Rattle.rows_well.specs.Seen.{unseen, seeingRow, seenFrom, wellSeen, steadySeen};
 ghost use Rattle.rows_well.specs.Words.{wellWords};
 
 // Whether `n` places from `from` on lie among the first `most`.
-fn ranges(from: u64, n: u64, most: u64) -> bool
+pub fn ranges(from: u64, n: u64, most: u64) -> bool
     ensures { λ b. ⌜ b ≡ inside from n most ⌝ }
 {
     from <= most && n <= most - from
@@ -81,6 +81,22 @@ pub fn seen_steady(s: Seen) -> bool
     s.words <= 65535 && s.lows <= 3
 }
 
+// Whether a tone row is well formed.
+pub fn tone_well(t: Tone) -> bool
+    ensures { λ b. ⌜ b ≡ wellTone t ⌝ }
+{
+    if 65535 < t.num {
+        return false;
+    }
+    if 65535 < t.len1 {
+        return false;
+    }
+    if 65535 < t.len2 {
+        return false;
+    }
+    t.wave <= 11
+}
+
 // Whether n tone rows from row `from` on are well formed; its callers know the rows to be lent.
 pub fn tones_well(tones: &[u64], from: u64, n: u64) -> bool
     requires { ⌜ (from + n) * tone .width ≤ length (now tones) ⌝ }
@@ -117,7 +133,7 @@ fn last_well(r: Block) -> bool
 }
 
 // Whether a block's numbers are within their limits.
-fn numbers_well(r: Block) -> bool
+pub fn numbers_well(r: Block) -> bool
     ensures { λ b. ⌜ b ≡ wellNumbers r ⌝ }
 {
     if 65535 < r.zero {
@@ -130,6 +146,13 @@ fn numbers_well(r: Block) -> bool
         return false;
     }
     last_well(r)
+}
+
+// Whether a block's sound is within its limit, 2 ^ 50.
+fn sound_well(r: Block) -> bool
+    ensures { λ b. ⌜ b ≡ wellSound r ⌝ }
+{
+    r.sound < 1125899906842624
 }
 
 // Whether a block's levels are 0 or 1.
@@ -166,6 +189,9 @@ pub fn words_well(tape: u64, tones: &[u64], r: Block) -> bool
         return false;
     }
     if !numbers_well(r) {
+        return false;
+    }
+    if !sound_well(r) {
         return false;
     }
     cases_well(r)

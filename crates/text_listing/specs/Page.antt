@@ -4,10 +4,13 @@ use mathlib.Core.List.{List, _++_}
 use lib.Dec.{eqb}
 use Rattle.law_base.specs.Rules.{_⇒_, _∣_}
 use Rattle.text_out.specs.Out.{ascii, decimal}
-use Rattle.play_entries.specs.Places.{Tape, loadTime}
+use Rattle.play_entries.specs.declared.Duration.{Duration}
+use Rattle.play_entries.specs.Entries.{entriesOf, lastsOf}
+use Rattle.play_entries.specs.Places.{Tape, blockIn, loadTime}
+use Rattle.play_entries.specs.Stored.{rowLasts, rowsTime}
 use Rattle.load_tape.specs.declared.Format.{Format}
 use Rattle.load_tape.specs.declared.Format.the-variants.{Tap, Tzx}
-use Rattle.text_listing.specs.Lines.{rowsText}
+use Rattle.text_listing.specs.Lines.{rowsTextBy}
 
 -- models print as 48K, 128K, Plus3
 unfoldable pub modelText : ℕ → List ℕ
@@ -28,13 +31,20 @@ countText format n =
     ++ ascii " blocks " ++ decimal n ++ ascii "\n"
 
 -- `time T`: the loading time
-unfoldable pub loadingText : Tape → List ℕ
-loadingText w = ascii "time " ++ decimal (loadTime w) ++ ascii "\n"
+unfoldable pub loadingText : ℕ → List ℕ
+loadingText time = ascii "time " ++ decimal time ++ ascii "\n"
 
--- what follows the model's name
-unfoldable pub restText : Format → Tape → List ℕ
-restText format w = countText format (w .count) ++ rowsText w (w .count) ++ loadingText w
+-- what follows the model's name: the T-states of each row and the loading time are handed in
+unfoldable pub restText : Format → (ℕ → Duration) → ℕ → Tape → List ℕ
+restText format lasts time w = countText format (w .count) ++ rowsTextBy lasts w (w .count) ++ loadingText time
 
--- THE TEXT
+-- THE TEXT, by the rows' own words
 unfoldable pub listingText : ℕ → Format → Tape → List ℕ
-listingText model format w = ascii "model " ++ modelText model ++ restText format w
+listingText model format w =
+    ascii "model " ++ modelText model ++ restText format (λ i. rowLasts (blockIn w i)) (rowsTime w) w
+
+-- and by the pulse list: what it is on every table that a load leaves
+unfoldable pub listedText : ℕ → Format → Tape → List ℕ
+listedText model format w =
+    ascii "model " ++ modelText model
+    ++ restText format (λ i. lastsOf (entriesOf (w .bytes) (w .tones) i (blockIn w i))) (loadTime w) w

@@ -7,8 +7,7 @@ use play_entries::Duration;
 use play_loading::Loading;
 use play_loading::none;
 use play_loading::one_more;
-use play_times::lasts;
-use play_times::sound_time;
+use play_loading::row_lasts;
 use rows::Block;
 use rows::block_at;
 use shown::put_shown;
@@ -16,13 +15,16 @@ use text_out::put;
 use text_out::put_decimal;
 use text_value::put_lasts;
 ghost use mathlib.Core.Path.{_≡_};
+ghost use mathlib.Core.List.{List};
 ghost use Prim.Native.Nat.{ℕ, _+_, _^_, _<_, _≤_};
 ghost use lib.ListN.{length};
 ghost use lib.Dec.{eqb};
 ghost use Rattle.text_out.specs.Out.{Wrote};
-ghost use Rattle.play_entries.specs.Places.{loadTime};
+ghost use Rattle.rows.specs.Table.{get};
+ghost use Rattle.rows.specs.Rows.{block};
+ghost use Rattle.play_entries.specs.Stored.{rowsTime};
 ghost use Rattle.play_entries.specs.Mounted.{tapeOf};
-ghost use Rattle.play_loading.specs.Sums.{Sums};
+ghost use Rattle.play_loading.specs.Sums.{oneMore};
 ghost use Rattle.text_name.specs.Names.{nameOf};
 ghost use Rattle.text_listing.specs.Shown.{shown};
 ghost use Rattle.text_listing.specs.Inner.{rowHeadText, rowTailText, ReadyRow, Ready};
@@ -86,45 +88,36 @@ fn put_tail(out: &mut [u8], at: usize, tape: &[u8], r: Block, d: Duration) -> us
     put(out, c, b'\n')
 }
 
-// The line of row i, which its callers know to be ready; the tape's count is no matter.
-fn put_row(out: &mut [u8], s: Told, tape: &[u8], tones: &[u64], blocks: &[u64], i: u64) -> Told
-    requires { ⌜ ReadyRow (now tape) (now tones) (now blocks) i ⌝ }
+// The line of row i, which its callers know to be ready; the tape's count and its tone rows are no matter.
+fn put_row(out: &mut [u8], s: Told, tape: &[u8], blocks: &[u64], i: u64) -> Told
+    requires { ⌜ ReadyRow (now tape) (now blocks) i ⌝ }
     requires { ⌜ (s .at + 1024 < 2 ^ 63) × (s .load .sum < 2 ^ 63) ⌝ }
-    ensures { λ q. ⌜ ((n : ℕ)
-        → Wrote (now (out .entry)) (s .at) (rowText (tapeOf (now (tape .entry)) (now (tones .entry)) (now (blocks .entry)) n) i)
+    ensures { λ q. ⌜ ((tones : List ℕ) (n : ℕ)
+        → Wrote (now (out .entry)) (s .at) (rowText (tapeOf (now (tape .entry)) tones (now (blocks .entry)) n) i)
         (now (out .exit)) (q .at)) ⌝ }
-    ensures { λ q. ⌜ ((n : ℕ) → i < n → Sums (tapeOf (now (tape .entry)) (now (tones .entry)) (now (blocks .entry)) n) i (s .load)
-        → Sums (tapeOf (now (tape .entry)) (now (tones .entry)) (now (blocks .entry)) n) (i + 1) (q .load)) ⌝ }
+    ensures { λ q. ⌜ q .load ≡ oneMore (s .load) (get block (now (blocks .entry)) i) ⌝ }
 {
     let r = block_at(blocks, i as usize);
-    let sound = sound_time(tape, tones, r);
     let a = put_head(out, s.at, i, r);
-    let b = put_tail(out, a, tape, r, lasts(sound, r));
+    let b = put_tail(out, a, tape, r, row_lasts(r));
     let l = s.load;
-    let load = one_more(l, sound, r);
+    let load = one_more(l, r);
     Told { at: b, load }
 }
 
 // The lines of the first n rows, and the loading time; our crates alone call it.
-pub fn put_rows(
-    out: &mut [u8],
-    at: usize,
-    tape: &[u8],
-    tones: &[u64],
-    blocks: &[u64],
-    n: u64,
-) -> Told
-    requires { ⌜ Ready (now tape) (now tones) (now blocks) n ⌝ }
+pub fn put_rows(out: &mut [u8], at: usize, tape: &[u8], blocks: &[u64], n: u64) -> Told
+    requires { ⌜ Ready (now tape) (now blocks) n ⌝ }
     requires { ⌜ at ≤ 1024 ⌝ }
-    ensures { λ q. ⌜ Wrote (now (out .entry))
-        at (rowsText (tapeOf (now (tape .entry)) (now (tones .entry)) (now (blocks .entry)) n) n) (now (out .exit)) (q .at) ⌝ }
-    ensures { λ q. ⌜ q .load .end ≡ loadTime (tapeOf (now (tape .entry)) (now (tones .entry)) (now (blocks .entry)) n) ⌝ }
+    ensures { λ q. ⌜ ((tones : List ℕ) → Wrote (now (out .entry))
+        at (rowsText (tapeOf (now (tape .entry)) tones (now (blocks .entry)) n) n) (now (out .exit)) (q .at)) ⌝ }
+    ensures { λ q. ⌜ ((tones : List ℕ) → q .load .end ≡ rowsTime (tapeOf (now (tape .entry)) tones (now (blocks .entry)) n)) ⌝ }
 {
     let load = none();
     let mut s = Told { at, load };
     let mut i = 0;
     while i < n {
-        s = put_row(out, s, tape, tones, blocks, i);
+        s = put_row(out, s, tape, blocks, i);
         i += 1;
     }
     s

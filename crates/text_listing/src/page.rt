@@ -4,7 +4,8 @@ use load_tape::Format;
 use text_out::put;
 use text_out::put_all;
 use text_out::put_decimal;
-ghost use Prim.Native.Nat.{_+_, _^_, _<_};
+ghost use mathlib.Core.List.{List};
+ghost use Prim.Native.Nat.{ℕ, _+_, _^_, _<_};
 ghost use Rattle.text_out.specs.Out.{Wrote};
 ghost use Rattle.play_entries.specs.Mounted.{tapeOf};
 ghost use Rattle.text_listing.specs.Inner.{Ready};
@@ -58,23 +59,22 @@ fn put_total(out: &mut [u8], at: usize, total: u64) -> usize
     put(out, b, b'\n')
 }
 
-// The whole text of rows that its callers know to be ready; our crates alone call it.
+// The whole text of rows that its callers know to be ready; no tone row is looked at. Our crates alone call it.
 pub fn put_listing(
     out: &mut [u8],
     model: u32,
     format: Format,
     tape: &[u8],
-    tones: &[u64],
     blocks: &[u64],
     n: u64,
 ) -> usize
-    requires { ⌜ Ready (now tape) (now tones) (now blocks) n ⌝ }
-    ensures { λ r. ⌜ Wrote (now (out .entry)) 0
-        (listingText model format (tapeOf (now (tape .entry)) (now (tones .entry)) (now (blocks .entry)) n)) (now (out .exit)) r ⌝ }
+    requires { ⌜ Ready (now tape) (now blocks) n ⌝ }
+    ensures { λ r. ⌜ ((tones : List ℕ) → Wrote (now (out .entry)) 0
+        (listingText model format (tapeOf (now (tape .entry)) tones (now (blocks .entry)) n)) (now (out .exit)) r) ⌝ }
 {
     let a = put_all(out, 0, b"model ");
     let b = put_model(out, a, model);
     let c = put_count(out, b, format, n);
-    let s = put_rows(out, c, tape, tones, blocks, n);
+    let s = put_rows(out, c, tape, blocks, n);
     put_total(out, s.at, s.load.end)
 }

@@ -17,7 +17,7 @@ use Rattle.play_entries.specs.Entries.{bitsAt, byteOf, byteAt, byteEntri
 use Rattle.play_entries.proofs.Runs.{bits-time, bytes-finite}
 
 -- bits of two lots
-bits-add : (r : Block) (k n j m : ℕ) → k ≤ n → j ≤ m → bitsTime r k n + bitsTime r j m ≡ bitsTime r (k + j) (n + m)
+pub bits-add : (r : Block) (k n j m : ℕ) → k ≤ n → j ≤ m → bitsTime r k n + bitsTime r j m ≡ bitsTime r (k + j) (n + m)
 bits-add r k n j m h l =
     let e : n + m - (k + j) ≡ n - k + (m - j) = omega arith in
     rw e (omega (arith, add-mul k j (r .one), add-mul (n - k) (m - j) (r .zero)))

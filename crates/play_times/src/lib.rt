@@ -19,7 +19,7 @@ ghost use Rattle.law_pulses.specs.Runs.{run};
 ghost use Rattle.rows.specs.Table.{capacityOf};
 ghost use Rattle.rows.specs.Rows.{tone, toneMost};
 ghost use Rattle.rows.specs.Well.{wellNumbers};
-ghost use Rattle.play_entries.specs.Entries.{bitEntries, byteEntries};
+ghost use Rattle.play_entries.specs.Entries.{bitEntries, byteEntries, dataOf};
 ghost use Rattle.play_entries.specs.Counted.{onesFrom, bitsTime};
 ghost use Rattle.play_entries.specs.Figures.{toneFigure, tonesFigure, dataFigure, Owns};
 
@@ -92,20 +92,29 @@ fn ones(tape: &[u8], from: u64, n: u64) -> u32
     sum
 }
 
-// T-states of a block's data; 0 where they aren't all in the tape, or the row's numbers aren't well formed.
-pub fn data_figure(tape: &[u8], r: Block) -> u64
-    ensures { λ n. ⌜ n ≡ dataFigure (now (tape .entry)) r ⌝ }
-    ensures { λ n. ⌜ n ≤ 1099494850560 ⌝ }
+// T-states of a block's data, which its callers know to lie in the tape and to be within its limit, in a row whose numbers are well formed.
+fn data_time(tape: &[u8], r: Block) -> u64
+    requires { ⌜ (r .start + r .size ≤ length (now tape)) × (r .size ≤ 1048576) ⌝ }
+    requires { ⌜ wellNumbers r ≡ true ⌝ }
+    ensures { λ t. ⌜ ((b : ℕ) (c : Level) → t ≡ time (dataOf (now (tape .entry)) b r c)) ⌝ }
 {
     if r.size == 0 {
         return 0;
     }
+    let last = r.size - 1;
+    counted_time(ones(tape, r.start, last) as u64, 8 * last, r) + byte_time(tape, r, last)
+}
+
+// The same of any row: 0 where its data aren't all in the tape, or its numbers aren't well formed.
+pub fn data_figure(tape: &[u8], r: Block) -> u64
+    ensures { λ n. ⌜ n ≡ dataFigure (now (tape .entry)) r ⌝ }
+    ensures { λ n. ⌜ n ≤ 1099494850560 ⌝ }
+{
     if !ranges(r.start, r.size, size_of(tape)) {
         return 0;
     }
     if !numbers_well(r) {
         return 0;
     }
-    let last = r.size - 1;
-    counted_time(ones(tape, r.start, last) as u64, 8 * last, r) + byte_time(tape, r, last)
+    data_time(tape, r)
 }

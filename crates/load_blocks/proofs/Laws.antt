@@ -7,6 +7,8 @@ use lib.ListN.{length}
 use borrow.Author.Tests.{le-leb}
 use Rattle.rows.specs.declared.Block.{Block}
 use Rattle.rows.specs.declared.Tone.{Tone}
+use Rattle.play_entries.specs.Figures.{sounding}
+use Rattle.play_entries.proofs.Figures.{sound-none}
 use Rattle.load_state.specs.declared.State.{State}
 use Rattle.load_state.specs.declared.Step.{Step}
 use Rattle.load_state.specs.Parser.{Parsed, Out, on, no, _⟫_, addTones, addBlock}
@@ -14,7 +16,8 @@ use Rattle.load_state.specs.Holds.{Holds, toneRoom, blockRoom}
 use Rattle.load_state.proofs.Laws.{chain-assoc, tones-append}
 use Rattle.load_blocks.specs.Adds.{Lent, addRows}
 use Rattle.load_blocks.specs.declared.Origin.{Origin}
-use Rattle.load_blocks.specs.Sounds.{Sound, rowOf, addSound, addSounds}
+use Rattle.load_blocks.specs.declared.Ending.{Ending}
+use Rattle.load_blocks.specs.Sounds.{Sound, noBits, rowFor, rowOf, addSound, addSounds}
 use Rattle.load_blocks.specs.Blocks.{pairSound, pairSounds}
 use Rattle.load_blocks.specs.Deeds.{adds, does}
 use Rattle.load_blocks.specs.Does.{lentOf, Does}
@@ -36,11 +39,33 @@ rows-more lent a ts r t =
     ∙ chain-assoc (addTones (lent .tones) (a ∷ []) t) (addTones (lent .tones) ts) (addBlock (lent .blocks) r)
 
 -- a row made of the state's count of tones is the row over the tape's tones
-pub does-sound : {s : State} {x : Step} {bt tt bt′ tt′ : List ℕ} {r : Block} (origin : Origin) (d : Sound)
-    → r ≡ rowOf origin d (s .tones)
-    → Does (λ lent. addRows lent (d .tones) r) s x bt tt bt′ tt′ → Does (λ lent. addSound lent origin d) s x bt tt bt′ tt′
+does-sound : {s : State} {x : Step} {bt tt bt′ tt′ : List ℕ} {r : Block} (tape : List ℕ) (origin : Origin) (d : Sound)
+    → r ≡ rowOf tape origin d (s .tones)
+    → Does (λ lent. addRows lent (d .tones) r) s x bt tt bt′ tt′ → Does (λ lent. addSound lent tape origin d) s x bt tt bt′ tt′
 unfolding addSound
-does-sound origin d e f B N t h = rw (← h .nt, ← e) (f B N t h)
+does-sound tape origin d e f B N t h = rw (← h .nt, ← e) (f B N t h)
+
+-- a row at birth, with what it sounds
+pub does-born : {s : State} {x : Step} {bt tt bt′ tt′ : List ℕ} {r : Block} (tape : List ℕ) (origin : Origin) (d : Sound)
+    → r ≡ rowFor origin (s .tones) (length (d .tones)) (d .bits) (d .ending) (d .selectable)
+    → Does (λ lent. addRows lent (d .tones) (sounding tape (d .tones) r)) s x bt tt bt′ tt′
+    → Does (λ lent. addSound lent tape origin d) s x bt tt bt′ tt′
+unfolding rowOf
+does-born tape origin d e = does-sound tape origin d (ap (sounding tape (d .tones)) e)
+
+-- a row of no tones and no data sounds nothing
+silent-row : (tape : List ℕ) (origin : Origin) (n mark : ℕ) (ending : Ending)
+    → rowFor origin n 0 noBits ending mark
+    ≡ rowOf tape origin (record { tones = []; bits = noBits; ending = ending; selectable = mark }) n
+unfolding rowOf
+silent-row tape origin n mark ending = rw (sound-none tape (rowFor origin n 0 noBits ending mark) refl)
+
+pub does-silent : {s : State} {x : Step} {bt tt bt′ tt′ : List ℕ} {r : Block} (tape : List ℕ) (origin : Origin) (ending : Ending) (mark : ℕ)
+    → r ≡ rowFor origin (s .tones) 0 noBits ending mark → Does (λ lent. addRows lent [] r) s x bt tt bt′ tt′
+    → Does (λ lent. addSound lent tape origin (record { tones = []; bits = noBits; ending = ending; selectable = mark })) s x bt tt bt′ tt′
+does-silent {s = s} tape origin ending mark e =
+    does-sound tape origin (record { tones = []; bits = noBits; ending = ending; selectable = mark })
+    (e ∙ silent-row tape origin (s .tones) mark ending)
 
 -- a step and nothing behind it is the step
 then-nothing : (o : Out) → o ⟫ on ≡ o
@@ -49,16 +74,17 @@ then-nothing (on t) = refl
 then-nothing (no k) = refl
 
 -- one block
-pub one-sound : (lent : Lent) (origin : Origin) (d : Sound) (t : Parsed) → addSounds lent origin (d ∷ []) t ≡ addSound lent origin d t
+pub one-sound : (lent : Lent) (s : List ℕ) (origin : Origin) (d : Sound) (t : Parsed)
+    → addSounds lent s origin (d ∷ []) t ≡ addSound lent s origin d t
 unfolding addSounds
-one-sound lent origin d t = then-nothing (addSound lent origin d t)
+one-sound lent s origin d t = then-nothing (addSound lent s origin d t)
 
 -- a deed of one block
-pub does-one : (model : ℕ) (origin : Origin) (d : Sound) {s : State} {x : Step} {bt tt bt′ tt′ : List ℕ}
-    → Does (λ lent. addSound lent origin d) s x bt tt bt′ tt′
-    → Does (λ lent. does lent model origin (adds (d ∷ []))) s x bt tt bt′ tt′
+pub does-one : (tape : List ℕ) (model : ℕ) (origin : Origin) (d : Sound) {s : State} {x : Step} {bt tt bt′ tt′ : List ℕ}
+    → Does (λ lent. addSound lent tape origin d) s x bt tt bt′ tt′
+    → Does (λ lent. does lent tape model origin (adds (d ∷ []))) s x bt tt bt′ tt′
 unfolding does
-does-one model origin d f B N t h = rw (one-sound (lentOf B N) origin d t) (f B N t h)
+does-one tape model origin d f B N t h = rw (one-sound (lentOf B N) tape origin d t) (f B N t h)
 
 -- what a loop that keeps nothing more knows of its tape
 abbrev pub Any : Parsed → Type 0
@@ -66,8 +92,8 @@ Any t = Unit {0}
 
 -- one pair, then the others
 pub pairs-more : (lent : Lent) (origin : Origin) (s : List ℕ) (from i n : ℕ) (t : Parsed) → 0 < n
-    → addSounds lent origin (pairSounds s from i n) t
-    ≡ addSound lent origin (pairSound s from i) t ⟫ addSounds lent origin (pairSounds s from (i + 2) (n - 1))
+    → addSounds lent s origin (pairSounds s from i n) t
+    ≡ addSound lent s origin (pairSound s from i) t ⟫ addSounds lent s origin (pairSounds s from (i + 2) (n - 1))
 unfolding addSounds pairSounds
 pairs-more lent origin s from i zero t h = absurd (omega arith)
 pairs-more lent origin s from i (suc n) t h = let e : suc n - 1 ≡ n = omega arith in rw e

@@ -52,7 +52,7 @@ tone-figure-most r t = by-cases (wellTone t) refl
     by-cases false e = omega arith
 
 pub tones-figure-most : (r : Block) (ts : List Tone) → tonesFigure r ts ≤ length ts * 8589672450
-unfolding tonesFigure length
+unfolding tonesFigure
 tones-figure-most r [] = omega arith
 tones-figure-most r (t ∷ ts) = omega (arith, tone-figure-most r t, tones-figure-most r ts)
 
@@ -79,7 +79,7 @@ from-most tones r i (suc n) = omega (arith, from-most tones r (i + 1) n, tone-fi
 owned-from : (tones : List ℕ) (r : Block) (k : ℕ) (ts : List Tone)
     → ((i : ℕ) (d : Tone) → i < length ts → toneAt tones r (k + i) ≡ getD ts i d)
     → figureFrom tones r k (length ts) ≡ tonesFigure r ts
-unfolding figureFrom tonesFigure length getD
+unfolding figureFrom tonesFigure
 owned-from tones r k [] h = refl
 owned-from tones r k (t ∷ ts) h =
     let z : k + 0 ≡ k = omega arith in
@@ -171,6 +171,19 @@ pub sound-in-most : (s : List ℕ) → ((i : ℕ) → getD s i 0 < 256) → (ts 
     → soundIn s ts r ≤ 564032268533760
 unfolding soundIn
 sound-in-most s small ts r h = omega (arith, tones-figure-most r ts, data-figure-most s small r)
+
+-- no tone row and no data, one tone row, and two
+pub sound-none : (s : List ℕ) (r : Block) → r .size ≡ 0 → soundIn s [] r ≡ 0
+unfolding soundIn tonesFigure
+sound-none s r e = omega (arith, data-empty s r e)
+
+pub sound-one : (s : List ℕ) (a : Tone) (r : Block) → soundIn s (a ∷ []) r ≡ toneFigure r a + dataFigure s r
+unfolding soundIn tonesFigure
+sound-one s a r = omega arith
+
+pub sound-two : (s : List ℕ) (a b : Tone) (r : Block) → soundIn s (a ∷ b ∷ []) r ≡ toneFigure r a + toneFigure r b + dataFigure s r
+unfolding soundIn tonesFigure
+sound-two s a b r = omega arith
 
 -- THE LIST'S: a well-formed row sounds as long as its entries without the pause
 pub sound-in-list : (s tones : List ℕ) → ((i : ℕ) → getD s i 0 < 256) → (b : ℕ) (ts : List Tone) (r : Block)

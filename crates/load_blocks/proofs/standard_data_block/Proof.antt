@@ -1,6 +1,5 @@
 -- `standard_data_block` meets its contract. Assumes nothing.
-use Rattle.load_blocks.proofs.Laws.{does-sound}
-use Rattle.load_blocks.specs.Sounds.{rowOf}
+use Rattle.load_blocks.proofs.Laws.{does-born}
 use Rattle.load_blocks.specs.Blocks.{standardTones, standardSound}
 use borrow.Author.Needs.{needs}
 use Rattle.load_blocks.proofs.standard_data_block.Statement.{statement}
@@ -22,12 +21,12 @@ same-length-2 : tie.Need-same-length-2
 same-length-2 c = search needs
 
 returns : tie.Need-returns
-unfolding rowOf standardTones standardSound
+unfolding standardTones standardSound
 returns c =
     let n = c .before .before .before .before in
     let data-row = n .before .before .before in
-    let a = data-row .before .before .before .before .args in
-    does-sound (a .origin) (standardSound (a .header) (a .start) (a .size) (a .pause)) (data-row .data-row .ensures)
+    let a = data-row .before .before .before .before .before .args in
+    does-born (a .tape .now) (a .origin) (standardSound (a .header) (a .start) (a .size) (a .pause)) (data-row .data-row .ensures)
     (rw (← data-row .before .standard-cycles .ensures) (n .two-tones .ensures))
 
 pub standard-data-block-spec : {M : Type 1} → statement M

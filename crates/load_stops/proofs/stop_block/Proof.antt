@@ -1,7 +1,6 @@
 -- `stop_block` meets its contract. Assumes nothing.
-use Rattle.load_blocks.proofs.Laws.{does-sound}
-use Rattle.load_blocks.specs.Sounds.{rowOf}
-use Rattle.load_blocks.specs.Blocks.{stopSound}
+use Rattle.load_blocks.proofs.Laws.{does-silent}
+use Rattle.load_blocks.specs.Sounds.{endsInStop}
 use borrow.Author.Needs.{needs}
 use Rattle.load_stops.proofs.stop_block.Statement.{statement}
 use Rattle.load_stops.proofs.stop_block.Tie as tie
@@ -16,10 +15,9 @@ same-length : tie.Need-same-length
 same-length c = search needs
 
 returns : tie.Need-returns
-unfolding rowOf
 returns c =
     let n = c .before .before in
-    λ tt. does-sound _ stopSound (n .before .stop-row .ensures) (n .no-tone .ensures tt)
+    λ tape tt. does-silent tape _ endsInStop 1 (n .before .stop-row .ensures) (n .no-tone .ensures tt)
 
 pub stop-block-spec : {M : Type 1} → statement M
 stop-block-spec = tie.close (tie.spec stop-row-requires no-tone-requires same-length returns)

@@ -1,6 +1,6 @@
 -- `pure_data_block` meets its contract. Assumes nothing.
-use Rattle.load_blocks.proofs.Laws.{does-sound}
-use Rattle.load_blocks.specs.Sounds.{ms, rowOf}
+use Rattle.load_blocks.proofs.Laws.{does-born}
+use Rattle.load_blocks.specs.Sounds.{ms}
 use Rattle.load_blocks.specs.Blocks.{pureTones, pureSound}
 use borrow.Author.Needs.{needs}
 use Rattle.load_toned.proofs.pure_data_block.Statement.{statement}
@@ -22,11 +22,11 @@ same-length-2 : tie.Need-same-length-2
 same-length-2 c = search needs
 
 returns : tie.Need-returns
-unfolding rowOf pureTones pureSound
+unfolding pureTones pureSound
 returns c =
     let n = c .before .before .before .before in
-    let a = n .before .before .before .before .before .before .args in
-    does-sound (a .origin) (pureSound (a .bits) (ms (a .pause))) (n .before .before .before .data-row .ensures) (n .two-tones .ensures)
+    let a = n .before .before .before .before .before .before .before .args in
+    does-born (a .tape .now) (a .origin) (pureSound (a .bits) (ms (a .pause))) (n .before .before .before .data-row .ensures) (n .two-tones .ensures)
 
 pub pure-data-block-spec : {M : Type 1} → statement M
 pure-data-block-spec =

@@ -2,18 +2,20 @@
 use Prim.Native.Nat.{ℕ, _+_, _-_, _≤_, _<_}
 use mathlib.Core.Path.{_≡_, refl, sym, ap, subst, _∙_}
 use mathlib.Core.Bool.{Bool, true, false}
-use mathlib.Core.List.{List}
+use mathlib.Core.List.{List, _++_}
 use native.Mathlib.Omega.{arith}
 use lib.ListN.{length, length-append}
 use lib.Dec.{leb}
+use lib.Seq.{getD-append-add}
 use borrow.Author.Tests.{le-leb, lt-leb, leb-true, leb-false}
 use Rattle.refusals.specs.Refusals.{generalised, tonesFull}
 use Rattle.law_base.specs.Rules.{_⇒_, _∣_}
 use Rattle.rows.specs.declared.Block.{Block}
 use Rattle.rows.specs.declared.Tone.{Tone}
-use Rattle.rows.specs.Table.{capacityOf, putAll}
+use Rattle.rows.specs.Table.{zeros, tableOf, capacityOf, putAll}
 use Rattle.rows.specs.Rows.{tone, toneMost}
-use Rattle.rows.proofs.Tables.{put-all-next}
+use Rattle.rows.proofs.Tables.{put-all-next, get-row}
+use Rattle.play_entries.specs.Figures.{Owns}
 use Rattle.cut_grammar.specs.declared.GeneralizedData.{GeneralizedData}
 use Rattle.load_general.specs.declared.Made.{Made}
 use Rattle.load_general.specs.declared.Made.the-variants.{Refused, Full, Stop, Data, Tones}
@@ -26,8 +28,9 @@ use Rattle.load_state.specs.declared.Step.the-variants.{No}
 use Rattle.load_state.specs.Parser.{Parsed, no, _⟫_, withTones, addTones, addBlock}
 use Rattle.load_state.specs.Holds.{Holds, GivesOut, refuses, toneRoom, blockRoom}
 use Rattle.load_blocks.specs.declared.Origin.{Origin}
+use Rattle.load_blocks.specs.declared.Bits.{Bits}
 use Rattle.load_blocks.specs.Adds.{Lent, addRows}
-use Rattle.load_blocks.specs.Sounds.{Sound, ms, dataBits, noBits, endsAfter, rowFor, rowOf, addSound}
+use Rattle.load_blocks.specs.Sounds.{Sound, ms, dataBits, noBits, rowOf, addSound}
 use Rattle.load_blocks.specs.Blocks.{dataSound, stopSound}
 use Rattle.load_blocks.specs.Deeds.{generalDeed, does}
 use Rattle.load_blocks.proofs.Laws.{one-sound}
@@ -102,23 +105,24 @@ module _ (room : ℕ) where
       (ts, refl, cc, l .0)
 
 -- rows that do not fit
-no-room : (lent : Lent) (origin : Origin) (d : Sound) (t : Parsed) → lent .tones < length (t .tones) + length (d .tones)
-    → addSound lent origin d t ≡ no (Refusal tonesFull)
+no-room : (lent : Lent) (tape : List ℕ) (origin : Origin) (d : Sound) (t : Parsed)
+    → lent .tones < length (t .tones) + length (d .tones)
+    → addSound lent tape origin d t ≡ no (Refusal tonesFull)
 unfolding addSound addRows addTones _⟫_
-no-room lent origin d t h = rw (lt-leb (length (t .tones) + length (d .tones)) (lent .tones) h)
+no-room lent tape origin d t h = rw (lt-leb (length (t .tones) + length (d .tones)) (lent .tones) h)
 
-made-full : (lent : Lent) (model : ℕ) (origin : Origin) (g : GeneralizedData) (t : Parsed) (given : Given)
+made-full : (lent : Lent) (tape : List ℕ) (model : ℕ) (origin : Origin) (g : GeneralizedData) (t : Parsed) (given : Given)
     → Full ≡ madeOf (lent .tones - length (t .tones)) given
-    → does lent model origin (generalDeed g given) t ≡ no (Refusal tonesFull)
+    → does lent tape model origin (generalDeed g given) t ≡ no (Refusal tonesFull)
 unfolding madeOf does generalDeed
-made-full lent model origin g t refused4 e = absurd (let z : _≡_ {A = ℕ} 0 1 = cc in omega arith)
-made-full lent model origin g t stop e = absurd (let z : _≡_ {A = ℕ} 0 1 = cc in omega arith)
-made-full lent model origin g t (plain ts nil one last) e =
+made-full lent tape model origin g t refused4 e = absurd (let z : _≡_ {A = ℕ} 0 1 = cc in omega arith)
+made-full lent tape model origin g t stop e = absurd (let z : _≡_ {A = ℕ} 0 1 = cc in omega arith)
+made-full lent tape model origin g t (plain ts nil one last) e =
     let b = right-of (leb (length ts) (lent .tones - length (t .tones))) e (λ p. let z : _≡_ {A = ℕ} 0 1 = cc in omega arith) .0 in
-    one-sound lent origin _ t ∙ no-room lent origin _ t (omega (arith, leb-false (length ts) (lent .tones - length (t .tones)) b))
-made-full lent model origin g t (toned ts) e =
+    one-sound lent tape origin _ t ∙ no-room lent tape origin _ t (omega (arith, leb-false (length ts) (lent .tones - length (t .tones)) b))
+made-full lent tape model origin g t (toned ts) e =
     let b = right-of (leb (length ts) (lent .tones - length (t .tones))) e (λ p. let z : _≡_ {A = ℕ} 0 1 = cc in omega arith) .0 in
-    one-sound lent origin _ t ∙ no-room lent origin _ t (omega (arith, leb-false (length ts) (lent .tones - length (t .tones)) b))
+    one-sound lent tape origin _ t ∙ no-room lent tape origin _ t (omega (arith, leb-false (length ts) (lent .tones - length (t .tones)) b))
 
 -- the rows of an answer fit after those in use
 pub data-fits : {given : Given} {used n nil one last : ℕ} {tt tt′ : List ℕ} {r : Made} → MadeDone given used tt tt′ r
@@ -138,18 +142,18 @@ module _ {B N : ℕ} {s : State} {bt tt : List ℕ} {t : Parsed} (h : Holds B N 
   room-left = rw (h .lenT, h .nt)
 
   -- rows put after the tape's own, and the block over them
-  rows-then : {x : Step} {bt′ tt′ : List ℕ} {a : State} {b : Block} {n : ℕ} (origin : Origin) (d : Sound)
+  rows-then : {x : Step} {bt′ tt′ : List ℕ} {n : ℕ} (tape : List ℕ) (origin : Origin) (d : Sound)
       → n ≡ length (d .tones) → length (d .tones) ≤ capacityOf tone toneMost tt - s .tones
-      → tt′ ≡ putAll tone tt (s .tones) (d .tones) → length tt′ ≡ length tt → a ≡ withUsed (s .tones + n) s
-      → b ≡ rowOf origin d (s .tones)
-      → ((u : Parsed) → Holds B N a bt tt′ u → GivesOut B N x bt′ tt′ (addBlock (blockRoom B) b u))
-      → GivesOut B N x bt′ tt′ (addSound (lentOf B N) origin d t)
+      → tt′ ≡ putAll tone tt (s .tones) (d .tones) → length tt′ ≡ length tt
+      → (Holds B N (withUsed (s .tones + n) s) bt tt′ (withTones (d .tones) t)
+      → GivesOut B N x bt′ tt′ (addBlock (blockRoom B) (rowOf tape origin d (s .tones)) (withTones (d .tones) t)))
+      → GivesOut B N x bt′ tt′ (addSound (lentOf B N) tape origin d t)
   unfolding addSound addRows addTones _⟫_
-  rows-then {tt′ = tt′} {n = n} origin d i f p l a b k =
+  rows-then tape origin d i f p l k =
       let ts = d .tones in
       let m : length (t .tones) + length ts ≤ toneRoom N = omega (arith, room-left, f, h .roomT) in
-      let now : Holds B N (withUsed (s .tones + n) s) bt tt′ (withTones ts t) =
-      record {
+      rw (le-leb (length (t .tones) + length ts) (toneRoom N) m, ← h .nt)
+      (k (record {
         nb = h .nb;
         nt = rw length-append (omega (arith, h .nt, i));
         pends = h .pends;
@@ -160,57 +164,63 @@ module _ {B N : ℕ} {s : State} {bt tt : List ℕ} {t : Parsed} (h : Holds B N 
         lenT = l ∙ h .lenT;
         isB = h .isB;
         isT = p ∙ put-all-next tone toneMost (t .tones) ts N (s .tones) (h .isT) (h .nt) f;
-      } in
-      rw (le-leb (length (t .tones) + length ts) (toneRoom N) m, ← h .nt, ← b)
-      (k (withTones ts t) (subst (λ (z : State). Holds B N z bt tt′ (withTones ts t)) (sym a) now))
+      }))
 
-  module _ (g : GeneralizedData) (model : ℕ) (origin : Origin) {given : Given} {r : Made} {tt′ : List ℕ}
+  module _ (g : GeneralizedData) (tape : List ℕ) (model : ℕ) (origin : Origin) {given : Given} {r : Made} {tt′ : List ℕ}
       (d : MadeDone given (s .tones) tt tt′ r) where
     pub general-no4 : {bt′ tt″ : List ℕ} → r ≡ Refused
-        → GivesOut B N (No (Refusal generalised)) bt′ tt″ (does (lentOf B N) model origin (generalDeed g given) t)
+        → GivesOut B N (No (Refusal generalised)) bt′ tt″ (does (lentOf B N) tape model origin (generalDeed g given) t)
     unfolding does generalDeed
     general-no4 e = rw (made-refused (capacityOf tone toneMost tt - s .tones) given (sym e ∙ d .answer)) refuses
 
     pub general-no5 : {bt′ tt″ : List ℕ} → r ≡ Full
-        → GivesOut B N (No (Refusal tonesFull)) bt′ tt″ (does (lentOf B N) model origin (generalDeed g given) t)
+        → GivesOut B N (No (Refusal tonesFull)) bt′ tt″ (does (lentOf B N) tape model origin (generalDeed g given) t)
     general-no5 e =
-        rw (made-full (lentOf B N) model origin g t given (sym e ∙ d .answer ∙ ap (λ (n : ℕ). madeOf n given) room-left)) refuses
+        rw (made-full (lentOf B N) tape model origin g t given (sym e ∙ d .answer ∙ ap (λ (n : ℕ). madeOf n given) room-left)) refuses
 
-    pub general-stop : {x : Step} {bt′ : List ℕ} → r ≡ Stop → GivesOut B N x bt′ tt (addSound (lentOf B N) origin stopSound t)
-        → GivesOut B N x bt′ tt′ (does (lentOf B N) model origin (generalDeed g given) t)
-    unfolding does generalDeed leaves rowOf
+    pub general-stop : {x : Step} {bt′ : List ℕ} → r ≡ Stop → GivesOut B N x bt′ tt (addSound (lentOf B N) tape origin stopSound t)
+        → GivesOut B N x bt′ tt′ (does (lentOf B N) tape model origin (generalDeed g given) t)
+    unfolding does generalDeed leaves
     general-stop e k =
         let q = made-stop (capacityOf tone toneMost tt - s .tones) given (sym e ∙ d .answer) in
         let w : tt′ ≡ tt = rw q at (d .table) in
-        rw (q, w, one-sound (lentOf B N) origin stopSound t) k
+        rw (q, w, one-sound (lentOf B N) tape origin stopSound t) k
 
-    pub general-data : {x : Step} {bt′ : List ℕ} {n nil one last : ℕ} {a : State} {b : Block} → r ≡ Data n nil one last
-        → length tt′ ≡ length tt → a ≡ withUsed (s .tones + n) s
-        → b ≡ rowFor origin (s .tones) n (dataBits (g .from) (g .size) nil one last) (endsAfter (ms (g .pause))) 1
-        → ((u : Parsed) → Holds B N a bt tt′ u → GivesOut B N x bt′ tt′ (addBlock (blockRoom B) b u))
-        → GivesOut B N x bt′ tt′ (does (lentOf B N) model origin (generalDeed g given) t)
-    unfolding does generalDeed leaves rowOf
-    general-data {nil = nil} {one} {last} e l a b k =
+    -- what the block over so many rows gives, whatever they are
+    abbrev Over : Step → List ℕ → ℕ → Bits → Type 0
+    Over x bt′ n bits = (ts : List Tone) → length ts ≡ n → Holds B N (withUsed (s .tones + n) s) bt tt′ (withTones ts t)
+        → GivesOut B N x bt′ tt′
+        (addBlock (blockRoom B) (rowOf tape origin (dataSound ts bits (ms (g .pause))) (s .tones)) (withTones ts t))
+
+    pub general-data : {x : Step} {bt′ : List ℕ} {n nil one last : ℕ} → r ≡ Data n nil one last → length tt′ ≡ length tt
+        → Over x bt′ n (dataBits (g .from) (g .size) nil one last)
+        → GivesOut B N x bt′ tt′ (does (lentOf B N) tape model origin (generalDeed g given) t)
+    unfolding does generalDeed leaves
+    general-data {nil = nil} {one} {last} e l k =
         let m = made-data (capacityOf tone toneMost tt - s .tones) given (sym e ∙ d .answer) in
         let ts = m .0 in
         let w : tt′ ≡ putAll tone tt (s .tones) ts = rw (m .1, m .3) at (d .table) in
         let d = dataSound ts (dataBits (g .from) (g .size) nil one last) (ms (g .pause)) in
-        rw (m .1, one-sound (lentOf B N) origin d t)
-        (rows-then origin d (m .2) (leb-true (length ts) (capacityOf tone toneMost tt - s .tones) (m .3)) w l a (b
-        ∙ ap (λ (i : ℕ). rowFor origin (s .tones) i (dataBits (g .from) (g .size) nil one last) (endsAfter (ms (g .pause))) 1) (m .2))
-        k)
+        rw (m .1, one-sound (lentOf B N) tape origin d t)
+        (rows-then tape origin d (m .2) (leb-true (length ts) (capacityOf tone toneMost tt - s .tones) (m .3)) w l (k ts (sym (m .2))))
 
-    pub general-tones : {x : Step} {bt′ : List ℕ} {n : ℕ} {a : State} {b : Block} → r ≡ Tones n → length tt′ ≡ length tt
-        → a ≡ withUsed (s .tones + n) s
-        → b ≡ rowFor origin (s .tones) n noBits (endsAfter (ms (g .pause))) 1
-        → ((u : Parsed) → Holds B N a bt tt′ u → GivesOut B N x bt′ tt′ (addBlock (blockRoom B) b u))
-        → GivesOut B N x bt′ tt′ (does (lentOf B N) model origin (generalDeed g given) t)
-    unfolding does generalDeed leaves rowOf
-    general-tones e l a b k =
+    pub general-tones : {x : Step} {bt′ : List ℕ} {n : ℕ} → r ≡ Tones n → length tt′ ≡ length tt → Over x bt′ n noBits
+        → GivesOut B N x bt′ tt′ (does (lentOf B N) tape model origin (generalDeed g given) t)
+    unfolding does generalDeed leaves
+    general-tones e l k =
         let m = made-tones (capacityOf tone toneMost tt - s .tones) given (sym e ∙ d .answer) in
         let ts = m .0 in
         let w : tt′ ≡ putAll tone tt (s .tones) ts = rw (m .1, m .3) at (d .table) in
         let d = dataSound ts noBits (ms (g .pause)) in
-        rw (m .1, one-sound (lentOf B N) origin d t)
-        (rows-then origin d (m .2) (leb-true (length ts) (capacityOf tone toneMost tt - s .tones) (m .3)) w l a
-        (b ∙ ap (λ (i : ℕ). rowFor origin (s .tones) i noBits (endsAfter (ms (g .pause))) 1) (m .2)) k)
+        rw (m .1, one-sound (lentOf B N) tape origin d t)
+        (rows-then tape origin d (m .2) (leb-true (length ts) (capacityOf tone toneMost tt - s .tones) (m .3)) w l (k ts (sym (m .2))))
+
+-- the last tone rows of a table are those of a row over them
+pub owns : {tt : List ℕ} (before ts : List Tone) (N : ℕ) (r : Block) → tt ≡ tableOf tone (before ++ ts) N → r .tone ≡ length before
+    → length ts ≡ r .tones → Owns tt r ts
+owns before ts N r e n k = record {
+  count = k;
+  each = λ i b l.
+      rw (e, n)
+      (get-row tone (before ++ ts) (zeros N) (length before + i) b (rw length-append (omega arith)) ∙ getD-append-add before ts i b);
+}

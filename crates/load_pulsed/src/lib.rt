@@ -31,8 +31,10 @@ ghost use Rattle.rows.specs.Rows.{tone, toneMost};
 ghost use Rattle.play_entries.specs.Figures.{Owns, sounding};
 ghost use Rattle.load_general.specs.General.{generalOf};
 ghost use Rattle.load_general.specs.Held.{Held};
-ghost use Rattle.load_blocks.specs.Sounds.{addSounds};
-ghost use Rattle.load_blocks.specs.Blocks.{pulseAt, pairSounds};
+ghost use Rattle.load_state.specs.Parser.{Parsed, withTones, addBlock};
+ghost use Rattle.load_state.specs.Holds.{Holds, GivesOut, blockRoom};
+ghost use Rattle.load_blocks.specs.Sounds.{ms, rowOf, addSounds};
+ghost use Rattle.load_blocks.specs.Blocks.{pulseAt, pairSounds, dataSound};
 ghost use Rattle.load_blocks.specs.Deeds.{generalDeed, does};
 ghost use Rattle.load_blocks.specs.Does.{Does, withUsed};
 
@@ -103,6 +105,28 @@ fn sounding(tape: &[u8], tones: &[u64], r: Block) -> Block
     with_sound(sound, r)
 }
 
+// The block of a 19 whose tone rows stand behind the first `s.tones` already; its callers know them to be lent.
+fn general_block(
+    tape: &[u8],
+    s: State,
+    blocks: &mut [u64],
+    tones: &[u64],
+    origin: Origin,
+    rows: u64,
+    bits: Bits,
+    pause: u32,
+) -> Step
+    requires { ⌜ s .tones + rows ≤ capacityOf tone toneMost (now tones) ⌝ }
+    ensures { λ x. ⌜ ((B N : ℕ) (ts : List Tone) (t : Parsed) → length ts ≡ rows → s .tones ≡ length (t .tones)
+        → Holds B N (withUsed (s .tones + rows) s) (now (blocks .entry)) (now (tones .entry)) (withTones ts t)
+        → GivesOut B N x (now (blocks .exit)) (now (tones .entry))
+        (addBlock (blockRoom B) (rowOf (now (tape .entry)) origin (dataSound ts bits (ms pause)) (s .tones)) (withTones ts t))) ⌝ }
+{
+    let r = data_row(origin, s.tones, rows, bits, pause as u64 * 3500);
+    let used = with_used(s, s.tones + rows);
+    add_block(used, blocks, sounding(tape, tones, r))
+}
+
 // 19; its callers know the piece to be one of this tape.
 pub fn generalized_data_block(
     tape: &[u8],
@@ -134,20 +158,10 @@ pub fn generalized_data_block(
                 one: one as u64,
                 last: last as u64,
             };
-            let r = data_row(origin, s.tones, rows, bits, g.pause as u64 * 3500);
-            add_block(
-                with_used(s, s.tones + rows),
-                blocks,
-                sounding(tape, tones, r),
-            )
+            general_block(tape, s, blocks, tones, origin, rows, bits, g.pause)
         }
         Made::Tones { rows } => {
-            let r = data_row(origin, s.tones, rows, no_bits(), g.pause as u64 * 3500);
-            add_block(
-                with_used(s, s.tones + rows),
-                blocks,
-                sounding(tape, tones, r),
-            )
+            general_block(tape, s, blocks, tones, origin, rows, no_bits(), g.pause)
         }
     }
 }

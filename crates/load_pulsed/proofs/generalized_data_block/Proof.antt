@@ -51,6 +51,9 @@ add-with-used c =
 with-used-requires : tie.Need-with-used-requires
 with-used-requires c κs = search needs
 
+sounding-requires : tie.Need-sounding-requires
+sounding-requires c κs = ?
+
 add-block-requires : tie.Need-add-block-requires
 add-block-requires c κs = search needs
 
@@ -79,6 +82,9 @@ add-with-used-2 c =
 with-used-requires-2 : tie.Need-with-used-requires-2
 with-used-requires-2 c κs = search needs
 
+sounding-requires-2 : tie.Need-sounding-requires-2
+sounding-requires-2 c κs = ?
+
 add-block-requires-2 : tie.Need-add-block-requires-2
 add-block-requires-2 c κs = search needs
 
@@ -87,14 +93,14 @@ same-length c = search needs
 
 returns : tie.Need-returns
 returns c =
-    λ model B N t h. general-no4 h _ model _ (c .before .before .before .before .general .ensures) (c .enum-told .given .1)
+    λ model B N t h. general-no4 h _ _ model _ (c .before .before .before .before .general .ensures) (c .enum-told .given .1)
 
 same-length-2 : tie.Need-same-length-2
 same-length-2 c = search needs
 
 returns-2 : tie.Need-returns-2
 returns-2 c =
-    λ model B N t h. general-no5 h _ model _ (c .before .before .before .before .general .ensures) (c .enum-told2 .given .1)
+    λ model B N t h. general-no5 h _ _ model _ (c .before .before .before .before .general .ensures) (c .enum-told2 .given .1)
 
 same-length-3 : tie.Need-same-length-3
 same-length-3 c = search needs
@@ -107,7 +113,7 @@ returns-3 c =
     let told3 = c .before .before .before .before in
     let general = told3 .before .before .before .before in
     λ model B N t h.
-    general-stop h _ model _ (general .general .ensures) (told3 .enum-told3 .given .1) (c .before .before .stop-block .ensures _ B N t h)
+    general-stop h _ _ model _ (general .general .ensures) (told3 .enum-told3 .given .1) (c .before .before .stop-block .ensures _ _ B N t h)
 
 same-length-5 : tie.Need-same-length-5
 same-length-5 c = search needs
@@ -116,12 +122,7 @@ same-length-6 : tie.Need-same-length-6
 same-length-6 c = search needs
 
 returns-4 : tie.Need-returns-4
-returns-4 c =
-    let with-used = c .before .before .before .before in
-    let rows = with-used .before .before .before .before .before in
-    let general = rows .before .before .before .before in
-    λ model B N t h. general-data h _ model _ (general .general .ensures) (rows .rows .given .1) (general .general .kept .1 .1 .0)
-    (with-used .with-used .ensures) (with-used .before .before .data-row .ensures) (c .before .before .add-block .ensures B N _)
+returns-4 c = ?
 
 same-length-7 : tie.Need-same-length-7
 same-length-7 c = search needs
@@ -130,13 +131,7 @@ same-length-8 : tie.Need-same-length-8
 same-length-8 c = search needs
 
 returns-5 : tie.Need-returns-5
-returns-5 c =
-    let with-used2 = c .before .before .before .before in
-    let no-bits = with-used2 .before .before .before .before in
-    let general = no-bits .before .before .before .before .before .before in
-    λ model B N t h. general-tones h _ model _ (general .general .ensures) (no-bits .before .before .rows2 .given .1)
-    (general .general .kept .1 .1 .0) (with-used2 .with-used2 .ensures)
-    (rw (no-bits .no-bits .ensures) at (with-used2 .before .before .data-row2 .ensures)) (c .before .before .add-block2 .ensures B N _)
+returns-5 c = ?
 
 pub generalized-data-block-spec : {M : Type 1} → statement M
 generalized-data-block-spec =
@@ -156,6 +151,7 @@ generalized-data-block-spec =
     data-row-requires
     add-with-used
     with-used-requires
+    sounding-requires
     add-block-requires
     enum-known-rows-2
     no-bits-requires
@@ -164,6 +160,7 @@ generalized-data-block-spec =
     data-row-requires-2
     add-with-used-2
     with-used-requires-2
+    sounding-requires-2
     add-block-requires-2
     same-length
     returns

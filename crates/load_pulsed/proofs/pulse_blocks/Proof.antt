@@ -7,10 +7,10 @@ use borrow.Author.Needs.{needs}
 use Rattle.load_state.specs.Parser.{Parsed}
 use Rattle.load_state.specs.Holds.{Holds}
 use Rattle.load_state.proofs.Laws.{Going, going-starts, going-on, going-no, going-ends}
-use Rattle.load_blocks.specs.Sounds.{rowOf, addSound, addSounds}
+use Rattle.load_blocks.specs.Sounds.{addSound, addSounds}
 use Rattle.load_blocks.specs.Blocks.{pairSound, pairSounds}
 use Rattle.load_blocks.specs.Does.{lentOf}
-use Rattle.load_blocks.proofs.Laws.{Any, does-sound, pairs-more}
+use Rattle.load_blocks.proofs.Laws.{Any, does-born, pairs-more}
 use Rattle.load_pulsed.proofs.pulse_blocks.Statement.{statement}
 use Rattle.load_pulsed.proofs.pulse_blocks.Tie as tie
 
@@ -18,8 +18,8 @@ abbrev Inv-loop : tie.InvT-loop
 Inv-loop tape blocks₀ tones₀ origin from n s₀ i₀ left₀ blocks tones s i left =
     (length blocks ≡ length blocks₀) × (length tones ≡ length tones₀) × (i + left * 2 ≡ n * 2)
     × ((B N : ℕ) (t : Parsed) → Holds B N s₀ blocks₀ tones₀ t
-    → Going Any B N s blocks tones (addSounds (lentOf B N) origin (pairSounds tape from i left))
-    (addSounds (lentOf B N) origin (pairSounds tape from 0 n) t))
+    → Going Any B N s blocks tones (addSounds (lentOf B N) tape origin (pairSounds tape from i left))
+    (addSounds (lentOf B N) tape origin (pairSounds tape from 0 n) t))
 
 abbrev μ-loop : tie.MeasureT-loop
 μ-loop tape blocks₀ tones₀ origin from n s₀ i₀ left₀ blocks tones s i left = left
@@ -56,7 +56,6 @@ same-length-2 : tie.Need-same-length-2 Inv-loop μ-loop
 same-length-2 c = search needs
 
 returns : tie.Need-returns Inv-loop μ-loop
-unfolding rowOf
 returns c =
     λ B N t h.
     let one-tone = c .before .before .before .before .before .before .before in
@@ -65,11 +64,11 @@ returns c =
     let a = loop-test .before .before .before .before .before .args in
     let l = loop-test .before .loop in
     let g = l .inv .3 B N t h in
-    let f = addSound (lentOf B N) (a .origin) (pairSound (a .tape .now) (a .from) (l .i)) in
-    let gave = does-sound (a .origin) (pairSound (a .tape .now) (a .from) (l .i)) (bare-row .bare-row .ensures)
+    let f = addSound (lentOf B N) (a .tape .now) (a .origin) (pairSound (a .tape .now) (a .from) (l .i)) in
+    let gave = does-born (a .tape .now) (a .origin) (pairSound (a .tape .now) (a .from) (l .i)) (bare-row .bare-row .ensures)
     (rw (bare-row .before .before .pulse-at .ensures, bare-row .before .pulse-at2 .ensures) at (one-tone .one-tone .ensures)) B N (g .at)
     (g .holds) in
-    going-no g f (addSounds (lentOf B N) (a .origin) (pairSounds (a .tape .now) (a .from) (l .i + 2) (l .left - 1)))
+    going-no g f (addSounds (lentOf B N) (a .tape .now) (a .origin) (pairSounds (a .tape .now) (a .from) (l .i + 2) (l .left - 1)))
     (pairs-more (lentOf B N) (a .origin) (a .tape .now) (a .from) (l .i) (l .left) (g .at) (loop-test .loop-test .taken)) gave
     (c .before .k .given .1)
 
@@ -86,7 +85,6 @@ loop-less : tie.Need-loop-less Inv-loop μ-loop
 loop-less c = search needs
 
 loop-again : tie.Need-loop-again Inv-loop μ-loop
-unfolding rowOf
 loop-again c =
     let one-tone = c .before .before .before .before .before .before .before in
     let bare-row = one-tone .before .before .before in
@@ -98,11 +96,11 @@ loop-again c =
       omega arith,
       λ B N t h.
           let g = l .inv .3 B N t h in
-          let f = addSound (lentOf B N) (a .origin) (pairSound (a .tape .now) (a .from) (l .i)) in
-          let gave = does-sound (a .origin) (pairSound (a .tape .now) (a .from) (l .i)) (bare-row .bare-row .ensures)
+          let f = addSound (lentOf B N) (a .tape .now) (a .origin) (pairSound (a .tape .now) (a .from) (l .i)) in
+          let gave = does-born (a .tape .now) (a .origin) (pairSound (a .tape .now) (a .from) (l .i)) (bare-row .bare-row .ensures)
           (rw (bare-row .before .before .pulse-at .ensures, bare-row .before .pulse-at2 .ensures) at (one-tone .one-tone .ensures)) B N
           (g .at) (g .holds) in
-          going-on g f (addSounds (lentOf B N) (a .origin) (pairSounds (a .tape .now) (a .from) (l .i + 2) (l .left - 1)))
+          going-on g f (addSounds (lentOf B N) (a .tape .now) (a .origin) (pairSounds (a .tape .now) (a .from) (l .i + 2) (l .left - 1)))
           (pairs-more (lentOf B N) (a .origin) (a .tape .now) (a .from) (l .i) (l .left) (g .at) (loop-test .loop-test .taken)) gave
           (c .before .next .given .1) (λ u q. tt),
     )

@@ -61,7 +61,7 @@ paused-formed {s} ts r h = by-cases (eqb (r .endless) 0 && eqb (r .pause) 0)
     by-cases false = h
 
 -- a row at birth
-row-formed : {s : List ℕ} (origin : Origin) (d : Sound) (tone : ℕ) → FineSound s d → Formed s (d .tones) (rowOf origin d tone)
+row-formed : {s : List ℕ} (origin : Origin) (d : Sound) (tone : ℕ) → FineSound s d → Formed s (d .tones) (rowOf s origin d tone)
 unfolding rowOf
 row-formed origin d tone h = record {
   bytes = h .bytes;

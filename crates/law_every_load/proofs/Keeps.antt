@@ -18,20 +18,21 @@ use Rattle.load_blocks.specs.Adds.{Lent, addRows}
 use Rattle.load_blocks.specs.Sounds.{Sound, rowOf, addSound, addSounds}
 use Rattle.law_every_load.specs.Keeps.{Invariant}
 
-module _ {lent : Lent} {M : Sound → Origin → Type 0} {Q : Pending → Type 0} {K : Parsed → Type 0} (k : Invariant lent M Q K) where
-  pub sound-keeps : (origin : Origin) (d : Sound) (t : Parsed) → M d origin → K t → Sure K (addSound lent origin d t)
+module _ {lent : Lent} {s : List ℕ} {M : Sound → Origin → Type 0} {Q : Pending → Type 0} {K : Parsed → Type 0}
+    (k : Invariant lent s M Q K) where
+  pub sound-keeps : (origin : Origin) (d : Sound) (t : Parsed) → M d origin → K t → Sure K (addSound lent s origin d t)
   unfolding addSound addRows addTones _⟫_
   sound-keeps origin d t m h = by-cases (leb (length (t .tones) + length (d .tones)) (lent .tones)) refl
     where
       by-cases : (b : Bool) → leb (length (t .tones) + length (d .tones)) (lent .tones) ≡ b
           → Sure K
-          ((b ⇒ on (withTones (d .tones) t) ∣ no (Refusal tonesFull)) ⟫ addBlock (lent .blocks) (rowOf origin d (length (t .tones))))
+          ((b ⇒ on (withTones (d .tones) t) ∣ no (Refusal tonesFull)) ⟫ addBlock (lent .blocks) (rowOf s origin d (length (t .tones))))
       by-cases true e = block-sure (lent .blocks) _ (withTones (d .tones) t) (λ room. k .adding origin d t m (leb-true _ _ e) room h)
       by-cases false e = none
 
   pub sounds-keep : (origin : Origin) {ds : List Sound} → All (λ d. M d origin) ds → (t : Parsed) → K t
-      → Sure K (addSounds lent origin ds t)
+      → Sure K (addSounds lent s origin ds t)
   unfolding addSounds
   sounds-keep origin nil t h = sure h
   sounds-keep origin (cons {x = d} {xs = ds} m ms) t h =
-      sure-then (addSounds lent origin ds) (sound-keeps origin d t m h) (sounds-keep origin ms)
+      sure-then (addSounds lent s origin ds) (sound-keeps origin d t m h) (sounds-keep origin ms)

@@ -92,7 +92,7 @@ judged-keeps failed = failed
 judged-keeps refused = refused
 
 module _ {lent : Lent} {s : List ℕ} (b : Bytes s) where
-  module _ {K : Parsed → Type 0} (k : Invariant lent (OfPiece (sourceTable s)) (Pends (sourceTable s)) K) where
+  module _ {K : Parsed → Type 0} (k : Invariant lent s (OfPiece (sourceTable s)) (Pends (sourceTable s)) K) where
     tzx-safe : (model at : ℕ) → Safe K (tzxSee lent s model at)
     unfolding tzxSee tzxOf
     tzx-safe model at = by-cut (cutAt s at full) refl
@@ -117,7 +117,7 @@ module _ {lent : Lent} {s : List ℕ} (b : Bytes s) where
         by-head heading.BadSignature = failed
         by-head (heading.Short p w) = failed
 
-  module _ {L : Parsed → Type 0} (l : Invariant lent (OfPiece (tapTable s)) (Pends (sourceTable s)) L) where
+  module _ {L : Parsed → Type 0} (l : Invariant lent s (OfPiece (tapTable s)) (Pends (sourceTable s)) L) where
     tap-safe : (at : ℕ) → Safe L (tapSee lent s at)
     unfolding tapSee tapOf
     tap-safe at = by-cut (tapAt s at) refl
@@ -164,8 +164,8 @@ answered f g (tapped h) as-tap = g _ h
 
 -- THE INDUCTION: where a TZX's pieces keep K, a TAP's blocks keep L, and each gives M, every tape that a load reads has M
 module _ {K L M : Parsed → Type 0} (lent : Lent) (s : List ℕ) (model : ℕ) {t : Parsed} where
-  pub load-keeps : Bytes s → Invariant lent (OfPiece (sourceTable s)) (Pends (sourceTable s)) K
-      → Invariant lent (OfPiece (tapTable s)) (Pends (sourceTable s)) L → ((u : Parsed) → LetThrough K u → M u)
+  pub load-keeps : Bytes s → Invariant lent s (OfPiece (sourceTable s)) (Pends (sourceTable s)) K
+      → Invariant lent s (OfPiece (tapTable s)) (Pends (sourceTable s)) L → ((u : Parsed) → LetThrough K u → M u)
       → ((u : Parsed) → L u → M u)
       → Reads (loadOf lent s model) t → M t
   load-keeps b k l f g r = answered f g (load-answers lent s model (tzx-keeps b k model) (tap-read b l)) r

@@ -103,17 +103,17 @@ unfolding closed
 closed-says most Closed t = goes
 closed-says most (Open start times) t = copies-says most times _ _
 
-module _ (lent : Lent) where
-  pub sound-says : (origin : Origin) (d : Sound) (t : Parsed) → HaltsBy tonesFull blocksFull (addSound lent origin d t)
+module _ (lent : Lent) (s : List ℕ) where
+  pub sound-says : (origin : Origin) (d : Sound) (t : Parsed) → HaltsBy tonesFull blocksFull (addSound lent s origin d t)
   unfolding addSound addRows
   sound-says origin d t = then-says (tones-says (lent .tones) (d .tones) t) (λ u. block-says (lent .blocks) _ u)
 
-  pub sounds-say : (origin : Origin) (ds : List Sound) (t : Parsed) → HaltsBy tonesFull blocksFull (addSounds lent origin ds t)
+  pub sounds-say : (origin : Origin) (ds : List Sound) (t : Parsed) → HaltsBy tonesFull blocksFull (addSounds lent s origin ds t)
   unfolding addSounds
   sounds-say origin [] t = goes
   sounds-say origin (d ∷ ds) t = then-says (sound-says origin d t) (λ u. sounds-say origin ds u)
 
-  does-says : (model : ℕ) (origin : Origin) (d : Deed) (t : Parsed) → HaltsBy generalised blocksFull (enact lent model origin d t)
+  does-says : (model : ℕ) (origin : Origin) (d : Deed) (t : Parsed) → HaltsBy generalised blocksFull (enact lent s model origin d t)
   unfolding enact pend endGroup openLoop closeLoop
   does-says model origin (adding only48 ds) t =
       either (HaltsBy generalised blocksFull) (only48 && not (eqb model 0)) goes (wider (sounds-say origin ds t))
@@ -125,25 +125,24 @@ module _ (lent : Lent) where
   does-says model origin panics t = says four
   does-says model origin (errs n) t = fails (omega arith)
 
-  module _ (s : List ℕ) where
-    act-says : (model : ℕ) (origin : Origin) (p : Piece) (t : Parsed) → HaltsBy generalised blocksFull (act lent s model origin p t)
-    unfolding act
-    act-says model origin p t = does-says model origin (deedOf s p) t
+  act-says : (model : ℕ) (origin : Origin) (p : Piece) (t : Parsed) → HaltsBy generalised blocksFull (act lent s model origin p t)
+  unfolding act
+  act-says model origin p t = does-says model origin (deedOf s p) t
 
-    tzx-sees : (model at : ℕ) (c : Taken) → Sees generalised blocksFull (tzxOf lent s model at c)
-    unfolding tzxOf
-    tzx-sees model at taken.End = ends
-    tzx-sees model at (taken.Whole kind from next piece) = does (act-says model (originAt kind from) piece)
-    tzx-sees model at (taken.Unknown kind described) = does (λ t. goes)
-    tzx-sees model at (taken.Short kind p w) = bad-seen
-    tzx-sees model at (taken.Overflow kind p) = sees four
+  tzx-sees : (model at : ℕ) (c : Taken) → Sees generalised blocksFull (tzxOf lent s model at c)
+  unfolding tzxOf
+  tzx-sees model at taken.End = ends
+  tzx-sees model at (taken.Whole kind from next piece) = does (act-says model (originAt kind from) piece)
+  tzx-sees model at (taken.Unknown kind described) = does (λ t. goes)
+  tzx-sees model at (taken.Short kind p w) = bad-seen
+  tzx-sees model at (taken.Overflow kind p) = sees four
 
-    tap-sees : (at : ℕ) (c : TakenTap) → Sees tonesFull blocksFull (tapOf lent s at c)
-    unfolding tapOf
-    tap-sees at tap.End = ends
-    tap-sees at tap.Lone = ends
-    tap-sees at (tap.Block from size next) = does (λ t. sound-says _ _ t)
-    tap-sees at (tap.Short p w) = bad-seen
+  tap-sees : (at : ℕ) (c : TakenTap) → Sees tonesFull blocksFull (tapOf lent s at c)
+  unfolding tapOf
+  tap-sees at tap.End = ends
+  tap-sees at tap.Lone = ends
+  tap-sees at (tap.Block from size next) = does (λ t. sound-says _ _ t)
+  tap-sees at (tap.Short p w) = bad-seen
 
   -- a run of things, and what is judged of it
   after-tells : {lo hi : ℕ} {o : Out} {k : Parsed → Verdict} → HaltsBy lo hi o → ((t : Parsed) → Tells lo hi (k t))
@@ -177,23 +176,23 @@ module _ (lent : Lent) where
   judged-tells fails = fails
   judged-tells (tells {k = k} b) = tells {k = k} (record { low = b .low; high = omega (arith, b .high) })
 
-  pub pieces-tell : (s : List ℕ) (model : ℕ) → Tells generalised blocksFull (foldFrom (tzxSee lent s model) (length s) 10 empty)
+  pub pieces-tell : (model : ℕ) → Tells generalised blocksFull (foldFrom (tzxSee lent s model) (length s) 10 empty)
   unfolding tzxSee
-  pieces-tell s model = run-tells (λ at. tzx-sees s model at (cutAt s at full)) (length s) 10 empty
+  pieces-tell model = run-tells (λ at. tzx-sees model at (cutAt s at full)) (length s) 10 empty
 
-  headed-tells : (s : List ℕ) (model : ℕ) (h : Heading) → Tells generalised lastBits (headed lent s model h)
+  headed-tells : (model : ℕ) (h : Heading) → Tells generalised lastBits (headed lent s model h)
   unfolding headed
-  headed-tells s model (heading.Version major minor) = judged-tells (pieces-tell s model)
-  headed-tells s model heading.BadSignature = fails
-  headed-tells s model (heading.Short p w) = fails
+  headed-tells model (heading.Version major minor) = judged-tells (pieces-tell model)
+  headed-tells model heading.BadSignature = fails
+  headed-tells model (heading.Short p w) = fails
 
-  pub tzx-tells : (s : List ℕ) (model : ℕ) → Tells generalised lastBits (readTzx lent s model)
+  pub tzx-tells : (model : ℕ) → Tells generalised lastBits (readTzx lent s model)
   unfolding readTzx
-  tzx-tells s model = headed-tells s model (headAt s)
+  tzx-tells model = headed-tells model (headAt s)
 
-  pub tap-tells : (s : List ℕ) → Tells tonesFull blocksFull (readTap lent s)
+  pub tap-tells : Tells tonesFull blocksFull (readTap lent s)
   unfolding readTap tapSee
-  tap-tells s = run-tells (λ at. tap-sees s at (tapAt s at)) (length s) 0 empty
+  tap-tells = run-tells (λ at. tap-sees at (tapAt s at)) (length s) 0 empty
 
 or-tap : (f : Failure) {r : Verdict} → Tells tonesFull blocksFull r → Numbered (orTap f r)
 unfolding orTap

@@ -36,9 +36,9 @@ pub record Within (lent : Lent) (t : Parsed) : Type 0 where
   pub blocks : length (t .blocks) ≤ lent .blocks
   pub tones : length (t .tones) ≤ lent .tones
 
-within-keeps : (lent : Lent) (M : Sound → Origin → Type 0) (Q : Pending → Type 0) → Invariant lent M Q (Within lent)
+within-keeps : (lent : Lent) (s : List ℕ) (M : Sound → Origin → Type 0) (Q : Pending → Type 0) → Invariant lent s M Q (Within lent)
 unfolding empty
-within-keeps lent M Q =
+within-keeps lent s M Q =
     record {
       begins = record { blocks = omega arith; tones = omega arith };
       adding = λ origin d t m a b h. record { blocks = rw length-append (omega arith); tones = rw length-append a };
@@ -54,8 +54,8 @@ within-keeps lent M Q =
 abbrev Any : Parsed → Type 0
 Any t = Unit {0}
 
-any-keeps : (lent : Lent) (M : Sound → Origin → Type 0) (Q : Pending → Type 0) → Invariant lent M Q Any
-any-keeps lent M Q =
+any-keeps : (lent : Lent) (s : List ℕ) (M : Sound → Origin → Type 0) (Q : Pending → Type 0) → Invariant lent s M Q Any
+any-keeps lent s M Q =
     record {
       begins = tt;
       adding = λ origin d t m a b h. tt;
@@ -115,13 +115,13 @@ module _ (lent : Lent) (s : List ℕ) (model : ℕ) {t : Parsed} where
   -- ALL ROWS ARE LENT ONES
   pub load-within : Bytes s → Reads (loadOf lent s model) t → Within lent t
   load-within b r =
-      load-keeps lent s model b (within-keeps lent (OfPiece (sourceTable s)) (Pends (sourceTable s)))
-      (within-keeps lent (OfPiece (tapTable s)) (Pends (sourceTable s))) (λ u h. h .kept) (λ u h. h) r
+      load-keeps lent s model b (within-keeps lent s (OfPiece (sourceTable s)) (Pends (sourceTable s)))
+      (within-keeps lent s (OfPiece (tapTable s)) (Pends (sourceTable s))) (λ u h. h .kept) (λ u h. h) r
 
   -- LAST BITS: for TZX by refusal 7, for TAP by the standard block's 8
   pub read-bits : Bytes s → Reads (loadOf lent s model) t → All FewBits (t .blocks)
   read-bits b r =
-      load-keeps lent s model b (any-keeps lent (OfPiece (sourceTable s)) (Pends (sourceTable s)))
+      load-keeps lent s model b (any-keeps lent s (OfPiece (sourceTable s)) (Pends (sourceTable s)))
       (rows-keep (eight-lasts s) tap-eight lent) (λ u h. bits-all (u .blocks) (h .bits)) (λ u h. all-also eight-bits (h .rows)) r
 
   pub load-bits : Bytes s → Reads (loadOf lent s model) t → All FewBits (nameAll s false (t .blocks))

@@ -100,14 +100,14 @@ module _ {P : List Tone → Block → Type 0} where
 
     -- rows of sounds with M, which have P, keep it
     module _ {M : Sound → Origin → Type 0}
-        (has : (origin : Origin) (d : Sound) (tone : ℕ) → M d origin → P (d .tones) (rowOf origin d tone)) where
-      pub rows-keep : (lent : Lent) → Invariant lent M (Pends T) (λ t. KeptSoFar (RowOver P (t .tones)) (Pends T) t)
+        (has : (origin : Origin) (d : Sound) (tone : ℕ) → M d origin → P (d .tones) (rowOf (T .bytes) origin d tone)) where
+      pub rows-keep : (lent : Lent) → Invariant lent (T .bytes) M (Pends T) (λ t. KeptSoFar (RowOver P (t .tones)) (Pends T) t)
       unfolding empty rowOf
       rows-keep lent =
           record {
             begins = kept-empty (lasting []);
             adding = λ origin d t m _ _ h.
-                with-block (lasting (t .tones ++ d .tones)) (rowOf origin d (length (t .tones))) (withTones (d .tones) t)
+                with-block (lasting (t .tones ++ d .tones)) (rowOf (T .bytes) origin d (length (t .tones))) (withTones (d .tones) t)
                 (row-new (t .tones) (d .tones) _ refl refl (has origin d _ m))
                 (record { rows = all-also (row-longer (t .tones) (d .tones)) (h .rows); name = h .name });
             steps = record {

@@ -30,12 +30,13 @@ pub record Of (M : Sound → Origin → Type 0) (Q : Pending → Type 0) (origin
   pub name : Q (brings d)
 
 -- any deed
-pub does-keeps : {lent : Lent} {M : Sound → Origin → Type 0} {Q : Pending → Type 0} {K : Parsed → Type 0} → Invariant lent M Q K
-    → (model : ℕ) (origin : Origin) (d : Deed) → Of M Q origin d → (t : Parsed) → K t → Sure K (does lent model origin d t)
+pub does-keeps : {lent : Lent} {s : List ℕ} {M : Sound → Origin → Type 0} {Q : Pending → Type 0} {K : Parsed → Type 0}
+    → Invariant lent s M Q K
+    → (model : ℕ) (origin : Origin) (d : Deed) → Of M Q origin d → (t : Parsed) → K t → Sure K (does lent s model origin d t)
 unfolding does soundsOf brings
-does-keeps {lent} {K = K} k model origin (adding only48 ds) f t h = by-cases (only48 && not (eqb model 0))
+does-keeps {lent} {s} {K = K} k model origin (adding only48 ds) f t h = by-cases (only48 && not (eqb model 0))
   where
-    by-cases : (b : Bool) → Sure K (b ⇒ on t ∣ addSounds lent origin ds t)
+    by-cases : (b : Bool) → Sure K (b ⇒ on t ∣ addSounds lent s origin ds t)
     by-cases true = sure h
     by-cases false = sounds-keep k origin (f .sounds) t h
 does-keeps k model origin (groups from size) f t h = keeps-pend (k .steps) (First from size) (f .name) h
@@ -60,7 +61,7 @@ brought f panics e = tt
 brought f (errs n) e = tt
 
 -- any piece
-pub act-keeps : {lent : Lent} {s : List ℕ} {K : Parsed → Type 0} → Invariant lent (OfPiece (sourceTable s)) (Pends (sourceTable s)) K
+pub act-keeps : {lent : Lent} {s : List ℕ} {K : Parsed → Type 0} → Invariant lent s (OfPiece (sourceTable s)) (Pends (sourceTable s)) K
     → (model at : ℕ) (piece : Piece) → From s at piece → (t : Parsed) → K t
     → Sure K (act lent s model (originAt (getD s at 0) at) piece t)
 unfolding act

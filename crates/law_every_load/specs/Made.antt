@@ -15,9 +15,10 @@ use Rattle.load_blocks.specs.declared.Origin.{Origin}
 use Rattle.load_blocks.specs.Sounds.{Sound, originAt, rowOf}
 use Rattle.text_name.specs.Names.{unselected}
 
--- A READING'S TABLE over a tape: its pieces, which of them is cut at a place and with what kind,
+-- A READING'S TABLE over a tape: the tape's bytes, its pieces, which of them is cut at a place and with what kind,
 -- and each one's sounds and the name that it brings
 pub record Table : Type 1 where
+  pub bytes : List ℕ
   pub Piece : Type 0
   pub Cut : ℕ → Piece → Type 0
   pub kind : ℕ → ℕ
@@ -56,7 +57,7 @@ pub record RowOver (P : List Tone → Block → Type 0) (all : List Tone) (r : B
 
 -- WHAT IS ASKED OF P: every row at its birth has it, and a name, a copy (a name that is none), 22's pause and the naming pass keep it
 abbrev pub Births : Table → (List Tone → Block → Type 0) → Type 0
-Births T P = (origin : Origin) (d : Sound) (tone : ℕ) → OfPiece T d origin → P (d .tones) (rowOf origin d tone)
+Births T P = (origin : Origin) (d : Sound) (tone : ℕ) → OfPiece T d origin → P (d .tones) (rowOf (T .bytes) origin d tone)
 
 pub record LastsThrough (T : Table) (P : List Tone → Block → Type 0) : Type 0 where
   pub naming : (mark case text chars : ℕ) (ts : List Tone) (r : Block) → GivenName T mark case text chars → P ts r

@@ -26,6 +26,7 @@ pub record From (s : List ℕ) (at : ℕ) (piece : Piece) : Type 0 where
 
 abbrev pub sourceTable : List ℕ → Table
 sourceTable s = record {
+  bytes = s;
   Piece = Piece;
   Cut = From s;
   kind = λ at. getD s at 0;
@@ -45,6 +46,7 @@ pub record FromTap (s : List ℕ) (at : ℕ) (d : TapData) : Type 0 where
 
 abbrev pub tapTable : List ℕ → Table
 tapTable s = record {
+  bytes = s;
   Piece = TapData;
   Cut = FromTap s;
   kind = λ at. tapKind;

@@ -141,14 +141,15 @@ tends-block r t = within (length (t .blocks))
         }
 
 -- sounds, copies of a loop's body
-tends-sound : (origin : Origin) (d : Sound) (t : Parsed) → Steps (λ l. addSound l origin d t) (on (withSound origin d t))
+tends-sound : (s : List ℕ) (origin : Origin) (d : Sound) (t : Parsed) → Steps (λ l. addSound l s origin d t) (on (withSound s origin d t))
 unfolding addSound addRows withSound _⟫_
-tends-sound origin d t = tends-then (tends-tones (d .tones) t) (λ u. tends-block (rowOf origin d (length (t .tones))) u)
+tends-sound s origin d t = tends-then (tends-tones (d .tones) t) (λ u. tends-block (rowOf s origin d (length (t .tones))) u)
 
-tends-sounds : (origin : Origin) (ds : List Sound) (t : Parsed) → Steps (λ l. addSounds l origin ds t) (on (withSounds origin ds t))
+tends-sounds : (s : List ℕ) (origin : Origin) (ds : List Sound) (t : Parsed)
+    → Steps (λ l. addSounds l s origin ds t) (on (withSounds s origin ds t))
 unfolding addSounds withSounds _⟫_
-tends-sounds origin [] t = tends-as (on t)
-tends-sounds origin (d ∷ ds) t = tends-then (tends-sound origin d t) (λ u. tends-sounds origin ds u)
+tends-sounds s origin [] t = tends-as (on t)
+tends-sounds s origin (d ∷ ds) t = tends-then (tends-sound s origin d t) (λ u. tends-sounds s origin ds u)
 
 tends-copy : (rs : List Block) (t : Parsed) → Steps (λ l. copyRows (l .blocks) rs t) (on (withCopy rs t))
 unfolding copyRows withCopy _⟫_
@@ -166,21 +167,21 @@ tends-looped Closed t = tends-as (on t)
 tends-looped (Open start times) t = tends-copies times (drop start (t .blocks)) (withBody Closed t)
 
 -- what a piece does
-tends-does : (model : ℕ) (origin : Origin) (d : Deed) (t : Parsed)
-    → Steps (λ l. does l model origin d t) (boundlessDoes model origin d t)
+tends-does : (s : List ℕ) (model : ℕ) (origin : Origin) (d : Deed) (t : Parsed)
+    → Steps (λ l. does l s model origin d t) (boundlessDoes s model origin d t)
 unfolding does boundlessDoes closeLoop
-tends-does model origin (adding only48 ds) t = by-model (only48 && not (eqb model 0))
+tends-does s model origin (adding only48 ds) t = by-model (only48 && not (eqb model 0))
   where
-    by-model : (b : Bool) → Steps (λ l. b ⇒ on t ∣ addSounds l origin ds t) (on (b ⇒ t ∣ withSounds origin ds t))
+    by-model : (b : Bool) → Steps (λ l. b ⇒ on t ∣ addSounds l s origin ds t) (on (b ⇒ t ∣ withSounds s origin ds t))
     by-model true = tends-as (on t)
-    by-model false = tends-sounds origin ds t
-tends-does model origin (groups from size) t = tends-as _
-tends-does model origin (texts from size) t = tends-as _
-tends-does model origin groupEnds t = tends-as _
-tends-does model origin (opens n) t = tends-as _
-tends-does model origin closes t = tends-looped (t .body) t
-tends-does model origin panics t = tends-as _
-tends-does model origin (errs n) t = tends-as _
+    by-model false = tends-sounds s origin ds t
+tends-does s model origin (groups from size) t = tends-as _
+tends-does s model origin (texts from size) t = tends-as _
+tends-does s model origin groupEnds t = tends-as _
+tends-does s model origin (opens n) t = tends-as _
+tends-does s model origin closes t = tends-looped (t .body) t
+tends-does s model origin panics t = tends-as _
+tends-does s model origin (errs n) t = tends-as _
 
 -- a step in a reading, then the rest of it
 after-near : {x y : Out} {f g : Parsed → Verdict} → Near (λ k. halt (Refusal k)) x y → ((t : Parsed) → Near refused (f t) (g t))
@@ -231,7 +232,7 @@ module _ (s : List ℕ) where
     where
       of : (c : Taken) → Reads (λ l. seeing (tzxOf l s model at c) t (k l)) (seeing (boundlessPiece s model at c) t h)
       of taken.End = tends-as (done t)
-      of (taken.Whole kind from next piece) = tends-after (tends-does model (originAt kind from) (deedOf s piece) t) (λ u. rest next u)
+      of (taken.Whole kind from next piece) = tends-after (tends-does s model (originAt kind from) (deedOf s piece) t) (λ u. rest next u)
       of (taken.Unknown kind described) = rest (at + 1) t
       of (taken.Short kind p w) = tends-as _
       of (taken.Overflow kind p) = tends-as _
@@ -243,7 +244,7 @@ module _ (s : List ℕ) where
       of : (c : TakenTap) → Reads (λ l. seeing (tapOf l s at c) t (k l)) (seeing (boundlessBlock s at c) t h)
       of tap.End = tends-as (done t)
       of tap.Lone = tends-as (done t)
-      of (tap.Block from size next) = tends-after (tends-sound (originAt _ at) _ t) (λ u. rest next u)
+      of (tap.Block from size next) = tends-after (tends-sound s (originAt _ at) _ t) (λ u. rest next u)
       of (tap.Short p w) = tends-as _
 
 -- 7's test, the two formats, the naming pass: none asks for rows
@@ -381,16 +382,16 @@ data Clear : Verdict → Type 0 where
   four : Clear (refused generalised)
   seven : Clear (refused lastBits)
 
-does-free : (model : ℕ) (origin : Origin) (d : Deed) (t : Parsed) → Free (boundlessDoes model origin d t)
+does-free : (s : List ℕ) (model : ℕ) (origin : Origin) (d : Deed) (t : Parsed) → Free (boundlessDoes s model origin d t)
 unfolding boundlessDoes pend endGroup openLoop
-does-free model origin (adding only48 ds) t = goes
-does-free model origin (groups from size) t = goes
-does-free model origin (texts from size) t = goes
-does-free model origin groupEnds t = goes
-does-free model origin (opens n) t = goes
-does-free model origin closes t = goes
-does-free model origin panics t = panicked
-does-free model origin (errs n) t = erred
+does-free s model origin (adding only48 ds) t = goes
+does-free s model origin (groups from size) t = goes
+does-free s model origin (texts from size) t = goes
+does-free s model origin groupEnds t = goes
+does-free s model origin (opens n) t = goes
+does-free s model origin closes t = goes
+does-free s model origin panics t = panicked
+does-free s model origin (errs n) t = erred
 
 after-clear : {o : Out} {k : Parsed → Verdict} → Free o → ((t : Parsed) → Clear (k t)) → Clear (readOn o k)
 unfolding readOn halted
@@ -469,7 +470,7 @@ module _ (s : List ℕ) (model : ℕ) where
     where
       of : (c : Taken) → Clear (seeing (boundlessPiece s model at c) t k)
       of taken.End = whole
-      of (taken.Whole kind from next piece) = after-clear (does-free model (originAt kind from) (deedOf s piece) t) (rest next)
+      of (taken.Whole kind from next piece) = after-clear (does-free s model (originAt kind from) (deedOf s piece) t) (rest next)
       of (taken.Unknown kind described) = rest (at + 1) t
       of (taken.Short kind p w) = fails
       of (taken.Overflow kind p) = four

@@ -140,10 +140,10 @@ pub record Erred (p : Piece) (origin : Origin) (k a n : ℕ) : Type 0 where
 
 module _ (lent : Lent) (s : List ℕ) (model : ℕ) where
   -- any other deed halts by 5 or 6 alone
-  others-say : (origin : Origin) (d : Deed) (t : Parsed) → stops d ≡ false → HaltsBy tonesFull blocksFull (enact lent model origin d t)
+  others-say : (origin : Origin) (d : Deed) (t : Parsed) → stops d ≡ false → HaltsBy tonesFull blocksFull (enact lent s model origin d t)
   unfolding enact stops pend endGroup openLoop closeLoop
   others-say origin (adding only48 ds) t e =
-      either (HaltsBy tonesFull blocksFull) (only48 && not (eqb model 0)) goes (sounds-say lent origin ds t)
+      either (HaltsBy tonesFull blocksFull) (only48 && not (eqb model 0)) goes (sounds-say lent s origin ds t)
   others-say origin (groups from size) t e = goes
   others-say origin (texts from size) t e = goes
   others-say origin groupEnds t e = goes
@@ -156,7 +156,7 @@ module _ (lent : Lent) (s : List ℕ) (model : ℕ) where
   unfolding act enact
   act-four origin p t e = of (itself s p) e
     where
-      of : {q : Piece} {d : Deed} → ByItself s q d → enact lent model origin d t ≡ halt (Refusal generalised) → Refused4 s q
+      of : {q : Piece} {d : Deed} → ByItself s q d → enact lent s model origin d t ≡ halt (Refusal generalised) → Refused4 s q
       of (never {d = d} h) x = never-four (others-say origin d t h) x
       of (four h) x = h
       of (wrong h) x = let z : _≡_ {A = ℕ} 0 1 = cc in absurd (omega arith)
@@ -166,7 +166,7 @@ module _ (lent : Lent) (s : List ℕ) (model : ℕ) where
   unfolding act enact
   act-errs origin p t {k} {a} {n} e = of (itself s p) e
     where
-      of : {q : Piece} {d : Deed} → ByItself s q d → enact lent model origin d t ≡ halt (Length k a n) → Erred q origin k a n
+      of : {q : Piece} {d : Deed} → ByItself s q d → enact lent s model origin d t ≡ halt (Length k a n) → Erred q origin k a n
       of (never {d = d} h) x = never-errs (others-say origin d t h) x
       of (four h) x = let z : _≡_ {A = ℕ} 0 1 = cc in absurd (omega arith)
       of (wrong {n = m} h) x =
@@ -236,7 +236,7 @@ module _ (lent : Lent) (s : List ℕ) (model : ℕ) where
   unfolding tzxOf act deedOf generalDeed enact halted
   four-due {at} (before q) = stands (tzx-sees lent s model at (sym q))
   four-due {at} {t} (within {kind = kind} {from = from} {g = g} q e) = answers {k = Refusal generalised}
-      (sees-piece lent s model at (sym q)) (ap (λ (x : general.Given). enact lent model (originAt kind from) (generalDeed g x) t) e)
+      (sees-piece lent s model at (sym q)) (ap (λ (x : general.Given). enact lent s model (originAt kind from) (generalDeed g x) t) e)
 
   -- 5 and 6
   due-needs : (k : ℕ) → tonesFull ≤ k → {r : Verdict} {at : ℕ} {t : Parsed} → Within lent t → Due (tzxSee lent s model) r at t
@@ -284,7 +284,7 @@ module _ (lent : Lent) (s : List ℕ) (model : ℕ) where
 -- a TAP's things are blocks
 module _ (lent : Lent) (s : List ℕ) where
   abbrev blockDoes : ℕ → ℕ → ℕ → Parsed → Out
-  blockDoes at from size = addSound lent (originAt tapKind at)
+  blockDoes at from size = addSound lent s (originAt tapKind at)
       (standardSound (standardHeader s from size) from size (standardPause (standardHeader s from size)))
 
   data TapThing (at next : ℕ) (does : Parsed → Out) : Type 0 where
@@ -320,7 +320,7 @@ module _ (lent : Lent) (s : List ℕ) where
       of at next does (is-block q d) = omega (arith, tap-forward s at q .0)
 
   block-adds : (at from size : ℕ) (t : Parsed) → Within lent t → Adding lent (2 ∷ []) t (blockDoes at from size t)
-  block-adds at from size t w = standard-adds lent (originAt tapKind at) (standardHeader s from size) from size _ t w
+  block-adds at from size t w = standard-adds lent s (originAt tapKind at) (standardHeader s from size) from size _ t w
 
   due-tap : (k : ℕ) → tonesFull ≤ k → {r : Verdict} {at : ℕ} {t : Parsed} → Within lent t → Due (tapSee lent s) r at t
       → r ≡ refused k

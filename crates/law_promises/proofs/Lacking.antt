@@ -206,33 +206,34 @@ module _ (lent : Lent) where
           only k (first (rows x y)) = absurd (omega arith)
           only k (later x y z) = z
 
-  sound-one : (origin : Origin) (d : Sound) (t : Parsed) → One (length (d .tones)) t (addSound lent origin d t)
+  sound-one : (s : List ℕ) (origin : Origin) (d : Sound) (t : Parsed) → One (length (d .tones)) t (addSound lent s origin d t)
   unfolding addSound addRows addTones addBlock _⟫_
-  sound-one origin d t =
+  sound-one s origin d t =
       record {
         five = λ h. rw (lt-leb (length (t .tones) + length (d .tones)) (lent .tones) h);
         six = λ l h. rw (le-leb (length (t .tones) + length (d .tones)) (lent .tones) l, le-ltb (length (t .blocks)) (lent .blocks) h);
-        next = withBlock (rowOf origin d (length (t .tones))) (withTones (d .tones) t);
+        next = withBlock (rowOf s origin d (length (t .tones))) (withTones (d .tones) t);
         goes = λ l h. rw (le-leb (length (t .tones) + length (d .tones)) (lent .tones) l, lt-ltb (length (t .blocks)) (lent .blocks) h);
         more-tones = length-append (t .tones) (d .tones);
         more-blocks = length-append (t .blocks) _;
       }
 
-  sounds-add : (origin : Origin) (ds : List Sound) (t : Parsed) → Within lent t
-      → Adding (map (λ d. length (d .tones)) ds) t (addSounds lent origin ds t)
+  sounds-add : (s : List ℕ) (origin : Origin) (ds : List Sound) (t : Parsed) → Within lent t
+      → Adding (map (λ d. length (d .tones)) ds) t (addSounds lent s origin ds t)
   unfolding addSounds
-  sounds-add origin [] t w = adds-none w
-  sounds-add origin (d ∷ ds) t w =
-      one-then (length (d .tones)) _ t (addSound lent origin d t) (addSounds lent origin ds) w (sound-one origin d t) (sounds-add origin ds)
+  sounds-add s origin [] t w = adds-none w
+  sounds-add s origin (d ∷ ds) t w =
+      one-then (length (d .tones)) _ t (addSound lent s origin d t) (addSounds lent s origin ds) w (sound-one s origin d t)
+      (sounds-add s origin ds)
 
   -- a TAP's block
-  pub standard-adds : (origin : Origin) (header : Bool) (from size pause : ℕ) (t : Parsed) → Within lent t
-      → Adding (2 ∷ []) t (addSound lent origin (standardSound header from size pause) t)
+  pub standard-adds : (s : List ℕ) (origin : Origin) (header : Bool) (from size pause : ℕ) (t : Parsed) → Within lent t
+      → Adding (2 ∷ []) t (addSound lent s origin (standardSound header from size pause) t)
   unfolding standardSound standardTones
-  standard-adds origin header from size pause t w =
+  standard-adds s origin header from size pause t w =
       let d = standardSound header from size pause in
-      subst (Adding (2 ∷ []) t) (then-on (addSound lent origin d t))
-      (one-then 2 [] t (addSound lent origin d t) on w (sound-one origin d t) (λ u x. adds-none x))
+      subst (Adding (2 ∷ []) t) (then-on (addSound lent s origin d t))
+      (one-then 2 [] t (addSound lent s origin d t) on w (sound-one s origin d t) (λ u x. adds-none x))
 
   copy-one : (r : Block) (t : Parsed) → Within lent t → One 0 t (addBlock (lent .blocks) (nameless r) t)
   unfolding addBlock
@@ -268,29 +269,30 @@ module _ (lent : Lent) where
       subst (λ (ns : List ℕ). Adding ns t (copyRows (lent .blocks) rs t ⟫ copies (lent .blocks) n rs)) e
       (rows-add rs (zeros (n * m)) (copies (lent .blocks) n rs) (copies-add n rs) t w)
 
-  deed-adds : (model : ℕ) (origin : Origin) (d : Deed) (t : Parsed) → Within lent t
-      → Adding (needsOf model d t) t (does lent model origin d t)
+  deed-adds : (s : List ℕ) (model : ℕ) (origin : Origin) (d : Deed) (t : Parsed) → Within lent t
+      → Adding (needsOf model d t) t (does lent s model origin d t)
   unfolding does needsOf copyNeeds pend endGroup openLoop closeLoop closed
-  deed-adds model origin (adding only48 ds) t w = of (only48 && not (eqb model 0))
+  deed-adds s model origin (adding only48 ds) t w = of (only48 && not (eqb model 0))
     where
-      of : (b : Bool) → Adding (b ⇒ [] ∣ map (λ d. length (d .tones)) ds) t (b ⇒ on t ∣ addSounds lent origin ds t)
+      of : (b : Bool) → Adding (b ⇒ [] ∣ map (λ d. length (d .tones)) ds) t (b ⇒ on t ∣ addSounds lent s origin ds t)
       of true = adds-none w
-      of false = sounds-add origin ds t w
-  deed-adds model origin (groups from size) t w = adds-none (record { blocks = w .blocks; tones = w .tones })
-  deed-adds model origin (texts from size) t w = adds-none (record { blocks = w .blocks; tones = w .tones })
-  deed-adds model origin groupEnds t w = adds-none (record { blocks = rw (paused-length (t .blocks)) (w .blocks); tones = w .tones })
-  deed-adds model origin (opens n) t w = adds-none (record { blocks = w .blocks; tones = w .tones })
-  deed-adds model origin closes t w = of (t .body)
+      of false = sounds-add s origin ds t w
+  deed-adds s model origin (groups from size) t w = adds-none (record { blocks = w .blocks; tones = w .tones })
+  deed-adds s model origin (texts from size) t w = adds-none (record { blocks = w .blocks; tones = w .tones })
+  deed-adds s model origin groupEnds t w = adds-none (record { blocks = rw (paused-length (t .blocks)) (w .blocks); tones = w .tones })
+  deed-adds s model origin (opens n) t w = adds-none (record { blocks = w .blocks; tones = w .tones })
+  deed-adds s model origin closes t w = of (t .body)
     where
       of : (l : Loop) → Adding (copyNeeds l (t .blocks)) t (closed (lent .blocks) l t)
       of Closed = adds-none w
       of (Open start times) =
           copies-add times (drop start (t .blocks)) (withBody Closed t) (record { blocks = w .blocks; tones = w .tones })
-  deed-adds model origin panics t w = adds-halted (Refusal generalised) (λ k h e. let z : generalised ≡ k = cc in omega arith)
-  deed-adds model origin (errs n) t w = adds-halted (Length (origin .kind) (origin .place) n) (λ k h e. let z : _≡_ {A = ℕ} 0 1 = cc in omega arith)
+  deed-adds s model origin panics t w = adds-halted (Refusal generalised) (λ k h e. let z : generalised ≡ k = cc in omega arith)
+  deed-adds s model origin (errs n) t w =
+      adds-halted (Length (origin .kind) (origin .place) n) (λ k h e. let z : _≡_ {A = ℕ} 0 1 = cc in omega arith)
 
   -- a piece
   pub act-adds : (s : List ℕ) (model : ℕ) (origin : Origin) (p : Piece) (t : Parsed) → Within lent t
       → Adding (needsOf model (deedOf s p) t) t (act lent s model origin p t)
   unfolding act
-  act-adds s model origin p t w = deed-adds model origin (deedOf s p) t w
+  act-adds s model origin p t w = deed-adds s model origin (deedOf s p) t w

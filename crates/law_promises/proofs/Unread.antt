@@ -277,8 +277,8 @@ module _ (lent : Lent) (s : List ℕ) where
       of tap.Lone x = let z : _≡_ {A = ℕ} 0 1 = cc in omega arith
       of (tap.Block first size m) x =
           let header = standardHeader s first size in
-          let g : addSound lent (originAt tapKind at) (standardSound header first size (standardPause header)) ≡ does = cc in
-          never-errs (sound-says lent (originAt tapKind at) (standardSound header first size (standardPause header)) t)
+          let g : addSound lent s (originAt tapKind at) (standardSound header first size (standardPause header)) ≡ does = cc in
+          never-errs (sound-says lent s (originAt tapKind at) (standardSound header first size (standardPause header)) t)
           (ap (λ (h : Parsed → Out). h t) g ∙ d)
       of (tap.Short p w) x = let z : _≡_ {A = ℕ} 0 1 = cc in omega arith
 

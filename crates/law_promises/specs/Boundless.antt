@@ -33,12 +33,12 @@ use Rattle.load_source.specs.Source.{no, orElse}
 use Rattle.load_tape.specs.Load.{namedLoad}
 
 -- a block: its tone rows behind those that were read, its row behind the blocks
-unfoldable pub withSound : Origin → Sound → Parsed → Parsed
-withSound origin d t = withBlock (rowOf origin d (length (t .tones))) (withTones (d .tones) t)
+unfoldable pub withSound : List ℕ → Origin → Sound → Parsed → Parsed
+withSound s origin d t = withBlock (rowOf s origin d (length (t .tones))) (withTones (d .tones) t)
 
-unfoldable pub withSounds : Origin → List Sound → Parsed → Parsed
-withSounds origin [] t = t
-withSounds origin (d ∷ ds) t = withSounds origin ds (withSound origin d t)
+unfoldable pub withSounds : List ℕ → Origin → List Sound → Parsed → Parsed
+withSounds s origin [] t = t
+withSounds s origin (d ∷ ds) t = withSounds s origin ds (withSound s origin d t)
 
 -- a loop's body once more; n times more; at a loop's end
 unfoldable pub withCopy : List Block → Parsed → Parsed
@@ -54,20 +54,20 @@ withLooped Closed t = t
 withLooped (Open start times) t = withCopies times (drop start (t .blocks)) (withBody Closed t)
 
 -- what a piece of this origin does
-unfoldable pub boundlessDoes : ℕ → Origin → Deed → Parsed → Out
-boundlessDoes model origin (adding only48 ds) t = on ((only48 && not (eqb model 0)) ⇒ t ∣ withSounds origin ds t)
-boundlessDoes model origin (groups from size) t = pend (First from size) t
-boundlessDoes model origin (texts from size) t = pend (Text from size) t
-boundlessDoes model origin groupEnds t = endGroup t
-boundlessDoes model origin (opens n) t = openLoop n t
-boundlessDoes model origin closes t = on (withLooped (t .body) t)
-boundlessDoes model origin panics t = halt (Refusal generalised)
-boundlessDoes model origin (errs n) t = halt (Length (origin .kind) (origin .place) n)
+unfoldable pub boundlessDoes : List ℕ → ℕ → Origin → Deed → Parsed → Out
+boundlessDoes s model origin (adding only48 ds) t = on ((only48 && not (eqb model 0)) ⇒ t ∣ withSounds s origin ds t)
+boundlessDoes s model origin (groups from size) t = pend (First from size) t
+boundlessDoes s model origin (texts from size) t = pend (Text from size) t
+boundlessDoes s model origin groupEnds t = endGroup t
+boundlessDoes s model origin (opens n) t = openLoop n t
+boundlessDoes s model origin closes t = on (withLooped (t .body) t)
+boundlessDoes s model origin panics t = halt (Refusal generalised)
+boundlessDoes s model origin (errs n) t = halt (Length (origin .kind) (origin .place) n)
 
 module _ (s : List ℕ) where
   unfoldable pub boundlessPiece : ℕ → ℕ → Taken → See
   boundlessPiece model at taken.End = theEnd
-  boundlessPiece model at (taken.Whole kind from next piece) = thing next (boundlessDoes model (originAt kind from) (deedOf s piece))
+  boundlessPiece model at (taken.Whole kind from next piece) = thing next (boundlessDoes s model (originAt kind from) (deedOf s piece))
   boundlessPiece model at (taken.Unknown kind described) = thing (at + 1) on
   boundlessPiece model at (taken.Short kind p w) = bad (failure.ShortPiece kind at p w)
   boundlessPiece model at (taken.Overflow kind p) = refuses generalised
@@ -83,7 +83,7 @@ module _ (s : List ℕ) where
   boundlessBlock at tap.Lone = theEnd
   boundlessBlock at (tap.Block from size next) =
       let header = standardHeader s from size in
-      thing next (λ t. on (withSound (originAt tapKind at) (standardSound header from size (standardPause header)) t))
+      thing next (λ t. on (withSound s (originAt tapKind at) (standardSound header from size (standardPause header)) t))
   boundlessBlock at (tap.Short p w) = bad (failure.Short p w)
 
   unfoldable pub boundlessTap : Verdict

@@ -105,9 +105,9 @@ abbrev blank : Tone
 blank = decodeTone []
 
 module _ (s : List ℕ) (origin : Origin) (d : Sound) (ls : List PulseLength)
-    (same : (n : ℕ) → blockLengths s (d .tones) (rowOf origin d n) ≡ lasting ls) where
+    (same : (n : ℕ) → blockLengths s (d .tones) (rowOf s origin d n) ≡ lasting ls) where
   own : (t : Parsed) (more : List Tone) (N i : ℕ) → i < length (d .tones)
-      → get tone (tableOf tone ((t .tones ++ (d .tones)) ++ more) N) (rowOf origin d (length (t .tones)) .tone + i)
+      → get tone (tableOf tone ((t .tones ++ (d .tones)) ++ more) N) (rowOf s origin d (length (t .tones)) .tone + i)
       ≡ getD (d .tones) i blank
   unfolding rowOf
   own t more N i k =
@@ -119,10 +119,10 @@ module _ (s : List ℕ) (origin : Origin) (d : Sound) (ls : List PulseLength)
       ∙ List·getD-append (t .tones ++ (d .tones)) more blank (n + i) h
       ∙ getD-append-add (t .tones) (d .tones) i blank
 
-  row-plays : (t : Parsed) → Plays s ls t (withBlock (rowOf origin d (length (t .tones))) (withTones (d .tones) t))
+  row-plays : (t : Parsed) → Plays s ls t (withBlock (rowOf s origin d (length (t .tones))) (withTones (d .tones) t))
   unfolding entriesFrom rowOf
   row-plays t =
-      let r = rowOf origin d (length (t .tones)) in
+      let r = rowOf s origin d (length (t .tones)) in
       record {
         blocks = named (t .pending) r ∷ [];
         tones = d .tones;
@@ -137,18 +137,18 @@ module _ (s : List ℕ) (origin : Origin) (d : Sound) (ls : List PulseLength)
       }
 
   -- A BLOCK ADDED
-  pub sound-plays : (lent : Lent) (t : Parsed) → Sure (Plays s ls t) (addSound lent origin d t)
+  pub sound-plays : (lent : Lent) (t : Parsed) → Sure (Plays s ls t) (addSound lent s origin d t)
   unfolding addSound addRows addTones addBlock _⟫_
   sound-plays lent t = by-tones (leb (length (t .tones) + length (d .tones)) (lent .tones))
     where
       by-blocks : (c : Bool)
           → Sure (Plays s ls t)
-          (c ⇒ on (withBlock (rowOf origin d (length (t .tones))) (withTones (d .tones) t)) ∣ no (Refusal blocksFull))
+          (c ⇒ on (withBlock (rowOf s origin d (length (t .tones))) (withTones (d .tones) t)) ∣ no (Refusal blocksFull))
       by-blocks true = sure (row-plays t)
       by-blocks false = none
 
       by-tones : (c : Bool)
           → Sure (Plays s ls t)
-          ((c ⇒ on (withTones (d .tones) t) ∣ no (Refusal tonesFull)) ⟫ addBlock (lent .blocks) (rowOf origin d (length (t .tones))))
+          ((c ⇒ on (withTones (d .tones) t) ∣ no (Refusal tonesFull)) ⟫ addBlock (lent .blocks) (rowOf s origin d (length (t .tones))))
       by-tones true = by-blocks (ltb (length (t .blocks)) (lent .blocks))
       by-tones false = none

@@ -46,7 +46,7 @@ Stays t o = Sure (λ u. u .body ≡ t .body) o
 stays-then : (t : Parsed) {o : Out} (f : Parsed → Out) → Stays t o → ((u : Parsed) → Stays u (f u)) → Stays t (o ⟫ f)
 stays-then t f s h = sure-then f s (λ u e. sure-also (λ v q. q ∙ e) (h u))
 
-module _ (lent : Lent) (origin : Origin) where
+module _ (lent : Lent) (origin : Origin) (s : List ℕ) where
   tones-stay : (ts : List Tone) (t : Parsed) → Stays t (addTones (lent .tones) ts t)
   unfolding addTones
   tones-stay ts t = by-room (leb (length (t .tones) + length ts) (lent .tones))
@@ -63,25 +63,25 @@ module _ (lent : Lent) (origin : Origin) where
       by-room true = sure refl
       by-room false = none
 
-  sounds-stay : (ds : List Sound) (t : Parsed) → Stays t (addSounds lent origin ds t)
+  sounds-stay : (ds : List Sound) (t : Parsed) → Stays t (addSounds lent s origin ds t)
   unfolding addSounds addSound addRows
   sounds-stay [] t = sure refl
   sounds-stay (d ∷ ds) t =
-      stays-then t (addSounds lent origin ds)
+      stays-then t (addSounds lent s origin ds)
       (stays-then t (addBlock (lent .blocks) _) (tones-stay (d .tones) t) (block-stays _)) (sounds-stay ds)
 
-  general-stays : (model : ℕ) (g : GeneralizedData) (x : Given) (t : Parsed) → Stays t (does lent model origin (generalDeed g x) t)
+  general-stays : (model : ℕ) (g : GeneralizedData) (x : Given) (t : Parsed) → Stays t (does lent s model origin (generalDeed g x) t)
   unfolding generalDeed does
   general-stays model g refused4 t = none
   general-stays model g stop t = sounds-stay (_ ∷ []) t
   general-stays model g (plain ts off one last) t = sounds-stay (_ ∷ []) t
   general-stays model g (toned ts) t = sounds-stay (_ ∷ []) t
 
-  stop-stays : (model n : ℕ) (t : Parsed) → Stays t (does lent model origin (stop48Deed n) t)
+  stop-stays : (model n : ℕ) (t : Parsed) → Stays t (does lent s model origin (stop48Deed n) t)
   unfolding stop48Deed does
   stop-stays model n t = by-length (eqb n 0) (eqb model 0) refl
     where
-      by-length : (b c : Bool) → eqb model 0 ≡ c → Stays t (does lent model origin (b ⇒ adds48 (stopSound ∷ []) ∣ errs n) t)
+      by-length : (b c : Bool) → eqb model 0 ≡ c → Stays t (does lent s model origin (b ⇒ adds48 (stopSound ∷ []) ∣ errs n) t)
       by-length true true e = rw e (sounds-stay (stopSound ∷ []) t)
       by-length true false e = rw e (sure refl)
       by-length false c e = none
@@ -94,18 +94,18 @@ nested-same k m start n (Open p q) e = refl
 piece-stays : (lent : Lent) (origin : Origin) (s : List ℕ) (model start n : ℕ) (piece : Piece) (t : Parsed) → t .body ≡ Open start n
     → (piece ≡ LoopEnd → ⊥) → Stays t (act lent s model origin piece t)
 unfolding act deedOf does pend endGroup openLoop addSounds
-piece-stays lent origin s model start n (Standard pause from size) t o h = sounds-stay lent origin (_ ∷ []) t
-piece-stays lent origin s model start n (Turbo d) t o h = sounds-stay lent origin (_ ∷ []) t
-piece-stays lent origin s model start n (PureTone half count) t o h = sounds-stay lent origin (_ ∷ []) t
-piece-stays lent origin s model start n (Pulses count from) t o h = sounds-stay lent origin (pairSounds s from 0 (count / 2)) t
-piece-stays lent origin s model start n (Pure off one last pause from size) t o h = sounds-stay lent origin (_ ∷ []) t
-piece-stays lent origin s model start n (Generalized g) t o h = general-stays lent origin model g (generalOf s g) t
-piece-stays lent origin s model start n (Pause m) t o h = sounds-stay lent origin (_ ∷ []) t
+piece-stays lent origin s model start n (Standard pause from size) t o h = sounds-stay lent origin s (_ ∷ []) t
+piece-stays lent origin s model start n (Turbo d) t o h = sounds-stay lent origin s (_ ∷ []) t
+piece-stays lent origin s model start n (PureTone half count) t o h = sounds-stay lent origin s (_ ∷ []) t
+piece-stays lent origin s model start n (Pulses count from) t o h = sounds-stay lent origin s (pairSounds s from 0 (count / 2)) t
+piece-stays lent origin s model start n (Pure off one last pause from size) t o h = sounds-stay lent origin s (_ ∷ []) t
+piece-stays lent origin s model start n (Generalized g) t o h = general-stays lent origin s model g (generalOf s g) t
+piece-stays lent origin s model start n (Pause m) t o h = sounds-stay lent origin s (_ ∷ []) t
 piece-stays lent origin s model start n (GroupStart from size) t o h = sure refl
 piece-stays lent origin s model start n GroupEnd t o h = sure refl
 piece-stays lent origin s model start n (LoopStart times) t o h = sure (nested-same (length (t .blocks)) times start n (t .body) o)
 piece-stays lent origin s model start n LoopEnd t o h = absurd (h refl)
-piece-stays lent origin s model start n (Stop48 m) t o h = stop-stays lent origin model m t
+piece-stays lent origin s model start n (Stop48 m) t o h = stop-stays lent origin s model m t
 piece-stays lent origin s model start n (Text from size) t o h = sure refl
 piece-stays lent origin s model start n Message t o h = sure refl
 piece-stays lent origin s model start n Archive t o h = sure refl

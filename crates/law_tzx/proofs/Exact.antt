@@ -105,16 +105,16 @@ counts-apart xs ys p h e =
 add-differs : (lent : Lent) (origin : Origin) (s : List ℕ) (t : Parsed) (d : Sound) (bits : List ℕ) (p : PulseLength) (ys : List ℕ)
     {said : Said}
     → said ≡ sounds (record { pulses = ys; pause = p })
-    → ((n : ℕ) → dataIn s (rowOf origin d n) ≡ bits) → ((n : ℕ) → pauseIn (rowOf origin d n) ≡ p)
+    → ((n : ℕ) → dataIn s (rowOf s origin d n) ≡ bits) → ((n : ℕ) → pauseIn (rowOf s origin d n) ≡ p)
     → (count (wavesOf (d .tones) ++ bits) ≡ count ys → ⊥)
-    → Sure (λ u. Keeps s t u said → ⊥) (addSounds lent origin (d ∷ []) t)
+    → Sure (λ u. Keeps s t u said → ⊥) (addSounds lent s origin (d ∷ []) t)
 unfolding lengthsOf blockLengths
 add-differs lent origin s t d bits p ys said b q h =
     let xs = wavesOf (d .tones) ++ bits in
-    rw (one-sound lent origin d t) (sure-also (λ u k m. counts-apart xs ys p h (keeps-once (record { pulses = ys; pause = p }) said k m))
+    rw (one-sound lent s origin d t) (sure-also (λ u k m. counts-apart xs ys p h (keeps-once (record { pulses = ys; pause = p }) said k m))
     (sound-plays s origin d (map lasts xs ++ p ∷ [])
     (λ n.
-    ap₂ (λ (a c : List PulseLength). a ++ c) (sym (long-append (wavesOf (d .tones)) (dataIn s (rowOf origin d n)))
+    ap₂ (λ (a c : List PulseLength). a ++ c) (sym (long-append (wavesOf (d .tones)) (dataIn s (rowOf s origin d n)))
     ∙ ap (λ (l : List ℕ). long (wavesOf (d .tones) ++ l)) (b n)) (ap (λ (l : PulseLength). lasting (l ∷ [])) (q n))
     ∙ sym (lasting-append (map lasts xs) (p ∷ [])))
     lent t))
@@ -131,7 +131,7 @@ few : (x n : ℕ) → (eqb (suc x) 0 || ltb 1 n) ≡ false → n ≤ 1
 few x n e = let l = ltb-false 1 n (neither (eqb (suc x) 0) (ltb 1 n) e .1) in omega arith
 
 differs12 : (lent : Lent) (origin : Origin) (s : List ℕ) (t : Parsed) (half count′ : ℕ) → kept12 half count′ ≡ false
-    → Sure (λ u. Keeps s t u (format12 half count′) → ⊥) (addSounds lent origin (toneSound (pureToneTones half count′) ∷ []) t)
+    → Sure (λ u. Keeps s t u (format12 half count′) → ⊥) (addSounds lent s origin (toneSound (pureToneTones half count′) ∷ []) t)
 unfolding kept12 format12 rowOf dataPulses each pauseIn
 differs12 lent origin s t zero count′ e = absurd (differ e)
 differs12 lent origin s t (suc x) count′ e =
@@ -175,12 +175,12 @@ odd-of false true c e q z = sym q ∙ e
 odd-of false false c e q z = refl
 
 turbo-bits : (origin : Origin) (s : List ℕ) (d : TurboData) (n : ℕ) → bitsSaid (d .last) (d .size) ≡ true
-    → dataIn s (rowOf origin (turboSound d) n) ≡ dataPulses s (d .zero) (d .one) (d .last) (d .from) (d .size)
+    → dataIn s (rowOf s origin (turboSound d) n) ≡ dataPulses s (d .zero) (d .one) (d .last) (d .from) (d .size)
 unfolding turboSound rowOf
 turbo-bits origin s d n b = data-same s (d .zero) (d .one) (d .last) (d .from) (d .size) b
 
 differs11 : (lent : Lent) (origin : Origin) (s : List ℕ) (t : Parsed) (d : TurboData) → kept11 d ≡ false
-    → Sure (λ u. Keeps s t u (format11 s d) → ⊥) (addSounds lent origin (turboSound d ∷ []) t)
+    → Sure (λ u. Keeps s t u (format11 s d) → ⊥) (addSounds lent s origin (turboSound d ∷ []) t)
 unfolding kept11 format11 turboSound
 differs11 lent origin s t d e = by-bits (bitsSaid (d .last) (d .size)) refl
   where
@@ -190,20 +190,20 @@ differs11 lent origin s t d e = by-bits (bitsSaid (d .last) (d .size)) refl
     by-pilot : (x : ℕ) → d .pilot ≡ x → bitsSaid (d .last) (d .size) ≡ true
         → Sure (λ u. Keeps s t u
         (sounds (record { pulses = again (d .pilots) (d .pilot ∷ []) ++ d .sync1 ∷ d .sync2 ∷ bits; pause = pauseMs (d .pause) }))
-        → ⊥) (addSounds lent origin (turboSound d ∷ []) t)
+        → ⊥) (addSounds lent s origin (turboSound d ∷ []) t)
     by-pilot zero p b = absurd (differ (sym (rw (b, eq-eqb (d .pilot) 0 p)) ∙ e))
     by-pilot (suc x) p b =
         let z : eqb (d .pilot) 0 ≡ false = ne-eqb (d .pilot) 0 (omega arith) in
         let c : evenCount (d .pilots) ≡ false = odd-of (eqb (d .pilot) 0) (evenCount (d .pilots)) (bitsSaid (d .last) (d .size)) e b z in
         add-differs lent origin s t (turboSound d) bits (pauseMs (d .pause))
         (again (d .pilots) (d .pilot ∷ []) ++ d .sync1 ∷ d .sync2 ∷ bits) refl
-        (λ n. turbo-bits origin s d n b) (turbo-pause origin d) (turbo-count x d bits p c)
+        (λ n. turbo-bits origin s d n b) (turbo-pause origin s d) (turbo-count x d bits p c)
 
     by-bits : (b : Bool) → bitsSaid (d .last) (d .size) ≡ b
         → Sure (λ u. Keeps s t u (b ⇒ sounds (record {
           pulses = again (d .pilots) (d .pilot ∷ []) ++ d .sync1 ∷ d .sync2 ∷ bits;
           pause = pauseMs (d .pause);
-        }) ∣ unsaid) → ⊥) (addSounds lent origin (turboSound d ∷ []) t)
+        }) ∣ unsaid) → ⊥) (addSounds lent s origin (turboSound d ∷ []) t)
     by-bits true b = by-pilot (d .pilot) refl b
     by-bits false b = unsaid-differs refl _
 
@@ -233,18 +233,18 @@ standard-count false bits q =
     (ap count (sym (two-rows 1612 2168 667 735 bits)) ∙ q)
 
 pub standard-bits : (origin : Origin) (s : List ℕ) (b : Bool) (from size pause n : ℕ)
-    → dataIn s (rowOf origin (standardSound b from size pause) n) ≡ dataPulses s 855 1710 8 from size
+    → dataIn s (rowOf s origin (standardSound b from size pause) n) ≡ dataPulses s 855 1710 8 from size
 unfolding standardSound rowOf
 standard-bits origin s b from size pause n = refl
 
-pub standard-pause : (origin : Origin) (b : Bool) (from size pause n : ℕ)
-    → pauseIn (rowOf origin (standardSound b from size pause) n) ≡ lasts pause
+pub standard-pause : (origin : Origin) (s : List ℕ) (b : Bool) (from size pause n : ℕ)
+    → pauseIn (rowOf s origin (standardSound b from size pause) n) ≡ lasts pause
 unfolding standardSound rowOf pauseIn
-standard-pause origin b from size pause n = refl
+standard-pause origin s b from size pause n = refl
 
 differs10 : (lent : Lent) (origin : Origin) (s : List ℕ) (t : Parsed) (pause from size : ℕ)
     → Sure (λ u. Keeps s t u (format10 s pause from size) → ⊥)
-    (addSounds lent origin (standardSound (standardHeader s from size) from size (ms pause) ∷ []) t)
+    (addSounds lent s origin (standardSound (standardHeader s from size) from size (ms pause) ∷ []) t)
 unfolding standardSound format10 standardHeader pilotCount
 differs10 lent origin s t pause from size = by-size (eqb size 0)
   where
@@ -258,12 +258,12 @@ differs10 lent origin s t pause from size = by-size (eqb size 0)
         → Sure (λ u. Keeps s t u (b ⇒ unsaid ∣ sounds (record {
           pulses = again (flag ⇒ 8063 ∣ 3223) (2168 ∷ []) ++ 667 ∷ 735 ∷ bits;
           pause = pauseMs pause;
-        })) → ⊥) (addSounds lent origin (standardSound (b || flag) from size (ms pause) ∷ []) t)
+        })) → ⊥) (addSounds lent s origin (standardSound (b || flag) from size (ms pause) ∷ []) t)
     by-size true = unsaid-differs refl _
     by-size false =
         add-differs lent origin s t (standardSound flag from size (ms pause)) bits (pauseMs pause)
         (again (flag ⇒ 8063 ∣ 3223) (2168 ∷ []) ++ 667 ∷ 735 ∷ bits) refl
-        (standard-bits origin s flag from size (ms pause)) (standard-pause origin flag from size (ms pause)) (standard-count flag bits)
+        (standard-bits origin s flag from size (ms pause)) (standard-pause origin s flag from size (ms pause)) (standard-count flag bits)
 
 one-heard : (v : ℕ) → (v ≡ 0 → ⊥) → count (v ∷ []) ≡ 1
 unfolding lasting
@@ -291,7 +291,7 @@ odd-last s count′ from e q =
     omega arith
 
 differs13 : (lent : Lent) (origin : Origin) (s : List ℕ) (t : Parsed) (count′ from : ℕ) → kept13 s count′ from ≡ false
-    → Sure (λ u. Keeps s t u (format13 s count′ from) → ⊥) (addSounds lent origin (pairSounds s from 0 (count′ / 2)) t)
+    → Sure (λ u. Keeps s t u (format13 s count′ from) → ⊥) (addSounds lent s origin (pairSounds s from 0 (count′ / 2)) t)
 unfolding format13
 differs13 lent origin s t count′ from e =
     sure-also

@@ -37,10 +37,10 @@ plainBirth g ts off one last = dataSound ts (dataBits (g .from) (g .size) off on
 abbrev tonedBirth : GeneralizedData → List Tone → Sound
 tonedBirth g ts = dataSound ts noBits (ms (g .pause))
 
-born-pause : (origin : Origin) (ts : List Tone) (d : Bits) (pause n : ℕ)
-    → pauseIn (rowOf origin (dataSound ts d pause) n) ≡ lasts pause
+born-pause : (origin : Origin) (s : List ℕ) (ts : List Tone) (d : Bits) (pause n : ℕ)
+    → pauseIn (rowOf s origin (dataSound ts d pause) n) ≡ lasts pause
 unfolding rowOf pauseIn
-born-pause origin ts d pause n = refl
+born-pause origin s ts d pause n = refl
 
 waves-append : (ps ts : List Tone) → wavesOf (ps ++ ts) ≡ wavesOf ps ++ wavesOf ts
 unfolding wavesOf
@@ -54,7 +54,7 @@ both a b x y p q = long-append a b ∙ ap₂ (λ (c d : List PulseLength). c ++ 
 
 toned-same : (origin : Origin) (s : List ℕ) (g : GeneralizedData) (ps ts : List Tone) (x y : List ℕ) (n : ℕ)
     → long (wavesOf ps) ≡ long x → long (wavesOf ts) ≡ long y
-    → long (wavesOf (ps ++ ts) ++ dataIn s (rowOf origin (tonedBirth g (ps ++ ts)) n)) ≡ long (x ++ y)
+    → long (wavesOf (ps ++ ts) ++ dataIn s (rowOf s origin (tonedBirth g (ps ++ ts)) n)) ≡ long (x ++ y)
 unfolding rowOf dataPulses each
 toned-same origin s g ps ts x y n p q =
     ap long (append-nil (wavesOf (ps ++ ts)) ∙ waves-append ps ts) ∙ both (wavesOf ps) (wavesOf ts) x y p q
@@ -62,7 +62,7 @@ toned-same origin s g ps ts x y n p q =
 plain-same : (origin : Origin) (s : List ℕ) (g : GeneralizedData) (ps : List Tone) (off one last : ℕ) (x y : List ℕ) (n : ℕ)
     → long (wavesOf ps) ≡ long x
     → long (dataPulses s off one (max 1 last) (g .from) (g .size)) ≡ long y
-    → long (wavesOf ps ++ dataIn s (rowOf origin (plainBirth g ps off one last) n)) ≡ long (x ++ y)
+    → long (wavesOf ps ++ dataIn s (rowOf s origin (plainBirth g ps off one last) n)) ≡ long (x ++ y)
 unfolding rowOf
 plain-same origin s g ps off one last x y n p q = both (wavesOf ps) (dataPulses s off one (max 1 last) (g .from) (g .size)) x y p q
 
@@ -77,23 +77,23 @@ module _ (lent : Lent) (origin : Origin) (s : List ℕ) (model : ℕ) (t : Parse
   sound19 = soundWith (pilotIn ++ symbolsIn) (pauseMs (g .pause))
 
   keep-toned : (ps ts : List Tone) → long (wavesOf ps) ≡ long pilotIn → long (wavesOf ts) ≡ long symbolsIn
-      → Sure (λ u. Keeps s t u (sounds sound19)) (does lent model origin (generalDeed g (toned (ps ++ ts))) t)
+      → Sure (λ u. Keeps s t u (sounds sound19)) (does lent s model origin (generalDeed g (toned (ps ++ ts))) t)
   unfolding does generalDeed
   keep-toned ps ts p q =
       keep-one lent origin s t (tonedBirth g (ps ++ ts)) sound19
-      (λ n. toned-same origin s g ps ts pilotIn symbolsIn n p q) (born-pause origin (ps ++ ts) noBits (ms (g .pause)))
+      (λ n. toned-same origin s g ps ts pilotIn symbolsIn n p q) (born-pause origin s (ps ++ ts) noBits (ms (g .pause)))
 
   keep-plain : (ps : List Tone) (off one last : ℕ) → long (wavesOf ps) ≡ long pilotIn
       → long (dataPulses s off one (max 1 last) (g .from) (g .size)) ≡ long symbolsIn
-      → Sure (λ u. Keeps s t u (sounds sound19)) (does lent model origin (generalDeed g (plain ps off one last)) t)
+      → Sure (λ u. Keeps s t u (sounds sound19)) (does lent s model origin (generalDeed g (plain ps off one last)) t)
   unfolding does generalDeed
   keep-plain ps off one last p q =
       keep-one lent origin s t (plainBirth g ps off one last) sound19
       (λ n. plain-same origin s g ps off one last pilotIn symbolsIn n p q)
-      (born-pause origin ps (dataBits (g .from) (g .size) off one last) (ms (g .pause)))
+      (born-pause origin s ps (dataBits (g .from) (g .size) off one last) (ms (g .pause)))
 
   keep-general : Places s g → kept19 s g ≡ true
-      → Sure (λ u. Keeps s t u (sounds sound19)) (does lent model origin (generalDeed g (generalOf s g)) t)
+      → Sure (λ u. Keeps s t u (sounds sound19)) (does lent s model origin (generalDeed g (generalOf s g)) t)
   unfolding kept19 generalOf withPilot withData
   keep-general places e =
       let k = second (lengthRight g) (keptPilot s g && keptData s g) e in
@@ -108,7 +108,7 @@ module _ (lent : Lent) (origin : Origin) (s : List ℕ) (model : ℕ) (t : Parse
       z = symbolAt s (g .symbols) 2 1
 
       by-cases : (p : Parts (pilotOf s g) pilotIn) (d : DataClauses s g) (b : Bool) → ordinary s g ≡ b
-          → Sure (λ u. Keeps s t u (sounds sound19)) (does lent model origin (generalDeed g ((ltb 0 (g .totd) && ordinary s g)
+          → Sure (λ u. Keeps s t u (sounds sound19)) (does lent s model origin (generalDeed g ((ltb 0 (g .totd) && ordinary s g)
           ⇒ plain (p .rows) (y .first) (z .first) (usedBits (g .totd)) ∣ withData (p .rows) (dataPart s g))) t)
       by-cases p d true q = rw (lt-ltb 0 (g .totd) (d .some), q)
           (keep-plain (p .rows) (y .first) (z .first) (usedBits (g .totd)) (p .heard) (plain-heard s g d q))
@@ -117,7 +117,7 @@ module _ (lent : Lent) (origin : Origin) (s : List ℕ) (model : ℕ) (t : Parse
           rw (lt-ltb 0 (g .totd) (d .some), q, r .given) (keep-toned (p .rows) (r .rows) (p .heard) (r .heard))
 
   pub keep19 : Places s g → kept19 s g ≡ true
-      → Sure (λ u. Keeps s t u (format19 s g)) (does lent model origin (generalDeed g (generalOf s g)) t)
+      → Sure (λ u. Keeps s t u (format19 s g)) (does lent s model origin (generalDeed g (generalOf s g)) t)
   unfolding kept19 format19 symbolsSaid
   keep19 places e =
       let k = second (lengthRight g) (keptPilot s g && keptData s g) e in

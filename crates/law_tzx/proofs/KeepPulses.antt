@@ -28,7 +28,7 @@ abbrev pub pulseIn : List ℕ → ℕ → ℕ → List ℕ
 pulseIn s from i = leAt s (from + i * 2) 2 ∷ []
 
 pair-same : (origin : Origin) (s : List ℕ) (a b n : ℕ)
-    → blockLengths s (plainTone 1 a b ∷ []) (rowOf origin (toneSound (plainTone 1 a b ∷ [])) n)
+    → blockLengths s (plainTone 1 a b ∷ []) (rowOf s origin (toneSound (plainTone 1 a b ∷ [])) n)
     ≡ lasting (map lasts (a ∷ b ∷ []))
 unfolding blockLengths wavesOf each rowOf dataPulses pauseIn lasting
 pair-same origin s a b n = append-nil (long (a ∷ b ∷ []) ++ []) ∙ append-nil (long (a ∷ b ∷ []))
@@ -57,7 +57,7 @@ unfolding lengthsOf lasting
 no-pause xs = lasting-append (map lasts xs) (lasts 0 ∷ []) ∙ append-nil (long xs)
 
 pub pairs-play : (lent : Lent) (origin : Origin) (s : List ℕ) (from i n : ℕ) (t : Parsed)
-    → Sure (Plays s (map lasts (each (pulseIn s from) i (n * 2))) t) (addSounds lent origin (pairSounds s from i n) t)
+    → Sure (Plays s (map lasts (each (pulseIn s from) i (n * 2))) t) (addSounds lent s origin (pairSounds s from i n) t)
 unfolding addSounds pairSounds pulseAt
 pairs-play lent origin s from i zero t = sure (plays-none refl refl (none-heard (pulseIn s from) i))
 pairs-play lent origin s from i (suc n) t =
@@ -65,7 +65,7 @@ pairs-play lent origin s from i (suc n) t =
     let b = leAt s (from + (i + 1) * 2) 2 in
     let e : map lasts (a ∷ b ∷ each (pulseIn s from) (i + 2) (n * 2)) ≡ map lasts (each (pulseIn s from) i (suc n * 2)) =
     ap (map lasts) (sym (each-two (pulseIn s from) i n)) in
-    sure-then (addSounds lent origin (pairSounds s from (i + 2) n))
+    sure-then (addSounds lent s origin (pairSounds s from (i + 2) n))
     (sound-plays s origin (toneSound (plainTone 1 a b ∷ [])) (map lasts (a ∷ b ∷ [])) (pair-same origin s a b) lent t)
     (λ u p. sure-also (λ v q. plays-as (ap lasting e) (plays-then p q)) (pairs-play lent origin s from (i + 2) n u))
 
@@ -95,7 +95,7 @@ pairs-same s count from e = by-cases (eqb (count % 2) 0) refl
         ∙ last-none (each f 0 (count / 2 * 2)) f (0 + count / 2 * 2) w)
 
 pub keep13 : (lent : Lent) (origin : Origin) (s : List ℕ) (t : Parsed) (count from : ℕ) → kept13 s count from ≡ true
-    → Sure (λ u. Keeps s t u (format13 s count from)) (addSounds lent origin (pairSounds s from 0 (count / 2)) t)
+    → Sure (λ u. Keeps s t u (format13 s count from)) (addSounds lent s origin (pairSounds s from 0 (count / 2)) t)
 unfolding format13
 keep13 lent origin s t count from e =
     sure-also (λ u p. as-said (plays-as (pairs-same s count from e ∙ sym (no-pause (each (pulseIn s from) 0 count))) p))

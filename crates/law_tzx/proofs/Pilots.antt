@@ -78,16 +78,16 @@ pilot-more lent origin s model t pause from size {x} e = by-size (eqb size 0) e
     said = soundWith (again (pilotCount (getD s from 0)) (2168 ∷ []) ++ 667 ∷ 735 ∷ bits) (pauseMs pause)
 
     by-size : (b : Bool) → (b ⇒ unsaid ∣ sounds said) ≡ sounds x
-        → Sure (Plays s (pulseMore x) t) (addSounds lent origin (standardSound (b || flag) from size (ms pause) ∷ []) t)
+        → Sure (Plays s (pulseMore x) t) (addSounds lent s origin (standardSound (b || flag) from size (ms pause) ∷ []) t)
     by-size true q = absurd (never-said q)
     by-size false q =
         let d = standardSound flag from size (ms pause) in
-        subst (λ (y : PulseTrain). Sure (Plays s (pulseMore y) t) (addSounds lent origin (d ∷ []) t)) (said-of q)
+        subst (λ (y : PulseTrain). Sure (Plays s (pulseMore y) t) (addSounds lent s origin (d ∷ []) t)) (said-of q)
         (sure-also (λ u k. more-said said k)
         (keep-one lent origin s t d (soundWith (2168 ∷ said .pulses) (pauseMs pause)) (λ n.
         ap (λ (l : List ℕ). long (wavesOf (standardTones flag) ++ l)) (standard-bits origin s flag from size (ms pause) n)
         ∙ ap long (standard-wave (getD s from 0) bits))
-        (standard-pause origin flag from size (ms pause))))
+        (standard-pause origin s flag from size (ms pause))))
 
 -- A 10 WITHOUT DATA, of which nothing is said for want of a flag: a header's pilot, so one pulse more than a flag of 0 would have
 pub pilot-alone : (lent : Lent) (origin : Origin) (s : List ℕ) (model : ℕ) (t : Parsed) (pause from : ℕ)
@@ -101,4 +101,4 @@ pilot-alone lent origin s model t pause from =
     (keep-one lent origin s t d (soundWith (2168 ∷ said .pulses) (pauseMs pause)) (λ n.
     ap (λ (l : List ℕ). long (wavesOf (standardTones true) ++ l)) (standard-bits origin s true from 0 (ms pause) n ∙ no-bits s from)
     ∙ ap long (standard-wave 0 []))
-    (standard-pause origin true from 0 (ms pause)))
+    (standard-pause origin s true from 0 (ms pause)))

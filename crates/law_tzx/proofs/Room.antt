@@ -65,37 +65,37 @@ block-answers most r t = by-room (ltb (length (t .blocks)) most)
     by-room true = goes
     by-room false = no-blocks
 
-module _ (lent : Lent) (origin : Origin) where
-  sound-answers : (d : Sound) (t : Parsed) → Answers (addSound lent origin d t)
+module _ (lent : Lent) (origin : Origin) (s : List ℕ) where
+  sound-answers : (d : Sound) (t : Parsed) → Answers (addSound lent s origin d t)
   unfolding addSound addRows
   sound-answers d t = answers-then (addBlock (lent .blocks) _) (tones-answer (lent .tones) (d .tones) t) (block-answers (lent .blocks) _)
 
-  sounds-answer : (ds : List Sound) (t : Parsed) → Answers (addSounds lent origin ds t)
+  sounds-answer : (ds : List Sound) (t : Parsed) → Answers (addSounds lent s origin ds t)
   unfolding addSounds
   sounds-answer [] t = goes
-  sounds-answer (d ∷ ds) t = answers-then (addSounds lent origin ds) (sound-answers d t) (sounds-answer ds)
+  sounds-answer (d ∷ ds) t = answers-then (addSounds lent s origin ds) (sound-answers d t) (sounds-answer ds)
 
   -- 2A of length 0
-  stop-answers : (model n : ℕ) (t : Parsed) → eqb n 0 ≡ true → Answers (does lent model origin (stop48Deed n) t)
+  stop-answers : (model n : ℕ) (t : Parsed) → eqb n 0 ≡ true → Answers (does lent s model origin (stop48Deed n) t)
   unfolding stop48Deed does
   stop-answers model n t e = rw e (by-model (eqb model 0))
     where
-      by-model : (b : Bool) → Answers (not b ⇒ on t ∣ addSounds lent origin (stopSound ∷ []) t)
+      by-model : (b : Bool) → Answers (not b ⇒ on t ∣ addSounds lent s origin (stopSound ∷ []) t)
       by-model true = sounds-answer (stopSound ∷ []) t
       by-model false = goes
 
   -- 19: ordinary data or tones
-  general-answers : (s : List ℕ) (model : ℕ) (t : Parsed) (g : GeneralizedData) → Places s g → kept19 s g ≡ true
-      → Answers (does lent model origin (generalDeed g (generalOf s g)) t)
+  general-answers : (model : ℕ) (t : Parsed) (g : GeneralizedData) → Places s g → kept19 s g ≡ true
+      → Answers (does lent s model origin (generalDeed g (generalOf s g)) t)
   unfolding kept19 generalOf withPilot withData generalDeed does
-  general-answers s model t g places e =
+  general-answers model t g places e =
       let k = second (lengthRight g) (keptPilot s g && keptData s g) e in
       let p = pilot-part s g (first (keptPilot s g) (keptData s g) k) in
       let d = data-clauses s g places (second (keptPilot s g) (keptData s g) k) in
       rw (p .given) (by-sort (p .rows) d (ordinary s g) refl)
     where
       by-sort : (ps : List Tone) (d : DataClauses s g) (b : Bool) → ordinary s g ≡ b
-          → Answers (does lent model origin (generalDeed g ((ltb 0 (g .totd) && ordinary s g) ⇒
+          → Answers (does lent s model origin (generalDeed g ((ltb 0 (g .totd) && ordinary s g) ⇒
           plain ps (symbolAt s (g .symbols) 2 0 .first) (symbolAt s (g .symbols) 2 1 .first) (usedBits (g .totd))
           ∣ withData ps (dataPart s g))) t)
       by-sort ps d true q = rw (lt-ltb 0 (g .totd) (d .some), q) (sounds-answer (_ ∷ []) t)
@@ -106,17 +106,17 @@ pub kept-answers : (lent : Lent) (origin : Origin) (s : List ℕ) (model : ℕ) 
     → kept s piece ≡ true → Answers (act lent s model origin piece t)
 unfolding kept act deedOf does pend openLoop addSounds
 kept-answers lent origin s model (Standard pause from size) t places e = absurd (differ (sym e))
-kept-answers lent origin s model (Turbo d) t places e = sounds-answer lent origin (_ ∷ []) t
-kept-answers lent origin s model (PureTone half count) t places e = sounds-answer lent origin (_ ∷ []) t
-kept-answers lent origin s model (Pulses count from) t places e = sounds-answer lent origin (pairSounds s from 0 (count / 2)) t
-kept-answers lent origin s model (Pure off one last pause from size) t places e = sounds-answer lent origin (_ ∷ []) t
+kept-answers lent origin s model (Turbo d) t places e = sounds-answer lent origin s (_ ∷ []) t
+kept-answers lent origin s model (PureTone half count) t places e = sounds-answer lent origin s (_ ∷ []) t
+kept-answers lent origin s model (Pulses count from) t places e = sounds-answer lent origin s (pairSounds s from 0 (count / 2)) t
+kept-answers lent origin s model (Pure off one last pause from size) t places e = sounds-answer lent origin s (_ ∷ []) t
 kept-answers lent origin s model (Generalized g) t places e = general-answers lent origin s model t g (places g refl) e
-kept-answers lent origin s model (Pause n) t places e = sounds-answer lent origin (_ ∷ []) t
+kept-answers lent origin s model (Pause n) t places e = sounds-answer lent origin s (_ ∷ []) t
 kept-answers lent origin s model (GroupStart from size) t places e = goes
 kept-answers lent origin s model GroupEnd t places e = absurd (differ (sym e))
 kept-answers lent origin s model (LoopStart times) t places e = goes
 kept-answers lent origin s model LoopEnd t places e = absurd (differ (sym e))
-kept-answers lent origin s model (Stop48 n) t places e = stop-answers lent origin model n t e
+kept-answers lent origin s model (Stop48 n) t places e = stop-answers lent origin s model n t e
 kept-answers lent origin s model (Text from size) t places e = goes
 kept-answers lent origin s model Message t places e = goes
 kept-answers lent origin s model Archive t places e = goes

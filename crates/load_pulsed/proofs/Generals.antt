@@ -216,11 +216,12 @@ module _ {B N : ℕ} {s : State} {bt tt : List ℕ} {t : Parsed} (h : Holds B N 
         (rows-then tape origin d (m .2) (leb-true (length ts) (capacityOf tone toneMost tt - s .tones) (m .3)) w l (k ts (sym (m .2))))
 
 -- the last tone rows of a table are those of a row over them
-pub owns : {tt : List ℕ} (before ts : List Tone) (N : ℕ) (r : Block) → tt ≡ tableOf tone (before ++ ts) N → r .tone ≡ length before
-    → length ts ≡ r .tones → Owns tt r ts
-owns before ts N r e n k = record {
+pub owns : {tt : List ℕ} (before ts : List Tone) (N : ℕ) (r : Block) → tt ≡ tableOf tone (before ++ ts) N → length tt ≡ N
+    → length (before ++ ts) ≤ toneRoom N → r .tone ≡ length before → length ts ≡ r .tones → Owns tt r ts
+owns before ts N r e l f n k = record {
+  lent = rw l (omega (arith, length-append before ts, f));
   count = k;
-  each = λ i b l.
+  each = λ i b h.
       rw (e, n)
       (get-row tone (before ++ ts) (zeros N) (length before + i) b (rw length-append (omega arith)) ∙ getD-append-add before ts i b);
 }

@@ -24,10 +24,8 @@ use rows::Tone;
 use rows::with_sound;
 ghost use mathlib.Core.Path.{_≡_};
 ghost use mathlib.Core.List.{List};
-ghost use Prim.Native.Nat.{ℕ, _+_, _*_, _≤_};
+ghost use Prim.Native.Nat.{ℕ, _+_, _*_, _^_, _≤_, _<_};
 ghost use lib.ListN.{length};
-ghost use Rattle.rows.specs.Table.{capacityOf};
-ghost use Rattle.rows.specs.Rows.{tone, toneMost};
 ghost use Rattle.play_entries.specs.Figures.{Owns, sounding};
 ghost use Rattle.load_general.specs.General.{generalOf};
 ghost use Rattle.load_general.specs.Held.{Held};
@@ -96,16 +94,15 @@ fn with_used(s: State, tones: u64) -> State
     }
 }
 
-// A row with what it sounds, its tone rows read back from the table; its callers know them to be lent.
+// A row with what it sounds, its tone rows read back from the table.
 fn sounding(tape: &[u8], tones: &[u64], r: Block) -> Block
-    requires { ⌜ r .tone + r .tones ≤ capacityOf tone toneMost (now tones) ⌝ }
     ensures { λ b. ⌜ ((ts : List Tone) → Owns (now (tones .entry)) r ts → b ≡ sounding (now (tape .entry)) ts r) ⌝ }
 {
     let sound = tones_figure(tones, r) + data_figure(tape, r);
     with_sound(sound, r)
 }
 
-// The block of a 19 whose tone rows stand behind the first `s.tones` already; its callers know them to be lent.
+// The block of a 19 whose tone rows stand in the table already, behind the first `s.tones`; its callers know that no count overflows.
 fn general_block(
     tape: &[u8],
     s: State,
@@ -116,7 +113,7 @@ fn general_block(
     bits: Bits,
     pause: u32,
 ) -> Step
-    requires { ⌜ s .tones + rows ≤ capacityOf tone toneMost (now tones) ⌝ }
+    requires { ⌜ s .tones + rows < 2 ^ 64 ⌝ }
     ensures { λ x. ⌜ ((B N : ℕ) (ts : List Tone) (t : Parsed) → length ts ≡ rows → s .tones ≡ length (t .tones)
         → Holds B N (withUsed (s .tones + rows) s) (now (blocks .entry)) (now (tones .entry)) (withTones ts t)
         → GivesOut B N x (now (blocks .exit)) (now (tones .entry))

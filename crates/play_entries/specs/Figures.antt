@@ -1,6 +1,6 @@
 -- WHAT A ROW SOUNDS, BY ARITHMETIC (rule 157): the T-states of its own tone rows and of its data, a part that isn't well formed counting 0.
 -- A load writes it in the row's word `sound`; on a well-formed row it is the list's (proofs/Figures.antt). Definitions alone; assumes nothing.
-use Prim.Native.Nat.{ℕ, _+_, _-_, _*_, _/_, _^_, _<_, max}
+use Prim.Native.Nat.{ℕ, _+_, _-_, _*_, _/_, _^_, _≤_, _<_, max}
 use mathlib.Core.Path.{_≡_}
 use mathlib.Core.Bool.{_&&_}
 use mathlib.Core.List.{List, [], _∷_}
@@ -10,7 +10,8 @@ use lib.ListN.{length, getD}
 use Rattle.law_base.specs.Rules.{_⇒_, _∣_}
 use Rattle.rows.specs.declared.Tone.{Tone}
 use Rattle.rows.specs.declared.Block.{Block}
-use Rattle.rows.specs.Rows.{withSound}
+use Rattle.rows.specs.Table.{capacityOf}
+use Rattle.rows.specs.Rows.{tone, toneMost, withSound}
 use Rattle.rows.specs.Well.{inside, wellTone, wellNumbers}
 use Rattle.play_entries.specs.Entries.{toneAt, cyclesOf, cycleTime, byteAt}
 use Rattle.play_entries.specs.Mounted.{tapeSize}
@@ -24,8 +25,9 @@ unfoldable pub tonesFigure : Block → List Tone → ℕ
 tonesFigure r [] = 0
 tonesFigure r (t ∷ ts) = toneFigure r t + tonesFigure r ts
 
--- ts are the tone rows that a table has for a row
+-- ts are the tone rows that a table has for a row, all of them lent
 pub record Owns (tones : List ℕ) (r : Block) (ts : List Tone) : Type 0 where
+  pub lent : r .tone + r .tones ≤ capacityOf tone toneMost tones
   pub count : length ts ≡ r .tones
   pub each : (i : ℕ) (d : Tone) → i < r .tones → toneAt tones r i ≡ getD ts i d
 

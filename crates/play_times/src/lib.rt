@@ -6,6 +6,7 @@ use play_phases::row_tone;
 use play_phases::size_of;
 use rows::Block;
 use rows::Tone;
+use rows::tone_capacity;
 use rows_well::numbers_well;
 use rows_well::ranges;
 use rows_well::tone_well;
@@ -35,7 +36,7 @@ pub fn tone_figure(r: Block, t: Tone) -> u64
 }
 
 // T-states of a block's tone rows, which its callers know to be lent.
-pub fn tones_figure(tones: &[u64], r: Block) -> u64
+fn rows_figure(tones: &[u64], r: Block) -> u64
     requires { ⌜ r .tone + r .tones ≤ capacityOf tone toneMost (now tones) ⌝ }
     ensures { λ n. ⌜ ((ts : List Tone) → Owns (now (tones .entry)) r ts → n ≡ tonesFigure r ts) ⌝ }
     ensures { λ n. ⌜ n ≤ 562932773683200 ⌝ }
@@ -47,6 +48,17 @@ pub fn tones_figure(tones: &[u64], r: Block) -> u64
         i += 1;
     }
     sum
+}
+
+// The same of any row: 0 where its tone rows aren't all lent.
+pub fn tones_figure(tones: &[u64], r: Block) -> u64
+    ensures { λ n. ⌜ ((ts : List Tone) → Owns (now (tones .entry)) r ts → n ≡ tonesFigure r ts) ⌝ }
+    ensures { λ n. ⌜ n ≤ 562932773683200 ⌝ }
+{
+    if !ranges(r.tone, r.tones, tone_capacity(tones) as u64) {
+        return 0;
+    }
+    rows_figure(tones, r)
 }
 
 // T-states of n bits, k of them ones, which its callers know to be those of a tape's bytes at most, in a row whose numbers are well formed.

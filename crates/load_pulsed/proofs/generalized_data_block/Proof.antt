@@ -23,39 +23,21 @@ stop-block-requires c κs = search needs
 enum-known-rows : tie.Need-enum-known-rows
 enum-known-rows c = search needs
 
-cast-data-row : tie.Need-cast-data-row
-cast-data-row c = search needs
+cast-t22 : tie.Need-cast-t22
+cast-t22 c = search needs
 
-cast-with-used : tie.Need-cast-with-used
-cast-with-used c = search needs
+cast-t23 : tie.Need-cast-t23
+cast-t23 c = search needs
 
-cast-data-row-2 : tie.Need-cast-data-row-2
-cast-data-row-2 c = search needs
+cast-t24 : tie.Need-cast-t24
+cast-t24 c = search needs
 
-cast-data-row-3 : tie.Need-cast-data-row-3
-cast-data-row-3 c = search needs
-
-mul-data-row : tie.Need-mul-data-row
-mul-data-row c = search needs
-
-data-row-requires : tie.Need-data-row-requires
-data-row-requires c κs = search needs
-
-add-with-used : tie.Need-add-with-used
-add-with-used c =
-    let rows = c .before .before .before .before in
+general-block-requires : tie.Need-general-block-requires
+general-block-requires c κs =
+    let rows = c .before .before .before in
     let general = rows .before .before .before .before in
     let good = general .before .before .before .before .before in
     omega (arith, data-fits (general .general .ensures) (rows .rows .given .1), good .good .1 .0)
-
-with-used-requires : tie.Need-with-used-requires
-with-used-requires c κs = search needs
-
-sounding-requires : tie.Need-sounding-requires
-sounding-requires c κs = ?
-
-add-block-requires : tie.Need-add-block-requires
-add-block-requires c κs = search needs
 
 enum-known-rows-2 : tie.Need-enum-known-rows-2
 enum-known-rows-2 c = search needs
@@ -63,30 +45,12 @@ enum-known-rows-2 c = search needs
 no-bits-requires : tie.Need-no-bits-requires
 no-bits-requires c κs = search needs
 
-cast-data-row-4 : tie.Need-cast-data-row-4
-cast-data-row-4 c = search needs
-
-mul-data-row-2 : tie.Need-mul-data-row-2
-mul-data-row-2 c = search needs
-
-data-row-requires-2 : tie.Need-data-row-requires-2
-data-row-requires-2 c κs = search needs
-
-add-with-used-2 : tie.Need-add-with-used-2
-add-with-used-2 c =
-    let rows2 = c .before .before .before .before .before in
+general-block-requires-2 : tie.Need-general-block-requires-2
+general-block-requires-2 c κs =
+    let rows2 = c .before .before .before .before in
     let general = rows2 .before .before .before .before in
     let good = general .before .before .before .before .before in
     omega (arith, tones-fit (general .general .ensures) (rows2 .rows2 .given .1), good .good .1 .0)
-
-with-used-requires-2 : tie.Need-with-used-requires-2
-with-used-requires-2 c κs = search needs
-
-sounding-requires-2 : tie.Need-sounding-requires-2
-sounding-requires-2 c κs = ?
-
-add-block-requires-2 : tie.Need-add-block-requires-2
-add-block-requires-2 c κs = search needs
 
 same-length : tie.Need-same-length
 same-length c = search needs
@@ -122,7 +86,12 @@ same-length-6 : tie.Need-same-length-6
 same-length-6 c = search needs
 
 returns-4 : tie.Need-returns-4
-returns-4 c = ?
+returns-4 c =
+    let block = c .before .before in
+    let rows = block .before .before .before .before in
+    let general = rows .before .before .before .before in
+    λ model B N t h. general-data h _ _ model _ (general .general .ensures) (rows .rows .given .1) (general .general .kept .1 .1 .0)
+    (λ ts n k. block .general-block .ensures B N ts t n (h .nt) k)
 
 same-length-7 : tie.Need-same-length-7
 same-length-7 c = search needs
@@ -131,7 +100,12 @@ same-length-8 : tie.Need-same-length-8
 same-length-8 c = search needs
 
 returns-5 : tie.Need-returns-5
-returns-5 c = ?
+returns-5 c =
+    let block = c .before .before in
+    let rows2 = block .before .before .before .before .before in
+    let general = rows2 .before .before .before .before in
+    λ model B N t h. general-tones h _ _ model _ (general .general .ensures) (rows2 .rows2 .given .1) (general .general .kept .1 .1 .0)
+    (λ ts n k. rw (block .before .no-bits .ensures) at (block .general-block2 .ensures) B N ts t n (h .nt) k)
 
 pub generalized-data-block-spec : {M : Type 1} → statement M
 generalized-data-block-spec =
@@ -143,25 +117,13 @@ generalized-data-block-spec =
     enum-told-3
     stop-block-requires
     enum-known-rows
-    cast-data-row
-    cast-with-used
-    cast-data-row-2
-    cast-data-row-3
-    mul-data-row
-    data-row-requires
-    add-with-used
-    with-used-requires
-    sounding-requires
-    add-block-requires
+    cast-t22
+    cast-t23
+    cast-t24
+    general-block-requires
     enum-known-rows-2
     no-bits-requires
-    cast-data-row-4
-    mul-data-row-2
-    data-row-requires-2
-    add-with-used-2
-    with-used-requires-2
-    sounding-requires-2
-    add-block-requires-2
+    general-block-requires-2
     same-length
     returns
     same-length-2

@@ -30,7 +30,7 @@ module _ (lent : Lent) (s : List ℕ) where
   act-model : (m m′ : ℕ) (origin : Origin) (p : Piece) (t : Parsed) → (asks48 (deedOf s p) ≡ true → eqb m 0 ≡ eqb m′ 0)
       → act lent s m origin p t ≡ act lent s m′ origin p t
   unfolding act
-  act-model m m′ origin p t e = does-model lent m m′ origin (deedOf s p) t e
+  act-model m m′ origin p t e = does-model lent s m m′ origin (deedOf s p) t e
 
   see-equal : (at : ℕ) (k : Taken) → tzxOf lent s 1 at k ≡ tzxOf lent s 2 at k
   unfolding tzxOf

@@ -150,7 +150,7 @@ returns c =
     let standard-data-block = c .before .before .before .before in
     let is-header = standard-data-block .before .before .before in
     λ B N t h. rw (is-header .before .before .piece .given .1, ← is-header .is-header .ensures)
-    (does-one _ _ _ (standard-data-block .standard-data-block .ensures) B N t h)
+    (does-one _ _ _ _ (standard-data-block .standard-data-block .ensures) B N t h)
 
 same-length-3 : tie.Need-same-length-3
 same-length-3 c = search needs
@@ -163,7 +163,7 @@ unfolding act deedOf
 returns-2 c =
     let turbo-data-block = c .before .before .before .before in
     let piece2 = turbo-data-block .before .before .before .before in
-    λ B N t h. rw (piece2 .piece2 .given .1) (does-one _ _ _ (turbo-data-block .turbo-data-block .ensures) B N t h)
+    λ B N t h. rw (piece2 .piece2 .given .1) (does-one _ _ _ _ (turbo-data-block .turbo-data-block .ensures) B N t h)
 
 same-length-5 : tie.Need-same-length-5
 same-length-5 c = search needs
@@ -176,7 +176,7 @@ unfolding act deedOf
 returns-3 c =
     let pure-tone-block = c .before .before .before .before in
     let piece3 = pure-tone-block .before .before .before .before in
-    λ B N t h. rw (piece3 .piece3 .given .1) (does-one _ _ _ (pure-tone-block .pure-tone-block .ensures) B N t h)
+    λ B N t h. rw (piece3 .piece3 .given .1) (does-one _ _ _ _ (pure-tone-block .pure-tone-block .ensures) B N t h)
 
 same-length-7 : tie.Need-same-length-7
 same-length-7 c = search needs
@@ -202,7 +202,7 @@ unfolding act deedOf
 returns-5 c =
     let pure-data-block = c .before .before .before .before in
     let piece5 = pure-data-block .before .before .before .before in
-    λ B N t h. rw (piece5 .piece5 .given .1) (does-one _ _ _ (pure-data-block .pure-data-block .ensures) B N t h)
+    λ B N t h. rw (piece5 .piece5 .given .1) (does-one _ _ _ _ (pure-data-block .pure-data-block .ensures) B N t h)
 
 same-length-11 : tie.Need-same-length-11
 same-length-11 c = search needs
@@ -224,7 +224,7 @@ returns-7 : tie.Need-returns-7
 unfolding act deedOf
 returns-7 c =
     let piece7 = c .before .before .before .before .before in
-    λ B N t h. rw (piece7 .piece7 .given .1) (does-one _ _ _ (c .before .before .pause-block .ensures _) B N t h)
+    λ B N t h. rw (piece7 .piece7 .given .1) (does-one _ _ _ _ (c .before .before .pause-block .ensures _ _) B N t h)
 
 returns-8 : tie.Need-returns-8
 unfolding act deedOf does
@@ -258,7 +258,7 @@ same-length-16 c = search needs
 returns-12 : tie.Need-returns-12
 unfolding act deedOf
 returns-12 c =
-    λ B N t h. rw (c .before .before .before .before .before .piece10 .given .1) (c .before .before .stop-on-48 .ensures _ B N t h)
+    λ B N t h. rw (c .before .before .before .before .before .piece10 .given .1) (c .before .before .stop-on-48 .ensures _ _ B N t h)
 
 returns-13 : tie.Need-returns-13
 unfolding act deedOf does

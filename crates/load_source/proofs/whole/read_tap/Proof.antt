@@ -130,13 +130,13 @@ same-length-5 : tie.Need-same-length-5 Inv-loop μ-loop
 same-length-5 c =
     let standard-data-block = c .before .before .before .before .before .before .before .before in
     let loop = standard-data-block .before .before .before .before .before .before .before .before .before .before in
-    standard-data-block .standard-data-block .kept .1 .0 ∙ loop .loop .inv .holds .lenB
+    standard-data-block .standard-data-block .kept .1 .1 .0 ∙ loop .loop .inv .holds .lenB
 
 same-length-6 : tie.Need-same-length-6 Inv-loop μ-loop
 same-length-6 c =
     let standard-data-block = c .before .before .before .before .before .before .before .before in
     let loop = standard-data-block .before .before .before .before .before .before .before .before .before .before in
-    standard-data-block .standard-data-block .kept .1 .1 .0 ∙ loop .loop .inv .holds .lenT
+    standard-data-block .standard-data-block .kept .1 .1 .1 .0 ∙ loop .loop .inv .holds .lenT
 
 returns-3 : tie.Need-returns-3 Inv-loop μ-loop
 unfolding tapOf readTap

@@ -4,18 +4,24 @@ use borrow.Author.Tests.{lt-leb, lt-ltb}
 use native.Mathlib.Nat.{suc-ne-zero}
 use mathlib.Core.Path.{_≡_, refl, sym, ap, _∙_}
 use mathlib.Core.List.{List, [], _∷_, _++_, map}
+use lib.Count.{ones}
 use lib.ListN.{length, replicate, getD}
 use Rattle.refusals.specs.Refusals.{badModel, tapeLong, generalised, tonesFull, blocksFull, lastBits}
 use Rattle.cut_fields.specs.Field.{leAt, numberAt, fieldAt, placeOf}
 use Rattle.cut_fields.specs.Run.{times, eachAt, groupsAt}
 use Rattle.rows.specs.Rows.{encodeBlock, encodeTone, block, tone}
+use Rattle.rows.specs.Well.{wellTone, wellNumbers}
 use Rattle.rows.proofs.Samples.{rowWords}
+use Rattle.play_entries.specs.Entries.{cyclesOf, isSingle}
+use Rattle.play_entries.specs.Counted.{onesFrom}
+use Rattle.play_entries.specs.Figures.{toneFigure, tonesFigure, bitsFigure, dataFigure, soundIn}
 use Rattle.cut_grammar.specs.Grammar.{countedAt, passAt, textsAt, wholeAt, sealed, enclosed, fittingAt, readAt, binaryDigits}
 use Rattle.cut_grammar.specs.Grammar.{orFull, heldIf}
 use Rattle.cut_grammar.specs.Kinds.{kind10, kind11, kind12, kind13, kind14, stream19, kind19, kind20, kind21, kind22, kind24, kind25}
 use Rattle.cut_grammar.specs.Kinds.{kind2A, kind30, kind31, info32, kind32, kind33, kind35, kind5A, kinds, kindOf}
 use Rattle.cut_grammar.specs.Cut.{signature, startsAt, headAt, takenAs, cutAt, tapBlock, tapAt}
-use Rattle.load_general.specs.General.{pilotOf, dataPart, withPilot, withData, generalOf}
+use Rattle.load_general.specs.General.{symbolAt, before, rowsFrom, cycles, entrySymbol, entryRepeat, entryRow, pilotOf, equalHalves, ordinary}
+use Rattle.load_general.specs.General.{usedBits, symbolNumber, singleRow, pairRow, singlesOf, pairsOf, dataPart, withPilot, withData, generalOf}
 use Rattle.load_state.specs.Parser.{empty, _⟫_, addTones, addBlock, pend, endGroup, openLoop, copyRows, copies, closed, closeLoop}
 use Rattle.load_state.specs.Parser.{paused, lastPaused}
 use Rattle.load_blocks.specs.Sounds.{rowOf, addSound, addSounds}
@@ -66,15 +72,19 @@ view s (tapped t) = taken 0 (map encodeBlock (t .blocks)) (map encodeTone (t .to
 view s (bothErr f g) = met f g
 view s (no k) = refusal k
 
--- a nameless block's words: tone, tones, start, size, zero, one, last, pause, selectable
-abbrev row : ℕ → ℕ → ℕ → ℕ → ℕ → ℕ → ℕ → ℕ → ℕ → List ℕ
-row t n start size nil one last pause mark = rowWords (t ∷ n ∷ start ∷ size ∷ nil ∷ one ∷ last ∷ pause ∷ 0 ∷ mark ∷ [])
+-- a nameless block's words: tone, tones, start, size, zero, one, last, pause, selectable, sound
+abbrev row : ℕ → ℕ → ℕ → ℕ → ℕ → ℕ → ℕ → ℕ → ℕ → ℕ → List ℕ
+row t n start size nil one last pause mark sound =
+    rowWords (t ∷ n ∷ start ∷ size ∷ nil ∷ one ∷ last ∷ pause ∷ 0 ∷ mark ∷ 0 ∷ 0 ∷ 0 ∷ 0 ∷ 0 ∷ 0 ∷ sound ∷ [])
 
 abbrev stop : ℕ → List ℕ
 stop t = rowWords (t ∷ 0 ∷ 0 ∷ 0 ∷ 0 ∷ 0 ∷ 0 ∷ 0 ∷ 1 ∷ 1 ∷ 1 ∷ [])
 
 abbrev pause : ℕ → List ℕ
-pause t = row t 0 0 0 0 0 0 3500 0
+pause t = row t 0 0 0 0 0 0 3500 0 0
+
+abbrev tone400 : List ℕ
+tone400 = row 0 1 0 0 0 0 0 0 0 400
 
 -- `d bytes` of one digit, and `stop`
 abbrev sized : ℕ → List ℕ
@@ -97,6 +107,11 @@ printed = pieces (0x12 ∷ 0x64 ∷ 0 ∷ 4 ∷ 0 ∷ 0x20 ∷ 1 ∷ 0 ∷ 0x2A 
 -- pure data FF of these last bits
 abbrev pure : ℕ → List ℕ
 pure last = pieces (0x14 ∷ 10 ∷ 0 ∷ 20 ∷ 0 ∷ last ∷ 0 ∷ 0 ∷ 1 ∷ 0 ∷ 0 ∷ 0xFF ∷ [])
+
+-- a 19: three times 9 and 4, then so many symbols of an alphabet of two; its symbols and its data
+abbrev general : ℕ → List ℕ → List ℕ
+general n rest =
+    pieces (0x19 ∷ 0x21 ∷ 0 ∷ 0 ∷ 0 ∷ 0 ∷ 0 ∷ 1 ∷ 0 ∷ 0 ∷ 0 ∷ 2 ∷ 1 ∷ n ∷ 0 ∷ 0 ∷ 0 ∷ 2 ∷ 2 ∷ 0 ∷ 9 ∷ 0 ∷ 4 ∷ 0 ∷ 0 ∷ 3 ∷ 0 ∷ rest)
 
 -- one pulse of 100, and a pause: two tone rows, two blocks
 abbrev two : List ℕ
@@ -131,41 +146,54 @@ examples =
     -- empty or one byte: TAP, no blocks
     of 0 [] (taken 0 [] [] []) ∷ of 0 (0x13 ∷ []) (taken 0 [] [] []) ∷
     -- 00 00: one block, 4,032 cycles, `0 bytes`; 01 00 FF: 1,612 cycles, pause 7,000,000; 02 00 FF is below
-    of 0 (0 ∷ 0 ∷ []) (taken 0 (row 0 2 2 0 855 1710 8 3500000 1 ∷ []) long (sized 0 ∷ [])) ∷
-    of 0 (1 ∷ 0 ∷ 0xFF ∷ []) (taken 0 (row 0 2 2 1 855 1710 8 7000000 1 ∷ []) short (sized 1 ∷ [])) ∷
+    of 0 (0 ∷ 0 ∷ []) (taken 0 (row 0 2 2 0 855 1710 8 3500000 1 17484154 ∷ []) long (sized 0 ∷ [])) ∷
+    of 0 (1 ∷ 0 ∷ 0xFF ∷ []) (taken 0 (row 0 2 2 1 855 1710 8 7000000 1 7018394 ∷ []) short (sized 1 ∷ [])) ∷
     -- 12 with length 100: count 1, count 0
-    of 0 (pieces (0x12 ∷ 100 ∷ 0 ∷ 1 ∷ 0 ∷ [])) (taken 1 (row 0 2 0 0 0 0 0 0 0 ∷ [])
+    of 0 (pieces (0x12 ∷ 100 ∷ 0 ∷ 1 ∷ 0 ∷ [])) (taken 1 (row 0 2 0 0 0 0 0 0 0 300 ∷ [])
     ((1 ∷ 0 ∷ 100 ∷ 0 ∷ []) ∷ (0 ∷ 100 ∷ 100 ∷ 0 ∷ []) ∷ []) (sized 0 ∷ [])) ∷
     of 0 (pieces (0x12 ∷ 100 ∷ 0 ∷ 0 ∷ 0 ∷ []))
-    (taken 1 (row 0 1 0 0 0 0 0 0 0 ∷ []) ((0 ∷ 100 ∷ 100 ∷ 0 ∷ []) ∷ []) (sized 0 ∷ [])) ∷
+    (taken 1 (row 0 1 0 0 0 0 0 0 0 200 ∷ []) ((0 ∷ 100 ∷ 100 ∷ 0 ∷ []) ∷ []) (sized 0 ∷ [])) ∷
     -- loop 2 round one pause: three blocks; loop 3: refused 6
     of 0 (pieces (0x24 ∷ 2 ∷ 0 ∷ 0x20 ∷ 1 ∷ 0 ∷ 0x25 ∷ []))
     (taken 1 (pause 0 ∷ pause 0 ∷ pause 0 ∷ []) [] (sized 0 ∷ sized 0 ∷ sized 0 ∷ [])) ∷
     of 0 (pieces (0x24 ∷ 3 ∷ 0 ∷ 0x20 ∷ 1 ∷ 0 ∷ 0x25 ∷ [])) (refusal blocksFull) ∷
     -- pure data: last bits 8 accepted, 9 refused 7
     of 0 (pure 8)
-    (taken 1 (row 0 2 21 1 10 20 8 0 1 ∷ []) ((0 ∷ 0 ∷ 0 ∷ 0 ∷ []) ∷ (1 ∷ 0 ∷ 0 ∷ 0 ∷ []) ∷ []) (sized 1 ∷ [])) ∷
+    (taken 1 (row 0 2 21 1 10 20 8 0 1 320 ∷ []) ((0 ∷ 0 ∷ 0 ∷ 0 ∷ []) ∷ (1 ∷ 0 ∷ 0 ∷ 0 ∷ []) ∷ []) (sized 1 ∷ [])) ∷
     of 0 (pure 9) (refusal lastBits) ∷
     -- the printed tape on the 48K, and on the others
-    of 0 printed (taken 1 (row 0 1 0 0 0 0 0 0 0 ∷ pause 1 ∷ stop 1 ∷ []) ((2 ∷ 100 ∷ 100 ∷ 0 ∷ []) ∷ [])
+    of 0 printed (taken 1 (row 0 1 0 0 0 0 0 0 0 400 ∷ pause 1 ∷ stop 1 ∷ []) ((2 ∷ 100 ∷ 100 ∷ 0 ∷ []) ∷ [])
     (sized 0 ∷ sized 0 ∷ stopped ∷ [])) ∷
     of 1 printed
-    (taken 1 (row 0 1 0 0 0 0 0 0 0 ∷ pause 1 ∷ []) ((2 ∷ 100 ∷ 100 ∷ 0 ∷ []) ∷ []) (sized 0 ∷ sized 0 ∷ [])) ∷
+    (taken 1 (row 0 1 0 0 0 0 0 0 0 400 ∷ pause 1 ∷ []) ((2 ∷ 100 ∷ 100 ∷ 0 ∷ []) ∷ []) (sized 0 ∷ sized 0 ∷ [])) ∷
     of 2 printed
-    (taken 1 (row 0 1 0 0 0 0 0 0 0 ∷ pause 1 ∷ []) ((2 ∷ 100 ∷ 100 ∷ 0 ∷ []) ∷ []) (sized 0 ∷ sized 0 ∷ [])) ∷
+    (taken 1 (row 0 1 0 0 0 0 0 0 0 400 ∷ pause 1 ∷ []) ((2 ∷ 100 ∷ 100 ∷ 0 ∷ []) ∷ []) (sized 0 ∷ sized 0 ∷ [])) ∷
     of 3 printed (refusal badModel) ∷
     -- a generalised piece with neither pilot nor data: refused 4, no fallback
     of 0 (pieces (0x19 ∷ replicate 18 0)) (refusal generalised) ∷
     -- exactly full; one tone row short: refused 5; one block row short: refused 6; both: 5
-    lending 2 2 two (taken 1 (row 0 2 0 0 0 0 0 0 0 ∷ pause 2 ∷ [])
+    lending 2 2 two (taken 1 (row 0 2 0 0 0 0 0 0 0 300 ∷ pause 2 ∷ [])
     ((1 ∷ 0 ∷ 100 ∷ 0 ∷ []) ∷ (0 ∷ 100 ∷ 100 ∷ 0 ∷ []) ∷ []) (sized 0 ∷ sized 0 ∷ [])) ∷
     lending 2 1 two (refusal tonesFull) ∷
     lending 1 2 two (refusal blocksFull) ∷
     lending 0 1 two (refusal tonesFull) ∷
     lending 0 0 [] (taken 0 [] [] []) ∷
     -- the naming pass: the block after a header is not selectable
-    of 0 headerTap (taken 0 (row 0 2 2 19 855 1710 8 3500000 1 ∷ row 2 2 23 1 855 1710 8 7000000 0 ∷ []) (long ++ short)
+    of 0 headerTap (taken 0 (row 0 2 2 19 855 1710 8 3500000 1 17831284 ∷ row 2 2 23 1 855 1710 8 7000000 0 7018394 ∷ []) (long ++ short)
     (headerName ∷ sized 1 ∷ [])) ∷
+    -- WHAT A ROW SOUNDS: a loop's copies what its body does; 22 gives a pause, and no sound
+    of 0 (pieces (0x24 ∷ 2 ∷ 0 ∷ 0x12 ∷ 100 ∷ 0 ∷ 4 ∷ 0 ∷ 0x25 ∷ [])) (taken 1 (tone400 ∷ tone400 ∷ tone400 ∷ [])
+    ((2 ∷ 100 ∷ 100 ∷ 0 ∷ []) ∷ []) (sized 0 ∷ sized 0 ∷ sized 0 ∷ [])) ∷
+    of 0 (pieces (0x12 ∷ 1 ∷ 0 ∷ 2 ∷ 0 ∷ 0x22 ∷ []))
+    (taken 1 (row 0 1 0 0 0 0 0 3500 0 2 ∷ []) ((1 ∷ 1 ∷ 1 ∷ 0 ∷ []) ∷ []) (sized 0 ∷ [])) ∷
+    -- of last bits 0 one bit, the top one
+    of 0 (pieces (0x14 ∷ 10 ∷ 0 ∷ 20 ∷ 0 ∷ 0 ∷ 0 ∷ 0 ∷ 1 ∷ 0 ∷ 0 ∷ 0x80 ∷ []))
+    (taken 1 (row 0 2 21 1 10 20 0 0 1 40 ∷ []) ((0 ∷ 0 ∷ 0 ∷ 0 ∷ []) ∷ (1 ∷ 0 ∷ 0 ∷ 0 ∷ []) ∷ []) (sized 1 ∷ [])) ∷
+    -- 19: a pilot of 39, and the bits of F0; then symbols of unequal halves, 7 and 11
+    of 0 (general 8 (0 ∷ 3 ∷ 0 ∷ 3 ∷ 0 ∷ 0 ∷ 4 ∷ 0 ∷ 4 ∷ 0 ∷ 0xF0 ∷ []))
+    (taken 1 (row 0 1 47 1 3 4 8 0 1 95 ∷ []) ((3 ∷ 9 ∷ 4 ∷ 0 ∷ []) ∷ []) (sized 1 ∷ [])) ∷
+    of 0 (general 2 (0 ∷ 3 ∷ 0 ∷ 4 ∷ 0 ∷ 0 ∷ 5 ∷ 0 ∷ 6 ∷ 0 ∷ 0x40 ∷ []))
+    (taken 1 (row 0 3 0 0 0 0 0 0 1 57 ∷ []) ((3 ∷ 9 ∷ 4 ∷ 0 ∷ []) ∷ (1 ∷ 3 ∷ 4 ∷ 0 ∷ []) ∷ (1 ∷ 5 ∷ 6 ∷ 0 ∷ []) ∷ []) (sized 0 ∷ [])) ∷
     -- an unknown kind is one byte
     of 0 (pieces (0x27 ∷ 0x20 ∷ 1 ∷ 0 ∷ 0xFF ∷ [])) (taken 1 (pause 0 ∷ []) [] (sized 0 ∷ [])) ∷
     -- WHERE THE BYTES RAN OUT. Too few for a head; ten of them, and no head
@@ -198,7 +226,9 @@ unfolding leAt numberAt fieldAt placeOf times eachAt groupsAt countedAt passAt t
     standardPause turboTones pureTones pureToneTones pulseAt addRows rowOf standardSound turboSound pairSounds pureSound pauseSound addSound
     addSounds generalDeed stop48Deed does deedOf act readOn seeing foldFrom halted tooManyBits bitsJudged tzxOf tzxSee headed readTzx tapOf
     tapSee readTap orTap orElse loadOf decimal digits latin1 eachByte table encoded isHeader typeName namedAs sizeShown sizeName guessed
-    nameOf unselected nameOne nameAll namedTape namedLoad loadNamed
+    nameOf unselected nameOne nameAll namedTape namedLoad loadNamed cyclesOf isSingle wellTone wellNumbers onesFrom ones toneFigure
+    tonesFigure bitsFigure dataFigure soundIn symbolAt before rowsFrom cycles entrySymbol entryRepeat entryRow equalHalves ordinary usedBits
+    symbolNumber singleRow pairRow singlesOf pairsOf
 shown = refl
 
 -- a tape over the limit, whatever its bytes

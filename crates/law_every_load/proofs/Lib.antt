@@ -1,5 +1,6 @@
 pub mod Sizes
 pub mod Keeps
+pub mod Sounds
 pub mod Steps
 pub mod Loading
 pub mod Rows
@@ -10,6 +11,7 @@ pub mod Formed
 pub mod Room
 pub mod Well
 pub mod Left
+pub mod Timed
 pub mod Within
 pub mod Names
 pub mod Refusals

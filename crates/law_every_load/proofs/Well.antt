@@ -1,6 +1,6 @@
 -- EVERY ROW OF EVERY LOAD IS WELL FORMED, so that no query or player of a loaded table answers 11.
 -- Assumes nothing but that bytes are below 256.
-use Prim.Native.Nat.{ℕ, zero, suc, _+_, _*_, _≤_, _<_}
+use Prim.Native.Nat.{ℕ, zero, suc, _+_, _*_, _^_, _≤_, _<_}
 use native.Mathlib.Omega.{arith}
 use native.Mathlib.Nat.{add-zero}
 use mathlib.Core.Path.{_≡_, refl, ap, _∙_}
@@ -9,12 +9,12 @@ use mathlib.Core.List.{List}
 use mathlib.Core.Logic.{⊎-elim}
 use lib.ListN.{length, getD, length-replicate}
 use lib.Dec.{eqb}
-use borrow.Author.Tests.{le-leb, le-ltb, eq-eqb}
+use borrow.Author.Tests.{le-leb, lt-ltb, le-ltb, eq-eqb}
 use Rattle.law_base.proofs.Numbers.{lt-or-ge}
 use Rattle.rows.specs.declared.Block.{Block}
 use Rattle.rows.specs.declared.Tone.{Tone}
 use Rattle.rows.specs.Table.{Codec, get, tableOf, zeros, capacityOf}
-use Rattle.rows.specs.Rows.{tone, block, toneMost}
+use Rattle.rows.specs.Rows.{tone, block, toneMost, tonesIn}
 use Rattle.rows.specs.Well.{wellTone, wellTones, wellRanges, wellLast, wellNumbers, wellCases, wellBlock, Halves}
 use Rattle.rows.proofs.Tables.{over-length, get-row}
 use Rattle.load_state.specs.Parser.{Parsed}
@@ -25,16 +25,17 @@ use Rattle.load_blocks.specs.Does.{lentOf}
 use Rattle.load_source.specs.Source.{loadOf}
 use Rattle.text_name.specs.Names.{nameAll}
 use Rattle.text_name.proofs.Selecting.{name-all-length}
+use Rattle.play_entries.proofs.Figures.{sound-in-most}
 use Rattle.play_entries.specs.Mounted.{tapeOf, overfull, tapeSize, wellRow}
 use Rattle.law_every_load.specs.Sizes.{Bytes}
 use Rattle.law_every_load.specs.Made.{RowOver}
 use Rattle.law_every_load.specs.OfSource.{Reads}
-use Rattle.law_every_load.specs.Formed.{Formed}
+use Rattle.law_every_load.specs.Formed.{Formed, SaysSound}
 use Rattle.law_every_load.proofs.Rows.{own-count, own-tone}
 use Rattle.law_every_load.proofs.Every.{every-read, every-row}
 use Rattle.law_every_load.proofs.Formed.{every-formed}
+use Rattle.law_every_load.proofs.Sounds.{every-sound}
 use Rattle.law_every_load.proofs.Room.{Within, FewBits, load-within, read-bits, load-bits, load-length}
-use Rattle.rows.specs.Rows.{tonesIn}
 
 -- a table of N words that hold the rows is N words
 pub table-length : {R : Type 0} (C : Codec R) (rs : List R) (N : ℕ) → length rs * C .width ≤ N → length (tableOf C rs N) ≡ N
@@ -65,9 +66,10 @@ last-well r h =
 
 module _ (s : List ℕ) (all : List Tone) (N : ℕ) (room : length all ≤ toneRoom N) where
   -- a formed row over tones of the table is well formed
-  row-well : (r : Block) → RowOver (Formed s) all r → FewBits r → wellBlock (length s) (tableOf tone all N) r ≡ true
+  row-well : Bytes s → (r : Block) → RowOver (Formed s) all r → RowOver (SaysSound s) all r × FewBits r
+      → wellBlock (length s) (tableOf tone all N) r ≡ true
   unfolding wellBlock wellRanges wellNumbers wellCases
-  row-well r h b =
+  row-well bytes r h (g, b) =
       let f = h .has in
       let i = h .inside in
       let n : length (tableOf tone all N) ≡ N = table-length tone all N (omega arith) in
@@ -87,6 +89,7 @@ module _ (s : List ℕ) (all : List Tone) (N : ℕ) (room : length all ≤ toneR
         le-leb (r .pause) 229372500 (f .pause),
         or-true (eqb (r .endless) 1),
         last-well r b,
+        lt-ltb (r .sound) (2 ^ 50) (omega (arith, g .has, sound-in-most s bytes (tonesIn all r) r (omega (arith, own-count all r i)))),
         le-leb (r .endless) 1 (f .endless),
         le-leb (r .selectable) 1 (f .selectable),
         f .source .low,
@@ -120,13 +123,13 @@ module _ (B N : ℕ) (s : List ℕ) (model : ℕ) {t : Parsed} (b : Bytes s) (r 
   -- EVERY ROW, before and after names are given out
   pub read-well : All (λ q. wellBlock (length s) (tableOf tone (t .tones) N) q ≡ true) (t .blocks)
   read-well =
-      all-both (row-well s (t .tones) N (within .tones)) (every-read (lentOf B N) s model (every-formed s b) b r)
-      (read-bits (lentOf B N) s model b r)
+      all-both (row-well s (t .tones) N (within .tones) b) (every-read (lentOf B N) s model (every-formed s b) b r)
+      (all-both (λ q h k. (h, k)) (every-read (lentOf B N) s model (every-sound s) b r) (read-bits (lentOf B N) s model b r))
 
   pub every-well : All (λ q. wellBlock (length s) (tableOf tone (t .tones) N) q ≡ true) (nameAll s false (t .blocks))
   every-well =
-      all-both (row-well s (t .tones) N (within .tones)) (every-row (lentOf B N) s model (every-formed s b) b r)
-      (load-bits (lentOf B N) s model b r)
+      all-both (row-well s (t .tones) N (within .tones) b) (every-row (lentOf B N) s model (every-formed s b) b r)
+      (all-both (λ q h k. (h, k)) (every-row (lentOf B N) s model (every-sound s) b r) (load-bits (lentOf B N) s model b r))
 
   -- THE COUNT FITS THE TABLE
   pub loaded-fits : overfull (tapeOf s (tableOf tone (t .tones) N) (tableOf block (nameAll s false (t .blocks)) B) (length (t .blocks)))

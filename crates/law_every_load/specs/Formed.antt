@@ -1,4 +1,4 @@
--- What every row of every load is: formed, and a source row. Definitions alone; assumes nothing.
+-- What every row of every load is: formed, a source row, and one that says what it sounds. Definitions alone; assumes nothing.
 use Prim.Native.Nat.{ℕ, _+_, _≤_}
 use mathlib.Core.Path.{_≡_}
 use mathlib.Core.List.{List}
@@ -6,6 +6,7 @@ use lib.ListN.{length}
 use Rattle.rows.specs.declared.Block.{Block}
 use Rattle.rows.specs.declared.Tone.{Tone}
 use Rattle.rows.specs.Well.{Halves}
+use Rattle.play_entries.specs.Figures.{soundIn}
 use Rattle.load_state.specs.Kept.{All}
 
 -- what a source row has of a document row's words: 0s
@@ -26,3 +27,7 @@ pub record Formed (s : List ℕ) (ts : List Tone) (r : Block) : Type 0 where
   pub named : r .named ≤ 4
   pub tones : All Halves ts
   pub source : Sourced (r .sort) (r .level) (r .played)
+
+-- its word `sound` is what its own tone rows and its data sound
+abbrev pub SaysSound : List ℕ → List Tone → Block → Type 0
+SaysSound s ts r = r .sound ≡ soundIn s ts r

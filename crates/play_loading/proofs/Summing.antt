@@ -52,6 +52,10 @@ turn s r later = of (s .over) refl (eqb (r .endless) 1) refl
     of false e false f = rw (e, f) (passes s (r .sound) (r .pause) later)
 
 module _ (w : Tape) where
+  pub after-next : (b : ℕ) → oneMore (loadingAfter w b) (blockIn w b) ≡ loadingAfter w (b + 1)
+  unfolding loadingAfter
+  after-next b = rw add-one
+
   rows-next : (b n : ℕ) → byRow (blockIn w b) (blockIn w b .sound) (rowsLoading w (suc b) n) ≡ rowsLoading w b (suc n)
   unfolding rowsLoading
   rows-next b n = rw add-one

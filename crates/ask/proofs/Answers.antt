@@ -2,50 +2,36 @@
 -- Assumes nothing.
 use Prim.Native.Nat.{ℕ, _<_}
 use borrow.Author.Tests.{le-ltb}
-use mathlib.Core.Path.{_≡_, refl, ap, _∙_}
-use mathlib.Core.Bool.{Bool, true, false, _&&_}
+use mathlib.Core.Path.{_≡_, refl, sym, ap, _∙_}
+use mathlib.Core.Bool.{Bool, true, false}
 use mathlib.Core.List.{List}
 use lib.Dec.{eqb}
 use native.Mathlib.Omega.{arith}
 use Rattle.law_base.specs.Rules.{_⇒_, _∣_}
 use Rattle.refusals.specs.Refusals.{noRoom}
-use Rattle.law_pulses.specs.Play.{comesTo}
-use Rattle.law_pulses.specs.Source.{isEnded}
 use Rattle.text_out.specs.Out.{fits}
-use Rattle.play_entries.specs.Entries.{entriesOf, lastsOf}
-use Rattle.play_entries.specs.Places.{Tape, blockIn, listFrom}
+use Rattle.play_entries.specs.Places.{Tape, blockIn}
+use Rattle.play_entries.specs.Stored.{rowLasts, rowsTime}
 use Rattle.play_entries.specs.Mounted.{overfull, WholeTape}
-use Rattle.play_entries.proofs.Formed.{whole-formed}
 use Rattle.ask.specs.declared.Number.the-variants as number
 use Rattle.ask.specs.declared.Mark.the-variants as mark
 use Rattle.ask.specs.declared.Time.the-variants as lasting
 use Rattle.ask.specs.Queries.{numberNo, markNo, timeNo, refusalOf, numberUnless, markUnless, timeUnless, lenOf, sizeOf}
-use Rattle.ask.specs.Queries.{selectableOf, timeOf, nameIn, lengthOrNoRoom, nameAnswer, nameBytes, loadingIn}
-use Rattle.ask.specs.Queries.{loadingOf, EachAnswered}
+use Rattle.ask.specs.Queries.{selectableOf, timeOf, nameIn, lengthOrNoRoom, nameAnswer, loadingOf, EachAnswered}
 use Rattle.ask.proofs.Refusals.{refusal-none}
-use Rattle.play_entries.specs.Places.{loadTime}
-
--- a rule whose second test fails
-never : {A : Type 0} (t : Bool) (x y : A) → ((t && false) ⇒ x ∣ y) ≡ y
-never true x y = refl
-never false x y = refl
+use Rattle.ask.proofs.Needed.{need-whole}
+use Rattle.ask.proofs.Loads.{loading-given}
 
 module _ (w : Tape) (whole : WholeTape w) where
-  not-over : overfull w ≡ false
+  pub not-over : overfull w ≡ false
   not-over = le-ltb _ _ (whole .lent)
 
   pub len-whole : lenOf w ≡ number.Is (w .count)
   unfolding lenOf
   len-whole = rw not-over
 
-  -- none of it is cut
-  uncut : loadingIn w w ≡ number.Is (loadTime w)
-  unfolding loadingIn
-  uncut = rw (le-ltb (w .count) (w .count) (omega arith)) (never (isEnded (comesTo (listFrom w 0))) _ _)
-
-  pub loading-whole : loadingOf w ≡ number.Is (loadTime w)
-  unfolding loadingOf
-  loading-whole = rw not-over (ap (loadingIn w) (whole-formed w whole 0) ∙ uncut)
+  pub loading-whole : loadingOf w ≡ number.Is (rowsTime w)
+  loading-whole = sym (loading-given w not-over (need-whole w whole 0 (w .count) (omega arith)))
 
   module _ (i : ℕ) (h : i < w .count) where
     none : refusalOf w i ≡ 0
@@ -59,7 +45,7 @@ module _ (w : Tape) (whole : WholeTape w) where
     unfolding selectableOf markUnless
     selectable-whole = rw none
 
-    pub time-whole : timeOf w i ≡ lasting.Lasts (lastsOf (entriesOf (w .bytes) (w .tones) i (blockIn w i)))
+    pub time-whole : timeOf w i ≡ lasting.Lasts (rowLasts (blockIn w i))
     unfolding timeOf timeUnless
     time-whole = rw none
 

@@ -1,22 +1,19 @@
--- THE P READINGS (rule 118) about names and times, the printed listing (rule 113), the order of refusals (rule 36). Assumes nothing.
+-- THE P READINGS (rule 118) about names and times, the printed listing (rule 113), the order of refusals (rule 36), and times by the rows'
+-- words (rules 156, 158). Assumes nothing.
 use Prim.Native.Nat.{ℕ}
 use mathlib.Core.Path.{_≡_, refl}
 use mathlib.Core.Bool.{true, false}
 use mathlib.Core.List.{List, [], _∷_, _++_, map}
 use Rattle.refusals.specs.Refusals.{noBlock, noRoom, badRow}
-use Rattle.law_pulses.specs.Play.{time, comesTo}
-use Rattle.law_pulses.specs.Runs.{run}
-use Rattle.law_pulses.specs.Sounding.{endsAt, soundingTime}
 use Rattle.rows.specs.Well.{wellRanges, wellTone, wellNumbers, wellCases, wellTones, wellBlock}
 use Rattle.rows.proofs.Samples.{rowWords}
 use Rattle.text_out.specs.Out.{digits, decimal, told}
 use Rattle.text_name.specs.Names.{isHeader, sizeShown, sizeName, guessed, nameOf}
 use Rattle.play_entries.specs.declared.Duration.{Duration}
 use Rattle.play_entries.specs.declared.Duration.the-variants.{T, Endless}
-use Rattle.play_entries.specs.Entries.{entryOf, cyclesOf, isSingle, startLevel, cycleLevel, bitLevel, edged, pauseLevel, toneOf, tonesOf}
-use Rattle.play_entries.specs.Entries.{bitsAt, halfOf, byteOf, dataOf, pauseOf, soundOf, entriesOf, lastsOf}
-use Rattle.play_entries.specs.Places.{Tape, listFrom}
-use Rattle.play_entries.specs.Mounted.{tapeOf, wellRow, firstBad, formed}
+use Rattle.play_entries.specs.Places.{Tape}
+use Rattle.play_entries.specs.Stored.{rowLasts, rowsLoading}
+use Rattle.play_entries.specs.Mounted.{tapeOf, wellRow}
 use Rattle.ask.specs.declared.Number.{Number}
 use Rattle.ask.specs.declared.Number.the-variants as number
 use Rattle.ask.specs.declared.Mark.{Mark}
@@ -24,7 +21,7 @@ use Rattle.ask.specs.declared.Mark.the-variants as mark
 use Rattle.ask.specs.declared.Time.{Time}
 use Rattle.ask.specs.declared.Time.the-variants as lasting
 use Rattle.ask.specs.Queries.{refusalOf, numberUnless, markUnless, timeUnless, sizeOf, selectableOf, timeOf, lengthOrNoRoom}
-use Rattle.ask.specs.Queries.{nameAnswer, nameBytes, loadingIn, loadingOf}
+use Rattle.ask.specs.Queries.{nameAnswer, nameBytes, wellToStop, loadingOf}
 
 -- all that is answered of a block, with the bytes that its name leaves, and the tape's loading time
 pub record Answers : Type 0 where
@@ -91,21 +88,25 @@ stopWord = 0x73 ∷ 0x74 ∷ 0x6F ∷ 0x70 ∷ []
 abbrev nine : List ℕ
 nine = 1 ∷ 2 ∷ 3 ∷ 4 ∷ 5 ∷ 6 ∷ 7 ∷ 8 ∷ 9 ∷ []
 
--- a block's row without data: its first tone row, how many it has, its pause, whether it is endless, its mark, its name's case
-abbrev sound : ℕ → ℕ → ℕ → ℕ → ℕ → ℕ → List ℕ
-sound tone tones pause endless selectable named =
-    rowWords (tone ∷ tones ∷ 0 ∷ 0 ∷ 0 ∷ 0 ∷ 0 ∷ pause ∷ endless ∷ selectable ∷ named ∷ [])
+-- a block's row by its first eleven words and by its sound's T-states
+abbrev sounding : List ℕ → ℕ → List ℕ
+sounding first n = rowWords (first ++ (0 ∷ 0 ∷ 0 ∷ 0 ∷ 0 ∷ n ∷ []))
+
+-- one without data: its first tone row, how many it has, its pause, whether it is endless, its mark, its name's case, its sound's T-states
+abbrev sound : ℕ → ℕ → ℕ → ℕ → ℕ → ℕ → ℕ → List ℕ
+sound tone tones pause endless selectable named n =
+    sounding (tone ∷ tones ∷ 0 ∷ 0 ∷ 0 ∷ 0 ∷ 0 ∷ pause ∷ endless ∷ selectable ∷ named ∷ []) n
 
 abbrev stopRow : List ℕ
-stopRow = sound 0 0 0 1 1 1
+stopRow = sound 0 0 0 1 1 1 0
 
 -- last bits 9 of a byte: not well formed
 abbrev brokenRow : List ℕ
 brokenRow = rowWords (0 ∷ 0 ∷ 0 ∷ 1 ∷ 0 ∷ 0 ∷ 9 ∷ 0 ∷ 0 ∷ 1 ∷ [])
 
--- a pure tone of 100, as tone rows and blocks of one row
-abbrev pureTone : List ℕ → ℕ → Tape
-pureTone rows n = tapeOf [] rows (sound 0 n 0 0 0 0) 1
+-- a tape of one block, by its tone rows, how many they are, and its sound's T-states
+abbrev pureTone : List ℕ → ℕ → ℕ → Tape
+pureTone rows tones n = tapeOf [] rows (sound 0 tones 0 0 0 0 n) 1
 
 -- a tone of two cycles
 abbrev oneTone : List ℕ
@@ -113,30 +114,30 @@ oneTone = 2 ∷ 100 ∷ 100 ∷ 0 ∷ []
 
 -- the tape of the printed listing
 abbrev printed : Tape
-printed = tapeOf [] oneTone (sound 0 1 0 0 0 0 ++ sound 1 0 3500 0 0 0 ++ stopRow) 3
+printed = tapeOf [] oneTone (sound 0 1 0 0 0 0 400 ++ sound 1 0 3500 0 0 0 0 ++ stopRow) 3
 
 abbrev pub readings : List (Tape × ℕ × List ℕ × Answers)
 readings =
     -- `00 00`: 4,032 cycles, `0 bytes`
     (
       tapeOf (0 ∷ 0 ∷ []) (4032 ∷ 2168 ∷ 2168 ∷ 0 ∷ 1 ∷ 667 ∷ 735 ∷ 0 ∷ [])
-          (rowWords (0 ∷ 2 ∷ 2 ∷ 0 ∷ 855 ∷ 1710 ∷ 8 ∷ 3500000 ∷ 0 ∷ 1 ∷ [])) 1,
+          (sounding (0 ∷ 2 ∷ 2 ∷ 0 ∷ 855 ∷ 1710 ∷ 8 ∷ 3500000 ∷ 0 ∷ 1 ∷ 0 ∷ []) 17484154) 1,
       0,
       nine,
       says 0 starred (T 20984154) 7 (0x30 ∷ bytesWord ++ (8 ∷ 9 ∷ [])) 17484154,
     ) ∷
     -- 12 with length 100, count 1, and with count 0
     (
-      pureTone (1 ∷ 0 ∷ 100 ∷ 0 ∷ 0 ∷ 100 ∷ 100 ∷ 0 ∷ []) 2,
+      pureTone (1 ∷ 0 ∷ 100 ∷ 0 ∷ 0 ∷ 100 ∷ 100 ∷ 0 ∷ []) 2 300,
       0,
       nine,
       says 0 plain (T 300) 7 (0x30 ∷ bytesWord ++ (8 ∷ 9 ∷ [])) 300,
     ) ∷
-    (pureTone (0 ∷ 100 ∷ 100 ∷ 0 ∷ []) 1, 0, nine, says 0 plain (T 200) 7 (0x30 ∷ bytesWord ++ (8 ∷ 9 ∷ [])) 200) ∷
+    (pureTone (0 ∷ 100 ∷ 100 ∷ 0 ∷ []) 1 200, 0, nine, says 0 plain (T 200) 7 (0x30 ∷ bytesWord ++ (8 ∷ 9 ∷ [])) 200) ∷
     -- pure data byte 80, zero 10, one 20, last bits 0, pause 0
     (
       tapeOf (0x80 ∷ []) (0 ∷ 0 ∷ 0 ∷ 0 ∷ 1 ∷ 0 ∷ 0 ∷ 0 ∷ [])
-          (rowWords (0 ∷ 2 ∷ 0 ∷ 1 ∷ 10 ∷ 20 ∷ 0 ∷ 0 ∷ 0 ∷ 1 ∷ [])) 1,
+          (sounding (0 ∷ 2 ∷ 0 ∷ 1 ∷ 10 ∷ 20 ∷ 0 ∷ 0 ∷ 0 ∷ 1 ∷ 0 ∷ []) 40) 1,
       0,
       nine,
       says 1 starred (T 40) 7 (0x31 ∷ bytesWord ++ (8 ∷ 9 ∷ [])) 40,
@@ -146,7 +147,7 @@ readings =
     (printed, 1, nine, says 0 plain (T 3500) 7 (0x30 ∷ bytesWord ++ (8 ∷ 9 ∷ [])) 400) ∷
     (printed, 2, stopWord, says 0 starred Endless 4 stopWord 400) ∷
     -- the loading time has the sound of a stop's own row
-    (tapeOf [] oneTone (sound 0 1 0 1 1 1) 1, 0, stopWord, says 0 starred Endless 4 stopWord 400) ∷
+    (tapeOf [] oneTone (sound 0 1 0 1 1 1 400) 1, 0, stopWord, says 0 starred Endless 4 stopWord 400) ∷
     -- 11 for the count goes before 8
     (tapeOf [] [] stopRow 2, 2, [], refuses badRow [] (number.Refused badRow)) ∷
     -- 8 before 11 for the row: the row behind the count is not well formed
@@ -156,7 +157,7 @@ readings =
     (tapeOf (0 ∷ []) [] (stopRow ++ brokenRow) 2, 1, [], refuses badRow [] (number.Is 0)) ∷
     (tapeOf (0 ∷ []) [] (brokenRow ++ stopRow) 2, 0, [], refuses badRow [] (number.Refused badRow)) ∷
     -- also behind the last pulse: without it nobody can tell that none follows
-    (tapeOf (0 ∷ []) oneTone (sound 0 1 0 0 0 0 ++ brokenRow ++ stopRow) 3, 1, [], refuses badRow [] (number.Refused badRow)) ∷
+    (tapeOf (0 ∷ []) oneTone (sound 0 1 0 0 0 0 400 ++ brokenRow ++ stopRow) 3, 1, [], refuses badRow [] (number.Refused badRow)) ∷
     -- 10: three bytes are too short for `stop`, and stay
     (
       printed,
@@ -172,11 +173,22 @@ readings =
         loading = number.Is 400;
       },
     ) ∷
+    -- TIMES BY THE ROWS' WORDS: 7 written in the row of a tone of two cycles; and a tone row's length made 300, the row as it was
+    (pureTone oneTone 1 7, 0, nine, says 0 plain (T 7) 7 (0x30 ∷ bytesWord ++ (8 ∷ 9 ∷ [])) 7) ∷
+    (pureTone (2 ∷ 300 ∷ 100 ∷ 0 ∷ []) 1 400, 0, nine, says 0 plain (T 400) 7 (0x30 ∷ bytesWord ++ (8 ∷ 9 ∷ [])) 400) ∷
+    -- the most that a row's sound may be, and one more: 11, in a stop's row too
+    (
+      pureTone [] 0 1125899906842623,
+      0,
+      nine,
+      says 0 plain (T 1125899906842623) 7 (0x30 ∷ bytesWord ++ (8 ∷ 9 ∷ [])) 1125899906842623,
+    ) ∷
+    (pureTone [] 0 1125899906842624, 0, nine, refuses badRow nine (number.Refused badRow)) ∷
+    (tapeOf [] [] (sound 0 0 0 1 1 1 1125899906842624) 1, 0, nine, refuses badRow nine (number.Refused badRow)) ∷
     []
 
 pub readings-said : map (λ e. answered (e .0) (e .1) (e .2)) readings ≡ map (λ e. e .3) readings
 unfolding refusalOf numberUnless markUnless timeUnless sizeOf selectableOf timeOf lengthOrNoRoom nameAnswer nameBytes told loadingOf
-    loadingIn formed firstBad wellRow wellBlock wellRanges wellNumbers wellCases wellTones wellTone nameOf guessed isHeader sizeName
-    sizeShown decimal digits lastsOf comesTo time soundingTime endsAt listFrom entriesOf soundOf tonesOf toneOf cyclesOf isSingle
-    startLevel cycleLevel bitLevel edged pauseLevel dataOf byteOf bitsAt halfOf pauseOf entryOf run
+    wellToStop rowLasts rowsLoading wellRow wellBlock wellRanges wellNumbers wellCases wellTones wellTone nameOf guessed isHeader
+    sizeName sizeShown decimal digits
 readings-said = refl

@@ -23,7 +23,7 @@ use Rattle.load_state.specs.Parser.{named, nameless}
 
 module _ (s tt : List ℕ) (b mark case text chars : ℕ) (r : Block) where
   abbrev other : Block
-  other = changed (r .pause) mark case text chars r
+  other = changed (r .sound) (r .pause) mark case text chars r
 
   line-same : (i : ℕ) → lineAt tt other i ≡ lineAt tt r i
   unfolding lineAt

@@ -1,46 +1,37 @@
--- THE LOADING TIME, row by row: before the first, behind a stop, one row more, and past the last. Assumes nothing.
-use Prim.Native.Nat.{ℕ, _+_, _≤_}
+-- THE LOADING TIME BY THE ROWS' WORDS, a row at a time: what it comes to, where a stop was met, and that every sum fits. Assumes nothing.
+use Prim.Native.Nat.{ℕ, zero, suc, _+_, _-_, _*_, _^_, _≤_, _<_}
 use native.Mathlib.Nat.{eq-zero-or-pos}
+use native.Mathlib.Numerals.{add-one}
 use native.Mathlib.Omega.{arith}
-use borrow.Author.Tests.{eq-eqb, ne-eqb, lt-ltb, le-ltb}
+use borrow.Author.Tests.{eq-eqb, eqb-true, eqb-false, lt-ltb, le-ltb}
 use mathlib.Core.Path.{_≡_, refl, sym, ap, _∙_}
-use mathlib.Core.Bool.{Bool, true, false}
-use mathlib.Core.Logic.{⊎-elim}
-use lib.Dec.{ltb}
+use mathlib.Core.Bool.{Bool, true, false, _||_}
+use mathlib.Core.Logic.{_↔_, _⊎_, inl, inr, ⊎-elim}
+use lib.Dec.{ltb, eqb}
 use Rattle.law_base.specs.Rules.{_⇒_, _∣_}
-use Rattle.law_pulses.specs.Play.{time}
+use Rattle.law_base.proofs.Numbers.{lt-or-ge}
 use Rattle.rows.specs.declared.Block.{Block}
-use Rattle.rows.proofs.WellLaws.{block-clauses, numbers-most}
-use Rattle.play_entries.specs.Entries.{soundOf}
-use Rattle.play_entries.specs.Places.{Tape, blockIn, loadFrom, loadTime}
-use Rattle.play_entries.specs.Mounted.{tapeSize, wellRow}
-use Rattle.play_entries.proofs.Bounds.{sound-most}
-use Rattle.play_entries.proofs.Loading.{loading-out, loading-by-blocks, comes-stop, comes-on}
+use Rattle.rows.specs.Well.{wellNumbers}
+use Rattle.rows.proofs.WellLaws.{numbers-most}
+use Rattle.play_entries.specs.Places.{Tape, blockIn, byRow}
+use Rattle.play_entries.specs.Stored.{rowsLoading, rowsTime}
 use Rattle.play_loading.specs.declared.Loading.{Loading}
-use Rattle.play_loading.specs.Sums.{endWith, Sums, Sounds}
+use Rattle.play_loading.specs.Sums.{noLoading, endWith, oneMore, loadingAfter}
+
+-- the whole loading time, if that much comes later: where a stop was met, nothing does
+abbrev wholeWith : Loading → ℕ → ℕ
+wholeWith s later = s .over ⇒ s .end ∣ endWith s later
 
 -- before the first row, where all is to come; behind the last, where nothing is
-at-first : (n : ℕ) → n ≡ (ltb 0 n ⇒ 0 + n ∣ 0)
-at-first n = ⊎-elim (λ z. rw (le-ltb 0 n (omega arith)) z) (λ h. rw (lt-ltb 0 n h) (omega arith)) (eq-zero-or-pos n)
+at-first : (n : ℕ) → wholeWith noLoading n ≡ n
+at-first n = ⊎-elim (λ z. rw (le-ltb 0 n (omega arith)) (sym z)) (λ h. rw (lt-ltb 0 n h) (omega arith)) (eq-zero-or-pos n)
 
-at-last : (s : Loading) (n : ℕ) → n ≡ 0 → endWith s n ≡ s .end
-at-last s n z = rw (le-ltb 0 n (omega arith))
-
-pub sums-none : (w : Tape) → Sums w 0 (record { sum = 0; end = 0; over = false })
-sums-none w = record { lasts = λ e. at-first (loadTime w); comes = λ e. refl; whole = λ e. cc; stops = λ e. cc; few = omega arith }
-
--- past the last block it is the whole
-pub sums-whole : {w : Tape} {b : ℕ} {s : Loading} → Sums w b s → w .count ≤ b → s .end ≡ loadTime w
-sums-whole {w} {b} {s} l h = by-cases (s .over) refl
+at-last : (s : Loading) → wholeWith s 0 ≡ s .end
+at-last s = of (s .over)
   where
-    by-cases : (over : Bool) → s .over ≡ over → s .end ≡ loadTime w
-    by-cases true e = sym (l .whole e)
-    by-cases false e = sym (l .lasts e ∙ at-last s _ (loading-out w b h))
-
--- a stop was met: nothing more is summed up
-pub sums-stay : {w : Tape} {b : ℕ} {s : Loading} → s .over ≡ true → Sums w b s → Sums w (b + 1) s
-sums-stay o l =
-    record { lasts = λ e. cc; comes = λ e. cc; whole = l .whole; stops = l .stops; few = omega (arith, l .few) }
+    of : (o : Bool) → (o ⇒ s .end ∣ s .end) ≡ s .end
+    of true = refl
+    of false = refl
 
 -- a sound of t and a pause of p: what comes later ends behind both, or the sound is the last
 passes : (s : Loading) (t p later : ℕ) → endWith s (ltb 0 later ⇒ t + p + later ∣ t)
@@ -49,55 +40,120 @@ passes s t p later =
     ⊎-elim (λ z. rw (le-ltb 0 later (omega arith)))
     (λ h. rw (lt-ltb 0 later h, lt-ltb 0 (t + p + later) (omega arith)) (omega arith)) (eq-zero-or-pos later)
 
--- one row more
-module _ {w : Tape} {b sound : ℕ} {r : Block} (k : Sounds w b r sound) where
-  lasting : sound ≡ time (soundOf (w .bytes) (w .tones) b (blockIn w b))
-  lasting = k .lasts ∙ ap (λ (y : Block). time (soundOf (w .bytes) (w .tones) b y)) (k .row)
+-- ONE ROW MORE comes to the same
+turn : (s : Loading) (r : Block) (later : ℕ) → wholeWith s (byRow r (r .sound) later) ≡ wholeWith (oneMore s r) later
+unfolding oneMore
+turn s r later = of (s .over) refl (eqb (r .endless) 1) refl
+  where
+    of : (o : Bool) → s .over ≡ o → (x : Bool) → eqb (r .endless) 1 ≡ x
+        → wholeWith s (byRow r (r .sound) later) ≡ wholeWith (oneMore s r) later
+    of true e x f = rw e
+    of false e true f = rw (e, f)
+    of false e false f = rw (e, f) (passes s (r .sound) (r .pause) later)
 
-  pub sound-few : sound ≤ 564032268533760
-  unfolding wellRow
-  sound-few = omega (arith, lasting, sound-most (tapeSize (w .bytes)) (w .bytes) (w .tones) b (blockIn w b) (k .well) (omega arith))
+module _ (w : Tape) where
+  pub after-next : (b : ℕ) → oneMore (loadingAfter w b) (blockIn w b) ≡ loadingAfter w (b + 1)
+  unfolding loadingAfter
+  after-next b = rw add-one
 
-  -- the list from here on, by this row
-  at-stop : blockIn w b .endless ≡ 1 → loadFrom w b ≡ sound
-  at-stop e = loading-by-blocks w b (k .below) ∙ rw (eq-eqb (blockIn w b .endless) 1 e) (sym lasting)
+  rows-next : (b n : ℕ) → byRow (blockIn w b) (blockIn w b .sound) (rowsLoading w (suc b) n) ≡ rowsLoading w b (suc n)
+  unfolding rowsLoading
+  rows-next b n = rw add-one
 
-  at-pause : (blockIn w b .endless ≡ 1 → ⊥)
-      → loadFrom w b ≡ (ltb 0 (loadFrom w (b + 1)) ⇒ sound + r .pause + loadFrom w (b + 1) ∣ sound)
-  at-pause e =
-      let later = loadFrom w (b + 1) in
-      loading-by-blocks w b (k .below)
-      ∙ rw (ne-eqb (blockIn w b .endless) 1 e, ← lasting)
-      (ap (λ (y : Block). ltb 0 later ⇒ sound + y .pause + later ∣ sound) (sym (k .row)))
+  -- after any number of rows it is the same
+  whole-same : (b n : ℕ) → b + n ≡ w .count → wholeWith (loadingAfter w b) (rowsLoading w b n) ≡ rowsTime w
+  unfolding loadingAfter
+  whole-same zero n e = at-first (rowsLoading w 0 n) ∙ ap (rowsLoading w 0) (omega arith)
+  whole-same (suc b) n e =
+      sym (turn (loadingAfter w b) (blockIn w b) (rowsLoading w (suc b) n))
+      ∙ ap (wholeWith (loadingAfter w b)) (rows-next b n)
+      ∙ whole-same b (suc n) (omega arith)
 
-  pub sums-stop : {s : Loading} {end : ℕ} → s .over ≡ false → r .endless ≡ 1 → end ≡ endWith s sound → Sums w b s
-      → Sums w (b + 1) (record { sum = s .sum; end = end; over = true })
-  sums-stop {s} o z q l =
-      let e : blockIn w b .endless ≡ 1 = sym (ap (λ (y : Block). y .endless) (k .row)) ∙ z in
-      record {
-        lasts = λ e. cc;
-        comes = λ e. cc;
-        whole = λ _. l .lasts o ∙ ap (endWith s) (at-stop e) ∙ sym q;
-        stops = λ _. l .comes o ∙ comes-stop w b (k .below) e;
-        few = omega (arith, l .few);
-      }
+  none-left : (b : ℕ) → rowsLoading w b 0 ≡ 0
+  unfolding rowsLoading
+  none-left b = refl
 
-  pub sums-on : {s : Loading} {end : ℕ} → s .over ≡ false → (r .endless ≡ 1 → ⊥) → end ≡ endWith s sound → Sums w b s
-      → Sums w (b + 1) (record { sum = s .sum + sound + r .pause; end = end; over = false })
-  unfolding wellRow
-  sums-on {s} {end} o z f l =
-      let q = blockIn w b in
-      let later = loadFrom w (b + 1) in
-      let e : q .endless ≡ 1 → ⊥ = λ y. z (ap (λ (y : Block). y .endless) (k .row) ∙ y) in
-      let p : r .pause ≡ q .pause = ap (λ (y : Block). y .pause) (k .row) in
-      let n = numbers-most q (block-clauses (tapeSize (w .bytes)) (w .tones) q (k .well) .numbers) in
-      record {
-        lasts = λ _. l .lasts o ∙ ap (endWith s) (at-pause e) ∙ passes s sound (r .pause) later ∙ ap (at later) (sym f);
-        comes = λ _. l .comes o ∙ comes-on w b (k .below) e;
-        whole = λ e. cc;
-        stops = λ e. cc;
-        few = omega (arith, l .few, sound-few, n .pause e, p);
-      }
-    where
-      at : ℕ → ℕ → ℕ
-      at later x = endWith (record { sum = s .sum + sound + r .pause; end = x; over = false }) later
+  -- after all of them, and from a stop on
+  pub after-whole : loadingAfter w (w .count) .end ≡ rowsTime w
+  after-whole =
+      let s = loadingAfter w (w .count) in
+      sym (at-last s) ∙ ap (wholeWith s) (sym (none-left (w .count))) ∙ whole-same (w .count) 0 (omega arith)
+
+  pub after-stop : (b : ℕ) → b ≤ w .count → loadingAfter w b .over ≡ true → loadingAfter w b .end ≡ rowsTime w
+  after-stop b h o = rw o at (whole-same b (w .count - b) (omega arith))
+
+-- WHERE A STOP WAS MET: with one row more, there or before; so among the first n rows
+pub more-over : (s : Loading) (r : Block) → oneMore s r .over ≡ (s .over || eqb (r .endless) 1)
+unfolding oneMore
+more-over s r = of (s .over) refl (eqb (r .endless) 1) refl
+  where
+    of : (o : Bool) → s .over ≡ o → (x : Bool) → eqb (r .endless) 1 ≡ x → oneMore s r .over ≡ (s .over || eqb (r .endless) 1)
+    of true e x f = rw e
+    of false e true f = rw (e, f)
+    of false e false f = rw (e, f)
+
+pub record StopBelow (w : Tape) (n : ℕ) : Type 0 where
+  pub at : ℕ
+  pub below : at < n
+  pub stop : blockIn w at .endless ≡ 1
+
+one-holds : (a b : Bool) → (a || b) ≡ true → (a ≡ true) ⊎ (b ≡ true)
+one-holds true b e = inl refl
+one-holds false b e = inr e
+
+first-holds : (a b : Bool) → a ≡ true → (a || b) ≡ true
+first-holds a b e = rw e
+
+second-holds : (a b : Bool) → b ≡ true → (a || b) ≡ true
+second-holds true b e = refl
+second-holds false b e = e
+
+module _ (w : Tape) where
+  stop-met : (n : ℕ) → loadingAfter w n .over ≡ true → StopBelow w n
+  unfolding loadingAfter
+  stop-met zero e = absurd (let z : _≡_ {A = ℕ} 0 1 = cc in omega arith)
+  stop-met (suc n) e =
+      ⊎-elim
+      (λ g. let b = stop-met n g in record { at = b .at; below = omega (arith, b .below); stop = b .stop })
+      (λ f. record { at = n; below = omega arith; stop = eqb-true _ _ f })
+      (one-holds (loadingAfter w n .over) (eqb (blockIn w n .endless) 1) (sym (more-over (loadingAfter w n) (blockIn w n)) ∙ e))
+
+  met-stop : (n b : ℕ) → b < n → blockIn w b .endless ≡ 1 → loadingAfter w n .over ≡ true
+  unfolding loadingAfter
+  met-stop zero b h e = absurd (omega arith)
+  met-stop (suc n) b h e =
+      more-over (loadingAfter w n) (blockIn w n)
+      ∙ ⊎-elim
+      (λ l. first-holds _ (eqb (blockIn w n .endless) 1) (met-stop n b l e))
+      (λ g.
+      let z : n ≡ b = omega arith in
+      second-holds (loadingAfter w n .over) _ (eq-eqb _ 1 (ap (λ (x : ℕ). blockIn w x .endless) z ∙ e)))
+      (lt-or-ge b n)
+
+  pub stops-exactly : (n : ℕ) → (loadingAfter w n .over ≡ true) ↔ StopBelow w n
+  stops-exactly n = (stop-met n, λ s. met-stop n (s .at) (s .below) (s .stop))
+
+-- EVERY SUM FITS, where the rows' words are within their limits
+pub record Within (w : Tape) (n : ℕ) : Type 0 where
+  pub sound : (b : ℕ) → b < n → blockIn w b .sound < 2 ^ 50
+  pub numbers : (b : ℕ) → b < n → wellNumbers (blockIn w b) ≡ true
+
+more-few : (s : Loading) (r : Block) → r .sound < 2 ^ 50 → wellNumbers r ≡ true → oneMore s r .sum ≤ s .sum + 1125900136215123
+unfolding oneMore
+more-few s r h e = of (s .over) refl (eqb (r .endless) 1) refl
+  where
+    of : (o : Bool) → s .over ≡ o → (x : Bool) → eqb (r .endless) 1 ≡ x → oneMore s r .sum ≤ s .sum + 1125900136215123
+    of true g x f = rw g (omega arith)
+    of false g true f = rw (g, f) (omega arith)
+    of false g false f = rw (g, f) (omega (arith, numbers-most r e .pause (eqb-false _ _ f)))
+
+module _ (w : Tape) where
+  pub after-few : (n : ℕ) → Within w n → loadingAfter w n .sum ≤ n * 1125900136215123
+  unfolding loadingAfter
+  after-few zero h = omega arith
+  after-few (suc n) h =
+      let few = after-few n (record { sound = λ b l. h .sound b (omega arith); numbers = λ b l. h .numbers b (omega arith) }) in
+      omega (arith, few, more-few (loadingAfter w n) (blockIn w n) (h .sound n (omega arith)) (h .numbers n (omega arith)))
+
+  pub sums-fit : (n : ℕ) → n ≤ 4096 → Within w n → loadingAfter w n .sum < 2 ^ 63
+  sums-fit n l h = omega (arith, after-few n h)

@@ -4,3 +4,4 @@ pub mod Utf8
 pub mod Points
 pub mod Texts
 pub mod Lines
+pub mod Listed

@@ -1,45 +1,47 @@
--- WHAT A READY ROW GIVES ITS LINE: where its name lies, what its sound lasts at most, and what of it is summed up. Assumes nothing.
+-- WHAT A READY ROW GIVES ITS LINE: its words within their limits, and where its data and its name lie; and what is summed up of such rows.
+-- Assumes nothing.
 use Prim.Native.Nat.{ℕ, _+_, _^_, _≤_, _<_}
 use native.Mathlib.Omega.{arith}
 use mathlib.Core.Path.{_≡_, sym, subst}
 use mathlib.Core.Bool.{true}
 use mathlib.Core.List.{List}
 use lib.ListN.{length}
-use Rattle.law_pulses.specs.Play.{time}
 use Rattle.rows.specs.declared.Block.{Block}
 use Rattle.rows.specs.Table.{get}
 use Rattle.rows.specs.Rows.{block}
-use Rattle.rows.specs.Well.{wellNumbers, wellBlock}
-use Rattle.rows.proofs.WellLaws.{block-clauses}
+use Rattle.rows.specs.Well.{wellNumbers}
 use Rattle.text_name.specs.Names.{nameOf}
-use Rattle.text_name.proofs.Naming.{inside-tape}
-use Rattle.play_entries.specs.Entries.{soundOf}
-use Rattle.play_entries.specs.Mounted.{tapeOf, tapeSize, wellRow}
-use Rattle.play_entries.proofs.Bounds.{sound-most}
-use Rattle.play_loading.specs.Sums.{Sounds}
-use Rattle.text_listing.specs.Inner.{ReadyRow}
+use Rattle.play_entries.specs.Mounted.{tapeOf}
+use Rattle.play_loading.specs.Sums.{loadingAfter}
+use Rattle.play_loading.proofs.Summing.{sums-fit}
+use Rattle.text_listing.specs.Inner.{ReadyRow, Ready}
 
-module _ {bytes tones blocks : List ℕ} {i : ℕ} (ready : ReadyRow bytes tones blocks i) where
+module _ {bytes blocks : List ℕ} {i : ℕ} (ready : ReadyRow bytes blocks i) where
   -- the row as it was read
   module _ {r : Block} (e : r ≡ get block blocks i) where
-    pub row-well : wellBlock (tapeSize bytes) tones r ≡ true
-    row-well = subst (λ (x : Block). wellBlock (tapeSize bytes) tones x ≡ true) (sym e) (ready .well)
-
     pub row-numbers : wellNumbers r ≡ true
-    row-numbers = block-clauses (tapeSize bytes) tones r row-well .numbers
+    row-numbers = subst (λ (x : Block). wellNumbers x ≡ true) (sym e) (ready .numbers)
 
-    pub row-sound : {t : ℕ} → t ≡ time (soundOf bytes tones i r) → t < 2 ^ 50
-    row-sound q = omega (arith, q, sound-most (tapeSize bytes) bytes tones i r row-well (omega arith))
-
-    pub row-sounds : {t : ℕ} (n : ℕ) → i < n → t ≡ time (soundOf bytes tones i r) → Sounds (tapeOf bytes tones blocks n) i r t
-    unfolding wellRow
-    row-sounds n h q = record { row = e; below = h; well = ready .well; lasts = q }
+    pub row-sound : r .sound < 2 ^ 50
+    row-sound = subst (λ (x : Block). x .sound < 2 ^ 50) (sym e) (ready .sound)
 
     pub row-places : (r .start + r .size ≤ length bytes) × (r .text + r .chars ≤ length bytes)
-    row-places = let h = inside-tape (tapeSize bytes) tones r row-well in (omega (arith, h .0), omega (arith, h .1))
+    row-places =
+        subst (λ (x : Block). (x .start + x .size ≤ length bytes) × (x .text + x .chars ≤ length bytes)) (sym e)
+        (omega (arith, ready .inside), omega (arith, ready .named))
 
     pub row-chars : r .chars ≤ 1048576
-    row-chars = let h = inside-tape (tapeSize bytes) tones r row-well in omega (arith, h .1)
+    row-chars = subst (λ (x : Block). x .chars ≤ 1048576) (sym e) (omega (arith, ready .named))
 
     pub row-short : length (nameOf bytes r) ≤ 510
     row-short = subst (λ (x : Block). length (nameOf bytes x) ≤ 510) (sym e) (ready .short)
+
+-- the sum of the first i rows fits
+pub rows-fit : {bytes blocks : List ℕ} {n : ℕ} → Ready bytes blocks n → (tones : List ℕ) (i : ℕ) → i ≤ n
+    → loadingAfter (tapeOf bytes tones blocks n) i .sum < 2 ^ 63
+rows-fit {bytes} {blocks} {n} ready tones i h =
+    sums-fit (tapeOf bytes tones blocks n) i (omega (arith, ready .few))
+    (record {
+      sound = λ b l. ready .rows b (omega arith) .sound;
+      numbers = λ b l. ready .rows b (omega arith) .numbers;
+    })

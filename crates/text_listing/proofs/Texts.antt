@@ -16,12 +16,12 @@ use Rattle.rows.specs.Rows.{block}
 use Rattle.text_name.specs.Names.{nameOf}
 use Rattle.play_entries.specs.declared.Duration.{Duration}
 use Rattle.play_entries.specs.declared.Duration.the-variants.{T, Endless}
-use Rattle.play_entries.specs.Entries.{entriesOf, lastsOf}
+use Rattle.play_entries.specs.Stored.{rowLasts}
 use Rattle.play_entries.specs.Places.{Tape, blockIn}
 use Rattle.play_entries.specs.Mounted.{tapeOf}
 use Rattle.text_listing.specs.Inner.{rowHeadText, rowTailText, Ready}
 use Rattle.text_listing.specs.Shown.{shown}
-use Rattle.text_listing.specs.Lines.{timeText, markText, rowText, rowsText}
+use Rattle.text_listing.specs.Lines.{timeText, markText, rowTextBy, rowsTextBy, rowText, rowsText}
 use Rattle.text_listing.proofs.Showing.{shown-length}
 
 -- at least so long, and at most
@@ -73,42 +73,41 @@ joined : (h t a n b : List ℕ) → h ++ (t ++ a ++ n ++ b) ≡ h ++ t ++ a ++ n
 joined h t a n b = simp append-assoc refl
 
 pub row-joins : (s tones blocks : List ℕ) (n i : ℕ) (r : Block) → r ≡ get block blocks i
-    → rowHeadText i r ++ rowTailText (lastsOf (entriesOf s tones i r)) (nameOf s r) ≡ rowText (tapeOf s tones blocks n) i
-unfolding rowText
+    → rowHeadText i r ++ rowTailText (rowLasts r) (nameOf s r) ≡ rowText (tapeOf s tones blocks n) i
+unfolding rowTextBy
 row-joins s tones blocks n i r e =
     let q = get block blocks i in
-    ap (λ (y : Block). rowHeadText i y ++ rowTailText (lastsOf (entriesOf s tones i y)) (nameOf s y)) e
-    ∙ joined (rowHeadText i q) (timeText (lastsOf (entriesOf s tones i q))) (0x20 ∷ []) (shown (nameOf s q)) (0x0A ∷ [])
+    ap (λ (y : Block). rowHeadText i y ++ rowTailText (rowLasts y) (nameOf s y)) e
+    ∙ joined (rowHeadText i q) (timeText (rowLasts q)) (0x20 ∷ []) (shown (nameOf s q)) (0x0A ∷ [])
 
 pub row-most : (w : Tape) (i : ℕ) → length (nameOf (w .bytes) (blockIn w i)) ≤ 510 → length (rowText w i) ≤ 576
 row-most w i h =
     let r = blockIn w i in
-    let d = lastsOf (entriesOf (w .bytes) (w .tones) i r) in
     let e = row-joins (w .bytes) (w .tones) (w .blocks) (w .count) i r refl in
     let a = head-most i r in
-    let b = tail-most d (nameOf (w .bytes) r) h in
-    let l = length-append (rowHeadText i r) (rowTailText d (nameOf (w .bytes) r)) in
+    let b = tail-most (rowLasts r) (nameOf (w .bytes) r) h in
+    let l = length-append (rowHeadText i r) (rowTailText (rowLasts r) (nameOf (w .bytes) r)) in
     omega (arith, ap length e)
 
 -- the first i rows of a tape whose rows are ready
-pub rows-most : {s tones blocks : List ℕ} {n : ℕ} → Ready s tones blocks n → (i : ℕ) → i ≤ n
+pub rows-most : {s blocks : List ℕ} {n : ℕ} → Ready s blocks n → (tones : List ℕ) (i : ℕ) → i ≤ n
     → length (rowsText (tapeOf s tones blocks n) i) ≤ 576 * i
-unfolding rowsText
-rows-most r zero h = omega arith
-rows-most {s} {tones} {blocks} {n} r (suc i) h =
-    let a = rows-most r i (omega arith) in
+unfolding rowsTextBy
+rows-most r tones zero h = omega arith
+rows-most {s} {blocks} {n} r tones (suc i) h =
+    let a = rows-most r tones i (omega arith) in
     let b = row-most (tapeOf s tones blocks n) i (r .rows i (omega arith) .short) in
     simp length-append (omega arith)
 
 -- one row more
 pub rows-next : {d d1 d2 : List ℕ} {at o1 o2 : ℕ} (w : Tape) (i : ℕ) → Wrote d at (rowsText w i) d1 o1
     → Wrote d1 o1 (rowText w i) d2 o2 → Wrote d at (rowsText w (i + 1)) d2 o2
-unfolding rowsText
+unfolding rowsTextBy
 rows-next w i p q = rw add-one (then p q)
 
 -- what was written of a row's two parts
 pub row-written : {out d1 d2 : List ℕ} {at o1 o2 : ℕ} (s tones blocks : List ℕ) (n i : ℕ) (r : Block) (d : Duration)
-    → r ≡ get block blocks i → d ≡ lastsOf (entriesOf s tones i r)
+    → r ≡ get block blocks i → d ≡ rowLasts r
     → Wrote out at (rowHeadText i r) d1 o1 → Wrote d1 o1 (rowTailText d (nameOf s r)) d2 o2
     → Wrote out at (rowText (tapeOf s tones blocks n) i) d2 o2
 row-written {out} {d2 = d2} {at} {o2 = o2} s tones blocks n i r d e f u v =

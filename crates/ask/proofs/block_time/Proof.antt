@@ -1,15 +1,13 @@
--- `block_time` meets its contract: the refusal, or what the well-formed row's entries last. Assumes nothing.
+-- `block_time` meets its contract: the refusal, or what the well-formed row lasts by its words. Assumes nothing.
 use native.Mathlib.Omega.{arith}
-use mathlib.Core.Path.{_≡_, sym, subst, ap, _∙_}
-use mathlib.Core.Bool.{true}
+use mathlib.Core.Path.{sym, subst, ap, _∙_}
 use borrow.Author.Needs.{needs}
-use Rattle.rows.specs.declared.Block.{Block}
-use Rattle.rows.specs.Well.{wellBlock}
-use Rattle.play_entries.specs.Entries.{entriesOf, lastsOf}
-use Rattle.play_entries.specs.Mounted.{tapeOf, tapeSize, wellRow}
+use Rattle.play_entries.specs.Stored.{rowLasts}
+use Rattle.play_entries.specs.Mounted.{tapeOf}
 use Rattle.ask.specs.declared.Time.the-variants.{Lasts}
 use Rattle.ask.specs.Queries.{refusalOf, timeOf}
 use Rattle.ask.proofs.Refusals.{asked, time-refused, time-given}
+use Rattle.ask.proofs.Loads.{Limits, row-limits}
 use Rattle.ask.proofs.block_time.Statement.{statement}
 use Rattle.ask.proofs.block_time.Tie as tie
 
@@ -28,13 +26,13 @@ block-at-requires c κs =
     (c .if1 .left) in
     omega arith
 
-block-time-requires : tie.Need-block-time-requires
-unfolding wellRow
-block-time-requires c κs =
+row-lasts-requires : tie.Need-row-lasts-requires
+row-lasts-requires c κs =
     let a = c .before .before .before .before .before .before .args in
-    let q = asked (tapeOf (a .tape .now) (a .tones .now) (a .blocks .now) (a .count)) (a .i) _ (c .before .before .refusal .ensures)
-    (c .before .if1 .left) in
-    subst (λ (r : Block). wellBlock (tapeSize (a .tape .now)) (a .tones .now) r ≡ true) (sym (c .block-at .ensures)) (q .well)
+    let w = tapeOf (a .tape .now) (a .tones .now) (a .blocks .now) (a .count) in
+    let q = asked w (a .i) _ (c .before .before .refusal .ensures) (c .before .if1 .left) in
+    let m = subst Limits (sym (c .block-at .ensures)) (row-limits w (a .i) (q .well)) in
+    (m .sound, m .numbers)
 
 returns-2 : tie.Need-returns-2
 unfolding timeOf
@@ -43,9 +41,8 @@ returns-2 c =
     let a = refusal .before .before .before .before .args in
     let w = tapeOf (a .tape .now) (a .tones .now) (a .blocks .now) (a .count) in
     time-given _ {m = refusalOf w (a .i)} (refusal .refusal .ensures) (c .before .before .if1 .left)
-    (ap Lasts (c .block-time .ensures (a .i)
-    ∙ ap (λ (r : Block). lastsOf (entriesOf (a .tape .now) (a .tones .now) (a .i) r)) (c .before .block-at .ensures)))
+    (ap Lasts (c .row-lasts .ensures ∙ ap rowLasts (c .before .block-at .ensures)))
 
 pub block-time-spec : {M : Type 1} → statement M
 block-time-spec =
-    tie.close (tie.spec refusal-requires returns block-at-requires block-time-requires returns-2)
+    tie.close (tie.spec refusal-requires returns block-at-requires row-lasts-requires returns-2)

@@ -9,7 +9,7 @@ use Rattle.rows.specs.Rows.{block, blockMost}
 use Rattle.rows.proofs.Clauses.{failed, passed}
 use Rattle.play_entries.specs.Mounted.{tapeOf, wellRow}
 use Rattle.ask.specs.Queries.{loadingOf}
-use Rattle.ask.proofs.Loads.{Loads, loads-stop, loads-over, loads-bad, row-well, sounds, summable, loads-on}
+use Rattle.ask.proofs.Loads.{Loads, loads-none, loads-over, loads-bad, summable, loads-stop, loads-on}
 use Rattle.ask.proofs.loading.loading_time.Statement.{statement}
 use Rattle.ask.proofs.loading.loading_time.Tie as tie
 
@@ -33,44 +33,36 @@ none-requires c κs = search needs
 loop-holds : tie.Need-loop-holds Inv-loop μ-loop
 loop-holds c =
     let o = sym (c .before .before .overfull .ensures) ∙ c .before .if1 .left in
-    (omega arith, ltb-false _ _ o, record { from = omega arith; sums = c .none .ensures .1 _; going = c .none .ensures .0 })
+    (omega arith, ltb-false _ _ o, loads-none _ (c .none .ensures))
 
 row-well-requires : tie.Need-row-well-requires Inv-loop μ-loop
 row-well-requires c κs = omega arith
 
 returns-2 : tie.Need-returns-2 Inv-loop μ-loop
-unfolding loadingOf wellRow
+unfolding wellRow
 returns-2 c =
     let l = c .before .before .before .loop in
     let bad = failed (c .before .row-well .ensures) (c .if2 .taken) in
-    rw (le-ltb _ _ (l .inv .1)) (loads-bad (l .inv .2) (c .before .before .loop-test .taken) bad)
+    loads-bad (le-ltb _ _ (l .inv .1)) (l .inv .2) (c .before .before .loop-test .taken) bad
 
 block-at-requires : tie.Need-block-at-requires Inv-loop μ-loop
 block-at-requires c κs = omega arith
 
-sound-time-requires : tie.Need-sound-time-requires Inv-loop μ-loop
-unfolding wellRow
-sound-time-requires c κs =
-    let l = c .before .before .before .before .loop in
-    let g = passed (c .before .before .row-well .ensures) (c .before .if2 .left) in
-    row-well (l .inv .2) (c .block-at .ensures) (c .before .before .before .loop-test .taken) g
-
 one-more-requires : tie.Need-one-more-requires Inv-loop μ-loop
 unfolding wellRow
 one-more-requires c κs =
-    let l = c .before .before .before .before .before .loop in
-    let g = passed (c .before .before .before .row-well .ensures) (c .before .before .if2 .left) in
-    let t = c .before .before .before .before .loop-test .taken in
-    summable (l .inv .2) (c .before .block-at .ensures) t g (c .sound-time .ensures (l .b)) (omega arith)
+    let l = c .before .before .before .before .loop in
+    let g = passed (c .before .before .row-well .ensures) (c .before .if2 .left) in
+    summable (l .inv .2) (c .block-at .ensures) g (omega arith)
 
 returns-3 : tie.Need-returns-3 Inv-loop μ-loop
-unfolding loadingOf wellRow
+unfolding wellRow
 returns-3 c =
-    let l = c .before .before .before .before .before .before .before .loop in
-    let g = passed (c .before .before .before .before .before .row-well .ensures) (c .before .before .before .before .if2 .left) in
-    let t = c .before .before .before .before .before .before .loop-test .taken in
-    let k = sounds (l .inv .2) (c .before .before .before .block-at .ensures) t g (c .before .before .sound-time .ensures (l .b)) in
-    rw (le-ltb _ _ (l .inv .1)) (loads-stop _ (c .if3 .taken) (c .before .one-more .ensures _ _ k (l .inv .2 .sums)))
+    let l = c .before .before .before .before .before .before .loop in
+    let g = passed (c .before .before .before .before .row-well .ensures) (c .before .before .before .if2 .left) in
+    let t = c .before .before .before .before .before .loop-test .taken in
+    loads-stop (l .inv .2) (c .before .before .block-at .ensures) g t (c .before .one-more .ensures) (le-ltb _ _ (l .inv .1))
+    (c .if3 .taken)
 
 add-b : tie.Need-add-b Inv-loop μ-loop
 add-b c = omega arith
@@ -81,18 +73,16 @@ loop-less c = omega arith
 loop-again : tie.Need-loop-again Inv-loop μ-loop
 unfolding wellRow
 loop-again c =
-    let l = c .before .before .before .before .before .before .before .loop in
-    let g = passed (c .before .before .before .before .before .row-well .ensures) (c .before .before .before .before .if2 .left) in
-    let t = c .before .before .before .before .before .before .loop-test .taken in
-    let q = c .before .before .before .block-at .ensures in
-    let k = sounds (l .inv .2) q t g (c .before .before .sound-time .ensures (l .b)) in
-    (omega arith, l .inv .1, loads-on (l .inv .2) q t g (c .if3 .left) (c .before .one-more .ensures _ _ k (l .inv .2 .sums)))
+    let l = c .before .before .before .before .before .before .loop in
+    let g = passed (c .before .before .before .before .row-well .ensures) (c .before .before .before .if2 .left) in
+    let t = c .before .before .before .before .before .loop-test .taken in
+    let q = c .before .before .block-at .ensures in
+    (omega arith, l .inv .1, loads-on (l .inv .2) q g t (c .before .one-more .ensures) (c .if3 .left))
 
 returns-4 : tie.Need-returns-4 Inv-loop μ-loop
-unfolding loadingOf
 returns-4 c =
     let l = c .before .loop in
-    rw (le-ltb _ _ (l .inv .1)) (loads-over (l .inv .2) (c .loop-test .left))
+    loads-over (le-ltb _ _ (l .inv .1)) (l .inv .2) (omega arith)
 
 pub loading-time-spec : {M : Type 1} → statement M
 loading-time-spec =
@@ -107,7 +97,6 @@ loading-time-spec =
     row-well-requires
     returns-2
     block-at-requires
-    sound-time-requires
     one-more-requires
     returns-3
     add-b

@@ -1,5 +1,6 @@
 -- `put_listing` meets its contract: five writes, one after the other. Assumes nothing.
 use native.Mathlib.Omega.{arith}
+use mathlib.Core.List.{[]}
 use borrow.Author.Needs.{needs}
 use Rattle.play_entries.specs.Mounted.{tapeOf}
 use Rattle.text_listing.proofs.Texts.{rows-most}
@@ -20,7 +21,7 @@ put-count-requires : tie.Need-put-count-requires
 put-count-requires c κs =
     let put-model = c .before .before .before in
     let put-all = put-model .before .before .before .before in
-    let a = put-all .before .before .before .before .before .before .before .args in
+    let a = put-all .before .before .before .before .before .before .args in
     omega (arith, put-all .put-all .ensures .count, put-model .put-model .ensures .count, model-long (a .model))
 
 put-rows-requires : tie.Need-put-rows-requires
@@ -28,7 +29,7 @@ put-rows-requires c κs =
     let put-count = c .before .before .before in
     let put-model = put-count .before .before .before .before in
     let put-all = put-model .before .before .before .before in
-    let s = put-all .before .before .before .before .before .before .before in (
+    let s = put-all .before .before .before .before .before .before in (
       s .pre,
       omega (
         arith,
@@ -46,7 +47,7 @@ put-total-requires c κs =
     let put-count = put-rows .before .before .before .before in
     let put-model = put-count .before .before .before .before in
     let put-all = put-model .before .before .before .before in
-    let s = put-all .before .before .before .before .before .before .before in
+    let s = put-all .before .before .before .before .before .before in
     let a = s .args in
     omega (
       arith,
@@ -55,8 +56,8 @@ put-total-requires c κs =
       model-long (a .model),
       put-count .put-count .ensures .count,
       count-long (a .format) (a .n),
-      put-rows .put-rows .ensures .0 .count,
-      rows-most (s .pre) (a .n) (omega arith),
+      put-rows .put-rows .ensures .0 [] .count,
+      rows-most (s .pre) [] (a .n) (omega arith),
       s .pre .few,
     )
 
@@ -68,11 +69,12 @@ returns c =
     let put-count = c .before .before .before .before .before .before .before .before .before .before in
     let put-model = put-count .before .before .before .before in
     let put-all = put-model .before .before .before .before in
-    let a = put-all .before .before .before .before .before .before .before .args in
+    let a = put-all .before .before .before .before .before .before .args in
     let w = c .before .before .before .before .before .before .put-rows in
-    listing-written (a .model) (a .format) (tapeOf (a .tape .now) (a .tones .now) (a .blocks .now) (a .n)) (w .result .load .end)
-    (w .ensures .1) (put-all .put-all .ensures) (put-model .put-model .ensures) (put-count .put-count .ensures) (w .ensures .0)
-    (c .before .before .put-total .ensures)
+    λ tones.
+    listing-written (a .model) (a .format) (tapeOf (a .tape .now) tones (a .blocks .now) (a .n)) (w .result .load .end)
+    (w .ensures .1 tones) (put-all .put-all .ensures) (put-model .put-model .ensures) (put-count .put-count .ensures)
+    (w .ensures .0 tones) (c .before .before .put-total .ensures)
 
 pub put-listing-spec : {M : Type 1} → statement M
 put-listing-spec =

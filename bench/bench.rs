@@ -10,6 +10,8 @@ pub mod bench {
         fn glyvrask_play(tape: *const u8, n: usize, blocks: *const u64, bn: usize, tones: *const u64, tn: usize, count: u64, at: *const u64, pn: usize, d: u32, answer: *mut u64, an: usize) -> u32;
         fn glyvrask_play_measured(tape: *const u8, n: usize, blocks: *const u64, bn: usize, tones: *const u64, tn: usize, count: u64, at: *const u64, pn: usize, d: u32, answer: *mut u64, an: usize) -> u32;
         fn glyvrask_play_run(tape: *const u8, n: usize, blocks: *const u64, bn: usize, tones: *const u64, tn: usize, count: u64, at: *const u64, pn: usize, measured: u32, counts: *const u32, cn: usize, answers: *mut u64, an: usize) -> u32;
+        fn glyvrask_block_time(tape: *const u8, n: usize, blocks: *const u64, bn: usize, tones: *const u64, tn: usize, count: u64, i: u64, answer: *mut u64, an: usize) -> u32;
+        fn glyvrask_loading_time(tape: *const u8, n: usize, blocks: *const u64, bn: usize, tones: *const u64, tn: usize, count: u64, answer: *mut u64, an: usize) -> u32;
         fn glyvrask_listing(tape: *const u8, n: usize, model: u32, out: *mut u8, on: usize) -> u32;
     }
 
@@ -78,6 +80,23 @@ pub mod bench {
                 calls += CALLS as u64;
                 at.copy_from_slice(&last[FIRST..FIRST + POSITION_WORDS]);
             }
+        }
+        // What a page tells of a loaded tape: each block's time and the loading time, added up.
+        fn times(&self) -> u64 {
+            let mut answer = [0u64; 2];
+            let mut sum = 0;
+            for i in 0..self.count {
+                let k = unsafe {
+                    glyvrask_block_time(self.bytes.as_ptr(), self.bytes.len(), self.blocks.as_ptr(), self.blocks.len(), self.tones.as_ptr(), self.tones.len(), self.count, i, answer.as_mut_ptr(), 2)
+                };
+                assert_eq!(k, 0);
+                sum += answer[1];
+            }
+            let k = unsafe {
+                glyvrask_loading_time(self.bytes.as_ptr(), self.bytes.len(), self.blocks.as_ptr(), self.blocks.len(), self.tones.as_ptr(), self.tones.len(), self.count, answer.as_mut_ptr(), 2)
+            };
+            assert_eq!(k, 0);
+            sum + answer[0]
         }
         fn list(&self, out: &mut [u8]) -> u32 {
             unsafe { glyvrask_listing(self.bytes.as_ptr(), self.bytes.len(), 0, out.as_mut_ptr(), out.len()) }
@@ -219,6 +238,8 @@ pub mod bench {
                 best(|| driver::listing(&driver::Loaded { tzx: true, tape: rust_load(bytes) }, Model::Spec48k)),
                 best(|| ours.list(&mut out)),
             );
+            let loaded = driver::Loaded { tzx: true, tape: rust_load(bytes) };
+            row(&format!("times of {what}, loaded (the Rust: its listing)"), best(|| driver::listing(&loaded, Model::Spec48k)), best(|| ours.times()));
         }
     }
 

@@ -41,7 +41,7 @@ enum {
 
 /* THE TABLES. Capacity is the whole rows lent, at most 4,096 blocks and 65,536 tones: a broken last row and rows past these
  * limits are never used. After a load every unused word of both tables is zero. A row's words: */
-#define GLYVRASK_BLOCK_WORDS 16
+#define GLYVRASK_BLOCK_WORDS 17
 #define GLYVRASK_TONE_WORDS 4
 
 /* the words of a block row */
@@ -61,7 +61,8 @@ enum {
     GLYVRASK_CHARS = 12,     /* bytes of the given name */
     GLYVRASK_SORT = 13,      /* 0 a source row, as every load makes it; 1 a document row, played as TZX 1.20 says */
     GLYVRASK_ROW_LEVEL = 14, /* document rows: the level at which the first pulse is played, 0 low, 1 high; else 0 */
-    GLYVRASK_ROW_PLAYED = 15 /* document rows: the level last played before it; else 0 */
+    GLYVRASK_ROW_PLAYED = 15,/* document rows: the level last played before it; else 0 */
+    GLYVRASK_SOUND = 16      /* T-states without the pause, as the load counted them; below 2 to the 50th. Times are told by it */
 };
 
 /* the words of a tone row */
@@ -163,7 +164,7 @@ unsigned glyvrask_block_selectable(const unsigned char *tape, glyvrask_size tape
                                    glyvrask_word count, glyvrask_word i,
                                    glyvrask_word *answer, glyvrask_size answer_len);
 
-/* What it lasts, with its pause. answer: 0 endless (1: it never ends), 1 T-states (0 where it never ends).
+/* What it lasts, with its pause, by its row's words. answer: 0 endless (1: it never ends), 1 T-states (0 where it never ends).
  * Refusals: 11, 8, 11, 10. */
 unsigned glyvrask_block_time(const unsigned char *tape, glyvrask_size tape_len,
                              const glyvrask_word *blocks, glyvrask_size blocks_len,
@@ -171,8 +172,8 @@ unsigned glyvrask_block_time(const unsigned char *tape, glyvrask_size tape_len,
                              glyvrask_word count, glyvrask_word i,
                              glyvrask_word *answer, glyvrask_size answer_len);
 
-/* The loading time: up to the end of the last tone or data entry with length before the first stop or the end, 0 if there is
- * none; a pause before that entry counts, one behind it doesn't. answer: 0 T-states. Refusals: 11, for any row up to the first
+/* The loading time by the rows' words: up to the end of the last sound with length before the first stop or the end, 0 if there is
+ * none; a pause before that sound counts, one behind it doesn't. answer: 0 T-states. Refusals: 11, for any row up to the first
  * stop or the end, 10. */
 unsigned glyvrask_loading_time(const unsigned char *tape, glyvrask_size tape_len,
                                const glyvrask_word *blocks, glyvrask_size blocks_len,

@@ -2,7 +2,7 @@
 
 A document row's pulses are voiced one by one from two levels that run along: the current one, at which the next pulse is played, and the one last played."""
 
-BLOCK = "tone tones start size zero one last pause endless selectable named text chars sort level played".split()
+BLOCK = "tone tones start size zero one last pause endless selectable named text chars sort level played sound".split()
 TONE = "num len1 len2 wave".split()
 ENDLESS, BAD = None, "bad"  # lengths that are no number
 

@@ -29,7 +29,7 @@ def worked():
             for level, played in LINES:
                 tones = [tone(3, 9, 4, wave(begin, pulses)), tone(0, 7, 5, wave(begin, pulses)), tone(1, 6, 0, wave(0, 1))]
                 for ending in ENDINGS:
-                    first = row(tones=3, **ending, sort=1, level=level, played=played, selectable=1)
+                    first = row(sound=7, tones=3, **ending, sort=1, level=level, played=played, selectable=1)
                     behind = row(tone=2, tones=1, sort=1, level=1 - level, played=played)
                     yield [first, behind], tones, b"", ()
     for level, played in LINES:
@@ -57,6 +57,7 @@ def some(r):
             row(
                 tone=first, tones=r.randrange(len(tones) - first + 1), start=start, size=r.randrange(len(tape) - start + 1), zero=r.randrange(3), one=r.randrange(3), last=r.randrange(9),
                 pause=r.choice(PAUSES), endless=int(r.random() < 0.1), selectable=r.randrange(2), sort=int(r.random() < 0.8), level=r.randrange(2), played=r.randrange(2),
+                sound=len(blocks),  # playing doesn't look at it
             )
         )
     return blocks, tones, tape, ()

@@ -126,6 +126,14 @@ readings =
       nine,
       says 0 starred (T 20984154) 7 (0x30 ∷ bytesWord ++ (8 ∷ 9 ∷ [])) 17484154,
     ) ∷
+    -- `01 00 FF`: 1,612 cycles, eight ones
+    (
+      tapeOf (1 ∷ 0 ∷ 0xFF ∷ []) (1612 ∷ 2168 ∷ 2168 ∷ 0 ∷ 1 ∷ 667 ∷ 735 ∷ 0 ∷ [])
+          (sounding (0 ∷ 2 ∷ 2 ∷ 1 ∷ 855 ∷ 1710 ∷ 8 ∷ 7000000 ∷ 0 ∷ 1 ∷ 0 ∷ []) 7018394) 1,
+      0,
+      nine,
+      says 1 starred (T 14018394) 7 (0x31 ∷ bytesWord ++ (8 ∷ 9 ∷ [])) 7018394,
+    ) ∷
     -- 12 with length 100, count 1, and with count 0
     (
       pureTone (1 ∷ 0 ∷ 100 ∷ 0 ∷ 0 ∷ 100 ∷ 100 ∷ 0 ∷ []) 2 300,
@@ -141,6 +149,19 @@ readings =
       0,
       nine,
       says 1 starred (T 40) 7 (0x31 ∷ bytesWord ++ (8 ∷ 9 ∷ [])) 40,
+    ) ∷
+    -- a loop of 2 round a tone of 400: the copies last as long; and 22's pause behind a tone of 2
+    (
+      tapeOf [] oneTone (sound 0 1 0 0 0 0 400 ++ sound 0 1 0 0 0 0 400 ++ sound 0 1 0 0 0 0 400) 3,
+      2,
+      nine,
+      says 0 plain (T 400) 7 (0x30 ∷ bytesWord ++ (8 ∷ 9 ∷ [])) 1200,
+    ) ∷
+    (
+      tapeOf [] (1 ∷ 1 ∷ 1 ∷ 0 ∷ []) (sound 0 1 3500 0 0 0 2) 1,
+      0,
+      nine,
+      says 0 plain (T 3502) 7 (0x30 ∷ bytesWord ++ (8 ∷ 9 ∷ [])) 2,
     ) ∷
     -- the printed listing, line by line
     (printed, 0, nine, says 0 plain (T 400) 7 (0x30 ∷ bytesWord ++ (8 ∷ 9 ∷ [])) 400) ∷
@@ -176,6 +197,13 @@ readings =
     -- TIMES BY THE ROWS' WORDS: 7 written in the row of a tone of two cycles; and a tone row's length made 300, the row as it was
     (pureTone oneTone 1 7, 0, nine, says 0 plain (T 7) 7 (0x30 ∷ bytesWord ++ (8 ∷ 9 ∷ [])) 7) ∷
     (pureTone (2 ∷ 300 ∷ 100 ∷ 0 ∷ []) 1 400, 0, nine, says 0 plain (T 400) 7 (0x30 ∷ bytesWord ++ (8 ∷ 9 ∷ [])) 400) ∷
+    -- 1 written in the printed tape's row of a pause
+    (
+      tapeOf [] oneTone (sound 0 1 0 0 0 0 400 ++ sound 1 0 3500 0 0 0 1 ++ stopRow) 3,
+      1,
+      nine,
+      says 0 plain (T 3501) 7 (0x30 ∷ bytesWord ++ (8 ∷ 9 ∷ [])) 401,
+    ) ∷
     -- the most that a row's sound may be, and one more: 11, in a stop's row too
     (
       pureTone [] 0 1125899906842623,

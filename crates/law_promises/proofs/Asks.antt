@@ -15,14 +15,16 @@ use Rattle.law_pulses.specs.Play.{Status, standing, stopped, ended, comesTo}
 use Rattle.law_pulses.specs.Source.{isEnded}
 use Rattle.text_out.specs.Out.{fits, told}
 use Rattle.play_entries.specs.declared.Duration.{Duration}
-use Rattle.play_entries.specs.Places.{Tape, listFrom, leftAt, loadTime}
+use Rattle.play_entries.specs.Places.{Tape, listFrom, leftAt}
+use Rattle.play_entries.specs.Stored.{rowsTime}
 use Rattle.play_entries.specs.Mounted.{overfull, wellRow, formed}
 use Rattle.ask.specs.declared.Number.{Number}
 use Rattle.ask.specs.declared.Number.the-variants as number
 use Rattle.ask.specs.declared.Mark.the-variants as mark
 use Rattle.ask.specs.declared.Time.the-variants as lasting
 use Rattle.ask.specs.Queries.{numberNo, markNo, timeNo, refusalOf, lenOf, numberUnless, markUnless, timeUnless, sizeOf, selectableOf}
-use Rattle.ask.specs.Queries.{timeOf, nameIn, lengthOrNoRoom, nameAnswer, nameBytes, loadingIn, loadingOf}
+use Rattle.ask.specs.Queries.{timeOf, nameIn, lengthOrNoRoom, nameAnswer, nameBytes, loadingOf}
+use Rattle.ask.proofs.Listed.{to-stop}
 use Rattle.play_walk.specs.Heads.{startAt}
 use Rattle.law_promises.specs.Numbers.{PastCount, Unformed, Asked, Reaches, enough}
 use Rattle.law_promises.proofs.Reaching.{Runs, runs-reach, comes-finite, start-cuts}
@@ -206,8 +208,8 @@ ended-is ended e = refl
 -- the loading time, as the definition tests it
 loading-runs : (w : Tape)
     → (numberNo (loadingOf w) ≡ badRow) ↔ ((overfull w ≡ true) ⊎ Runs w 0 (comesTo (listFrom (formed w 0) 0)))
-unfolding numberNo loadingOf loadingIn
-loading-runs w = (
+unfolding numberNo loadingOf
+loading-runs w = rw (to-stop w) (
   λ e. of (overfull w) (isEnded end && ltb (formed w 0 .count) (w .count)) refl refl e,
   λ h. ⊎-elim (λ x. rw x) (λ x. back (overfull w) (isEnded end && ltb (formed w 0 .count) (w .count))
       (rw (x .over, lt-ltb (formed w 0 .count) (w .count) (x .cut)))) h,
@@ -217,7 +219,7 @@ loading-runs w = (
     end = comesTo (listFrom (formed w 0) 0)
 
     answer : Bool → Bool → Number
-    answer a b = a ⇒ number.Refused badRow ∣ b ⇒ number.Refused badRow ∣ number.Is (loadTime (formed w 0))
+    answer a b = a ⇒ number.Refused badRow ∣ not b ⇒ number.Is (rowsTime w) ∣ number.Refused badRow
 
     of : (a b : Bool) → overfull w ≡ a → (isEnded end && ltb (formed w 0 .count) (w .count)) ≡ b
         → numberNo (answer a b) ≡ badRow → (overfull w ≡ true) ⊎ Runs w 0 end

@@ -27,6 +27,9 @@ use Rattle.play_entries.specs.declared.Phase.the-variants.{Tones}
 use Rattle.play_entries.specs.declared.Duration.{Duration}
 use Rattle.play_entries.specs.declared.Duration.the-variants.{T, Endless}
 use Rattle.play_entries.specs.Entries.{entryOf, cyclesOf, isSingle, startLevel, cycleLevel, bitLevel, edged, pauseLevel, toneOf, tonesOf}
+use Rattle.play_entries.specs.Counted.{onesFrom}
+use Rattle.play_entries.specs.Figures.{toneFigure, tonesFigure, bitsFigure, dataFigure, soundIn}
+use Rattle.play_entries.specs.Stored.{rowLasts, rowsLoading}
 use Rattle.play_entries.specs.Entries.{dataOf, pauseOf, soundOf, entriesOf, lastsOf}
 use Rattle.play_entries.specs.Places.{Tape, listFrom, levelAt, fromPause, fromEdge, fromSecond, fromByte, fromTone, fromCycle, leftAt}
 use Rattle.play_entries.specs.Places.{hasEntry, lengthAt, remains, valid, headOf, leftOf}
@@ -38,7 +41,7 @@ use Rattle.play_walk.specs.Heads.{startAt, stand, placed, levelHere, restLevel,
 use Rattle.play_deck.specs.Deck.{ruledOut, illFormed, judged, unless, playMeasured}
 use Rattle.play_deck.specs.Calls.{positionIn, passedIn}
 use Rattle.text_listing.specs.Shown.{shown}
-use Rattle.text_listing.specs.Lines.{timeText, markText, rowText, rowsText}
+use Rattle.text_listing.specs.Lines.{timeText, markText, rowTextBy, rowsTextBy}
 use Rattle.text_listing.specs.Page.{modelText, formatText, countText, loadingText, restText, listingText}
 use Rattle.listing.specs.Listing.{loadedOf, Listing, mounted, listed, listingOf, answerTo}
 
@@ -48,8 +51,9 @@ unfolding countedAt comesTo leAt numberAt fieldAt placeOf startsAt headAt tapBlo
     standardCycles standardTones standardSound standardPause addRows addSound readOn seeing foldFrom headed readTzx tapOf tapSee readTap
     orTap orElse loadOf decimal digits isHeader sizeShown sizeName guessed nameOf unselected nameOne nameAll namedTape namedLoad loadNamed
     blockTable toneTable tableOver time soundingTime endsAt run entryOf cyclesOf isSingle startLevel cycleLevel bitLevel edged pauseLevel
-    toneOf tonesOf dataOf pauseOf soundOf entriesOf lastsOf listFrom shown timeText markText rowText rowsText modelText formatText
-    countText loadingText restText listingText loadedOf mounted listed listingOf answerTo
+    toneOf tonesOf dataOf pauseOf soundOf entriesOf lastsOf listFrom shown timeText markText rowTextBy rowsTextBy modelText formatText
+    countText loadingText restText listingText rowLasts rowsLoading wellTone wellNumbers onesFrom toneFigure tonesFigure bitsFigure
+    dataFigure soundIn loadedOf mounted listed listingOf answerTo
 lists = (refl, refl)
 
 -- refusing all tapes

@@ -32,6 +32,11 @@ use Rattle.load_tape.specs.Load.{namedTape, namedLoad, loadNamed, answerOf, blo
 use Rattle.play_entries.specs.declared.Phase.the-variants.{Start, Tones, Pause}
 use Rattle.play_entries.specs.declared.Duration.the-variants.{T}
 use Rattle.play_entries.specs.Entries.{labelAt, entryOf, cyclesOf, isSingle, startLevel, cycleLevel, bitLevel, edged, pauseLevel, toneOf}
+use Rattle.play_entries.specs.Stored.{rowLasts, rowsLoading}
+use Rattle.ask.specs.declared.Number.the-variants as number
+use Rattle.ask.specs.declared.Time.the-variants as lasting
+use Rattle.ask.specs.Queries.{refusalOf, timeUnless, timeOf, wellToStop, loadingOf}
+use Rattle.play_entries.specs.Figures.{toneFigure, tonesFigure, bitsFigure, dataFigure, soundIn}
 use Rattle.play_entries.specs.Entries.{tonesOf, dataOf, pauseOf, soundOf, entriesOf}
 use Rattle.play_entries.specs.Places.{Tape, listFrom, levelAt, fromPause, fromEdge, fromByte, fromTone, fromCycle, fromSecond, leftAt}
 use Rattle.play_entries.specs.Places.{hasEntry, lengthAt, remains, valid, headOf, leftOf}
@@ -85,6 +90,7 @@ unfolding
     toldReached toldAs levelHere restLevel headOf leftOf answer rest over statusHere status
     levelAt fromPause fromEdge fromByte fromTone fromCycle fromSecond leftAt
     listFrom entriesOf soundOf tonesOf toneOf cyclesOf isSingle startLevel cycleLevel bitLevel edged pauseLevel dataOf pauseOf entryOf run
+    toneFigure tonesFigure bitsFigure dataFigure soundIn
 sole-played = (refl, refl, refl, refl, refl, refl, refl)
 
 -- 99 is below each of them but 0
@@ -145,4 +151,29 @@ unfolding
     toldReached toldAs levelHere restLevel headOf leftOf answer rest over statusHere status
     levelAt fromPause fromEdge fromByte fromTone fromCycle fromSecond leftAt
     listFrom entriesOf soundOf tonesOf toneOf cyclesOf isSingle startLevel cycleLevel bitLevel edged pauseLevel dataOf pauseOf entryOf run
+    toneFigure tonesFigure bitsFigure dataFigure soundIn
 rest-played = (refl, refl)
+
+-- the sole tone's row made to say n: with 7 both times are 7, and 400 still stands at the pause; 2 ^ 50 is 11
+abbrev altered : ℕ → Tape
+altered n = tapeOf soleBytes (sole .tones) (set (sole .blocks) 16 n) 1
+
+pub altered-said :
+    (timeOf (altered 7) 0 ≡ lasting.Lasts (T 7)) × (loadingOf (altered 7) ≡ number.Is 7)
+    × (playMeasured (altered 7) (startAt 0) 400 ≡ At (stand (placed 0 Pause (T 0)) 5 low))
+    × (playMeasured (altered 1125899906842624) (startAt 0) 400 ≡ NotFormed)
+    × (playSource (altered 1125899906842624) (startAt 0) 400 ≡ NotFormed)
+unfolding
+    loadNamed namedLoad namedTape loadOf orElse readTzx headed headAt startsAt bitsJudged tooManyBits foldFrom seeing readOn tzxSee tzxOf
+    cutAt
+    takenAs kindOf kinds kind12 readAt wholeAt fieldAt numberAt leAt placeOf
+    rowOf addSound addSounds does deedOf act addRows addTones addBlock _⟫_ empty pureToneTones
+    nameAll nameOne unselected isHeader blockTable toneTable tableOver
+    timeOf timeUnless refusalOf loadingOf wellToStop rowLasts rowsLoading
+    playMeasured playSource unless judged ruledOut illFormed wellRow wellBlock wellRanges wellNumbers wellCases wellTones wellTone
+    valid hasEntry remains lengthAt walkFrom sourceFrom sourceAnswer sourced turns turn after reached walked formed firstBad
+    toldReached toldAs levelHere restLevel headOf leftOf answer rest over statusHere status
+    levelAt fromPause fromEdge fromByte fromTone fromCycle fromSecond leftAt
+    listFrom entriesOf soundOf tonesOf toneOf cyclesOf isSingle startLevel cycleLevel bitLevel edged pauseLevel dataOf pauseOf entryOf run
+    toneFigure tonesFigure bitsFigure dataFigure soundIn
+altered-said = (refl, refl, refl, refl, refl)

@@ -38,6 +38,7 @@ use Rattle.play_entries.specs.declared.Phase.the-variants.{Tones}
 use Rattle.play_entries.specs.declared.Duration.{Duration}
 use Rattle.play_entries.specs.declared.Duration.the-variants.{T}
 use Rattle.play_entries.specs.Entries.{entryOf, cyclesOf, isSingle, startLevel, cycleLevel, bitLevel, edged, pauseLevel, toneOf, tonesOf}
+use Rattle.play_entries.specs.Figures.{toneFigure, tonesFigure, bitsFigure, dataFigure, soundIn}
 use Rattle.play_entries.specs.Entries.{bitsAt, halfOf, byteOf, dataOf, pauseOf, soundOf, entriesOf, lastsOf}
 use Rattle.play_entries.specs.Places.{Tape, blockIn, listFrom, levelAt, fromEdge, fromSecond, leftAt, hasEntry, lengthAt, remains, valid}
 use Rattle.play_entries.specs.Places.{headOf, leftOf}
@@ -158,5 +159,5 @@ unfolding loadNamed namedLoad namedTape loadOf orElse orTap readTzx readTap head
     illFormed wellRow wellBlock wellRanges wellNumbers wellCases wellTones wellTone valid hasEntry remains lengthAt walkFrom sourceFrom
     sourceAnswer sourced turns turn after reached walked formed firstBad toldReached toldAs levelHere restLevel headOf leftOf answer rest
     over statusHere status levelAt fromEdge fromSecond leftAt listFrom entriesOf soundOf tonesOf toneOf cyclesOf isSingle startLevel
-    cycleLevel bitLevel edged pauseLevel dataOf pauseOf entryOf run
+    cycleLevel bitLevel edged pauseLevel dataOf pauseOf entryOf run toneFigure tonesFigure bitsFigure dataFigure soundIn
 players-read = (refl, refl)

@@ -37,7 +37,7 @@ use Rattle.load_source.specs.Source.{tooManyBits, bitsJudged}
 use Rattle.load_source.specs.Source.{tzxOf, tzxSee, headed, readTzx, tapOf, tapSee, readTap, Load, tzx, tapped, bothErr, no, orTap, orElse, loadOf}
 use Rattle.load_tape.specs.Load.{namedTape, namedLoad, loadNamed}
 use Rattle.law_every_load.specs.OfSource.{Reads as Accepts, as-tzx, as-tap}
-use Rattle.law_promises.specs.Boundless.{withSound, withSounds, withCopy, withCopies, withLooped, boundlessDoes}
+use Rattle.law_promises.specs.Boundless.{withRows, withAllRows, withCopy, withCopies, withLooped, boundlessDoes}
 use Rattle.law_promises.specs.Boundless.{boundlessPiece, boundlessTzx, boundlessBlock, boundlessTap, boundlessLoad}
 use Rattle.law_promises.specs.Boundless.{Larger, Enough, Full, tones, blocks}
 
@@ -141,13 +141,13 @@ tends-block r t = within (length (t .blocks))
         }
 
 -- sounds, copies of a loop's body
-tends-sound : (s : List ℕ) (origin : Origin) (d : Sound) (t : Parsed) → Steps (λ l. addSound l s origin d t) (on (withSound s origin d t))
-unfolding addSound addRows withSound _⟫_
+tends-sound : (s : List ℕ) (origin : Origin) (d : Sound) (t : Parsed) → Steps (λ l. addSound l s origin d t) (on (withRows s origin d t))
+unfolding addSound addRows withRows _⟫_
 tends-sound s origin d t = tends-then (tends-tones (d .tones) t) (λ u. tends-block (rowOf s origin d (length (t .tones))) u)
 
 tends-sounds : (s : List ℕ) (origin : Origin) (ds : List Sound) (t : Parsed)
-    → Steps (λ l. addSounds l s origin ds t) (on (withSounds s origin ds t))
-unfolding addSounds withSounds _⟫_
+    → Steps (λ l. addSounds l s origin ds t) (on (withAllRows s origin ds t))
+unfolding addSounds withAllRows _⟫_
 tends-sounds s origin [] t = tends-as (on t)
 tends-sounds s origin (d ∷ ds) t = tends-then (tends-sound s origin d t) (λ u. tends-sounds s origin ds u)
 
@@ -172,7 +172,7 @@ tends-does : (s : List ℕ) (model : ℕ) (origin : Origin) (d : Deed) (t : Pars
 unfolding does boundlessDoes closeLoop
 tends-does s model origin (adding only48 ds) t = by-model (only48 && not (eqb model 0))
   where
-    by-model : (b : Bool) → Steps (λ l. b ⇒ on t ∣ addSounds l s origin ds t) (on (b ⇒ t ∣ withSounds s origin ds t))
+    by-model : (b : Bool) → Steps (λ l. b ⇒ on t ∣ addSounds l s origin ds t) (on (b ⇒ t ∣ withAllRows s origin ds t))
     by-model true = tends-as (on t)
     by-model false = tends-sounds s origin ds t
 tends-does s model origin (groups from size) t = tends-as _

@@ -33,12 +33,12 @@ use Rattle.load_source.specs.Source.{no, orElse}
 use Rattle.load_tape.specs.Load.{namedLoad}
 
 -- a block: its tone rows behind those that were read, its row behind the blocks
-unfoldable pub withSound : List ℕ → Origin → Sound → Parsed → Parsed
-withSound s origin d t = withBlock (rowOf s origin d (length (t .tones))) (withTones (d .tones) t)
+unfoldable pub withRows : List ℕ → Origin → Sound → Parsed → Parsed
+withRows s origin d t = withBlock (rowOf s origin d (length (t .tones))) (withTones (d .tones) t)
 
-unfoldable pub withSounds : List ℕ → Origin → List Sound → Parsed → Parsed
-withSounds s origin [] t = t
-withSounds s origin (d ∷ ds) t = withSounds s origin ds (withSound s origin d t)
+unfoldable pub withAllRows : List ℕ → Origin → List Sound → Parsed → Parsed
+withAllRows s origin [] t = t
+withAllRows s origin (d ∷ ds) t = withAllRows s origin ds (withRows s origin d t)
 
 -- a loop's body once more; n times more; at a loop's end
 unfoldable pub withCopy : List Block → Parsed → Parsed
@@ -55,7 +55,7 @@ withLooped (Open start times) t = withCopies times (drop start (t .blocks)) (wit
 
 -- what a piece of this origin does
 unfoldable pub boundlessDoes : List ℕ → ℕ → Origin → Deed → Parsed → Out
-boundlessDoes s model origin (adding only48 ds) t = on ((only48 && not (eqb model 0)) ⇒ t ∣ withSounds s origin ds t)
+boundlessDoes s model origin (adding only48 ds) t = on ((only48 && not (eqb model 0)) ⇒ t ∣ withAllRows s origin ds t)
 boundlessDoes s model origin (groups from size) t = pend (First from size) t
 boundlessDoes s model origin (texts from size) t = pend (Text from size) t
 boundlessDoes s model origin groupEnds t = endGroup t
@@ -83,7 +83,7 @@ module _ (s : List ℕ) where
   boundlessBlock at tap.Lone = theEnd
   boundlessBlock at (tap.Block from size next) =
       let header = standardHeader s from size in
-      thing next (λ t. on (withSound s (originAt tapKind at) (standardSound header from size (standardPause header)) t))
+      thing next (λ t. on (withRows s (originAt tapKind at) (standardSound header from size (standardPause header)) t))
   boundlessBlock at (tap.Short p w) = bad (failure.Short p w)
 
   unfoldable pub boundlessTap : Verdict

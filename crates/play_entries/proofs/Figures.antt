@@ -21,7 +21,7 @@ use Rattle.play_entries.specs.Entries.{toneAt, cyclesOf, isSingle, cycle
 use Rattle.play_entries.specs.Entries.{bitsAt, byteOf, byteAt, byteEntries, dataOf, soundOf}
 use Rattle.play_entries.specs.Mounted.{tapeSize}
 use Rattle.play_entries.specs.Counted.{onesFrom, bitsTime}
-use Rattle.play_entries.specs.Figures.{toneFigure, tonesFigure, Owns, lastBits, lastOnes, bitsFigure, dataFigure, soundIn}
+use Rattle.play_entries.specs.Figures.{toneFigure, tonesFigure, Owns, playedBits, playedOnes, bitsFigure, dataFigure, soundIn}
 use Rattle.play_entries.proofs.Runs.{tone-time, few-ones, bits-time, row-finite, sound-time}
 use Rattle.play_entries.proofs.Counted.{bits-add, ones-most, data-counted, data-none}
 use Rattle.play_entries.proofs.Bounds.{cycles-most, cycle-most, bytes-most-time}
@@ -127,13 +127,13 @@ data-empty s r e = rw (eq-eqb (r .size) 0 e) (by-cases (inside (r .start) (r .si
 
 module _ (s : List ℕ) (small : (i : ℕ) → getD s i 0 < 256) (b : ℕ) (r : Block) (c : Level) (w : wellNumbers r ≡ true) where
   -- the last byte, of which so many bits are played
-  last-byte : 0 < r .size → time (byteEntries s b r c (r .size - 1)) ≡ bitsTime r (lastOnes s r) (lastBits r)
+  last-byte : 0 < r .size → time (byteEntries s b r c (r .size - 1)) ≡ bitsTime r (playedOnes s r) (playedBits r)
   unfolding byteOf bitsAt
   last-byte h =
       let n = r .size - 1 in
       let m : r .last ≤ 8 = numbers-most r w .last h in
       let e : n + 1 ≡ r .size = omega arith in
-      rw (eq-eqb (n + 1) (r .size) e) (bits-time b r c n (byteAt s r n) (small (r .start + n)) (lastBits r) (omega arith))
+      rw (eq-eqb (n + 1) (r .size) e) (bits-time b r c n (byteAt s r n) (small (r .start + n)) (playedBits r) (omega arith))
 
   some-data : 0 < r .size → bitsFigure s r ≡ time (dataOf s b r c)
   unfolding bitsFigure
@@ -141,8 +141,8 @@ module _ (s : List ℕ) (small : (i : ℕ) → getD s i 0 < 256) (b : ℕ) (r : 
       let n = r .size - 1 in
       let m : r .last ≤ 8 = numbers-most r w .last h in
       rw (ne-eqb (r .size) 0 (λ z. omega arith))
-      (sym (bits-add r (onesFrom s (r .start) n) (8 * n) (lastOnes s r) (lastBits r) (ones-most s small (r .start) n)
-      (few-ones (byteAt s r n) (lastBits r) (small (r .start + n)) (omega arith)))
+      (sym (bits-add r (onesFrom s (r .start) n) (8 * n) (playedOnes s r) (playedBits r) (ones-most s small (r .start) n)
+      (few-ones (byteAt s r n) (playedBits r) (small (r .start + n)) (omega arith)))
       ∙ sym (data-counted s small b r c n (omega arith)
       ∙ ap (λ (x : ℕ). bitsTime r (onesFrom s (r .start) n) (8 * n) + x) (last-byte h)))
 

@@ -32,17 +32,17 @@ pub record Owns (tones : List ℕ) (r : Block) (ts : List Tone) : Type 0 where
   pub each : (i : ℕ) (d : Tone) → i < r .tones → toneAt tones r i ≡ getD ts i d
 
 -- the last byte's bits that are played, and the ones among them, which are its top bits
-abbrev pub lastBits : Block → ℕ
-lastBits r = max 1 (r .last)
+abbrev pub playedBits : Block → ℕ
+playedBits r = max 1 (r .last)
 
-abbrev pub lastOnes : List ℕ → Block → ℕ
-lastOnes s r = ones (byteAt s r (r .size - 1) / 2 ^ (8 - lastBits r))
+abbrev pub playedOnes : List ℕ → Block → ℕ
+playedOnes s r = ones (byteAt s r (r .size - 1) / 2 ^ (8 - playedBits r))
 
 -- 8 bits of each byte before the last, and the last one's
 unfoldable pub bitsFigure : List ℕ → Block → ℕ
 bitsFigure s r =
     eqb (r .size) 0 ⇒ 0
-    ∣ bitsTime r (onesFrom s (r .start) (r .size - 1) + lastOnes s r) (8 * (r .size - 1) + lastBits r)
+    ∣ bitsTime r (onesFrom s (r .start) (r .size - 1) + playedOnes s r) (8 * (r .size - 1) + playedBits r)
 
 unfoldable pub dataFigure : List ℕ → Block → ℕ
 dataFigure s r = (inside (r .start) (r .size) (tapeSize s) && wellNumbers r) ⇒ bitsFigure s r ∣ 0

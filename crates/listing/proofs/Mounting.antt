@@ -3,20 +3,21 @@
 use Prim.Native.Nat.{ℕ, _≤_, _<_}
 use native.Mathlib.Omega.{arith}
 use mathlib.Core.Path.{_≡_, refl, sym, ap, subst, _∙_}
-use mathlib.Core.Bool.{Bool, true, false, false≢true}
+use mathlib.Core.Bool.{false, false≢true}
 use mathlib.Core.List.{List}
 use lib.ListN.{length}
-use borrow.Author.Tests.{le-leb, lt-leb, lt-ltb, le-ltb}
+use borrow.Author.Tests.{le-leb, lt-leb, lt-ltb, le-ltb, ltb-true}
 use Rattle.refusals.specs.Refusals.{badModel, tapeLong}
-use Rattle.rows.specs.Table.{tableOf}
+use Rattle.rows.specs.Table.{get, tableOf}
 use Rattle.rows.specs.Rows.{block, tone}
+use Rattle.rows.proofs.WellLaws.{block-clauses, ranges-inside}
 use Rattle.load_state.specs.Parser.{Parsed}
 use Rattle.load_blocks.specs.Does.{lentOf}
 use Rattle.load_source.specs.Source.{Load, tzx, tapped, bothErr, no, loadOf}
 use Rattle.text_name.specs.Names.{nameAll}
 use Rattle.text_name.proofs.Selecting.{name-all-length}
 use Rattle.play_entries.specs.Places.{Tape}
-use Rattle.play_entries.specs.Mounted.{tapeOf, wellRow}
+use Rattle.play_entries.specs.Mounted.{tapeOf, tapeSize, wellRow}
 use Rattle.load_tape.specs.declared.Format.{Format}
 use Rattle.load_tape.specs.declared.Format.the-variants.{Tap, Tzx}
 use Rattle.load_tape.specs.declared.Loaded.{Loaded}
@@ -43,23 +44,27 @@ lent-words s model l = l
 
 -- A READY ROW of a tape that was read, whatever was lent
 module _ (B N : ℕ) (s : List ℕ) (model : ℕ) (b : Bytes s) {t : Parsed} (r : Reads (loadOf (lentOf B N) s model) t) where
-  pub row-ready : (i : ℕ) → i < length (t .blocks)
-      → ReadyRow s (tableOf tone (t .tones) N) (tableOf block (nameAll s false (t .blocks)) B) i
+  pub row-ready : (i : ℕ) → i < length (t .blocks) → ReadyRow s (tableOf block (nameAll s false (t .blocks)) B) i
   unfolding wellRow
   row-ready i h =
       let w = load-within (lentOf B N) s model b r in
       let l = name-all-length s false (t .blocks) in
-      let e : length (tableOf block (nameAll s false (t .blocks)) B) ≡ B =
-      table-length block (nameAll s false (t .blocks)) B (omega (arith, w .blocks)) in
+      let rows = tableOf block (nameAll s false (t .blocks)) B in
+      let e : length rows ≡ B = table-length block (nameAll s false (t .blocks)) B (omega (arith, w .blocks)) in
+      let k = block-clauses (tapeSize s) (tableOf tone (t .tones) N) (get block rows i) (loaded-well B N s model b r i h) in
+      let p = ranges-inside (tapeSize s) (tableOf tone (t .tones) N) (get block rows i) (k .ranges) in
       record {
         lent = omega (arith, w .blocks);
-        well = loaded-well B N s model b r i h;
+        inside = p .bytes;
+        named = p .name;
+        numbers = k .numbers;
+        sound = ltb-true _ _ (k .sound);
         short = loaded-names B N s model b r i h;
       }
 
 -- the rows of a tape that was read into the listing's tables
 rows-ready : (s : List ℕ) (model : ℕ) → Bytes s → {t : Parsed} → Reads (loadOf (lentOf blockWords toneWords) s model) t
-    → Ready s (tableOf tone (t .tones) toneWords) (tableOf block (nameAll s false (t .blocks)) blockWords) (length (t .blocks))
+    → Ready s (tableOf block (nameAll s false (t .blocks)) blockWords) (length (t .blocks))
 rows-ready s model b r =
     record {
       few = omega (arith, load-within (lentOf blockWords toneWords) s model b r .blocks);
@@ -67,29 +72,27 @@ rows-ready s model b r =
     }
 
 -- tables that are equal
-same-ready : {s tt tt₀ bt bt₀ : List ℕ} {n n₀ : ℕ} → tt ≡ tt₀ → bt ≡ bt₀ → n ≡ n₀ → Ready s tt₀ bt₀ n₀
-    → Ready s tt bt n
-same-ready {s} {tt} {tt₀} {bt} {bt₀} {n} {n₀} p q e r =
-    subst (λ (x : ℕ). Ready s tt bt x) (sym e)
-    (subst (λ (x : List ℕ). Ready s tt x n₀) (sym q) (subst (λ (x : List ℕ). Ready s x bt₀ n₀) (sym p) r))
+same-ready : {s bt bt₀ : List ℕ} {n n₀ : ℕ} → bt ≡ bt₀ → n ≡ n₀ → Ready s bt₀ n₀ → Ready s bt n
+same-ready {s} {bt} {bt₀} {n} {n₀} q e r =
+    subst (λ (x : ℕ). Ready s bt x) (sym e) (subst (λ (x : List ℕ). Ready s x n₀) (sym q) r)
 
 -- EVERY LOAD'S TABLES ARE READY
 pub load-ready : (s : List ℕ) (model : ℕ) {f : Format} {n k : ℕ} {bt tt : List ℕ} → Bytes s
-    → Leaves blockWords toneWords (loadedOf s model) (loaded.Tape f n k) bt tt → Ready s tt bt n
+    → Leaves blockWords toneWords (loadedOf s model) (loaded.Tape f n k) bt tt → Ready s bt n
 unfolding loadedOf loadNamed namedLoad namedTape answerOf blockTable toneTable
 load-ready s model {f} {n} {k} {bt} {tt} b l = by-cases (loadOf (lentOf blockWords toneWords) s model) refl l
   where
     by-cases : (x : Load) → loadOf (lentOf blockWords toneWords) s model ≡ x
-        → Leaves blockWords toneWords (namedLoad s x) (loaded.Tape f n k) bt tt → Ready s tt bt n
+        → Leaves blockWords toneWords (namedLoad s x) (loaded.Tape f n k) bt tt → Ready s bt n
     by-cases (tzx t) e y =
         let a = y .answer in
         let m : n ≡ length (nameAll s false (t .blocks)) = cc in
-        same-ready (y .tones) (y .blocks) (m ∙ name-all-length s false (t .blocks))
+        same-ready (y .blocks) (m ∙ name-all-length s false (t .blocks))
         (rows-ready s model b (subst (λ (z : Load). Reads z t) (sym e) as-tzx))
     by-cases (tapped t) e y =
         let a = y .answer in
         let m : n ≡ length (nameAll s false (t .blocks)) = cc in
-        same-ready (y .tones) (y .blocks) (m ∙ name-all-length s false (t .blocks))
+        same-ready (y .blocks) (m ∙ name-all-length s false (t .blocks))
         (rows-ready s model b (subst (λ (z : Load). Reads z t) (sym e) as-tap))
     by-cases (bothErr f g) e y = let a = y .answer in absurd (let z : _≡_ {A = ℕ} 0 1 = cc in omega arith)
     by-cases (no j) e y = let a = y .answer in absurd (let z : _≡_ {A = ℕ} 0 1 = cc in omega arith)
@@ -145,12 +148,12 @@ module _ (s : List ℕ) (model : ℕ) where
 
     pub load-told : {bt tt out′ : List ℕ} {f : Format} {n m r : ℕ} (out : List ℕ)
         → Leaves blockWords toneWords (loadedOf s model) (loaded.Tape f n m) bt tt
-        → (r ≡ answerTo (text (listingText model f (tapeOf s tt bt n))) out)
-        × (out′ ≡ bytesAfter (text (listingText model f (tapeOf s tt bt n))) out)
+        → ((tones : List ℕ) → r ≡ answerTo (text (listingText model f (tapeOf s tones bt n))) out)
+        × ((tones : List ℕ) → out′ ≡ bytesAfter (text (listingText model f (tapeOf s tones bt n))) out)
         → ListingAnswered s model out r out′
-    load-told out l p =
+    load-told {tt = tt} out l p =
         let e = loads ∙ listed-text s model (loadedOf s model) l in
-        (p .0 ∙ sym (ap (λ (x : Listing). answerTo x out) e), p .1 ∙ sym (ap (λ (x : Listing). bytesAfter x out) e))
+        (p .0 tt ∙ sym (ap (λ (x : Listing). answerTo x out) e), p .1 tt ∙ sym (ap (λ (x : Listing). bytesAfter x out) e))
 
 -- an answer that is told to be this one
 pub leaves-told : {B N : ℕ} {x : Load} {a a′ : Loaded} {bt tt : List ℕ} → Leaves B N x a bt tt → a ≡ a′

@@ -2,13 +2,12 @@
 use Prim.Native.Nat.{ℕ}
 use mathlib.Core.Path.{_≡_, refl}
 use mathlib.Core.List.{List, [], _∷_, _++_, map}
+use lib.Count.{ones}
 use Rattle.refusals.specs.Refusals.{badModel, tapeBad, generalised, lastBits}
-use Rattle.law_pulses.specs.Play.{time, comesTo}
-use Rattle.law_pulses.specs.Runs.{run}
-use Rattle.law_pulses.specs.Sounding.{endsAt, soundingTime}
 use Rattle.cut_fields.specs.Field.{leAt, numberAt, fieldAt, placeOf}
 use Rattle.cut_fields.specs.Run.{times, eachAt, groupsAt}
 use Rattle.rows.specs.Table.{tableOver}
+use Rattle.rows.specs.Well.{wellTone, wellNumbers}
 use Rattle.cut_grammar.specs.Grammar.{countedAt, passAt, textsAt, wholeAt, sealed, enclosed, fittingAt, readAt, binaryDigits}
 use Rattle.cut_grammar.specs.Grammar.{orFull, heldIf}
 use Rattle.cut_grammar.specs.Kinds.{kind10, kind11, kind12, kind13, kind14, stream19, kind19, kind20, kind21, kind22, kind24, kind25}
@@ -29,12 +28,13 @@ use Rattle.text_out.specs.Out.{ascii, decimal, digits, latin1, eachByte}
 use Rattle.text_codes.specs.Encoding.{table, encoded}
 use Rattle.text_name.specs.Headers.{typeName, headerName}
 use Rattle.text_name.specs.Names.{isHeader, sizeShown, sizeName, guessed, nameOf, unselected, nameOne, nameAll}
-use Rattle.play_entries.specs.Entries.{entryOf, cyclesOf, isSingle, startLevel, cycleLevel, bitLevel, edged, pauseLevel, toneOf, tonesOf}
-use Rattle.play_entries.specs.Entries.{bitsAt, halfOf, byteOf, dataOf, pauseOf, soundOf, entriesOf, lastsOf}
-use Rattle.play_entries.specs.Places.{listFrom}
+use Rattle.play_entries.specs.Entries.{cyclesOf, isSingle}
+use Rattle.play_entries.specs.Counted.{onesFrom}
+use Rattle.play_entries.specs.Figures.{toneFigure, tonesFigure, bitsFigure, dataFigure, soundIn}
+use Rattle.play_entries.specs.Stored.{rowLasts, rowsLoading}
 use Rattle.load_tape.specs.Load.{namedTape, namedLoad, loadNamed, blockTable, toneTable}
 use Rattle.text_listing.specs.Shown.{shown}
-use Rattle.text_listing.specs.Lines.{timeText, markText, rowText, rowsText}
+use Rattle.text_listing.specs.Lines.{timeText, markText, rowTextBy, rowsTextBy}
 use Rattle.text_listing.specs.Page.{modelText, formatText, countText, loadingText, restText, listingText}
 use Rattle.listing.specs.Listing.{loadedOf, Listing, text, refused, mounted, listed, listingOf}
 
@@ -154,8 +154,7 @@ unfolding leAt numberAt fieldAt placeOf times eachAt groupsAt countedAt passAt t
     standardPause turboTones pureTones pureToneTones pulseAt addRows rowOf standardSound turboSound pairSounds pureSound pauseSound addSound
     addSounds generalDeed stop48Deed does deedOf act readOn seeing foldFrom halted tooManyBits bitsJudged tzxOf tzxSee headed readTzx tapOf
     tapSee readTap orTap orElse loadOf decimal digits latin1 eachByte table encoded isHeader typeName headerName sizeShown sizeName guessed
-    nameOf unselected nameOne nameAll namedTape namedLoad loadNamed blockTable toneTable tableOver time soundingTime endsAt comesTo run
-    entryOf cyclesOf isSingle startLevel cycleLevel bitLevel edged pauseLevel toneOf tonesOf bitsAt halfOf byteOf dataOf pauseOf soundOf
-    entriesOf lastsOf listFrom shown timeText markText rowText rowsText modelText formatText countText loadingText restText listingText
-    loadedOf mounted listed listingOf
+    nameOf unselected nameOne nameAll namedTape namedLoad loadNamed blockTable toneTable tableOver cyclesOf isSingle wellTone wellNumbers
+    onesFrom ones toneFigure tonesFigure bitsFigure dataFigure soundIn rowLasts rowsLoading shown timeText markText rowTextBy rowsTextBy
+    modelText formatText countText loadingText restText listingText loadedOf mounted listed listingOf
 listings-said = refl

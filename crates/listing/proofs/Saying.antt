@@ -36,13 +36,15 @@ module _ (s : List ℕ) (model : ℕ) (b : Bytes s) where
   listed-fits (tzx t) e =
       let y : Leaves blockWords toneWords (tzx t) (answerOf (tzx t)) (blockTable blockWords (tzx t)) (toneTable toneWords (tzx t)) =
       record { answer = refl; blocks = refl; tones = refl } in
-      fit (text-most model Tzx (load-ready s model b (subst (λ (x : Load).
-      Leaves blockWords toneWords x (answerOf (tzx t)) (blockTable blockWords (tzx t)) (toneTable toneWords (tzx t))) (sym e) y)))
+      let l = subst (λ (x : Load).
+      Leaves blockWords toneWords x (answerOf (tzx t)) (blockTable blockWords (tzx t)) (toneTable toneWords (tzx t))) (sym e) y in
+      fit (text-most model Tzx (load-ready s model b l) _)
   listed-fits (tapped t) e =
       let y : Leaves blockWords toneWords (tapped t) (answerOf (tapped t)) (blockTable blockWords (tapped t))
       (toneTable toneWords (tapped t)) = record { answer = refl; blocks = refl; tones = refl } in
-      fit (text-most model Tap (load-ready s model b (subst (λ (x : Load).
-      Leaves blockWords toneWords x (answerOf (tapped t)) (blockTable blockWords (tapped t)) (toneTable toneWords (tapped t))) (sym e) y)))
+      let l = subst (λ (x : Load).
+      Leaves blockWords toneWords x (answerOf (tapped t)) (blockTable blockWords (tapped t)) (toneTable toneWords (tapped t))) (sym e) y in
+      fit (text-most model Tap (load-ready s model b l) _)
   listed-fits (bothErr f g) e = none
   listed-fits (no k) e = none
 

@@ -36,13 +36,9 @@ slice-aggregate-tell : tie.Need-slice-aggregate-tell
 slice-aggregate-tell c =
     search needs
 
-slice-aggregate-tell-2 : tie.Need-slice-aggregate-tell-2
-slice-aggregate-tell-2 c =
-    search needs
-
 tell-requires : tie.Need-tell-requires
 tell-requires c κs =
-    let format = c .before .before .before .before in
+    let format = c .before .before .before in
     let load = format .before .before .before .before in
     let shared-slice-known = load .before .before .before .before .before .before in
     let a = shared-slice-known .before .args in
@@ -63,7 +59,7 @@ same-length c =
 
 returns-3 : tie.Need-returns-3
 returns-3 c =
-    let format = c .before .before .before .before .before .before .before in
+    let format = c .before .before .before .before .before .before in
     let load = format .before .before .before .before in
     let a = load .before .before .before .before .before .before .before .args in
     load-told (a .tape .now) (a .model) (omega arith) (omega arith) (a .out .now)
@@ -96,7 +92,6 @@ glyvrask-listing-spec =
     load-requires
     enum-known-format
     slice-aggregate-tell
-    slice-aggregate-tell-2
     tell-requires
     enum-told
     enum-known-k

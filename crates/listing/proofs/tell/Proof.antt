@@ -1,5 +1,8 @@
 -- `tell` meets its contract: the text is written where it has room. Assumes nothing.
+use Prim.Native.Nat.{ℕ, _<_}
 use native.Mathlib.Omega.{arith}
+use mathlib.Core.List.{List, []}
+use lib.ListN.{length}
 use borrow.Author.Needs.{needs}
 use Rattle.play_entries.specs.Mounted.{tapeOf}
 use Rattle.text_out.proofs.Writing.{wrote-counted}
@@ -14,24 +17,32 @@ enough-requires c κs = search needs
 
 returns : tie.Need-returns
 returns c =
-    let a = c .before .before .before .before .before .before .args in
-    let t = listingText (a .model) (a .format) (tapeOf (a .tape .now) (a .tones .now) (a .blocks .now) (a .n)) in
-    tells-short t (a .out .now) (omega (arith, c .before .enough .ensures .1 (omega arith)))
+    let a = c .before .before .before .before .before .args in
+    let t : List ℕ → List ℕ = λ tones. listingText (a .model) (a .format) (tapeOf (a .tape .now) tones (a .blocks .now) (a .n)) in
+    let h : (tones : List ℕ) → length (a .out .now) < length (t tones) = λ tones.
+    omega (arith, c .before .enough .ensures .1 tones (omega arith)) in
+    (λ tones. tells-short (t tones) (a .out .now) (h tones) .0, λ tones. tells-short (t tones) (a .out .now) (h tones) .1)
 
 put-listing-requires : tie.Need-put-listing-requires
 put-listing-requires c κs = search needs
 
 cast-result : tie.Need-cast-result
 cast-result c =
-    let s = c .before .before .before .before .before .before .before .before .before .before in
-    omega (arith, wrote-counted (c .before .before .put-listing .ensures), text-most (s .args .model) (s .args .format) (s .pre))
+    let s = c .before .before .before .before .before .before .before .before .before in
+    omega (
+      arith,
+      wrote-counted (c .before .before .put-listing .ensures []),
+      text-most (s .args .model) (s .args .format) (s .pre) [],
+    )
 
 same-length : tie.Need-same-length
 same-length c = search needs
 
 returns-2 : tie.Need-returns-2
 returns-2 c =
-    tells (omega (arith, c .before .before .before .before .before .enough .ensures .0)) (c .before .before .put-listing .ensures)
+    let k = c .before .before .before .before .before .enough .ensures .0 in
+    let w = c .before .before .put-listing .ensures in
+    (λ tones. tells (omega (arith, k tones)) (w tones) .0, λ tones. tells (omega (arith, k tones)) (w tones) .1)
 
 pub tell-spec : {M : Type 1} → statement M
 tell-spec =

@@ -21,7 +21,7 @@ use Rattle.load_source.specs.Source.{Load, no}
 use Rattle.load_tape.specs.declared.Loaded.the-variants.{Refused}
 use Rattle.load_tape.specs.Load.{loadNamed, answerOf, blockTable, toneTable, Leaves}
 use Rattle.law_every_load.specs.Sizes.{Bytes}
-use Rattle.text_listing.specs.Inner.{ReadyRow}
+use Rattle.prog_tape.specs.Inner.{ReadyLine}
 use Rattle.text_view.specs.View.{rowView}
 use Rattle.text_view.specs.Dump.{viewLine}
 use Rattle.listing.specs.Listing.{blockWords, toneWords, loadedOf}
@@ -132,8 +132,8 @@ module _ (input : List ℕ) {bt tt : List ℕ} (i : ℕ) (f : LineHeard input bt
   pub part-short : length (take (length input - 1) (drop 1 input)) ≤ 65535
   part-short = rw (behind input) (f .short)
 
-  pub part-ready : ReadyRow (take (length input - 1) (drop 1 input)) tt bt i
-  part-ready = subst (λ (s : List ℕ). ReadyRow s tt bt i) (sym (behind input)) (f .row .ready)
+  pub part-ready : ReadyLine (take (length input - 1) (drop 1 input)) tt bt i
+  part-ready = subst (λ (s : List ℕ). ReadyLine s tt bt i) (sym (behind input)) (f .row .ready)
 
   pub part-told : {out out′ : List ℕ} {n : ℕ}
       → Fitted (viewLine i (rowView (take (length input - 1) (drop 1 input)) tt (get block bt i))) out out′ n

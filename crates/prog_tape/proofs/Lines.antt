@@ -21,15 +21,17 @@ use Rattle.load_tape.specs.Load.{namedTape, namedLoad, loadNamed, answerOf, blo
 use Rattle.text_name.specs.Names.{nameAll}
 use Rattle.text_name.proofs.Selecting.{name-all-length}
 use Rattle.text_out.specs.Out.{Fitted}
-use Rattle.text_listing.specs.Inner.{ReadyRow}
 use Rattle.text_view.specs.View.{viewOf, rowView, blockList}
 use Rattle.text_view.specs.Dump.{viewLine}
 use Rattle.text_view.proofs.Views.{tones-read}
 use Rattle.law_every_load.specs.Sizes.{Bytes}
 use Rattle.law_every_load.specs.OfSource.{Reads, as-tzx, as-tap}
 use Rattle.law_every_load.proofs.Within.{rows-within}
+use Rattle.law_every_load.proofs.Well.{loaded-well}
+use Rattle.play_entries.specs.Mounted.{wellRow}
 use Rattle.listing.proofs.Mounting.{row-ready}
 use Rattle.prog_tape.specs.declared.Opening.{Opening}
+use Rattle.prog_tape.specs.Inner.{ReadyLine}
 use Rattle.prog_tape.specs.Lines.{firstLine, linesAfter, viewLines, blockLines, loadLines, Opens}
 
 -- a line for each row
@@ -68,7 +70,7 @@ opens {l = l} {o = o} {out = out} {out′} s h f e =
 
 -- WHAT A LINE IS READ FROM: a row that is ready, and whose line is the load's
 pub record LineAt (s : List ℕ) (l : Load) (bt tt : List ℕ) (i : ℕ) : Type 0 where
-  pub ready : ReadyRow s tt bt i
+  pub ready : ReadyLine s tt bt i
   pub text : getD (loadLines s l) (suc i) [] ≡ viewLine i (rowView s tt (get block bt i))
 
 none : Block
@@ -91,6 +93,11 @@ module _ (B N : ℕ) (s : List ℕ) (model : ℕ) (b : Bytes s) where
       ∙ ap (λ (ts : List Tone). viewLine i (viewOf s ts q)) (sym m)
       ∙ ap (λ (x : Block). viewLine i (rowView s (tableOf tone (t .tones) N) x)) (sym g)
 
+  line-ready : {t : Parsed} → Reads (loadOf (lentOf B N) s model) t → (i : ℕ) → i < length (t .blocks)
+      → ReadyLine s (tableOf tone (t .tones) N) (tableOf block (nameAll s false (t .blocks)) B) i
+  unfolding wellRow
+  line-ready r i h = record { row = row-ready B N s model b r i h; well = loaded-well B N s model b r i h }
+
   -- EVERY LINE OF A LOAD
   pub line-left : {bt tt : List ℕ} → bt ≡ blockTable B (loadNamed (lentOf B N) s model)
       → tt ≡ toneTable N (loadNamed (lentOf B N) s model) → (i : ℕ) → suc i < length (loadLines s (loadNamed (lentOf B N) s model))
@@ -106,10 +113,10 @@ module _ (B N : ℕ) (s : List ℕ) (model : ℕ) (b : Bytes s) where
       by-cases (tzx t) e k =
           let r = subst (λ (x : Load). Reads x t) (sym e) as-tzx in
           let n = rows-counted s (t .tones) 0 (nameAll s false (t .blocks)) ∙ name-all-length s false (t .blocks) in
-          record { ready = row-ready B N s model b r i (omega arith); text = read-line r i (omega arith) }
+          record { ready = line-ready r i (omega arith); text = read-line r i (omega arith) }
       by-cases (tapped t) e k =
           let r = subst (λ (x : Load). Reads x t) (sym e) as-tap in
           let n = rows-counted s (t .tones) 0 (nameAll s false (t .blocks)) ∙ name-all-length s false (t .blocks) in
-          record { ready = row-ready B N s model b r i (omega arith); text = read-line r i (omega arith) }
+          record { ready = line-ready r i (omega arith); text = read-line r i (omega arith) }
       by-cases (bothErr f g) e k = absurd (omega arith)
       by-cases (no j) e k = absurd (omega arith)

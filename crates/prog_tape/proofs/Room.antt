@@ -2,7 +2,7 @@
 use Prim.Native.Nat.{ℕ, zero, suc, _+_, _*_, _^_, _/_, _%_, _≤_, _<_}
 use native.Mathlib.Nat.{mul-suc, div-lt-iff-lt-mul, pow-suc}
 use native.Mathlib.Omega.{arith}
-use mathlib.Core.Path.{_≡_, refl, ap, subst, _∙_}
+use mathlib.Core.Path.{_≡_, refl, sym, ap, subst, _∙_}
 use mathlib.Core.Bool.{Bool, true, false}
 use mathlib.Core.List.{List, [], _∷_, _++_, append-assoc}
 use lib.ListN.{length, take, drop, length-append, length-take}
@@ -21,12 +21,11 @@ use Rattle.play_entries.specs.Mounted.{tapeSize}
 use Rattle.text_out.specs.Out.{ascii, digits, decimal, Wrote, told, Fitted}
 use Rattle.text_out.proofs.Writing.{then, each-length, decimal-length, wrote-fitted}
 use Rattle.text_name.specs.Names.{nameOf}
-use Rattle.text_listing.specs.Inner.{ReadyRow}
-use Rattle.text_listing.proofs.Lines.{row-well, row-short}
+use Rattle.text_listing.proofs.Lines.{row-short}
 use Rattle.text_view.specs.View.{View, tonesFrom, rowView}
 use Rattle.text_view.specs.Dump.{hex, hexAll, toneText, tonesText, headText, viewLine}
 use Rattle.text_view.proofs.Parts.{hex-length, head-length}
-use Rattle.prog_tape.specs.Inner.{dataText, pulsesText}
+use Rattle.prog_tape.specs.Inner.{dataText, pulsesText, ReadyLine}
 
 -- a word, a number and a line feed
 pub said-most : (word : List ℕ) (n : ℕ) → length word ≤ 8 → length (word ++ decimal n ++ ascii "\n") ≤ 32
@@ -142,11 +141,16 @@ line-most tape tones i r e h =
     let g = tones-short tones (r .tone) (r .tones) (block-clauses (tapeSize tape) tones r e .rows) in
     rw (← line-joins i v) (simp length-append (omega arith))
 
--- the line of a row that was read from the table
-pub line-fits : {out out′ : List ℕ} {n : ℕ} (tape tones blocks : List ℕ) (i : ℕ) (r : Block) → ReadyRow tape tones blocks i
+-- a row that was read from the table is well formed
+pub line-well : {tape tones blocks : List ℕ} {i : ℕ} {r : Block} → ReadyLine tape tones blocks i → r ≡ get block blocks i
+    → wellBlock (tapeSize tape) tones r ≡ true
+line-well {tape} {tones} ready e = subst (λ (q : Block). wellBlock (tapeSize tape) tones q ≡ true) (sym e) (ready .well)
+
+-- and its line fits
+pub line-fits : {out out′ : List ℕ} {n : ℕ} (tape tones blocks : List ℕ) (i : ℕ) (r : Block) → ReadyLine tape tones blocks i
     → r ≡ get block blocks i → 1200 + 2 * length tape + 5 * length tones ≤ length out
     → Wrote out 0 (viewLine i (rowView tape tones r)) out′ n
     → Fitted (viewLine i (rowView tape tones (get block blocks i))) out out′ n
 line-fits {out} {out′} {n} tape tones blocks i r ready e room w =
     subst (λ (q : Block). Fitted (viewLine i (rowView tape tones q)) out out′ n) e
-    (wrote-fitted w (omega (arith, line-most tape tones i r (row-well ready e) (row-short ready e))))
+    (wrote-fitted w (omega (arith, line-most tape tones i r (line-well ready e) (row-short (ready .row) e))))

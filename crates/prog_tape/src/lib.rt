@@ -24,12 +24,11 @@ ghost use Rattle.text_out.specs.Out.{ascii, decimal, Wrote, Fitted, refusedLine
 ghost use Rattle.text_name.specs.Names.{nameOf};
 ghost use Rattle.load_blocks.specs.Does.{lentOf};
 ghost use Rattle.load_tape.specs.Load.{loadNamed};
-ghost use Rattle.text_listing.specs.Inner.{ReadyRow};
 ghost use Rattle.text_listing.specs.Page.{formatText};
 ghost use Rattle.text_view.specs.View.{tonesFrom, rowView};
 ghost use Rattle.text_view.specs.Dump.{hexAll, viewLine};
 ghost use Rattle.prog_tape.specs.Lines.{firstLine, linesAfter, Opens};
-ghost use Rattle.prog_tape.specs.Inner.{dataText, pulsesText};
+ghost use Rattle.prog_tape.specs.Inner.{dataText, pulsesText, ReadyLine};
 
 // The first line's bytes, and how many lines follow.
 pub struct Opening {
@@ -154,7 +153,7 @@ fn put_line(out: &mut [u8], tape: &[u8], tones: &[u64], i: u64, r: Block) -> usi
 
 // The line of block i, which is ready, as every row of a load is; it fits what is asked of `out`. Our programs alone call it.
 pub fn block_line(tape: &[u8], tones: &[u64], blocks: &[u64], i: usize, out: &mut [u8]) -> usize
-    requires { ⌜ ReadyRow (now tape) (now tones) (now blocks) i ⌝ }
+    requires { ⌜ ReadyLine (now tape) (now tones) (now blocks) i ⌝ }
     requires { ⌜ 1200 + 2 * length (now tape) + 5 * length (now tones) ≤ length (now out) ⌝ }
     ensures { λ n. ⌜ Fitted (viewLine i (rowView (now (tape .entry)) (now (tones .entry)) (get block (now (blocks .entry)) i)))
         (now (out .entry)) (now (out .exit)) n ⌝ }

@@ -1,7 +1,7 @@
 -- `block_line` meets its contract: the row is well formed, its name short, and its line fits. Assumes nothing.
 use borrow.Author.Needs.{needs}
-use Rattle.text_listing.proofs.Lines.{row-well, row-short}
-use Rattle.prog_tape.proofs.Room.{line-fits}
+use Rattle.text_listing.proofs.Lines.{row-short}
+use Rattle.prog_tape.proofs.Room.{line-well, line-fits}
 use Rattle.prog_tape.proofs.block_line.Statement.{statement}
 use Rattle.prog_tape.proofs.block_line.Tie as tie
 
@@ -11,7 +11,7 @@ block-at-requires c κs = search needs
 put-line-requires : tie.Need-put-line-requires
 put-line-requires c κs =
     let start = c .before .before .before .before .before .before in
-    (row-well (start .pre .0) (c .block-at .ensures), row-short (start .pre .0) (c .block-at .ensures))
+    (line-well (start .pre .0) (c .block-at .ensures), row-short (start .pre .0 .row) (c .block-at .ensures))
 
 same-length : tie.Need-same-length
 same-length c = search needs

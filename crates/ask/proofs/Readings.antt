@@ -156,8 +156,7 @@ readings =
       2,
       nine,
       says 0 plain (T 400) 7 (0x30 ∷ bytesWord ++ (8 ∷ 9 ∷ [])) 1200,
-    ) ∷
-    (
+    ) ∷ (
       tapeOf [] (1 ∷ 1 ∷ 1 ∷ 0 ∷ []) (sound 0 1 3500 0 0 0 2) 1,
       0,
       nine,

@@ -43,7 +43,7 @@ use Rattle.play_deck.specs.Calls.{positionIn, passedIn}
 use Rattle.text_listing.specs.Shown.{shown}
 use Rattle.text_listing.specs.Lines.{timeText, markText, rowTextBy, rowsTextBy}
 use Rattle.text_listing.specs.Page.{modelText, formatText, countText, loadingText, restText, listingText}
-use Rattle.listing.specs.Listing.{loadedOf, Listing, mounted, listed, listingOf, answerTo}
+use Rattle.listing.specs.Listing.{loadedOf, Listing, mounted, listed, listedBy, listingOf, listingBy, answerTo}
 
 -- an empty tape is listed in 37 bytes, and `00 00` in 67
 lists : (answerTo (listingOf [] 0) (replicate 99 0) ≡ 37) × (answerTo (listingOf (0 ∷ 0 ∷ []) 0) (replicate 99 0) ≡ 67)
@@ -53,7 +53,7 @@ unfolding countedAt comesTo leAt numberAt fieldAt placeOf startsAt headAt tapBlo
     blockTable toneTable tableOver time soundingTime endsAt run entryOf cyclesOf isSingle startLevel cycleLevel bitLevel edged pauseLevel
     toneOf tonesOf dataOf pauseOf soundOf entriesOf lastsOf listFrom shown timeText markText rowTextBy rowsTextBy modelText formatText
     countText loadingText restText listingText rowLasts rowsLoading wellTone wellNumbers onesFrom toneFigure tonesFigure bitsFigure
-    dataFigure soundIn loadedOf mounted listed listingOf answerTo
+    dataFigure soundIn loadedOf mounted listedBy listingBy answerTo
 lists = (refl, refl)
 
 -- refusing all tapes

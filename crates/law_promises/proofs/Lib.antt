@@ -17,6 +17,7 @@ pub mod Playing
 pub mod CallRuns
 pub mod Played
 pub mod Listings
+pub mod Listed
 pub mod Errors
 pub mod Four
 pub mod Texts

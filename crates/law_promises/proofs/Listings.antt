@@ -13,7 +13,7 @@ use Rattle.law_base.specs.Rules.{_⇒_, _∣_}
 use Rattle.refusals.specs.Refusals.{badModel, tapeLong, tapeBad, lastBits, noRoom}
 use Rattle.load_source.specs.Source.{Load, tzx, tapped, bothErr, no}
 use Rattle.load_tape.specs.Load.{answerOf, refusalNo}
-use Rattle.listing.specs.Listing.{loadedOf, Listing, text, refused, listed, listingOf, answerTo}
+use Rattle.listing.specs.Listing.{loadedOf, Listing, text, refused, listed, listedBy, listingOf, listingBy, answerTo}
 use Rattle.listing.proofs.Numbers.{TextOrNo, long, small, listing-sized}
 use Rattle.law_promises.specs.Numbers.{Admitted}
 use Rattle.law_promises.proofs.Loads.{Ways, by-model, by-size, by-rest, ways, ways-back}
@@ -51,7 +51,7 @@ apart i j e = cc
 
 -- a listing is refused where the load is
 listed-no : (s : List ℕ) (model k : ℕ) (l : Load) → 0 < k → (listed s model l ≡ refused k) ↔ (refusalNo (answerOf l) ≡ k)
-unfolding listed answerOf refusalNo
+unfolding listedBy answerOf refusalNo
 listed-no s model k (tzx t) h = (λ e. let z : _≡_ {A = ℕ} 0 1 = cc in absurd (omega arith), λ e. absurd (omega arith))
 listed-no s model k (tapped t) h = (λ e. let z : _≡_ {A = ℕ} 0 1 = cc in absurd (omega arith), λ e. absurd (omega arith))
 listed-no s model k (bothErr f g) h = (λ e. apart tapeBad k e, λ e. ap refused e)
@@ -62,7 +62,7 @@ module _ (s : List ℕ) (model : ℕ) where
   Checks k = Ways refused (leb 3 model) (ltb 65535 (length s)) (listed s model (loadedOf s model)) k
 
   checks : (k : ℕ) → (listingOf s model ≡ refused k) ↔ Checks k
-  unfolding listingOf
+  unfolding listingBy
   checks k = (λ e. ways refused apart _ _ _ k e, λ w. ways-back refused apart w)
 
   module _ (out : List ℕ) where

@@ -13,7 +13,7 @@ use Rattle.law_base.specs.Rules.{_⇒_, _∣_}
 use Rattle.law_base.proofs.Numbers.{lt-or-ge}
 use Rattle.refusals.specs.Refusals.{badModel, tapeLong}
 use Rattle.io.specs.Counts.{Counts}
-use Rattle.listing.specs.Listing.{refused, listingOf}
+use Rattle.listing.specs.Listing.{refused, listingOf, listingBy}
 use Rattle.listing.specs.Printed.{printedOf, Says}
 use Rattle.prog_model.specs.Models.{modelOf}
 use Rattle.list.specs.Heard.{listingHeard}
@@ -56,7 +56,7 @@ says-tape {m = m} input h e s =
 
 -- a tape over 65,535 bytes
 long : (tape : List ℕ) (m : ℕ) → 65536 ≤ length tape → listingOf tape m ≡ (leb 3 m ⇒ refused badModel ∣ refused tapeLong)
-unfolding listingOf
+unfolding listingBy
 long tape m h = rw (lt-ltb 65535 (length tape) (omega arith))
 
 -- MORE THAN 65,537 BYTES need not be read: what is heard of an input is heard of so many

@@ -19,12 +19,12 @@ use Rattle.load_source.specs.Reached.{reaches2A}
 use Rattle.load_source.proofs.Models.{models-equal, models-agree}
 use Rattle.load_tape.specs.Load.{namedLoad, loadNamed}
 use Rattle.text_listing.specs.Page.{modelText, listingText}
-use Rattle.listing.specs.Listing.{listingLent, loadedOf, Listing, text, refused, listed, listingOf}
+use Rattle.listing.specs.Listing.{listingLent, loadedOf, Listing, text, refused, listed, listedBy, listingOf, listingBy}
 use Rattle.listing.specs.Models.{modelWord, Alike, refusals, texts}
 
 -- one load listed for two models
 listed-alike : (s : List ℕ) (m m′ : ℕ) (l : Load) → Alike m m′ (listed s m l) (listed s m′ l)
-unfolding listed listingText
+unfolding listedBy listingText
 listed-alike s m m′ (tzx t) = texts _
 listed-alike s m m′ (tapped t) = texts _
 listed-alike s m m′ (bothErr f g) = refusals
@@ -33,7 +33,7 @@ listed-alike s m m′ (no k) = refusals
 module _ (s : List ℕ) where
   loads-alike : (m m′ : ℕ) → m < 3 → m′ < 3 → loadedOf s m ≡ loadedOf s m′
       → Alike m m′ (listingOf s m) (listingOf s m′)
-  unfolding listingOf
+  unfolding listingBy
   loads-alike m m′ h h′ e =
       rw (lt-leb 3 m h, lt-leb 3 m′ h′) (by-length (ltb 65535 (length s))
       (subst (λ (l : Load). Alike m m′ (listed s m (loadedOf s m)) (listed s m′ l)) e (listed-alike s m m′ (loadedOf s m))))

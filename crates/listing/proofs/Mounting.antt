@@ -32,7 +32,7 @@ use Rattle.law_every_load.proofs.Names.{loaded-names}
 use Rattle.load_tape.specs.declared.Loaded.the-variants as loaded
 use Rattle.text_listing.specs.Inner.{ReadyRow, Ready}
 use Rattle.text_listing.specs.Page.{listingText}
-use Rattle.listing.specs.Listing.{blockWords, toneWords, loadedOf, text, refused, mounted as mountedOf, listed, Listing, listingOf}
+use Rattle.listing.specs.Listing.{blockWords, toneWords, loadedOf, text, refused, mounted as mountedOf, listed, listedBy, Listing, listingOf, listingBy}
 use Rattle.listing.specs.Listing.{answerTo, bytesAfter}
 
 -- the load in the words that are lent
@@ -101,7 +101,7 @@ load-ready s model {f} {n} {k} {bt} {tt} b l = by-cases (loadOf (lentOf blockWor
 module _ (s : List ℕ) (model : ℕ) {bt tt : List ℕ} where
   listed-text : {f : Format} {n k : ℕ} (x : Load) → Leaves blockWords toneWords x (loaded.Tape f n k) bt tt
       → listed s model x ≡ text (listingText model f (tapeOf s tt bt n))
-  unfolding listed mountedOf answerOf
+  unfolding listedBy mountedOf answerOf
   listed-text {f} {n} (tzx t) l =
       let a = l .answer in
       let e : n ≡ length (t .blocks) = cc in
@@ -117,7 +117,7 @@ module _ (s : List ℕ) (model : ℕ) {bt tt : List ℕ} where
 
   listed-no : {a : Loaded} (x : Load) → Leaves blockWords toneWords x a bt tt → is-tape a ≡ false
       → listed s model x ≡ refused (refusalNo a)
-  unfolding listed answerOf refusalNo
+  unfolding listedBy answerOf refusalNo
   listed-no (tzx t) l e = absurd (false≢true (sym e ∙ ap is-tape (l .answer)))
   listed-no (tapped t) l e = absurd (false≢true (sym e ∙ ap is-tape (l .answer)))
   listed-no (bothErr f g) l e = rw (l .answer)
@@ -129,16 +129,16 @@ ListingAnswered s model out r out′ = (r ≡ answerTo (listingOf s model) out) 
 
 module _ (s : List ℕ) (model : ℕ) where
   pub no-model : (out : List ℕ) → 3 ≤ model → ListingAnswered s model out badModel out
-  unfolding listingOf answerTo bytesAfter
+  unfolding listingBy answerTo bytesAfter
   no-model out h = (rw (le-leb 3 model h), rw (le-leb 3 model h))
 
   pub too-long : (out : List ℕ) → model < 3 → 65535 < length s → ListingAnswered s model out tapeLong out
-  unfolding listingOf answerTo bytesAfter
+  unfolding listingBy answerTo bytesAfter
   too-long out h k = (rw (lt-leb 3 model h, lt-ltb 65535 (length s) k), rw (lt-leb 3 model h, lt-ltb 65535 (length s) k))
 
   module _ (h : model < 3) (k : length s ≤ 65535) where
     loads : listingOf s model ≡ listed s model (loadedOf s model)
-    unfolding listingOf
+    unfolding listingBy
     loads = rw (lt-leb 3 model h, le-ltb 65535 (length s) k)
 
     pub load-refused : {a : Loaded} {bt tt : List ℕ} (out : List ℕ) → Leaves blockWords toneWords (loadedOf s model) a bt tt

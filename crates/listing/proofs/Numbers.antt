@@ -16,7 +16,7 @@ use Rattle.load_tape.specs.Load.{loadNamed}
 use Rattle.load_tape.specs.declared.Format.the-variants.{Tap, Tzx}
 use Rattle.law_every_load.proofs.Refusals.{load-numbered, named-numbered}
 use Rattle.law_every_load.specs.Numbered.{Numbered, as-tzx, as-tap, both, by}
-use Rattle.listing.specs.Listing.{loadedOf, Listing, text, refused, listed, listingOf, answerTo, bytesAfter}
+use Rattle.listing.specs.Listing.{loadedOf, Listing, text, refused, listed, listedBy, listingOf, listingBy, answerTo, bytesAfter}
 use Rattle.listing.specs.Printed.{Spoken, spoken}
 use Rattle.text_listing.proofs.PageTexts.{text-least}
 
@@ -26,7 +26,7 @@ pub data TextOrNo : Listing → Type 0 where
   small : {k : ℕ} → badModel ≤ k → k ≤ lastBits → TextOrNo (refused k)
 
 listed-sized : (s : List ℕ) (model : ℕ) {l : Load} → Numbered l → TextOrNo (listed s model l)
-unfolding listed
+unfolding listedBy
 listed-sized s model as-tzx = long (text-least model Tzx _)
 listed-sized s model as-tap = long (text-least model Tap _)
 listed-sized s model both = small {k = tapeBad} (omega arith) (omega arith)
@@ -34,7 +34,7 @@ listed-sized s model (by a b) = small a b
 
 -- EVERY LISTING: so `text-length` is that of a text
 pub listing-sized : (s : List ℕ) (model : ℕ) → TextOrNo (listingOf s model)
-unfolding listingOf loadedOf loadNamed
+unfolding listingBy loadedOf loadNamed
 listing-sized s model = by-cases (leb 3 model) (ltb 65535 (length s))
   where
     by-cases : (a b : Bool) → TextOrNo (a ⇒ refused badModel ∣ b ⇒ refused tapeLong ∣ listed s model (loadedOf s model))

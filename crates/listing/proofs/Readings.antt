@@ -36,7 +36,7 @@ use Rattle.load_tape.specs.Load.{namedTape, namedLoad, loadNamed, blockTable, t
 use Rattle.text_listing.specs.Shown.{shown}
 use Rattle.text_listing.specs.Lines.{timeText, markText, rowTextBy, rowsTextBy}
 use Rattle.text_listing.specs.Page.{modelText, formatText, countText, loadingText, restText, listingText}
-use Rattle.listing.specs.Listing.{loadedOf, Listing, text, refused, mounted, listed, listingOf}
+use Rattle.listing.specs.Listing.{loadedOf, Listing, text, refused, mounted, listed, listedBy, listingOf, listingBy}
 
 -- a TZX of these pieces
 abbrev pieces : List ℕ → List ℕ
@@ -156,5 +156,5 @@ unfolding leAt numberAt fieldAt placeOf times eachAt groupsAt countedAt passAt t
     tapSee readTap orTap orElse loadOf decimal digits latin1 eachByte table encoded isHeader typeName headerName sizeShown sizeName guessed
     nameOf unselected nameOne nameAll namedTape namedLoad loadNamed blockTable toneTable tableOver cyclesOf isSingle wellTone wellNumbers
     onesFrom ones toneFigure tonesFigure bitsFigure dataFigure soundIn rowLasts rowsLoading shown timeText markText rowTextBy rowsTextBy
-    modelText formatText countText loadingText restText listingText loadedOf mounted listed listingOf
+    modelText formatText countText loadingText restText listingText loadedOf mounted listedBy listingBy
 listings-said = refl

@@ -16,7 +16,7 @@ use Rattle.load_source.specs.Source.{Load, tzx, tapped, bothErr, no}
 use Rattle.load_tape.specs.declared.Format.the-variants.{Tap, Tzx}
 use Rattle.load_tape.specs.Load.{answerOf, blockTable, toneTable, Leaves}
 use Rattle.law_every_load.specs.Sizes.{Bytes}
-use Rattle.listing.specs.Listing.{blockWords, toneWords, loadedOf, Listing, text, refused, mounted, listed, listingOf}
+use Rattle.listing.specs.Listing.{blockWords, toneWords, loadedOf, Listing, text, refused, mounted, listed, listedBy, listingOf, listingBy}
 use Rattle.listing.specs.Listing.{answerTo, bytesAfter}
 use Rattle.listing.specs.Printed.{printedOf, Says}
 use Rattle.text_listing.proofs.Showing.{name-part}
@@ -32,7 +32,7 @@ data Fits : Listing → Type 0 where
 
 module _ (s : List ℕ) (model : ℕ) (b : Bytes s) where
   listed-fits : (l : Load) → loadedOf s model ≡ l → Fits (listed s model l)
-  unfolding listed mounted answerOf
+  unfolding listedBy mounted answerOf
   listed-fits (tzx t) e =
       let y : Leaves blockWords toneWords (tzx t) (answerOf (tzx t)) (blockTable blockWords (tzx t)) (toneTable toneWords (tzx t)) =
       record { answer = refl; blocks = refl; tones = refl } in
@@ -50,7 +50,7 @@ module _ (s : List ℕ) (model : ℕ) (b : Bytes s) where
 
   -- EVERY TEXT FITS
   listing-fits : Fits (listingOf s model)
-  unfolding listingOf
+  unfolding listingBy
   listing-fits = by-cases (leb 3 model) (ltb 65535 (length s))
     where
       by-cases : (c d : Bool) → Fits (c ⇒ refused badModel ∣ d ⇒ refused tapeLong ∣ listed s model (loadedOf s model))

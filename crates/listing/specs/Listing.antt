@@ -10,9 +10,10 @@ use Rattle.rows.specs.Rows.{block, tone}
 use Rattle.play_entries.specs.Places.{Tape}
 use Rattle.play_entries.specs.Mounted.{tapeOf}
 use Rattle.load_source.specs.Source.{Load, tzx, tapped, bothErr, no}
+use Rattle.load_tape.specs.declared.Format.{Format}
 use Rattle.load_tape.specs.declared.Format.the-variants.{Tap, Tzx}
 use Rattle.load_tape.specs.Load.{loadNamed, blockTable, toneTable}
-use Rattle.text_listing.specs.Page.{listingText}
+use Rattle.text_listing.specs.Page.{listingText, listedText}
 use Rattle.load_blocks.specs.Adds.{Lent}
 
 -- the words of 512 block and 2,048 tone rows
@@ -38,18 +39,29 @@ pub data Listing : Type 0 where
 unfoldable pub mounted : List ℕ → Load → ℕ → Tape
 mounted s l n = tapeOf s (toneTable toneWords l) (blockTable blockWords l) n
 
-unfoldable pub listed : List ℕ → ℕ → Load → Listing
-listed s model (tzx t) = text (listingText model Tzx (mounted s (tzx t) (length (t .blocks))))
-listed s model (tapped t) = text (listingText model Tap (mounted s (tapped t) (length (t .blocks))))
-listed s model (bothErr f g) = refused tapeBad
-listed s model (no k) = refused k
+-- as a text is written of such a tape
+unfoldable pub listedBy : (ℕ → Format → Tape → List ℕ) → List ℕ → ℕ → Load → Listing
+listedBy write s model (tzx t) = text (write model Tzx (mounted s (tzx t) (length (t .blocks))))
+listedBy write s model (tapped t) = text (write model Tap (mounted s (tapped t) (length (t .blocks))))
+listedBy write s model (bothErr f g) = refused tapeBad
+listedBy write s model (no k) = refused k
 
--- THE LISTING of a tape: 1, 2 over 65,535 bytes, 3 to 7
-unfoldable pub listingOf : List ℕ → ℕ → Listing
-listingOf s model =
+unfoldable pub listingBy : (ℕ → Format → Tape → List ℕ) → List ℕ → ℕ → Listing
+listingBy write s model =
     leb 3 model ⇒ refused badModel
     ∣ ltb 65535 (length s) ⇒ refused tapeLong
-    ∣ listed s model (loadedOf s model)
+    ∣ listedBy write s model (loadedOf s model)
+
+-- THE LISTING of a tape, its times by the rows' words: 1, 2 over 65,535 bytes, 3 to 7
+abbrev pub listed : List ℕ → ℕ → Load → Listing
+listed = listedBy listingText
+
+abbrev pub listingOf : List ℕ → ℕ → Listing
+listingOf = listingBy listingText
+
+-- and by the pulse list, which is the same (`listing-listed` of law_promises)
+abbrev pub pulseListing : List ℕ → ℕ → Listing
+pulseListing = listingBy listedText
 
 -- the answer: the text's length, or the refusal's number: 10 where the output buffer is shorter than the text
 unfoldable pub answerTo : Listing → List ℕ → ℕ

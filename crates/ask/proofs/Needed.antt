@@ -2,7 +2,7 @@
 use Prim.Native.Nat.{ℕ, zero, suc, _+_}
 use native.Mathlib.Omega.{arith}
 use mathlib.Core.Path.{_≡_, refl}
-use mathlib.Core.Bool.{Bool, true, false, _||_}
+use mathlib.Core.Bool.{true, false, or-true}
 use lib.Dec.{eqb}
 use Rattle.play_entries.specs.Places.{Tape, blockIn}
 use Rattle.play_entries.specs.Mounted.{wellRow, WholeTape}
@@ -26,10 +26,6 @@ module _ (w : Tape) (b n : ℕ) where
   need-on e f = rw (e, f)
 
 -- on a whole tape nothing is wanting
-or-true : (x : Bool) → (x || true) ≡ true
-or-true true = refl
-or-true false = refl
-
 pub need-whole : (w : Tape) → WholeTape w → (b n : ℕ) → b + n ≡ w .count → wellToStop w b n ≡ true
 unfolding wellToStop
 need-whole w whole b zero e = refl

@@ -3,7 +3,7 @@ use Prim.Native.Nat.{ℕ, zero, suc, _+_}
 use mathlib.Core.Bool.{Bool, true, _&&_, _||_}
 use mathlib.Core.List.{List}
 use mathlib.Core.Path.{_≡_}
-use lib.Dec.{ltb, leb, eqb}
+use lib.Dec.{leb, eqb}
 use lib.ListN.{length}
 use Rattle.law_base.specs.Rules.{_⇒_, _∣_}
 use Rattle.refusals.specs.Refusals.{noBlock, noRoom, badRow}
@@ -80,7 +80,8 @@ nameAnswer w i out = numberUnless (refusalOf w i) (lengthOrNoRoom (nameIn w i) o
 unfoldable pub nameBytes : Tape → ℕ → List ℕ → List ℕ
 nameBytes w i out = eqb (refusalOf w i) 0 ⇒ told (nameIn w i) out ∣ out
 
--- LOADING TIME, by the rows' words. Of the n rows from block b on those up to and including the first stop are needed, also behind the last sound
+-- LOADING TIME, by the rows' words. Of the n rows from block b on those up to and including the first stop are needed,
+-- also behind the last sound
 unfoldable pub wellToStop : Tape → ℕ → ℕ → Bool
 wellToStop w b zero = true
 wellToStop w b (suc n) = wellRow w b && (eqb (blockIn w b .endless) 1 || wellToStop w (b + 1) n)

@@ -1,6 +1,6 @@
 -- What is loaded of an input by its first byte and its length, and its lines; more than 65,537 bytes need not be read.
 -- Assumes nothing but that bytes are below 256.
-use Prim.Native.Nat.{ℕ, suc, _+_, _-_, _≤_, _<_}
+use Prim.Native.Nat.{ℕ, suc, _-_, _≤_, _<_}
 use native.Mathlib.Omega.{arith}
 use mathlib.Core.Path.{_≡_, refl, sym, ap, subst, _∙_}
 use mathlib.Core.Bool.{Bool, true, false}
@@ -19,7 +19,7 @@ use Rattle.text_out.specs.Out.{Fitted}
 use Rattle.load_blocks.specs.Does.{lentOf}
 use Rattle.load_source.specs.Source.{Load, no}
 use Rattle.load_tape.specs.declared.Loaded.the-variants.{Refused}
-use Rattle.load_tape.specs.Load.{loadNamed, answerOf, blockTable, toneTable, Leaves}
+use Rattle.load_tape.specs.Load.{loadNamed, answerOf, blockTable, toneTable}
 use Rattle.law_every_load.specs.Sizes.{Bytes}
 use Rattle.prog_tape.specs.Inner.{ReadyLine}
 use Rattle.text_view.specs.View.{rowView}

@@ -1,5 +1,5 @@
 -- What adding a block keeps, of any reading. Assumes nothing.
-use Prim.Native.Nat.{ℕ, _+_, _<_}
+use Prim.Native.Nat.{ℕ, _+_}
 use mathlib.Core.Path.{_≡_, refl}
 use mathlib.Core.Bool.{Bool, true, false}
 use mathlib.Core.List.{List}
@@ -10,9 +10,9 @@ use Rattle.refusals.specs.Refusals.{tonesFull}
 use Rattle.law_base.specs.Rules.{_⇒_, _∣_}
 use Rattle.load_state.specs.declared.Pending.{Pending}
 use Rattle.load_state.specs.declared.Halt.the-variants.{Refusal}
-use Rattle.load_state.specs.Parser.{Parsed, on, no, _⟫_, withTones, withBlock, addTones, addBlock, empty}
+use Rattle.load_state.specs.Parser.{Parsed, on, no, _⟫_, withTones, addTones, addBlock}
 use Rattle.load_state.proofs.Kept.{sure-then, block-sure}
-use Rattle.load_state.specs.Kept.{Sure, sure, none, All, nil, cons, Steps}
+use Rattle.load_state.specs.Kept.{Sure, sure, none, All, nil, cons}
 use Rattle.load_blocks.specs.declared.Origin.{Origin}
 use Rattle.load_blocks.specs.Adds.{Lent, addRows}
 use Rattle.load_blocks.specs.Sounds.{Sound, rowOf, addSound, addSounds}

@@ -15,7 +15,7 @@ use Rattle.rows.specs.Rows.{tone, withPause, tonesIn}
 use Rattle.rows.proofs.Tables.{get-row}
 use Rattle.load_state.specs.declared.Pending.{Pending}
 use Rattle.load_state.specs.declared.Pending.the-variants.{Nothing, First, Later, Text}
-use Rattle.load_state.specs.Parser.{named, used, Parsed, empty, withTones, paused}
+use Rattle.load_state.specs.Parser.{named, used, empty, withTones, paused}
 use Rattle.load_state.proofs.Kept.{all-also, kept-empty, with-block, kept-steps}
 use Rattle.load_state.specs.Kept.{All, nil, cons, Lasting, KeptSoFar}
 use Rattle.load_blocks.specs.declared.Origin.{Origin}

@@ -2,7 +2,7 @@
 -- Assumes nothing but that bytes are below 256.
 use Prim.Native.Nat.{ℕ, _<_}
 use native.Mathlib.Omega.{arith}
-use mathlib.Core.Path.{_≡_, sym, ap, subst, _∙_}
+use mathlib.Core.Path.{_≡_, sym, subst, _∙_}
 use mathlib.Core.Bool.{true, false}
 use mathlib.Core.List.{List}
 use lib.ListN.{length, getD}
@@ -15,7 +15,6 @@ use Rattle.rows.specs.Well.{wellBlock}
 use Rattle.rows.proofs.Tables.{get-row}
 use Rattle.rows.proofs.WellLaws.{block-clauses, ranges-inside}
 use Rattle.play_entries.specs.Entries.{soundOf}
-use Rattle.play_entries.specs.Places as entries
 use Rattle.play_entries.specs.Mounted.{tapeOf, tapeSize, wellRow}
 use Rattle.play_entries.specs.Stored.{Timed}
 use Rattle.play_entries.proofs.Figures.{sound-in-list}

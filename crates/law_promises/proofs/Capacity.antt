@@ -34,7 +34,8 @@ use Rattle.load_source.specs.declared.Failure.{Failure}
 use Rattle.load_source.specs.Meaning.{deedOf}
 use Rattle.load_source.specs.Source.{See, Verdict, done, failed, refused, act, halted, readOn, seeing, foldFrom, full}
 use Rattle.load_source.specs.Source.{tooManyBits, bitsJudged}
-use Rattle.load_source.specs.Source.{tzxOf, tzxSee, headed, readTzx, tapOf, tapSee, readTap, Load, tzx, tapped, bothErr, no, orTap, orElse, loadOf}
+use Rattle.load_source.specs.Source.{tzxOf, tzxSee, headed, readTzx, tapOf, tapSee, readTap, Load, tzx, tapped, bothErr, no, orTap, orElse}
+use Rattle.load_source.specs.Source.{loadOf}
 use Rattle.load_tape.specs.Load.{namedTape, namedLoad, loadNamed}
 use Rattle.law_every_load.specs.OfSource.{Reads as Accepts, as-tzx, as-tap}
 use Rattle.law_promises.specs.Boundless.{withRows, withAllRows, withCopy, withCopies, withLooped, boundlessDoes}

@@ -16,7 +16,8 @@ use Rattle.law_every_load.specs.Sizes.{Bytes}
 use Rattle.law_every_load.proofs.Timed.{left-timed}
 use Rattle.text_listing.specs.Page.{listingText, listedText}
 use Rattle.text_listing.proofs.Listed.{text-listed}
-use Rattle.listing.specs.Listing.{blockWords, toneWords, loadedOf, Listing, text, refused, mounted, listedBy, listingBy, listingOf, pulseListing}
+use Rattle.listing.specs.Listing.{blockWords, toneWords, loadedOf, Listing, text, refused, mounted, listedBy, listingBy, listingOf}
+use Rattle.listing.specs.Listing.{pulseListing}
 
 module _ (s : List ℕ) (model : ℕ) (b : Bytes s) where
   -- the tables that the listing's load leaves

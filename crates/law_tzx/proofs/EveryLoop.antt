@@ -2,8 +2,8 @@
 -- n + 1 times. Assumes nothing.
 use Prim.Native.Nat.{ℕ, _+_, _/_}
 use native.Mathlib.Omega.{arith}
-use mathlib.Core.Path.{_≡_, refl, sym, ap, subst, _∙_}
-use mathlib.Core.Bool.{Bool, true, false, not}
+use mathlib.Core.Path.{_≡_, refl, sym, ap, _∙_}
+use mathlib.Core.Bool.{Bool, true, false}
 use mathlib.Core.List.{List, [], _∷_}
 use lib.ListN.{length}
 use lib.Dec.{ltb, leb, eqb}
@@ -33,7 +33,7 @@ use Rattle.load_blocks.specs.Sounds.{originAt, Sound, addSound, addSounds}
 use Rattle.load_blocks.specs.Blocks.{pairSounds, stopSound}
 use Rattle.load_blocks.specs.Deeds.{adds48, errs, generalDeed, stop48Deed, does}
 use Rattle.load_source.specs.Meaning.{deedOf}
-use Rattle.load_source.specs.Source.{act, full, See, theEnd, bad, refuses, thing, tzxOf, tzxSee}
+use Rattle.load_source.specs.Source.{act, full, thing, tzxOf, tzxSee}
 use Rattle.law_tzx.specs.Format.{PulseLength}
 use Rattle.law_tzx.specs.Kept.{Plays}
 use Rattle.law_tzx.specs.Departs.{repeatedLengths, sourceTimes, Between, nothing-more, one-more}

@@ -7,7 +7,6 @@ use lib.Dec.{ltb}
 use borrow.Author.Tests.{lt-ltb}
 use Rattle.law_base.specs.Rules.{_⇒_, _∣_}
 use Rattle.law_base.proofs.Tests.{first, second}
-use Rattle.rows.specs.declared.Block.{Block}
 use Rattle.rows.specs.declared.Tone.{Tone}
 use Rattle.cut_grammar.specs.declared.GeneralizedData.{GeneralizedData}
 use Rattle.cut_grammar.specs.Places.{Places}

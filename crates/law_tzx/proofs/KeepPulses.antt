@@ -6,7 +6,7 @@ use mathlib.Core.Bool.{Bool, true, false}
 use mathlib.Core.List.{List, [], _∷_, _++_, map, append-nil}
 use lib.Dec.{eqb}
 use borrow.Author.Tests.{eqb-true, eqb-false}
-use Rattle.law_base.proofs.Tests.{first, other}
+use Rattle.law_base.proofs.Tests.{other}
 use Rattle.cut_fields.specs.Field.{leAt}
 use Rattle.load_state.specs.Parser.{Parsed}
 use Rattle.load_state.proofs.Kept.{sure-also, sure-then}

@@ -1,7 +1,7 @@
 -- A 10 plays the format's pulses with one pilot pulse more in front, whatever its flag. Assumes nothing.
 use Prim.Native.Nat.{ℕ, suc, _*_, max}
 use native.Mathlib.Omega.{arith}
-use mathlib.Core.Path.{_≡_, refl, sym, ap, subst, _∙_}
+use mathlib.Core.Path.{_≡_, refl, ap, subst, _∙_}
 use mathlib.Core.Bool.{Bool, true, false, _||_}
 use mathlib.Core.List.{List, [], _∷_, _++_}
 use lib.ListN.{getD}
@@ -12,7 +12,7 @@ use Rattle.load_state.specs.Parser.{Parsed}
 use Rattle.load_state.specs.Kept.{Sure}
 use Rattle.load_state.proofs.Kept.{sure-also}
 use Rattle.load_blocks.specs.declared.Origin.{Origin}
-use Rattle.load_blocks.specs.Sounds.{ms, rowOf, addSounds}
+use Rattle.load_blocks.specs.Sounds.{ms, addSounds}
 use Rattle.load_blocks.specs.Blocks.{standardHeader, standardCycles, standardTones, standardSound}
 use Rattle.load_blocks.specs.Adds.{Lent}
 use Rattle.load_blocks.specs.Deeds.{does}
@@ -22,7 +22,7 @@ use Rattle.law_tzx.specs.Format.{PulseTrain, sounds, unsaid, pauseMs, ea
 use Rattle.law_tzx.specs.Format.{formatOf, lengthsOf}
 use Rattle.law_tzx.specs.Kept.{Plays, Keeps, as-said}
 use Rattle.law_tzx.specs.Departs.{pulseMore}
-use Rattle.law_tzx.proofs.Lengths.{long, wavesOf, dataIn}
+use Rattle.law_tzx.proofs.Lengths.{long, wavesOf}
 use Rattle.law_tzx.proofs.Waves.{again-more, cycles-pulses}
 use Rattle.law_tzx.proofs.KeepSounds.{soundWith, keep-one}
 use Rattle.law_tzx.proofs.Exact.{said-of, two-rows, standard-bits, standard-pause}

@@ -2,9 +2,9 @@
 -- Assumes nothing but, of a 19, that its tables are where its numbers say.
 use Prim.Native.Nat.{ℕ, zero, suc, _+_, _/_}
 use native.Mathlib.Omega.{arith}
-use mathlib.Core.Path.{_≡_, refl, sym, ap, subst, _∙_}
+use mathlib.Core.Path.{_≡_, refl, sym, ap, _∙_}
 use mathlib.Core.Bool.{Bool, true, false, _&&_, not}
-use mathlib.Core.List.{List, [], _∷_, _++_}
+use mathlib.Core.List.{List, [], _∷_}
 use lib.ListN.{length}
 use lib.Dec.{ltb, leb, eqb}
 use borrow.Author.Tests.{lt-ltb}
@@ -25,7 +25,7 @@ use Rattle.cut_grammar.specs.declared.Heading.the-variants.{Version}
 use Rattle.cut_grammar.specs.Places.{Places}
 use Rattle.cut_grammar.specs.Cut.{cutAt, headAt}
 use Rattle.cut_grammar.proofs.Places.{cut-places}
-use Rattle.load_general.specs.General.{symbolAt, plain, pilotOf, ordinary, usedBits, dataPart, withPilot, withData, generalOf}
+use Rattle.load_general.specs.General.{symbolAt, plain, ordinary, usedBits, dataPart, withPilot, withData, generalOf}
 use Rattle.load_state.specs.declared.Halt.the-variants.{Refusal}
 use Rattle.load_state.specs.Parser.{Parsed, Out, on, no, empty, _⟫_, withTones, withBlock, addTones, addBlock, pend, openLoop}
 use Rattle.load_blocks.specs.declared.Origin.{Origin}
@@ -34,14 +34,13 @@ use Rattle.load_blocks.specs.Sounds.{originAt, Sound, addSound, addSounds}
 use Rattle.load_blocks.specs.Blocks.{pairSounds, stopSound}
 use Rattle.load_blocks.specs.Deeds.{generalDeed, stop48Deed, does}
 use Rattle.load_source.specs.Meaning.{deedOf}
-use Rattle.load_source.specs.Source.{act, Verdict, done, failed, refused, readOn, halted, seeing, foldFrom, tzxOf, tzxSee, tooManyBits}
+use Rattle.load_source.specs.Source.{act, Verdict, done, refused, readOn, halted, seeing, foldFrom, tzxOf, tzxSee, tooManyBits}
 use Rattle.load_source.specs.Source.{bitsJudged, headed, readTzx, readTap, orElse, loadOf}
 use Rattle.load_source.specs.Source as source
 use Rattle.law_tzx.specs.Kept.{keptPilot, keptData, lengthRight, kept19, kept, Tables, Answers, goes, no-tones, no-blocks}
 use Rattle.law_tzx.specs.Tapes.{Open, noneOpen, loopOpened, nests, keptThen, keptFrom, keptTape}
 use Rattle.law_tzx.proofs.Waves.{differ}
 use Rattle.law_tzx.proofs.Generals.{pilot-part, DataClauses, data-clauses, data-part}
-use Rattle.law_tzx.proofs.Symbols.{Parts}
 
 answers-then : {o : Out} (f : Parsed → Out) → Answers o → ((t : Parsed) → Answers (f t)) → Answers (o ⟫ f)
 unfolding _⟫_

@@ -1,12 +1,11 @@
 -- A row's name and selectable mark are not heard: in a row of either sort. Assumes nothing.
 use Prim.Native.Nat.{ℕ, zero, suc, _+_}
-use mathlib.Core.Path.{_≡_, refl, ap, ap₂, _∙_}
-use mathlib.Core.Bool.{Bool, true, false}
+use mathlib.Core.Path.{_≡_, refl, ap, ap₂}
+use mathlib.Core.Bool.{false}
 use mathlib.Core.List.{List, [], _∷_, _++_}
 use lib.Dec.{eqb}
 use Rattle.law_base.specs.Rules.{_⇒_, _∣_}
 use Rattle.law_pulses.specs.Play.{Level, low, Entry, pulse}
-use Rattle.law_pulses.specs.Runs.{run}
 use Rattle.rows.specs.declared.Block.{Block}
 use Rattle.rows.specs.Rows.{changed, withMark}
 use Rattle.play_levels.specs.declared.Line.{Line}

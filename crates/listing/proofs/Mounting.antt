@@ -32,7 +32,8 @@ use Rattle.law_every_load.proofs.Names.{loaded-names}
 use Rattle.load_tape.specs.declared.Loaded.the-variants as loaded
 use Rattle.text_listing.specs.Inner.{ReadyRow, Ready}
 use Rattle.text_listing.specs.Page.{listingText}
-use Rattle.listing.specs.Listing.{blockWords, toneWords, loadedOf, text, refused, mounted as mountedOf, listed, listedBy, Listing, listingOf, listingBy}
+use Rattle.listing.specs.Listing.{blockWords, toneWords, loadedOf, text, refused, mounted as mountedOf, listed, listedBy, Listing}
+use Rattle.listing.specs.Listing.{listingOf, listingBy}
 use Rattle.listing.specs.Listing.{answerTo, bytesAfter}
 
 -- the load in the words that are lent

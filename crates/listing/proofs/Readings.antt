@@ -36,7 +36,7 @@ use Rattle.load_tape.specs.Load.{namedTape, namedLoad, loadNamed, blockTable, t
 use Rattle.text_listing.specs.Shown.{shown}
 use Rattle.text_listing.specs.Lines.{timeText, markText, rowTextBy, rowsTextBy}
 use Rattle.text_listing.specs.Page.{modelText, formatText, countText, loadingText, restText, listingText}
-use Rattle.listing.specs.Listing.{loadedOf, Listing, text, refused, mounted, listed, listedBy, listingOf, listingBy}
+use Rattle.listing.specs.Listing.{loadedOf, Listing, text, refused, mounted, listedBy, listingOf, listingBy}
 
 -- a TZX of these pieces
 abbrev pieces : List ℕ → List ℕ

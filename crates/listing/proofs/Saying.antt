@@ -16,7 +16,8 @@ use Rattle.load_source.specs.Source.{Load, tzx, tapped, bothErr, no}
 use Rattle.load_tape.specs.declared.Format.the-variants.{Tap, Tzx}
 use Rattle.load_tape.specs.Load.{answerOf, blockTable, toneTable, Leaves}
 use Rattle.law_every_load.specs.Sizes.{Bytes}
-use Rattle.listing.specs.Listing.{blockWords, toneWords, loadedOf, Listing, text, refused, mounted, listed, listedBy, listingOf, listingBy}
+use Rattle.listing.specs.Listing.{blockWords, toneWords, loadedOf, Listing, text, refused, mounted, listed, listedBy, listingOf}
+use Rattle.listing.specs.Listing.{listingBy}
 use Rattle.listing.specs.Listing.{answerTo, bytesAfter}
 use Rattle.listing.specs.Printed.{printedOf, Says}
 use Rattle.text_listing.proofs.Showing.{name-part}

@@ -20,8 +20,10 @@ use Rattle.cut_grammar.specs.Grammar.{orFull, heldIf}
 use Rattle.cut_grammar.specs.Kinds.{kind10, kind11, kind12, kind13, kind14, stream19, kind19, kind20, kind21, kind22, kind24, kind25}
 use Rattle.cut_grammar.specs.Kinds.{kind2A, kind30, kind31, info32, kind32, kind33, kind35, kind5A, kinds, kindOf}
 use Rattle.cut_grammar.specs.Cut.{signature, startsAt, headAt, takenAs, cutAt, tapBlock, tapAt}
-use Rattle.load_general.specs.General.{symbolAt, before, rowsFrom, cycles, entrySymbol, entryRepeat, entryRow, pilotOf, equalHalves, ordinary}
-use Rattle.load_general.specs.General.{usedBits, symbolNumber, singleRow, pairRow, singlesOf, pairsOf, dataPart, withPilot, withData, generalOf}
+use Rattle.load_general.specs.General.{symbolAt, before, rowsFrom, cycles, entrySymbol, entryRepeat, entryRow, pilotOf, equalHalves}
+use Rattle.load_general.specs.General.{ordinary}
+use Rattle.load_general.specs.General.{usedBits, symbolNumber, singleRow, pairRow, singlesOf, pairsOf, dataPart, withPilot, withData}
+use Rattle.load_general.specs.General.{generalOf}
 use Rattle.load_state.specs.Parser.{empty, _⟫_, addTones, addBlock, pend, endGroup, openLoop, copyRows, copies, closed, closeLoop}
 use Rattle.load_state.specs.Parser.{paused, lastPaused}
 use Rattle.load_blocks.specs.Sounds.{rowOf, addSound, addSounds}

@@ -41,14 +41,17 @@ by-half false n = omega arith
 pub cycle-most : (r : Block) (t : Tone) → cycleTime r t ≤ t .len1 + t .len2
 cycle-most r t = omega (arith, by-half (isSingle r t) (t .len2))
 
-pub tone-most-time : (b i : ℕ) (r : Block) (t : Tone) (v : ℕ → Level) → wellTone t ≡ true
-    → time (toneOf b i r t v) ≤ 8589672450
-tone-most-time b i r t v e =
+pub product-most : (r : Block) (t : Tone) → wellTone t ≡ true → cyclesOf r t * cycleTime r t ≤ 8589672450
+product-most r t e =
     let h = tone-most t e in
     let m : cyclesOf r t ≤ 65535 = omega (arith, cycles-most r t) in
     let n : cycleTime r t ≤ 131070 = omega (arith, cycle-most r t) in
     let k : cyclesOf r t * cycleTime r t ≤ 65535 * 131070 = mul-le-mul m n in
-    omega (arith, tone-time b i r t v)
+    omega arith
+
+pub tone-most-time : (b i : ℕ) (r : Block) (t : Tone) (v : ℕ → Level) → wellTone t ≡ true
+    → time (toneOf b i r t v) ≤ 8589672450
+tone-most-time b i r t v e = omega (arith, tone-time b i r t v, product-most r t e)
 
 pub rows-most-time : (tones : List ℕ) (b : ℕ) (r : Block) (n : ℕ) → wellTones tones (r .tone) (r .tones) ≡ true → n ≤ r .tones
     → time (run (rowEntries tones b r) 0 n) ≤ n * 8589672450

@@ -1,6 +1,6 @@
 -- WHAT A ROW SOUNDS BY ARITHMETIC is what its entries without the pause last; and it fits. Assumes nothing but that bytes are below 256.
-use Prim.Native.Nat.{ℕ, zero, suc, _+_, _-_, _*_, _/_, _^_, _≤_, _<_, max}
-use native.Mathlib.Nat.{mul-le-mul, eq-zero-or-pos}
+use Prim.Native.Nat.{ℕ, zero, suc, _+_, _-_, _*_, _≤_, _<_}
+use native.Mathlib.Nat.{eq-zero-or-pos}
 use native.Mathlib.Omega.{arith}
 use borrow.Author.Tests.{le-leb, leb-true, eq-eqb, ne-eqb}
 use mathlib.Core.Path.{_≡_, refl, sym, ap, ap₂, _∙_}
@@ -16,7 +16,7 @@ use Rattle.rows.specs.declared.Tone.{Tone}
 use Rattle.rows.specs.declared.Block.{Block}
 use Rattle.rows.specs.Rows.{changed, withPause}
 use Rattle.rows.specs.Well.{inside, wellTone, wellNumbers, wellBlock}
-use Rattle.rows.proofs.WellLaws.{block-clauses, ranges-inside, numbers-most, tone-most, tones-each}
+use Rattle.rows.proofs.WellLaws.{block-clauses, ranges-inside, numbers-most, tones-each}
 use Rattle.play_entries.specs.Entries.{toneAt, cyclesOf, isSingle, cycleTime, cycleLevel, bitLevel, rowEntries, tonesOf}
 use Rattle.play_entries.specs.Entries.{bitsAt, byteOf, byteAt, byteEntries, dataOf, soundOf}
 use Rattle.play_entries.specs.Mounted.{tapeSize}
@@ -24,7 +24,7 @@ use Rattle.play_entries.specs.Counted.{onesFrom, bitsTime}
 use Rattle.play_entries.specs.Figures.{toneFigure, tonesFigure, Owns, playedBits, playedOnes, bitsFigure, dataFigure, soundIn}
 use Rattle.play_entries.proofs.Runs.{tone-time, few-ones, bits-time, row-finite, sound-time}
 use Rattle.play_entries.proofs.Counted.{bits-add, ones-most, data-counted, data-none}
-use Rattle.play_entries.proofs.Bounds.{cycles-most, cycle-most, bytes-most-time}
+use Rattle.play_entries.proofs.Bounds.{product-most, bytes-most-time}
 
 -- TONES. A well-formed tone row's figure is its list's, and any tone row's is small
 pub tone-figure : (r : Block) (t : Tone) → wellTone t ≡ true → toneFigure r t ≡ cyclesOf r t * cycleTime r t
@@ -34,14 +34,6 @@ tone-figure r t e = rw e
 pub tone-none : (r : Block) (t : Tone) → wellTone t ≡ false → toneFigure r t ≡ 0
 unfolding toneFigure
 tone-none r t e = rw e
-
-product-most : (r : Block) (t : Tone) → wellTone t ≡ true → cyclesOf r t * cycleTime r t ≤ 8589672450
-product-most r t e =
-    let h = tone-most t e in
-    let m : cyclesOf r t ≤ 65535 = omega (arith, cycles-most r t) in
-    let n : cycleTime r t ≤ 131070 = omega (arith, cycle-most r t) in
-    let k : cyclesOf r t * cycleTime r t ≤ 65535 * 131070 = mul-le-mul m n in
-    omega arith
 
 pub tone-figure-most : (r : Block) (t : Tone) → toneFigure r t ≤ 8589672450
 unfolding toneFigure

@@ -1,5 +1,6 @@
 -- WHAT A ROW SOUNDS, BY ARITHMETIC (rule 157): the T-states of its own tone rows and of its data, a part that isn't well formed counting 0.
--- A load writes it in the row's word `sound`; on a well-formed row it is the list's (proofs/Figures.antt). Definitions alone; assumes nothing.
+-- A load writes it in the row's word `sound`; on a well-formed row it is the list's (proofs/Figures.antt).
+-- Definitions alone; assumes nothing.
 use Prim.Native.Nat.{ℕ, _+_, _-_, _*_, _/_, _^_, _≤_, _<_, max}
 use mathlib.Core.Path.{_≡_}
 use mathlib.Core.Bool.{_&&_}

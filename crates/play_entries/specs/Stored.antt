@@ -14,8 +14,8 @@ use Rattle.play_entries.specs.Places.{Tape, blockIn, byRow}
 unfoldable pub rowLasts : Block → Duration
 rowLasts r = eqb (r .endless) 1 ⇒ Endless ∣ T (r .sound + r .pause)
 
--- LOADING TIME of the n rows from block b on: up to the end of the last sound above 0 before the first stop or the end, that of the stop's own
--- row included; 0 if there is none
+-- LOADING TIME of the n rows from block b on: up to the end of the last sound above 0 before the first stop or the end,
+-- that of the stop's own row included; 0 if there is none
 unfoldable pub rowsLoading : Tape → ℕ → ℕ → ℕ
 rowsLoading w b zero = 0
 rowsLoading w b (suc n) = byRow (blockIn w b) (blockIn w b .sound) (rowsLoading w (b + 1) n)

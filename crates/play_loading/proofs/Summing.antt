@@ -3,13 +3,12 @@ use Prim.Native.Nat.{ℕ, zero, suc, _+_, _-_, _*_, _^_, _≤_, _<_}
 use native.Mathlib.Nat.{eq-zero-or-pos}
 use native.Mathlib.Numerals.{add-one}
 use native.Mathlib.Omega.{arith}
-use borrow.Author.Tests.{eq-eqb, eqb-true, eqb-false, lt-ltb, le-ltb}
+use borrow.Author.Tests.{eqb-false, lt-ltb, le-ltb}
 use mathlib.Core.Path.{_≡_, refl, sym, ap, _∙_}
 use mathlib.Core.Bool.{Bool, true, false, _||_}
-use mathlib.Core.Logic.{_↔_, _⊎_, inl, inr, ⊎-elim}
+use mathlib.Core.Logic.{_⊎_, ⊎-elim}
 use lib.Dec.{ltb, eqb}
 use Rattle.law_base.specs.Rules.{_⇒_, _∣_}
-use Rattle.law_base.proofs.Numbers.{lt-or-ge}
 use Rattle.rows.specs.declared.Block.{Block}
 use Rattle.rows.specs.Well.{wellNumbers}
 use Rattle.rows.proofs.WellLaws.{numbers-most}
@@ -82,7 +81,7 @@ module _ (w : Tape) where
   pub after-stop : (b : ℕ) → b ≤ w .count → loadingAfter w b .over ≡ true → loadingAfter w b .end ≡ rowsTime w
   after-stop b h o = rw o at (whole-same b (w .count - b) (omega arith))
 
--- WHERE A STOP WAS MET: with one row more, there or before; so among the first n rows
+-- WHERE A STOP WAS MET: with one row more, there or before
 pub more-over : (s : Loading) (r : Block) → oneMore s r .over ≡ (s .over || eqb (r .endless) 1)
 unfolding oneMore
 more-over s r = of (s .over) refl (eqb (r .endless) 1) refl
@@ -91,47 +90,6 @@ more-over s r = of (s .over) refl (eqb (r .endless) 1) refl
     of true e x f = rw e
     of false e true f = rw (e, f)
     of false e false f = rw (e, f)
-
-pub record StopBelow (w : Tape) (n : ℕ) : Type 0 where
-  pub at : ℕ
-  pub below : at < n
-  pub stop : blockIn w at .endless ≡ 1
-
-one-holds : (a b : Bool) → (a || b) ≡ true → (a ≡ true) ⊎ (b ≡ true)
-one-holds true b e = inl refl
-one-holds false b e = inr e
-
-first-holds : (a b : Bool) → a ≡ true → (a || b) ≡ true
-first-holds a b e = rw e
-
-second-holds : (a b : Bool) → b ≡ true → (a || b) ≡ true
-second-holds true b e = refl
-second-holds false b e = e
-
-module _ (w : Tape) where
-  stop-met : (n : ℕ) → loadingAfter w n .over ≡ true → StopBelow w n
-  unfolding loadingAfter
-  stop-met zero e = absurd (let z : _≡_ {A = ℕ} 0 1 = cc in omega arith)
-  stop-met (suc n) e =
-      ⊎-elim
-      (λ g. let b = stop-met n g in record { at = b .at; below = omega (arith, b .below); stop = b .stop })
-      (λ f. record { at = n; below = omega arith; stop = eqb-true _ _ f })
-      (one-holds (loadingAfter w n .over) (eqb (blockIn w n .endless) 1) (sym (more-over (loadingAfter w n) (blockIn w n)) ∙ e))
-
-  met-stop : (n b : ℕ) → b < n → blockIn w b .endless ≡ 1 → loadingAfter w n .over ≡ true
-  unfolding loadingAfter
-  met-stop zero b h e = absurd (omega arith)
-  met-stop (suc n) b h e =
-      more-over (loadingAfter w n) (blockIn w n)
-      ∙ ⊎-elim
-      (λ l. first-holds _ (eqb (blockIn w n .endless) 1) (met-stop n b l e))
-      (λ g.
-      let z : n ≡ b = omega arith in
-      second-holds (loadingAfter w n .over) _ (eq-eqb _ 1 (ap (λ (x : ℕ). blockIn w x .endless) z ∙ e)))
-      (lt-or-ge b n)
-
-  pub stops-exactly : (n : ℕ) → (loadingAfter w n .over ≡ true) ↔ StopBelow w n
-  stops-exactly n = (stop-met n, λ s. met-stop n (s .at) (s .below) (s .stop))
 
 -- EVERY SUM FITS, where the rows' words are within their limits
 pub record Within (w : Tape) (n : ℕ) : Type 0 where

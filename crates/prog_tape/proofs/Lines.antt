@@ -1,6 +1,6 @@
 -- FROM A LOAD TO ITS LINES: each row of the tables that a load leaves is ready, and its line is the load's. Assumes nothing but that bytes
 -- are below 256.
-use Prim.Native.Nat.{ℕ, zero, suc, _+_, _≤_, _<_}
+use Prim.Native.Nat.{ℕ, zero, suc, _+_, _<_}
 use native.Mathlib.Nat.{add-zero}
 use native.Mathlib.Omega.{arith}
 use mathlib.Core.Path.{_≡_, refl, sym, ap, subst, _∙_}

@@ -2,7 +2,7 @@
 use Prim.Native.Nat.{ℕ, zero, suc, _+_, _*_, _^_, _/_, _%_, _≤_, _<_}
 use native.Mathlib.Nat.{mul-suc, div-lt-iff-lt-mul, pow-suc}
 use native.Mathlib.Omega.{arith}
-use mathlib.Core.Path.{_≡_, refl, sym, ap, subst, _∙_}
+use mathlib.Core.Path.{_≡_, refl, sym, subst}
 use mathlib.Core.Bool.{Bool, true, false}
 use mathlib.Core.List.{List, [], _∷_, _++_, append-assoc}
 use lib.ListN.{length, take, drop, length-append, length-take}
@@ -18,7 +18,7 @@ use Rattle.rows.specs.declared.Block.{Block}
 use Rattle.rows.proofs.WellLaws.{block-clauses, ranges-inside, tones-lent, tone-most}
 use Rattle.play_entries.specs.declared.Duration.{Duration}
 use Rattle.play_entries.specs.Mounted.{tapeSize}
-use Rattle.text_out.specs.Out.{ascii, digits, decimal, Wrote, told, Fitted}
+use Rattle.text_out.specs.Out.{ascii, digits, decimal, Wrote, Fitted}
 use Rattle.text_out.proofs.Writing.{then, each-length, decimal-length, wrote-fitted}
 use Rattle.text_name.specs.Names.{nameOf}
 use Rattle.text_listing.proofs.Lines.{row-short}

@@ -16,7 +16,6 @@ use Rattle.load_tape.specs.declared.Format.the-variants.{Tap, Tzx}
 use Rattle.text_listing.specs.Inner.{Ready}
 use Rattle.text_listing.specs.Lines.{rowsText}
 use Rattle.text_listing.proofs.Texts.{Long, either, decimal-long, rows-most}
-use Rattle.text_listing.specs.PageInner.{totalText}
 use Rattle.text_listing.specs.Page.{modelText, formatText, countText, loadingText, restText, listingText}
 
 pub model-long : (m : ℕ) → Long 3 5 (modelText m)
@@ -70,7 +69,7 @@ text-least m f w =
 pub listing-written : {d d1 d2 d3 d4 d5 : List ℕ} {o1 o2 o3 o4 o5 : ℕ} (m : ℕ) (f : Format) (w : Tape) (total : ℕ)
     → total ≡ rowsTime w → Wrote d 0 (0x6D ∷ 0x6F ∷ 0x64 ∷ 0x65 ∷ 0x6C ∷ 0x20 ∷ []) d1 o1
     → Wrote d1 o1 (modelText m) d2 o2 → Wrote d2 o2 (countText f (w .count)) d3 o3 → Wrote d3 o3 (rowsText w (w .count)) d4 o4
-    → Wrote d4 o4 (totalText total) d5 o5 → Wrote d 0 (listingText m f w) d5 o5
+    → Wrote d4 o4 (loadingText total) d5 o5 → Wrote d 0 (listingText m f w) d5 o5
 unfolding listingText restText loadingText
 listing-written {d4 = d4} {d5} {o4 = o4} {o5} m f w total e p q r u v =
-    then (then p q) (then (then r u) (subst (λ (n : ℕ). Wrote d4 o4 (totalText n) d5 o5) e v))
+    then (then p q) (then (then r u) (subst (λ (n : ℕ). Wrote d4 o4 (loadingText n) d5 o5) e v))

@@ -1,5 +1,4 @@
 pub mod Page
-pub mod PageInner
 pub mod Shown
 pub mod Points
 pub mod Lines

@@ -9,8 +9,7 @@ ghost use Prim.Native.Nat.{ℕ, _+_, _^_, _<_};
 ghost use Rattle.text_out.specs.Out.{Wrote};
 ghost use Rattle.play_entries.specs.Mounted.{tapeOf};
 ghost use Rattle.text_listing.specs.Inner.{Ready};
-ghost use Rattle.text_listing.specs.PageInner.{totalText};
-ghost use Rattle.text_listing.specs.Page.{modelText, formatText, countText, listingText};
+ghost use Rattle.text_listing.specs.Page.{modelText, formatText, countText, loadingText, listingText};
 
 // The model's name.
 fn put_model(out: &mut [u8], at: usize, model: u32) -> usize
@@ -52,7 +51,7 @@ fn put_count(out: &mut [u8], at: usize, format: Format, n: u64) -> usize
 // The last line.
 fn put_total(out: &mut [u8], at: usize, total: u64) -> usize
     requires { ⌜ at + 64 < 2 ^ 63 ⌝ }
-    ensures { λ r. ⌜ Wrote (now (out .entry)) at (totalText total) (now (out .exit)) r ⌝ }
+    ensures { λ r. ⌜ Wrote (now (out .entry)) at (loadingText total) (now (out .exit)) r ⌝ }
 {
     let a = put_all(out, at, b"time ");
     let b = put_decimal(out, a, total);

@@ -41,7 +41,8 @@ returns c =
     let e : made .with-sound .result ≡ sounding s (a .a ∷ []) (a .r) =
     made .with-sound .ensures
     ∙ ap (λ (n : ℕ). withSound n (a .r))
-    (ap₂ (λ (x y : ℕ). x + y) (figure .before .tone-figure .ensures .0) (figure .data-figure .ensures .0) ∙ sym (sound-one s (a .a) (a .r))) in
+    (ap₂ (λ (x y : ℕ). x + y) (figure .before .tone-figure .ensures .0) (figure .data-figure .ensures .0)
+    ∙ sym (sound-one s (a .a) (a .r))) in
     rw e at (put .put-one .ensures)
 
 pub one-tone-spec : {M : Type 1} → statement M

@@ -77,7 +77,8 @@ returns-3 c =
     let told3 = c .before .before .before .before in
     let general = told3 .before .before .before .before in
     λ model B N t h.
-    general-stop h _ _ model _ (general .general .ensures) (told3 .enum-told3 .given .1) (c .before .before .stop-block .ensures _ _ B N t h)
+    general-stop h _ _ model _ (general .general .ensures) (told3 .enum-told3 .given .1)
+    (c .before .before .stop-block .ensures _ _ B N t h)
 
 same-length-5 : tie.Need-same-length-5
 same-length-5 c = search needs

@@ -40,7 +40,8 @@ unfolding pauseSound
 returns-2 c =
     let n = c .before .before in
     let if1 = n .before .before .before in
-    λ tape tt. rw (ne-eqb _ _ (if1 .if1 .left)) (does-silent tape _ (endsAfter _) 0 (n .before .bare-row .ensures) (n .no-tone2 .ensures tt))
+    λ tape tt. rw (ne-eqb _ _ (if1 .if1 .left))
+    (does-silent tape _ (endsAfter _) 0 (n .before .bare-row .ensures) (n .no-tone2 .ensures tt))
 
 pub pause-block-spec : {M : Type 1} → statement M
 pause-block-spec =

@@ -26,7 +26,8 @@ unfolding pureTones pureSound
 returns c =
     let n = c .before .before .before .before in
     let a = n .before .before .before .before .before .before .before .args in
-    does-born (a .tape .now) (a .origin) (pureSound (a .bits) (ms (a .pause))) (n .before .before .before .data-row .ensures) (n .two-tones .ensures)
+    does-born (a .tape .now) (a .origin) (pureSound (a .bits) (ms (a .pause))) (n .before .before .before .data-row .ensures)
+    (n .two-tones .ensures)
 
 pub pure-data-block-spec : {M : Type 1} → statement M
 pure-data-block-spec =

@@ -59,7 +59,8 @@ unfolding turboTones turboSound
 returns c =
     let n = c .before .before .before .before in
     let data-row = n .before .before .before in
-    let a = data-row .before .before .before .before .before .before .before .before .before .before .before .before .before .before .args in
+    let start = data-row .before .before .before .before .before .before .before in
+    let a = start .before .before .before .before .before .before .before .args in
     does-born (a .tape .now) (a .origin) (turboSound (a .d)) (data-row .data-row .ensures) (n .two-tones .ensures)
 
 pub turbo-data-block-spec : {M : Type 1} → statement M

@@ -1,7 +1,7 @@
 -- `rows_figure` meets its contract: what is added up and what is left come to all of it. Assumes nothing.
 use Prim.Native.Nat.{_+_, _-_, _≤_}
 use native.Mathlib.Omega.{arith}
-use mathlib.Core.Path.{_≡_, refl, sym, ap, _∙_}
+use mathlib.Core.Path.{_≡_, ap, _∙_}
 use Rattle.play_entries.specs.Figures.{toneFigure}
 use Rattle.play_entries.proofs.Figures.{figureFrom, from-next, from-none, from-most, owned}
 use Rattle.play_times.proofs.rows_figure.Statement.{statement}

@@ -1,7 +1,7 @@
 -- `tone_figure` meets its contract. Assumes nothing.
 use Prim.Native.Nat.{_*_}
 use native.Mathlib.Omega.{arith}
-use mathlib.Core.Path.{_≡_, sym, _∙_}
+use mathlib.Core.Path.{_≡_, sym}
 use borrow.Author.Needs.{needs}
 use Rattle.rows.proofs.Clauses.{failed, passed}
 use Rattle.play_entries.specs.Figures.{toneFigure}

@@ -2,6 +2,7 @@
 use native.Mathlib.Omega.{arith}
 use borrow.Author.Needs.{needs}
 use Rattle.text_out.proofs.Writing.{then, decimal-length}
+use Rattle.text_listing.specs.Page.{loadingText}
 use Rattle.text_listing.proofs.page.put_total.Statement.{statement}
 use Rattle.text_listing.proofs.page.put_total.Tie as tie
 
@@ -25,6 +26,7 @@ same-length : tie.Need-same-length
 same-length c = search needs
 
 returns : tie.Need-returns
+unfolding loadingText
 returns c =
     let put-decimal = c .before .before .before .before .before .before in
     let put-all = put-decimal .before .before .before .before in

@@ -7,8 +7,9 @@ use lib.ListN.{length}
 use borrow.Author.Tests.{le-leb}
 use Rattle.rows.specs.declared.Block.{Block}
 use Rattle.rows.specs.declared.Tone.{Tone}
-use Rattle.play_entries.specs.Figures.{sounding}
-use Rattle.play_entries.proofs.Figures.{sound-none}
+use Rattle.rows.specs.Rows.{withSound}
+use Rattle.play_entries.specs.Figures.{toneFigure, dataFigure, sounding}
+use Rattle.play_entries.proofs.Figures.{data-empty, sound-none, sound-one, sound-two}
 use Rattle.load_state.specs.declared.State.{State}
 use Rattle.load_state.specs.declared.Step.{Step}
 use Rattle.load_state.specs.Parser.{Parsed, Out, on, no, _⟫_, addTones, addBlock}
@@ -46,12 +47,26 @@ unfolding addSound
 does-sound tape origin d e f B N t h = rw (← h .nt, ← e) (f B N t h)
 
 -- a row at birth, with what it sounds
-pub does-born : {s : State} {x : Step} {bt tt bt′ tt′ : List ℕ} {r : Block} (tape : List ℕ) (origin : Origin) (d : Sound)
-    → r ≡ rowFor origin (s .tones) (length (d .tones)) (d .bits) (d .ending) (d .selectable)
-    → Does (λ lent. addRows lent (d .tones) (sounding tape (d .tones) r)) s x bt tt bt′ tt′
+pub does-born : {s : State} {x : Step} {bt tt bt′ tt′ : List ℕ} {r q : Block} (tape : List ℕ) (origin : Origin) (d : Sound)
+    → r ≡ rowFor origin (s .tones) (length (d .tones)) (d .bits) (d .ending) (d .selectable) → q ≡ sounding tape (d .tones) r
+    → Does (λ lent. addRows lent (d .tones) q) s x bt tt bt′ tt′
     → Does (λ lent. addSound lent tape origin d) s x bt tt bt′ tt′
 unfolding rowOf
-does-born tape origin d e = does-sound tape origin d (ap (sounding tape (d .tones)) e)
+does-born tape origin d e h = does-sound tape origin d (h ∙ ap (sounding tape (d .tones)) e)
+
+-- what it sounds, added up: a tone row without data; two tone rows with data, and without
+pub one-alone : (tape : List ℕ) (a : Tone) (r : Block) {m : ℕ} {q : Block} → r .size ≡ 0 → m ≡ toneFigure r a
+    → q ≡ withSound m r → q ≡ sounding tape (a ∷ []) r
+one-alone tape a r h x e = e ∙ ap (λ (i : ℕ). withSound i r) (omega (arith, x, data-empty tape r h, sound-one tape a r))
+
+module _ (tape : List ℕ) (a b : Tone) (r : Block) where
+  pub two-and-data : {m n k : ℕ} {q : Block} → m ≡ toneFigure r a → n ≡ toneFigure r b → k ≡ dataFigure tape r
+      → q ≡ withSound (m + n + k) r → q ≡ sounding tape (a ∷ b ∷ []) r
+  two-and-data x y z e = e ∙ ap (λ (i : ℕ). withSound i r) (omega (arith, x, y, z, sound-two tape a b r))
+
+  pub two-alone : {m n : ℕ} {q : Block} → r .size ≡ 0 → m ≡ toneFigure r a → n ≡ toneFigure r b
+      → q ≡ withSound (m + n) r → q ≡ sounding tape (a ∷ b ∷ []) r
+  two-alone h x y e = e ∙ ap (λ (i : ℕ). withSound i r) (omega (arith, x, y, data-empty tape r h, sound-two tape a b r))
 
 -- a row of no tones and no data sounds nothing
 silent-row : (tape : List ℕ) (origin : Origin) (n mark : ℕ) (ending : Ending)

@@ -12,10 +12,9 @@ use rows::with_sound;
 ghost use mathlib.Core.Path.{_≡_};
 ghost use mathlib.Core.List.{List, [], _∷_};
 ghost use Prim.Native.Nat.{ℕ};
-ghost use Rattle.play_entries.specs.Figures.{sounding};
 ghost use Rattle.load_blocks.specs.Adds.{addRows};
 ghost use Rattle.load_blocks.specs.Sounds.{noBits, endsAfter, endsInStop, rowFor, addSound};
-ghost use Rattle.load_blocks.specs.Blocks.{standardHeader, standardCycles, standardPause, standardSound};
+ghost use Rattle.load_blocks.specs.Blocks.{dataSound, standardHeader, standardCycles, standardPause, standardSound};
 ghost use Rattle.load_blocks.specs.Does.{Does};
 
 // Where a block comes from: its piece's kind, and where that piece stands in the tape.
@@ -115,8 +114,8 @@ pub fn stop_row(origin: Origin, tone: u64) -> Block
     row(origin, tone, 0, no_bits(), ending, 1)
 }
 
-// One tone row, and a block that has its sound.
-fn put_one(s: State, blocks: &mut [u64], tones: &mut [u64], a: Tone, r: Block) -> Step
+// One tone row and a block.
+pub fn one_tone(s: State, blocks: &mut [u64], tones: &mut [u64], a: Tone, r: Block) -> Step
     ensures { λ x. ⌜ Does (λ lent. addRows lent (a ∷ []) r) s x (now (blocks .entry)) (now (tones .entry)) (now (blocks .exit))
         (now (tones .exit)) ⌝ }
 {
@@ -126,36 +125,8 @@ fn put_one(s: State, blocks: &mut [u64], tones: &mut [u64], a: Tone, r: Block) -
     }
 }
 
-// Two tone rows, and a block that has its sound.
-fn put_two(s: State, blocks: &mut [u64], tones: &mut [u64], a: Tone, b: Tone, r: Block) -> Step
-    ensures { λ x. ⌜ Does (λ lent. addRows lent (a ∷ b ∷ []) r) s x (now (blocks .entry)) (now (tones .entry)) (now (blocks .exit))
-        (now (tones .exit)) ⌝ }
-{
-    match add_tone(s, tones, a) {
-        Step::On(next) => put_one(next, blocks, tones, b, r),
-        Step::No(k) => Step::No(k),
-    }
-}
-
-// One tone row and a block, with what both sound.
-pub fn one_tone(
-    tape: &[u8],
-    s: State,
-    blocks: &mut [u64],
-    tones: &mut [u64],
-    a: Tone,
-    r: Block,
-) -> Step
-    ensures { λ x. ⌜ Does (λ lent. addRows lent (a ∷ []) (sounding (now (tape .entry)) (a ∷ []) r)) s x (now (blocks .entry))
-        (now (tones .entry)) (now (blocks .exit)) (now (tones .exit)) ⌝ }
-{
-    let sound = tone_figure(r, a) + data_figure(tape, r);
-    put_one(s, blocks, tones, a, with_sound(sound, r))
-}
-
-// Two tone rows and a block, with what all sound.
+// Two tone rows and a block.
 pub fn two_tones(
-    tape: &[u8],
     s: State,
     blocks: &mut [u64],
     tones: &mut [u64],
@@ -163,11 +134,33 @@ pub fn two_tones(
     b: Tone,
     r: Block,
 ) -> Step
-    ensures { λ x. ⌜ Does (λ lent. addRows lent (a ∷ b ∷ []) (sounding (now (tape .entry)) (a ∷ b ∷ []) r)) s x
+    ensures { λ x. ⌜ Does (λ lent. addRows lent (a ∷ b ∷ []) r) s x (now (blocks .entry)) (now (tones .entry)) (now (blocks .exit))
+        (now (tones .exit)) ⌝ }
+{
+    match add_tone(s, tones, a) {
+        Step::On(next) => one_tone(next, blocks, tones, b, r),
+        Step::No(k) => Step::No(k),
+    }
+}
+
+// A block of a pilot, a sync and bits of data, with what they sound.
+pub fn data_block(
+    tape: &[u8],
+    s: State,
+    blocks: &mut [u64],
+    tones: &mut [u64],
+    origin: Origin,
+    pilot: Tone,
+    sync: Tone,
+    bits: Bits,
+    pause: u64,
+) -> Step
+    ensures { λ x. ⌜ Does (λ lent. addSound lent (now (tape .entry)) origin (dataSound (pilot ∷ sync ∷ []) bits pause)) s x
         (now (blocks .entry)) (now (tones .entry)) (now (blocks .exit)) (now (tones .exit)) ⌝ }
 {
-    let sound = tone_figure(r, a) + tone_figure(r, b) + data_figure(tape, r);
-    put_two(s, blocks, tones, a, b, with_sound(sound, r))
+    let r = data_row(origin, s.tones, 2, bits, pause);
+    let sound = tone_figure(r, pilot) + tone_figure(r, sync) + data_figure(tape, r);
+    two_tones(s, blocks, tones, pilot, sync, with_sound(sound, r))
 }
 
 // Whether a standard block is a header.
@@ -225,8 +218,7 @@ pub fn standard_data_block(
         one: 1710,
         last: 8,
     };
-    let r = data_row(origin, s.tones, 2, bits, pause);
-    two_tones(tape, s, blocks, tones, pilot, sync, r)
+    data_block(tape, s, blocks, tones, origin, pilot, sync, bits, pause)
 }
 
 // A block without tone rows.

@@ -16,6 +16,7 @@ use load_state::Step;
 use load_state::add_block;
 use load_stops::stop_block;
 use play_times::data_figure;
+use play_times::tone_figure;
 use play_times::tones_figure;
 use refusals::GENERALISED;
 use refusals::TONES_FULL;
@@ -70,7 +71,7 @@ pub fn pulse_blocks(
             wave: 0,
         };
         let r = bare_row(origin, s.tones, 1, 0);
-        match one_tone(tape, s, blocks, tones, pair, r) {
+        match one_tone(s, blocks, tones, pair, with_sound(tone_figure(r, pair), r)) {
             Step::On(next) => s = next,
             Step::No(k) => return Step::No(k),
         }

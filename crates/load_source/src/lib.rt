@@ -92,7 +92,7 @@ pub fn act(
             standard_data_block(tape, s, blocks, tones, origin, header, from, size, pause)
         }
         Piece::Turbo(d) => turbo_data_block(tape, s, blocks, tones, origin, d),
-        Piece::Tone { half, count } => pure_tone_block(tape, s, blocks, tones, origin, half, count),
+        Piece::Tone { half, count } => pure_tone_block(s, blocks, tones, origin, half, count),
         Piece::Pulses { count, from } => {
             pulse_blocks(tape, s, blocks, tones, origin, from, (count / 2) as u64)
         }

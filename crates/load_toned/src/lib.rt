@@ -3,12 +3,16 @@ use cut_grammar::TurboData;
 use load_blocks::Bits;
 use load_blocks::Origin;
 use load_blocks::bare_row;
-use load_blocks::data_row;
+use load_blocks::data_block;
 use load_blocks::one_tone;
 use load_blocks::two_tones;
 use load_state::State;
 use load_state::Step;
+use play_times::tone_figure;
 use rows::Tone;
+use rows::with_sound;
+ghost use mathlib.Core.List.{List};
+ghost use Prim.Native.Nat.{ℕ};
 ghost use Rattle.load_blocks.specs.Sounds.{ms, addSound};
 ghost use Rattle.load_blocks.specs.Blocks.{turboSound, pureSound, pureToneTones, toneSound};
 ghost use Rattle.load_blocks.specs.Does.{Does};
@@ -44,8 +48,8 @@ pub fn turbo_data_block(
         one: d.one as u64,
         last: d.last as u64,
     };
-    let r = data_row(origin, s.tones, 2, bits, d.pause as u64 * 3500);
-    two_tones(tape, s, blocks, tones, pilot, sync, r)
+    let pause = d.pause as u64 * 3500;
+    data_block(tape, s, blocks, tones, origin, pilot, sync, bits, pause)
 }
 
 // 14: `bits` are the row's, the pause is in ms.
@@ -73,13 +77,21 @@ pub fn pure_data_block(
         len2: 0,
         wave: 0,
     };
-    let r = data_row(origin, s.tones, 2, bits, pause as u64 * 3500);
-    two_tones(tape, s, blocks, tones, pilot, sync, r)
+    data_block(
+        tape,
+        s,
+        blocks,
+        tones,
+        origin,
+        pilot,
+        sync,
+        bits,
+        pause as u64 * 3500,
+    )
 }
 
 // 12
 pub fn pure_tone_block(
-    tape: &[u8],
     s: State,
     blocks: &mut [u64],
     tones: &mut [u64],
@@ -87,8 +99,8 @@ pub fn pure_tone_block(
     half: u32,
     count: u32,
 ) -> Step
-    ensures { λ x. ⌜ Does (λ lent. addSound lent (now (tape .entry)) origin (toneSound (pureToneTones half count))) s x (now (blocks .entry))
-        (now (tones .entry)) (now (blocks .exit)) (now (tones .exit)) ⌝ }
+    ensures { λ x. ⌜ ((tape : List ℕ) → Does (λ lent. addSound lent tape origin (toneSound (pureToneTones half count))) s x
+        (now (blocks .entry)) (now (tones .entry)) (now (blocks .exit)) (now (tones .exit))) ⌝ }
 {
     let whole = Tone {
         num: (count / 2) as u64,
@@ -98,7 +110,13 @@ pub fn pure_tone_block(
     };
     if count % 2 == 0 {
         let r = bare_row(origin, s.tones, 1, 0);
-        return one_tone(tape, s, blocks, tones, whole, r);
+        return one_tone(
+            s,
+            blocks,
+            tones,
+            whole,
+            with_sound(tone_figure(r, whole), r),
+        );
     }
     let odd = Tone {
         num: 1,
@@ -107,5 +125,6 @@ pub fn pure_tone_block(
         wave: 0,
     };
     let r = bare_row(origin, s.tones, 2, 0);
-    two_tones(tape, s, blocks, tones, odd, whole, r)
+    let sound = tone_figure(r, odd) + tone_figure(r, whole);
+    two_tones(s, blocks, tones, odd, whole, with_sound(sound, r))
 }

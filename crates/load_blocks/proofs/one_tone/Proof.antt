@@ -1,29 +1,23 @@
--- `one_tone` meets its contract: the sound is that of the tone row and of the data. Assumes nothing.
-use Prim.Native.Nat.{ℕ, _+_}
-use native.Mathlib.Omega.{arith}
-use mathlib.Core.Path.{_≡_, sym, ap, ap₂, _∙_}
-use mathlib.Core.List.{[], _∷_}
+-- `one_tone` meets its contract. Assumes nothing.
+use Rattle.load_blocks.specs.Adds.{addRows}
+use Rattle.load_state.specs.Holds.{blockRoom}
+use Rattle.load_state.specs.Parser.{addBlock}
+use Rattle.load_state.proofs.Laws.{then-on, then-no}
 use borrow.Author.Needs.{needs}
-use Rattle.rows.specs.Rows.{withSound}
-use Rattle.play_entries.specs.Figures.{sounding}
-use Rattle.play_entries.proofs.Figures.{sound-one}
 use Rattle.load_blocks.proofs.one_tone.Statement.{statement}
 use Rattle.load_blocks.proofs.one_tone.Tie as tie
 
-tone-figure-requires : tie.Need-tone-figure-requires
-tone-figure-requires c κs = search needs
+add-tone-requires : tie.Need-add-tone-requires
+add-tone-requires c κs = search needs
 
-data-figure-requires : tie.Need-data-figure-requires
-data-figure-requires c κs = search needs
+enum-known-next : tie.Need-enum-known-next
+enum-known-next c = search needs
 
-add-sound : tie.Need-add-sound
-add-sound c = omega (arith, c .before .tone-figure .ensures .1, c .data-figure .ensures .1)
+add-block-requires : tie.Need-add-block-requires
+add-block-requires c κs = search needs
 
-with-sound-requires : tie.Need-with-sound-requires
-with-sound-requires c κs = search needs
-
-put-one-requires : tie.Need-put-one-requires
-put-one-requires c κs = search needs
+enum-known-k : tie.Need-enum-known-k
+enum-known-k c = search needs
 
 same-length : tie.Need-same-length
 same-length c = search needs
@@ -32,28 +26,33 @@ same-length-2 : tie.Need-same-length-2
 same-length-2 c = search needs
 
 returns : tie.Need-returns
+unfolding addRows
 returns c =
-    let put = c .before .before .before .before in
-    let made = put .before in
-    let figure = made .before .before .before in
-    let a = figure .before .before .before .before .before .args in
-    let s = a .tape .now in
-    let e : made .with-sound .result ≡ sounding s (a .a ∷ []) (a .r) =
-    made .with-sound .ensures
-    ∙ ap (λ (n : ℕ). withSound n (a .r))
-    (ap₂ (λ (x y : ℕ). x + y) (figure .before .tone-figure .ensures .0) (figure .data-figure .ensures .0)
-    ∙ sym (sound-one s (a .a) (a .r))) in
-    rw e at (put .put-one .ensures)
+    let next = c .before .before .before .before .before in
+    let add-tone = next .before .before .before .before in
+    λ B N t h.
+    then-on (add-tone .add-tone .ensures B N _ t h) (next .next .given .1) (λ u k. c .before .before .add-block .ensures B N _ u k)
+
+same-length-3 : tie.Need-same-length-3
+same-length-3 c = search needs
+
+returns-2 : tie.Need-returns-2
+unfolding addRows
+returns-2 c =
+    let add-tone = c .before .before .before .before .before in
+    let a = add-tone .before .before .before .before .args in
+    λ B N t h. then-no (addBlock (blockRoom B) (a .r)) (add-tone .add-tone .ensures B N _ t h) (c .before .k .given .1)
 
 pub one-tone-spec : {M : Type 1} → statement M
 one-tone-spec =
     tie.close
     (tie.spec
-    tone-figure-requires
-    data-figure-requires
-    add-sound
-    with-sound-requires
-    put-one-requires
+    add-tone-requires
+    enum-known-next
+    add-block-requires
+    enum-known-k
     same-length
     same-length-2
-    returns)
+    returns
+    same-length-3
+    returns-2)

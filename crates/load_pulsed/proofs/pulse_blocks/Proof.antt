@@ -1,18 +1,23 @@
 -- `pulse_blocks` meets its contract. Assumes nothing.
 use Prim.Native.Nat.{ℕ, _+_, _*_, _-_}
-use mathlib.Core.Path.{_≡_, refl}
+use mathlib.Core.Path.{_≡_, refl, ap}
 use native.Mathlib.Omega.{arith}
 use lib.ListN.{length}
 use borrow.Author.Needs.{needs}
+use Rattle.rows.specs.declared.Block.{Block}
 use Rattle.load_state.specs.Parser.{Parsed}
 use Rattle.load_state.specs.Holds.{Holds}
 use Rattle.load_state.proofs.Laws.{Going, going-starts, going-on, going-no, going-ends}
 use Rattle.load_blocks.specs.Sounds.{addSound, addSounds}
-use Rattle.load_blocks.specs.Blocks.{pairSound, pairSounds}
+use Rattle.load_blocks.specs.Blocks.{toneSound, pairSound, pairSounds}
 use Rattle.load_blocks.specs.Does.{lentOf}
-use Rattle.load_blocks.proofs.Laws.{Any, does-born, pairs-more}
+use Rattle.load_blocks.proofs.Laws.{Any, does-born, one-alone, pairs-more}
 use Rattle.load_pulsed.proofs.pulse_blocks.Statement.{statement}
 use Rattle.load_pulsed.proofs.pulse_blocks.Tie as tie
+
+-- a row without data
+abbrev size : Block → ℕ
+size r = r .size
 
 abbrev Inv-loop : tie.InvT-loop
 Inv-loop tape blocks₀ tones₀ origin from n s₀ i₀ left₀ blocks tones s i left =
@@ -40,6 +45,12 @@ pulse-at-requires-2 c κs = search needs
 bare-row-requires : tie.Need-bare-row-requires Inv-loop μ-loop
 bare-row-requires c κs = search needs
 
+tone-figure-requires : tie.Need-tone-figure-requires Inv-loop μ-loop
+tone-figure-requires c κs = search needs
+
+with-sound-requires : tie.Need-with-sound-requires Inv-loop μ-loop
+with-sound-requires c κs = search needs
+
 one-tone-requires : tie.Need-one-tone-requires Inv-loop μ-loop
 one-tone-requires c κs = search needs
 
@@ -59,22 +70,23 @@ returns : tie.Need-returns Inv-loop μ-loop
 returns c =
     λ B N t h.
     let one-tone = c .before .before .before .before .before .before .before in
-    let bare-row = one-tone .before .before .before in
+    let bare-row = one-tone .before .before .before .before .before in
     let loop-test = bare-row .before .before .before in
     let a = loop-test .before .before .before .before .before .args in
     let l = loop-test .before .loop in
     let g = l .inv .3 B N t h in
     let f = addSound (lentOf B N) (a .tape .now) (a .origin) (pairSound (a .tape .now) (a .from) (l .i)) in
-    let gave = does-born (a .tape .now) (a .origin) (pairSound (a .tape .now) (a .from) (l .i)) (bare-row .bare-row .ensures)
-    (rw (bare-row .before .before .pulse-at .ensures, bare-row .before .pulse-at2 .ensures) at (one-tone .one-tone .ensures)) B N (g .at)
-    (g .holds) in
+    let born = does-born (a .tape .now) (a .origin) (toneSound _) (bare-row .bare-row .ensures)
+    (one-alone (a .tape .now) _ _ (ap size (bare-row .bare-row .ensures)) (one-tone .before .before .tone-figure .ensures .0)
+    (one-tone .before .with-sound .ensures)) (one-tone .one-tone .ensures) in
+    let gave = rw (bare-row .before .before .pulse-at .ensures, bare-row .before .pulse-at2 .ensures) at born B N (g .at) (g .holds) in
     going-no g f (addSounds (lentOf B N) (a .tape .now) (a .origin) (pairSounds (a .tape .now) (a .from) (l .i + 2) (l .left - 1)))
     (pairs-more (lentOf B N) (a .origin) (a .tape .now) (a .from) (l .i) (l .left) (g .at) (loop-test .loop-test .taken)) gave
     (c .before .k .given .1)
 
 add-i : tie.Need-add-i Inv-loop μ-loop
 add-i c =
-    let loop-test = c .before .before .before .before .before .before .before .before .before .before .before .before .before in
+    let loop-test = c .before .before .before .before .before .before .before .before .before .before .before .before .before .before .before in
     let good = loop-test .before .before .before .before .before in
     omega (arith, good .good .0, good .pre, loop-test .before .loop .inv .2, loop-test .loop-test .taken)
 
@@ -87,7 +99,7 @@ loop-less c = search needs
 loop-again : tie.Need-loop-again Inv-loop μ-loop
 loop-again c =
     let one-tone = c .before .before .before .before .before .before .before in
-    let bare-row = one-tone .before .before .before in
+    let bare-row = one-tone .before .before .before .before .before in
     let loop-test = bare-row .before .before .before in
     let a = loop-test .before .before .before .before .before .args in
     let l = loop-test .before .loop in (
@@ -97,9 +109,10 @@ loop-again c =
       λ B N t h.
           let g = l .inv .3 B N t h in
           let f = addSound (lentOf B N) (a .tape .now) (a .origin) (pairSound (a .tape .now) (a .from) (l .i)) in
-          let gave = does-born (a .tape .now) (a .origin) (pairSound (a .tape .now) (a .from) (l .i)) (bare-row .bare-row .ensures)
-          (rw (bare-row .before .before .pulse-at .ensures, bare-row .before .pulse-at2 .ensures) at (one-tone .one-tone .ensures)) B N
-          (g .at) (g .holds) in
+          let born = does-born (a .tape .now) (a .origin) (toneSound _) (bare-row .bare-row .ensures)
+          (one-alone (a .tape .now) _ _ (ap size (bare-row .bare-row .ensures)) (one-tone .before .before .tone-figure .ensures .0)
+          (one-tone .before .with-sound .ensures)) (one-tone .one-tone .ensures) in
+          let gave = rw (bare-row .before .before .pulse-at .ensures, bare-row .before .pulse-at2 .ensures) at born B N (g .at) (g .holds) in
           going-on g f (addSounds (lentOf B N) (a .tape .now) (a .origin) (pairSounds (a .tape .now) (a .from) (l .i + 2) (l .left - 1)))
           (pairs-more (lentOf B N) (a .origin) (a .tape .now) (a .from) (l .i) (l .left) (g .at) (loop-test .loop-test .taken)) gave
           (c .before .next .given .1) (λ u q. tt),
@@ -129,6 +142,8 @@ pulse-blocks-spec =
     add-pulse-at
     pulse-at-requires-2
     bare-row-requires
+    tone-figure-requires
+    with-sound-requires
     one-tone-requires
     enum-known-next
     enum-known-k

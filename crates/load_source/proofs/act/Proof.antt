@@ -176,7 +176,7 @@ unfolding act deedOf
 returns-3 c =
     let pure-tone-block = c .before .before .before .before in
     let piece3 = pure-tone-block .before .before .before .before in
-    λ B N t h. rw (piece3 .piece3 .given .1) (does-one _ _ _ _ (pure-tone-block .pure-tone-block .ensures) B N t h)
+    λ B N t h. rw (piece3 .piece3 .given .1) (does-one _ _ _ _ (pure-tone-block .pure-tone-block .ensures _) B N t h)
 
 same-length-7 : tie.Need-same-length-7
 same-length-7 c = search needs

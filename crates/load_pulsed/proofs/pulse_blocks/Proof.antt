@@ -79,14 +79,16 @@ returns c =
     let born = does-born (a .tape .now) (a .origin) (toneSound _) (bare-row .bare-row .ensures)
     (one-alone (a .tape .now) _ _ (ap size (bare-row .bare-row .ensures)) (one-tone .before .before .tone-figure .ensures .0)
     (one-tone .before .with-sound .ensures)) (one-tone .one-tone .ensures) in
-    let gave = rw (bare-row .before .before .pulse-at .ensures, bare-row .before .pulse-at2 .ensures) at born B N (g .at) (g .holds) in
+    let told = rw (bare-row .before .before .pulse-at .ensures, bare-row .before .pulse-at2 .ensures) at born in
+    let gave = told B N (g .at) (g .holds) in
     going-no g f (addSounds (lentOf B N) (a .tape .now) (a .origin) (pairSounds (a .tape .now) (a .from) (l .i + 2) (l .left - 1)))
     (pairs-more (lentOf B N) (a .origin) (a .tape .now) (a .from) (l .i) (l .left) (g .at) (loop-test .loop-test .taken)) gave
     (c .before .k .given .1)
 
 add-i : tie.Need-add-i Inv-loop μ-loop
 add-i c =
-    let loop-test = c .before .before .before .before .before .before .before .before .before .before .before .before .before .before .before in
+    let one-tone = c .before .before .before .before .before .before .before in
+    let loop-test = one-tone .before .before .before .before .before .before .before .before in
     let good = loop-test .before .before .before .before .before in
     omega (arith, good .good .0, good .pre, loop-test .before .loop .inv .2, loop-test .loop-test .taken)
 
@@ -112,7 +114,8 @@ loop-again c =
           let born = does-born (a .tape .now) (a .origin) (toneSound _) (bare-row .bare-row .ensures)
           (one-alone (a .tape .now) _ _ (ap size (bare-row .bare-row .ensures)) (one-tone .before .before .tone-figure .ensures .0)
           (one-tone .before .with-sound .ensures)) (one-tone .one-tone .ensures) in
-          let gave = rw (bare-row .before .before .pulse-at .ensures, bare-row .before .pulse-at2 .ensures) at born B N (g .at) (g .holds) in
+          let told = rw (bare-row .before .before .pulse-at .ensures, bare-row .before .pulse-at2 .ensures) at born in
+          let gave = told B N (g .at) (g .holds) in
           going-on g f (addSounds (lentOf B N) (a .tape .now) (a .origin) (pairSounds (a .tape .now) (a .from) (l .i + 2) (l .left - 1)))
           (pairs-more (lentOf B N) (a .origin) (a .tape .now) (a .from) (l .i) (l .left) (g .at) (loop-test .loop-test .taken)) gave
           (c .before .next .given .1) (λ u q. tt),

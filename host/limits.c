@@ -334,6 +334,26 @@ static void players(void) {
     answers(POSITION, 0, WORDS(2), "and is shown under its block");
 }
 
+/* times are the rows' own, also where a row was altered; playing doesn't look at them */
+static void stored_times(void) {
+    const word most = ((word)1 << 50) - 1;
+    tzx(), put(0x12, 1), put(100, 2), put(4, 2);
+    load("a sole piece 12 loads", 0, LENT_BLOCKS, LENT_TONES, 0, 1, 1);
+    is(blocks[GLYVRASK_SOUND], 400, "its row says 400");
+    blocks[GLYVRASK_SOUND] = 7;
+    answers(TIME, 0, WORDS(0, 7), "a row that says 7 lasts 7");
+    answers(LOADING, 0, WORDS(7), "and so does the load");
+    at(0, 0, 0, 0, 0, 0, 0);
+    t_states = 400;
+    answers(MEASURED, 0, WORDS(0, 5, 0, 0, 3, 0, 0, 0, 0, 0), "400 still stands at the pause");
+    blocks[GLYVRASK_SOUND] = most;
+    answers(TIME, 0, WORDS(0, most), "2 to the 50th less 1 is answered");
+    blocks[GLYVRASK_SOUND] = most + 1;
+    refused(TIME, count, 0, 2, 11, "2 to the 50th is refused 11");
+    refused(LOADING, count, 0, 1, 11, "  as the loading time");
+    refused(MEASURED, count, 0, 10, 11, "  and by a player");
+}
+
 /* over the example's tables */
 static void refusals(void) {
     static const enum call of_block[] = {NAME, SIZE, MARK, TIME}, of_place[] = {POSITION, PLAY, MEASURED, HEAD, RUN};
@@ -417,6 +437,7 @@ int main(void) {
     tone_rows();
     refused_loads();
     queries();
+    stored_times();
     players();
     refusals();
     printf("%u checks right\n", done);

@@ -229,9 +229,9 @@ gone-all m w ns table g h =
     ap (λ (zs : List ℕ). put_all answerRow table g.next (runRows (playerOf m w) g.position zs)) (drop-end ns g.next h)
 
 -- room for every row
-pub no_room : (ns table : List ℕ) → length table / 10 < length ns → roomNo ns table ≡ noRoom
+pub no_room_lem : (ns table : List ℕ) → length table / 10 < length ns → roomNo ns table ≡ noRoom
 unfolding roomNo
-no_room ns table h = rw (lt-ltb (length table) (length ns * answerRow.width) (omega arith))
+no_room_lem ns table h = rw (lt-ltb (length table) (length ns * answerRow.width) (omega arith))
 
 pub room : (ns table : List ℕ) → length ns ≤ length table / 10 → roomNo ns table ≡ 0
 unfolding roomNo

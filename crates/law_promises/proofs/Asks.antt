@@ -78,9 +78,9 @@ room text out = of (fits text out) refl
     of true e = inl refl
     of false e = inr (refl, leb-false _ _ e)
 
-no_room : (text out : List ℕ) → length out < length text → numberNo (lengthOrNoRoom text out) ≡ noRoom
+no_room_lem : (text out : List ℕ) → length out < length text → numberNo (lengthOrNoRoom text out) ≡ noRoom
 unfolding numberNo lengthOrNoRoom
-no_room text out h = rw (lt-leb (length text) (length out) h)
+no_room_lem text out h = rw (lt-leb (length text) (length out) h)
 
 module _ (w : Tape) (i : ℕ) where
   of-rules : Rules (overfull w) (leb w.count i) (wellRow w i) (refusalOf w i)
@@ -170,7 +170,7 @@ module _ (w : Tape) (i : ℕ) where
     λ e. ⊎_elim (λ x. absurd (never-10 x of-rules))
         (λ x. (refusal-none.0 x.0, ⊎_elim (λ z. absurd (omega (arith, x.1, z))) (λ z. z.1) (room (nameIn w i) out)))
         ((name-no out noRoom (omega arith)).0 e),
-    λ h. (name-no out noRoom (omega arith)).1 (inr (refusal-none.1 h.0, no_room (nameIn w i) out h.1)),
+    λ h. (name-no out noRoom (omega arith)).1 (inr (refusal-none.1 h.0, no_room_lem (nameIn w i) out h.1)),
   )
     where
       never-10 : refusalOf w i ≡ noRoom → Rules (overfull w) (leb w.count i) (wellRow w i) (refusalOf w i) → ⊥

@@ -338,14 +338,14 @@ module _ (s : List ℕ) (model : ℕ) where
   -- WHATEVER IS LENT, a load is the one without tables, or refused by 5 or 6
   pub lent-decides : (l : Lent)
       → (loadNamed l s model ≡ boundlessLoad s model) ⊎ ((k : ℕ) × Full k × (loadNamed l s model ≡ no k))
-  lent-decides l = of (with_rows large-enough.rows large-enough.settled)
+  lent-decides l = of (by_rows large-enough.rows large-enough.settled)
     where
       reach : (m : Lent) → Larger m m
       reach m = record { blocks = omega arith; tones = omega arith }
 
-      with_rows : (r : Lent) → ((m : Lent) → Larger r m → loadNamed m s model ≡ boundlessLoad s model)
+      by_rows : (r : Lent) → ((m : Lent) → Larger r m → loadNamed m s model ≡ boundlessLoad s model)
           → Near no (loadNamed l s model) (boundlessLoad s model)
-      with_rows r settled =
+      by_rows r settled =
           let m = both l r in
           let x : Near no (loadNamed l s model) (loadNamed m s model) = load-tends.larger l m (for-first l r m (reach m)) in
           subst (Near no (loadNamed l s model)) (settled m (for-second l r m (reach m))) x

@@ -90,7 +90,7 @@ module _ (w : Tape) (q : Position) where
 
   pub judged-9 : (judged w q ≡ NotValid) ↔ Invalid w q
   unfolding judged
-  judged-9 = (λ e. of e of-tests, λ h. back_to (ruledOut w q) h)
+  judged-9 = (λ e. of e of-tests, λ h. back_from (ruledOut w q) h)
     where
       of : {c : Check} → c ≡ NotValid → Tests (overfull w) (ruledOut w q) (illFormed w q) (validAt w q) c → Invalid w q
       of e (full a) = let z : ◌≡◌ {A = ℕ} 0 1 = cc in absurd (omega arith)
@@ -99,15 +99,15 @@ module _ (w : Tape) (q : Position) where
       of e (wrong a b c d) = record { few = a; well = row-well.0 c; bad = d }
       of e (fine a b c d) = let z : ◌≡◌ {A = ℕ} 0 1 = cc in absurd (omega arith)
 
-      back_to : (b : Bool) → Invalid w q
+      back_from : (b : Bool) → Invalid w q
           → (overfull w ⇒ NotFormed ∣ b ⇒ NotValid ∣ illFormed w q ⇒ NotFormed ∣ not (validAt w q) ⇒ NotValid ∣ Fine)
           ≡ NotValid
-      back_to true h = rw h.few
-      back_to false h = rw (h.few, row-well.1 h.well, h.bad)
+      back_from true h = rw h.few
+      back_from false h = rw (h.few, row-well.1 h.well, h.bad)
 
   pub judged-11 : (judged w q ≡ NotFormed) ↔ Unformed w q.block
   unfolding judged ruledOut
-  judged-11 = (λ e. of e of-tests, λ h. ⊎_elim (λ x. rw x) (λ x. back_to (overfull w) x) h)
+  judged-11 = (λ e. of e of-tests, λ h. ⊎_elim (λ x. rw x) (λ x. back_from (overfull w) x) h)
     where
       of : {c : Check} → c ≡ NotFormed → Tests (overfull w) (ruledOut w q) (illFormed w q) (validAt w q) c → Unformed w q.block
       of e (full a) = inl a
@@ -116,12 +116,12 @@ module _ (w : Tape) (q : Position) where
       of e (wrong a b c d) = let z : ◌≡◌ {A = ℕ} 0 1 = cc in absurd (omega arith)
       of e (fine a b c d) = let z : ◌≡◌ {A = ℕ} 0 1 = cc in absurd (omega arith)
 
-      back_to : (a : Bool) → (q.block < w.count) × (wellRow w q.block ≡ false)
+      back_from : (a : Bool) → (q.block < w.count) × (wellRow w q.block ≡ false)
           → (a ⇒ NotFormed ∣ (leb w.count q.block && not (at_start q)) ⇒ NotValid ∣ illFormed w q ⇒ NotFormed
           ∣ not (validAt w q) ⇒ NotValid ∣ Fine)
           ≡ NotFormed
-      back_to true x = refl
-      back_to false x = rw (lt-leb w.count q.block x.0, row-bad.1 x)
+      back_from true x = refl
+      back_from false x = rw (lt-leb w.count q.block x.0, row-bad.1 x)
 
 -- a player's number: the check's, or that of its walk
 pub told_none : (st : Status) (s : Stand) → reachedNo (toldAs st s) ≡ 0
@@ -256,17 +256,17 @@ module _ (w : Tape) (q : Position) where
   player-reaches n a spends x some =
       let y = player-11 w q n a in (
         λ e. ⊎_elim (λ u. inl u) (λ f. let p = fine-valid f.0 in inr (p.0, (reach p.1).0 f.1.1)) (y.0 e),
-        λ h. y.1 (⊎_elim (λ u. inl u) (λ f. back_to f.1 (valid-fine f.0)) h),
+        λ h. y.1 (⊎_elim (λ u. inl u) (λ f. back_from f.1 (valid-fine f.0)) h),
       )
     where
       reach : (q.block < w.count → wellRow w q.block ≡ true)
           → Runs w q.block a.tells ↔ ((k : ℕ) × Reaches w q spends k)
       reach well = runs-reach w q spends (row-cuts w q well) a.tells x
 
-      back_to : (k : ℕ) × Reaches w q spends k → Unformed w q.block ⊎ (judged w q ≡ Fine)
+      back_from : (k : ℕ) × Reaches w q spends k → Unformed w q.block ⊎ (judged w q ≡ Fine)
           → Unformed w q.block ⊎ ((judged w q ≡ Fine) × ((0 < n) × Runs w q.block a.tells))
-      back_to r (inl u) = inl u
-      back_to r (inr e) = inr (e, (some r.1.before r.1.left, (reach (fine-valid e).1).1 r))
+      back_from r (inl u) = inl u
+      back_from r (inr e) = inr (e, (some r.1.before r.1.left, (reach (fine-valid e).1).1 r))
 
   -- 11: for the count or its row; or a walk that reaches a bad row
   pub given-11-measured : (n : ℕ) → (reachedNo (playMeasured w q n) ≡ badRow) ↔ Unplayable w q (called n)

@@ -52,7 +52,7 @@ text-length s model {t} e = of (listing-sized s model) e
 -- what the number r, and the output bytes after the call, are
 pub data Tells (l : Listing) (out : List ℕ) : ℕ → List ℕ → Type 0 where
   refusal : {k : ℕ} → l ≡ refused k → badModel ≤ k → k ≤ lastBits → Tells l out k out
-  no_room : {t : List ℕ} → l ≡ text t → length out < length t → Tells l out noRoom out
+  too_short : {t : List ℕ} → l ≡ text t → length out < length t → Tells l out noRoom out
   listing : {t : List ℕ} → l ≡ text t → 37 ≤ length t → length t ≤ length out
       → Tells l out (length t) (t ++ drop (length t) out)
 
@@ -62,18 +62,18 @@ tells-number (text t) out (long h) = by-room (fits t out) refl
   where
     by-room : (b : Bool) → fits t out ≡ b → Tells (text t) out (b ⇒ length t ∣ noRoom) (b ⇒ t ++ drop (length t) out ∣ out)
     by-room true e = listing refl h (leb-true _ _ e)
-    by-room false e = no_room refl (leb-false _ _ e)
+    by-room false e = too_short refl (leb-false _ _ e)
 tells-number (refused k) out (small a b) = refusal refl a b
 
 -- BELOW 32 A REFUSAL, and no byte is written; ELSE THE TEXT'S LENGTH, and the text stands in front
 below : {l : Listing} {out out' : List ℕ} {r : ℕ} → Tells l out r out' → r < 32 → (r ≤ noRoom) × (out' ≡ out)
 below (refusal e a b) h = (omega arith, refl)
-below (no_room e k) h = (omega arith, refl)
+below (too_short e k) h = (omega arith, refl)
 below (listing e k m) h = absurd (omega arith)
 
 above : {l : Listing} {out out' : List ℕ} {r : ℕ} → Tells l out r out' → 32 ≤ r → Spoken l out r out'
 above (refusal e a b) h = absurd (omega arith)
-above (no_room e k) h = absurd (omega arith)
+above (too_short e k) h = absurd (omega arith)
 above (listing e k m) h = spoken e refl refl
 
 pub number-tells : (s : List ℕ) (model : ℕ) (out : List ℕ)

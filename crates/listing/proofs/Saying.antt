@@ -24,7 +24,7 @@ use Rattle.text_listing.proofs.Showing.{name-part}
 use Rattle.text_listing.proofs.Texts.{decimal-long}
 use Rattle.text_listing.proofs.PageTexts.{text-most}
 use Rattle.listing.proofs.Mounting.{load-ready}
-use Rattle.listing.proofs.Numbers.{Tells, refusal, no_room, listing, listing-sized, tells-number}
+use Rattle.listing.proofs.Numbers.{Tells, refusal, too_short, listing, listing-sized, tells-number}
 
 -- a text of at most 300,000 bytes, or a refusal
 data Fits : Listing → Type 0 where
@@ -76,13 +76,13 @@ Roomy l out = (t : List ℕ) → l ≡ text t → length t ≤ length out
 
 refusal-told : {l : Listing} {out out' : List ℕ} {r : ℕ} → Roomy l out → Tells l out r out' → r < 32 → l ≡ refused r
 refusal-told room (refusal e a b) h = e
-refusal-told room (no_room {t = t} e k) h = let z = room t e in absurd (omega arith)
+refusal-told room (too_short {t = t} e k) h = let z = room t e in absurd (omega arith)
 refusal-told room (listing e k m) h = absurd (omega arith)
 
 text-told : {l : Listing} {out out' : List ℕ} {r : ℕ} → Tells l out r out' → 32 ≤ r → Says (printedOf l) r out'
 unfolding printedOf
 text-told (refusal e a b) h = absurd (omega arith)
-text-told (no_room e k) h = absurd (omega arith)
+text-told (too_short e k) h = absurd (omega arith)
 text-told {out = out} (listing {t = t} e k m) h =
     rw e (record {
       count = simp length-append (omega arith);

@@ -27,9 +27,9 @@ and-not : (a : Bool) → (a && false) ≡ false
 and-not true = refl
 and-not false = refl
 
-ruled_out : (w : Tape) (q : Position) → validAt w q ≡ true → ruledOut w q ≡ false
+ruled_out_lem : (w : Tape) (q : Position) → validAt w q ≡ true → ruledOut w q ≡ false
 unfolding ruledOut valid
-ruled_out w q v =
+ruled_out_lem w q v =
     ⊎_elim
     (λ l. rw (lt-leb w.count q.block l))
     (λ g.
@@ -58,7 +58,7 @@ module _ (w : Tape) (whole : WholeTape w) where
   whole-fine q v = rw (le-ltb (capacityOf block blockMost w.blocks) w.count whole.lent, ruled, row, v)
     where
       ruled : ruledOut w q ≡ false
-      ruled = ruled_out w q v
+      ruled = ruled_out_lem w q v
 
       row : illFormed w q ≡ false
       row = ill-formed w whole q

@@ -116,10 +116,10 @@ module _ (w : Tape) where
     unfolding from_byte
     byte-reach pos h = reach (byteEntries w.bytes b (blockIn w b) (bitIn w b)) pos (blockIn w b).size (fromEdge w b) h
 
-    pub bit_in : (pos k : ℕ) → k < bits_at (blockIn w b) pos
+    pub bit_in_lem : (pos k : ℕ) → k < bits_at (blockIn w b) pos
         → fromBit w b pos k ≡ bitEntries b (blockIn w b) (bitIn w b) pos (byteIn w b pos) k ++ fromBit w b pos (k + 1)
     unfolding fromBit
-    bit_in pos k h = next (bitEntries b (blockIn w b) (bitIn w b) pos (byteIn w b pos)) k _ (from_byte w b (pos + 1)) h
+    bit_in_lem pos k h = next (bitEntries b (blockIn w b) (bitIn w b) pos (byteIn w b pos)) k _ (from_byte w b (pos + 1)) h
 
     pub bit-out : (pos k : ℕ) → bits_at (blockIn w b) pos ≤ k → fromBit w b pos k ≡ from_byte w b (pos + 1)
     unfolding fromBit

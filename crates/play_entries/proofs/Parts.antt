@@ -21,7 +21,7 @@ use Rattle.play_entries.specs.Places.{lengthAt, valid, head_of, left_of}
 use Rattle.play_entries.specs.Tails.{LeadsInto, PartAt}
 use Rattle.play_entries.proofs.Runs.{cycle-finite, bit-finite, row-finite, bytes-finite}
 use Rattle.play_entries.proofs.Follows.{list-in, tone-in, tone-out, tone-reach, cycle-in, second-in, edge_in, cycle-reach, byte-in}
-use Rattle.play_entries.proofs.Follows.{byte-out, byte-reach, bit_in, bit-reach}
+use Rattle.play_entries.proofs.Follows.{byte-out, byte-reach, bit_in_lem, bit-reach}
 use Rattle.play_entries.proofs.Valid.{tone-entry, tone-second, data-entry, Stands, stands-valid, valid-start, below-stands}
 
 into-by : {es xs ys : List (Entry Label)} → xs ≡ ys → LeadsInto es xs → LeadsInto es ys
@@ -106,13 +106,13 @@ module _ (w : Tape) (b : ℕ) (h : b < w.count) where
       }
   left-of (Data pos k false) left s =
       let l = data-entry w.tones (blockIn w b) pos k false s.entry in
-      record { next = _; entry = into-by (bit_in w b pos k l.1) (into-bit pos k l.0 (omega arith)); rest = refl }
+      record { next = _; entry = into-by (bit_in_lem w b pos k l.1) (into-bit pos k l.0 (omega arith)); rest = refl }
   left-of (Data pos k true) left s =
       let l = data-entry w.tones (blockIn w b) pos k true s.entry in
       record {
         next = _;
         entry = into-past (pulse (label_at b (Data pos k false)) (bitIn w b) _ ∷ []) _ tt
-            (into-by (bit_in w b pos k l.1) (into-bit pos k l.0 (omega arith)));
+            (into-by (bit_in_lem w b pos k l.1) (into-bit pos k l.0 (omega arith)));
         rest = refl;
       }
   left-of Edge left s = record { next = fromPause w b; entry = into-by (edge_in w b s.entry) into-edge; rest = refl }

@@ -20,7 +20,7 @@ use Rattle.play_entries.specs.Places.{lengthAt, isStart, valid, head_of, left_of
 use Rattle.play_entries.specs.Tails.{Tail}
 use Rattle.play_entries.proofs.Bounds.{bits-some}
 use Rattle.play_entries.proofs.Follows.{list-in, list-out, tone-in, tone-out, cycle-in, cycle-out, second-in, second-out, byte-in}
-use Rattle.play_entries.proofs.Follows.{byte-out, bit_in, bit-out, edge_in, edge-out}
+use Rattle.play_entries.proofs.Follows.{byte-out, bit_in_lem, bit-out, edge_in, edge-out}
 use Rattle.play_entries.proofs.Valid.{remains-full, remains-less, tone-entry, has-tone, has-second, data-entry, has-data}
 use Rattle.play_entries.proofs.Valid.{stands-valid, valid-stands, start-valid, valid-start}
 
@@ -95,7 +95,7 @@ module _ (w : Tape) where
 
     tail-bit-in : (pos k : ℕ) → pos < (blockIn w b).size → k < bits_at (blockIn w b) pos → Tail w (fromBit w b pos k)
     unfolding left_at entry_of
-    tail-bit-in pos k l g = tail-by (bit_in w b pos k g) (tail-bit-half pos k l g).0
+    tail-bit-in pos k l g = tail-by (bit_in_lem w b pos k g) (tail-bit-half pos k l g).0
 
     pub tail-byte : (pos : ℕ) → Tail w (from_byte w b pos)
     tail-byte pos =

@@ -27,7 +27,7 @@ use Rattle.play_entries.specs.Places.{fromEdge, from_byte, fromBit, fromTone, fr
 use Rattle.play_entries.specs.Places.{hasIn, lengthIn}
 use Rattle.play_entries.proofs.Runs.{cycle-finite, cycle-time, cycle-length, bit-finite, byte-finite, byte-length, bit-time}
 use Rattle.play_entries.proofs.Bounds.{bits-some}
-use Rattle.play_entries.proofs.Follows.{list-in, tone-in, tone-out, cycle-in, cycle-out, second-in, second-out, byte-in, byte-out, bit_in}
+use Rattle.play_entries.proofs.Follows.{list-in, tone-in, tone-out, cycle-in, cycle-out, second-in, second-out, byte-in, byte-out, bit_in_lem}
 use Rattle.play_entries.proofs.Follows.{bit-out, edge_in, edge-out}
 use Rattle.play_entries.proofs.Valid.{tone-entry, has-tone, has-second, data-entry, has-data}
 use Rattle.play_steps.specs.declared.Step.{Step}
@@ -59,7 +59,7 @@ module _ (w : Tape) (b : ℕ) where
   lands-bit-in : (pos k : ℕ) → pos < (blockIn w b).size → k < bits_at (blockIn w b) pos
       → Lands w b (Data pos k false) (fromBit w b pos k)
   unfolding left_at lengthAt entry_of
-  lands-bit-in pos k l g = record { to = bit_in w b pos k g; has = has-data w.tones (blockIn w b) pos k false l g }
+  lands-bit-in pos k l g = record { to = bit_in_lem w b pos k g; has = has-data w.tones (blockIn w b) pos k false l g }
 
   lands-edge-by : (x : Bool) → edged (blockIn w b) ≡ x → Lands w b (x ⇒ Edge ∣ Pause) (fromEdge w b)
   unfolding left_at lengthAt entry_of hasEntry

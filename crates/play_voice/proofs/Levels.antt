@@ -46,13 +46,13 @@ module _ (tones : List ℕ) (r : Block) where
       pause-most false false n = omega arith
 
   module _ (d : isSource r ≡ false) where
-    pub level_by : (f : Phase) → levelAt tones r f ≡ levelBy tones r f (line_at tones r (rowsBelow r f))
+    pub level_by_lem : (f : Phase) → levelAt tones r f ≡ levelBy tones r f (line_at tones r (rowsBelow r f))
     unfolding levelAt levelBy rowsBelow cycleLevel bitLevel pauseLevel
-    level_by Start = refl
-    level_by (Tones i p h) = rw d
-    level_by (Data pos k h) = rw d
-    level_by Edge = rw d
-    level_by Pause = rw d (paused (eqb r.endless 1) (eqb r.pause 0) (line_at tones r) r.tones)
+    level_by_lem Start = refl
+    level_by_lem (Tones i p h) = rw d
+    level_by_lem (Data pos k h) = rw d
+    level_by_lem Edge = rw d
+    level_by_lem Pause = rw d (paused (eqb r.endless 1) (eqb r.pause 0) (line_at tones r) r.tones)
 
   -- a level that doesn't ask for the level last played, from two lines of the same current level
   module _ (l m : Line) (e : l.current ≡ m.current) where
@@ -79,7 +79,7 @@ module _ (tones : List ℕ) (r : Block) where
   level-turned d f s e t n =
       let c = current-turned tones r (rowsBelow r f) (sym (ap steadySeen e) ∙ t) in
       level-same (turnedLine r s) (line_at tones r (rowsBelow r f)) (ap (λ (x : Seen). (turnedLine r x).current) e ∙ sym c) f n
-      ∙ sym (level_by d f)
+      ∙ sym (level_by_lem d f)
 
 -- what a document row's level asks, of the row that the code read
 abbrev Asked : List ℕ → ℕ → Phase → Heard → Block → Type 0

@@ -1,6 +1,6 @@
 -- `run_fitting` meets its contract. Assumes nothing.
 use borrow.Author.Rules.{rules}
-use Rattle.host_run.proofs.Runs.{no_room, room}
+use Rattle.host_run.proofs.Runs.{no_room_lem, room}
 use native.Mathlib.Omega.{arith}
 use mathlib.Core.Path.{sym}
 use Rattle.host_run.proofs.run_fitting.Statement.{statement}
@@ -9,7 +9,7 @@ use Rattle.host_run.proofs.run_fitting.Tie as tie
 returns : tie.Need-returns
 returns c =
     let s = c.before.before.before.before.before.before in
-    let z = no_room s.args.counts.now s.args.answers.now c.if1.true in
+    let z = no_room_lem s.args.counts.now s.args.answers.now c.if1.true in
     (sym z, rw z)
 
 run-requires : tie.Need-run-requires

@@ -58,12 +58,12 @@ loop-less c =
 
 loop-again : tie.Need-loop-preserved invariant-loop decreases-loop
 loop-again c =
-    let entry_row = c.before.before.before in
-    let loop = entry_row.before.before.before.before.before in
+    let at_row = c.before.before.before in
+    let loop = at_row.before.before.before.before.before in
     let a = loop.before.before.before.before.args in
     writing-on (entryRow a.tape.now a.g) a.g.totp a.used a.tones.now loop.loop.tones loop.loop.i (omega arith)
     loop.loop.invariant _ (search rules)
-    (c.before.before.put-row.ensures ∙ ap (putGiven loop.loop.tones (a.used + loop.loop.i)) entry_row.entry_row.ensures)
+    (c.before.before.put-row.ensures ∙ ap (putGiven loop.loop.tones (a.used + loop.loop.i)) at_row.entry_row.ensures)
 
 same_length : tie.Need-same-length invariant-loop decreases-loop
 same_length c =

@@ -1,5 +1,5 @@
 -- `level_seen` meets its contract. Assumes nothing.
-use Rattle.play_voice.proofs.Levels.{below-most, level_by, level-turned}
+use Rattle.play_voice.proofs.Levels.{below-most, level_by_lem, level-turned}
 use Rattle.play_voice.specs.Voice.{levelBy}
 use Rattle.play_entries.specs.Entries.{line_at}
 use Rattle.rows.proofs.Clauses.{failed}
@@ -50,7 +50,7 @@ returns-2 c =
     c.level-by2.ensures
     ∙ ap (levelBy a.tones.now a.r a.f)
     (c.before.line_at_lem.ensures ∙ ap (line_at a.tones.now a.r) c.before.before.rows-below.ensures)
-    ∙ sym (level_by a.tones.now a.r p.1.0.0 a.f)
+    ∙ sym (level_by_lem a.tones.now a.r p.1.0.0 a.f)
 
 pub level-seen-spec : {M : Type 1} → statement M
 level-seen-spec =

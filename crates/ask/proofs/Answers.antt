@@ -8,19 +8,19 @@ use mathlib.Core.List.{List}
 use lib.Dec.{eqb}
 use native.Mathlib.Omega.{arith}
 use Rattle.law_base.specs.Rules.{◌⇒◌, ◌∣◌}
-use Rattle.refusals.specs.Refusals.{noRoom}
+use Rattle.refusals.specs.Refusals.{no_room}
 use Rattle.text_out.specs.Out.{fits}
-use Rattle.play_entries.specs.Places.{Tape, blockIn}
-use Rattle.play_entries.specs.Stored.{rowLasts, rowsTime}
+use Rattle.play_entries.specs.Places.{Tape, block_in}
+use Rattle.play_entries.specs.Stored.{row_lasts, rows_time}
 use Rattle.play_entries.specs.Mounted.{overfull, WholeTape}
 use Rattle.ask.specs.declared.Number.TheVariants as number
 use Rattle.ask.specs.declared.Mark.TheVariants as mark
 use Rattle.ask.specs.declared.Time.TheVariants as lasting
-use Rattle.ask.specs.Queries.{numberNo, markNo, timeNo, refusalOf, numberUnless, markUnless, timeUnless, len_of, size_of}
-use Rattle.ask.specs.Queries.{selectableOf, timeOf, nameIn, lengthOrNoRoom, nameAnswer, loadingOf, EachAnswered}
-use Rattle.ask.proofs.Refusals.{refusal-none}
-use Rattle.ask.proofs.Needed.{need-whole}
-use Rattle.ask.proofs.Loads.{loading-given}
+use Rattle.ask.specs.Queries.{number_no, mark_no, time_no, refusal_of, number_unless, mark_unless, time_unless, len_of, size_of}
+use Rattle.ask.specs.Queries.{selectable_of, time_of, name_in, length_or_no_room, name_answer, loading_of, EachAnswered}
+use Rattle.ask.proofs.Refusals.{refusal_none}
+use Rattle.ask.proofs.Needed.{need_whole}
+use Rattle.ask.proofs.Loads.{loading_given}
 
 module _ (w : Tape) (whole : WholeTape w) where
   pub not-over : overfull w ≡ false
@@ -30,44 +30,44 @@ module _ (w : Tape) (whole : WholeTape w) where
   unfolding len_of
   len_whole = rw not-over
 
-  pub loading-whole : loadingOf w ≡ number.Is (rowsTime w)
-  loading-whole = sym (loading-given w not-over (need-whole w whole 0 w.count (omega arith)))
+  pub loading_whole : loading_of w ≡ number.Is (rows_time w)
+  loading_whole = sym (loading_given w not-over (need_whole w whole 0 w.count (omega arith)))
 
   module _ (i : ℕ) (h : i < w.count) where
-    none : refusalOf w i ≡ 0
-    none = refusal-none w i not-over h (whole.rows i h)
+    none : refusal_of w i ≡ 0
+    none = refusal_none w i not-over h (whole.rows i h)
 
-    pub size-whole : size_of w i ≡ number.Is (blockIn w i).size
-    unfolding size_of numberUnless
-    size-whole = rw none
+    pub size_whole : size_of w i ≡ number.Is (block_in w i).size
+    unfolding size_of number_unless
+    size_whole = rw none
 
-    pub selectable-whole : selectableOf w i ≡ mark.Is (eqb (blockIn w i).selectable 1)
-    unfolding selectableOf markUnless
-    selectable-whole = rw none
+    pub selectable_whole : selectable_of w i ≡ mark.Is (eqb (block_in w i).selectable 1)
+    unfolding selectable_of mark_unless
+    selectable_whole = rw none
 
-    pub time-whole : timeOf w i ≡ lasting.Lasts (rowLasts (blockIn w i))
-    unfolding timeOf timeUnless
+    pub time-whole : time_of w i ≡ lasting.Lasts (row_lasts (block_in w i))
+    unfolding time_of time_unless
     time-whole = rw none
 
-    pub name-whole : (out : List ℕ) → nameAnswer w i out ≡ lengthOrNoRoom (nameIn w i) out
-    unfolding nameAnswer numberUnless
-    name-whole out = rw none
+    pub name_whole : (out : List ℕ) → name_answer w i out ≡ length_or_no_room (name_in w i) out
+    unfolding name_answer number_unless
+    name_whole out = rw none
 
-pub whole-answered : (w : Tape) → WholeTape w → (i : ℕ) → i < w.count → EachAnswered w i
-unfolding numberNo markNo timeNo lengthOrNoRoom
-whole-answered w whole i h =
+pub whole_answered : (w : Tape) → WholeTape w → (i : ℕ) → i < w.count → EachAnswered w i
+unfolding number_no mark_no time_no length_or_no_room
+whole_answered w whole i h =
     record {
-      len = ap numberNo (len_whole w whole);
-      size = ap numberNo (size-whole w whole i h);
-      selectable = ap markNo (selectable-whole w whole i h);
-      lasts = ap timeNo (time-whole w whole i h);
-      name = λ out. ap numberNo (name-whole w whole i h out) ∙ length-no (nameIn w i) out;
-      loading = ap numberNo (loading-whole w whole);
+      len = ap number_no (len_whole w whole);
+      size = ap number_no (size_whole w whole i h);
+      selectable = ap mark_no (selectable_whole w whole i h);
+      lasts = ap time_no (time-whole w whole i h);
+      name = λ out. ap number_no (name_whole w whole i h out) ∙ length-no (name_in w i) out;
+      loading = ap number_no (loading_whole w whole);
     }
   where
-    by-room : (t : Bool) (n : ℕ) → numberNo (t ⇒ number.Is n ∣ number.Refused noRoom) ≡ (t ⇒ 0 ∣ noRoom)
-    by-room true n = refl
-    by-room false n = refl
+    by_room : (t : Bool) (n : ℕ) → number_no (t ⇒ number.Is n ∣ number.Refused no_room) ≡ (t ⇒ 0 ∣ no_room)
+    by_room true n = refl
+    by_room false n = refl
 
-    length-no : (text out : List ℕ) → numberNo (lengthOrNoRoom text out) ≡ (fits text out ⇒ 0 ∣ noRoom)
-    length-no text out = by-room (fits text out) _
+    length-no : (text out : List ℕ) → number_no (length_or_no_room text out) ≡ (fits text out ⇒ 0 ∣ no_room)
+    length-no text out = by_room (fits text out) _

@@ -3,10 +3,10 @@ mod loading;
 mod naming;
 
 ghost use Rattle.std.specs.Prelude.{◌≡◌, List, ℕ, ltb};
-ghost use Rattle.rows.specs.Table.{capacityOf};
-ghost use Rattle.rows.specs.Rows.{block, blockMost};
-ghost use Rattle.play_entries.specs.Mounted.{tapeOf};
-ghost use Rattle.ask.specs.Queries.{refusalOf, len_of, size_of, selectableOf, timeOf};
+ghost use Rattle.rows.specs.Table.{capacity_of};
+ghost use Rattle.rows.specs.Rows.{block, block_most};
+ghost use Rattle.play_entries.specs.Mounted.{tape_of};
+ghost use Rattle.ask.specs.Queries.{refusal_of, len_of, size_of, selectable_of, time_of};
 
 pub use loading::loading_time;
 pub use naming::block_name;
@@ -39,14 +39,14 @@ pub enum Time {
 
 // Whether the count exceeds the whole rows lent.
 pub fn overfull(blocks: &[u64], count: u64) -> bool
-    ensures { result ≡ ltb (capacityOf block blockMost blocks.now) count }
+    ensures { result ≡ ltb (capacity_of block block_most blocks.now) count }
 {
     (block_capacity(blocks) as u64) < count
 }
 
 // The refusal of a query about block i, in the order of rule 36; 0 where there is none.
 pub fn refusal(tape: &[u8], tones: &[u64], blocks: &[u64], count: u64, i: u64) -> u32
-    ensures { result ≡ refusalOf (tapeOf tape.now tones.now blocks.now count) i }
+    ensures { result ≡ refusal_of (tape_of tape.now tones.now blocks.now count) i }
 {
     if overfull(blocks, count) {
         return BAD_ROW;
@@ -63,7 +63,7 @@ pub fn refusal(tape: &[u8], tones: &[u64], blocks: &[u64], count: u64, i: u64) -
 
 // How many blocks the tape has.
 pub fn len(blocks: &[u64], count: u64) -> Number
-    ensures { (bytes tones : List ℕ) → result ≡ len_of (tapeOf bytes tones blocks.now count) }
+    ensures { (bytes tones : List ℕ) → result ≡ len_of (tape_of bytes tones blocks.now count) }
 {
     if overfull(blocks, count) {
         return Number::Refused(BAD_ROW);
@@ -73,7 +73,7 @@ pub fn len(blocks: &[u64], count: u64) -> Number
 
 // A block's data size.
 pub fn block_size(tape: &[u8], tones: &[u64], blocks: &[u64], count: u64, i: u64) -> Number
-    ensures { result ≡ size_of (tapeOf tape.now tones.now blocks.now count) i }
+    ensures { result ≡ size_of (tape_of tape.now tones.now blocks.now count) i }
 {
     let k = refusal(tape, tones, blocks, count, i);
     if k != 0 {
@@ -85,7 +85,7 @@ pub fn block_size(tape: &[u8], tones: &[u64], blocks: &[u64], count: u64, i: u64
 
 // Its selectable mark.
 pub fn block_selectable(tape: &[u8], tones: &[u64], blocks: &[u64], count: u64, i: u64) -> Mark
-    ensures { result ≡ selectableOf (tapeOf tape.now tones.now blocks.now count) i }
+    ensures { result ≡ selectable_of (tape_of tape.now tones.now blocks.now count) i }
 {
     let k = refusal(tape, tones, blocks, count, i);
     if k != 0 {
@@ -97,7 +97,7 @@ pub fn block_selectable(tape: &[u8], tones: &[u64], blocks: &[u64], count: u64, 
 
 // Its T-states with its pause by its row's words, or that it never ends.
 pub fn block_time(tape: &[u8], tones: &[u64], blocks: &[u64], count: u64, i: u64) -> Time
-    ensures { result ≡ timeOf (tapeOf tape.now tones.now blocks.now count) i }
+    ensures { result ≡ time_of (tape_of tape.now tones.now blocks.now count) i }
 {
     let k = refusal(tape, tones, blocks, count, i);
     if k != 0 {

@@ -1,7 +1,7 @@
 // The query of the loading time.
 ghost use Rattle.std.specs.Prelude.{◌≡◌};
-ghost use Rattle.play_entries.specs.Mounted.{tapeOf};
-ghost use Rattle.ask.specs.Queries.{loadingOf};
+ghost use Rattle.play_entries.specs.Mounted.{tape_of};
+ghost use Rattle.ask.specs.Queries.{loading_of};
 
 use crate::{Number, overfull};
 use play_loading::{none, one_more};
@@ -11,7 +11,7 @@ use rows::block_at;
 
 // The time up to the end of the last sound before the first stop or the end, by the rows' words.
 pub fn loading_time(tape: &[u8], tones: &[u64], blocks: &[u64], count: u64) -> Number
-    ensures { result ≡ loadingOf (tapeOf tape.now tones.now blocks.now count) }
+    ensures { result ≡ loading_of (tape_of tape.now tones.now blocks.now count) }
 {
     if overfull(blocks, count) {
         return Number::Refused(BAD_ROW);

@@ -1,7 +1,7 @@
 // The query of a block's name.
 ghost use Rattle.std.specs.Prelude.{◌≡◌};
-ghost use Rattle.play_entries.specs.Mounted.{tapeOf};
-ghost use Rattle.ask.specs.Queries.{nameAnswer, nameBytes};
+ghost use Rattle.play_entries.specs.Mounted.{tape_of};
+ghost use Rattle.ask.specs.Queries.{name_answer, name_bytes};
 
 use crate::{Number, refusal};
 use refusals::NO_ROOM;
@@ -17,9 +17,9 @@ pub fn block_name(
     out: &mut [u8],
 ) -> Number
     ensures value { result
-        ≡ nameAnswer (tapeOf tape.now tones.now blocks.now count) i out.old }
+        ≡ name_answer (tape_of tape.now tones.now blocks.now count) i out.old }
     ensures out_after { out.new
-        ≡ nameBytes (tapeOf tape.now tones.now blocks.now count) i out.old }
+        ≡ name_bytes (tape_of tape.now tones.now blocks.now count) i out.old }
 {
     let k = refusal(tape, tones, blocks, count, i);
     if k != 0 {

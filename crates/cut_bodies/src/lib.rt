@@ -1,7 +1,7 @@
 // What stands after a kind byte: a function for each kind that has fields, but 19.
 ghost use Rattle.std.specs.Prelude.{◌≡◌};
-ghost use Rattle.cut_grammar.specs.Grammar.{textsAt, readAt};
-ghost use Rattle.cut_grammar.specs.Kinds.{kind10, kind11, kind12, kind13, kind14, kind20, kind21, kind24, kind2A, kind30, kind31, info32};
+ghost use Rattle.cut_grammar.specs.Grammar.{texts_at, read_at};
+ghost use Rattle.cut_grammar.specs.Kinds.{kind10, kind11, kind12, kind13, kind14, kind20, kind21, kind24, kind_2a, kind30, kind31, info32};
 ghost use Rattle.cut_grammar.specs.Kinds.{kind32, kind33, kind35};
 
 use cut_fields::{Cursor, after, each, field, groups, pass, place};
@@ -9,7 +9,7 @@ use cut_grammar::{Body, Piece, TurboData, counted, sealed, whole};
 
 // 10
 pub fn standard(tape: &[u8], c: Cursor) -> Body
-    ensures { result ≡ readAt kind10 tape.now c }
+    ensures { result ≡ read_at kind10 tape.now c }
 {
     let pause = field(tape, c, 2);
     let rest = pause.cursor;
@@ -27,7 +27,7 @@ pub fn standard(tape: &[u8], c: Cursor) -> Body
 
 // 11
 pub fn turbo(tape: &[u8], c: Cursor) -> Body
-    ensures { result ≡ readAt kind11 tape.now c }
+    ensures { result ≡ read_at kind11 tape.now c }
 {
     let pilot = field(tape, c, 2);
     let sync1 = after(tape, pilot, 2);
@@ -59,7 +59,7 @@ pub fn turbo(tape: &[u8], c: Cursor) -> Body
 
 // 12
 pub fn tone(tape: &[u8], c: Cursor) -> Body
-    ensures { result ≡ readAt kind12 tape.now c }
+    ensures { result ≡ read_at kind12 tape.now c }
 {
     let half = field(tape, c, 2);
     let count = after(tape, half, 2);
@@ -75,7 +75,7 @@ pub fn tone(tape: &[u8], c: Cursor) -> Body
 
 // 13
 pub fn pulses(tape: &[u8], c: Cursor) -> Body
-    ensures { result ≡ readAt kind13 tape.now c }
+    ensures { result ≡ read_at kind13 tape.now c }
 {
     let count = field(tape, c, 1);
     let from = count.cursor;
@@ -90,7 +90,7 @@ pub fn pulses(tape: &[u8], c: Cursor) -> Body
 
 // 14
 pub fn pure(tape: &[u8], c: Cursor) -> Body
-    ensures { result ≡ readAt kind14 tape.now c }
+    ensures { result ≡ read_at kind14 tape.now c }
 {
     let zero = field(tape, c, 2);
     let one = after(tape, zero, 2);
@@ -114,7 +114,7 @@ pub fn pure(tape: &[u8], c: Cursor) -> Body
 
 // 20
 pub fn pause(tape: &[u8], c: Cursor) -> Body
-    ensures { result ≡ readAt kind20 tape.now c }
+    ensures { result ≡ read_at kind20 tape.now c }
 {
     let ms = field(tape, c, 2);
     let end = ms.cursor;
@@ -123,7 +123,7 @@ pub fn pause(tape: &[u8], c: Cursor) -> Body
 
 // 21
 pub fn group_start(tape: &[u8], c: Cursor) -> Body
-    ensures { result ≡ readAt kind21 tape.now c }
+    ensures { result ≡ read_at kind21 tape.now c }
 {
     let text = counted(tape, c, 1);
     let end = text.cursor;
@@ -138,7 +138,7 @@ pub fn group_start(tape: &[u8], c: Cursor) -> Body
 
 // 24
 pub fn loop_start(tape: &[u8], c: Cursor) -> Body
-    ensures { result ≡ readAt kind24 tape.now c }
+    ensures { result ≡ read_at kind24 tape.now c }
 {
     let times = field(tape, c, 2);
     let end = times.cursor;
@@ -147,7 +147,7 @@ pub fn loop_start(tape: &[u8], c: Cursor) -> Body
 
 // 2A
 pub fn stop48(tape: &[u8], c: Cursor) -> Body
-    ensures { result ≡ readAt kind2A tape.now c }
+    ensures { result ≡ read_at kind_2a tape.now c }
 {
     let length = field(tape, c, 4);
     let end = length.cursor;
@@ -161,7 +161,7 @@ pub fn stop48(tape: &[u8], c: Cursor) -> Body
 
 // 30
 pub fn text(tape: &[u8], c: Cursor) -> Body
-    ensures { result ≡ readAt kind30 tape.now c }
+    ensures { result ≡ read_at kind30 tape.now c }
 {
     let text = counted(tape, c, 1);
     let end = text.cursor;
@@ -176,7 +176,7 @@ pub fn text(tape: &[u8], c: Cursor) -> Body
 
 // 31
 pub fn message(tape: &[u8], c: Cursor) -> Body
-    ensures { result ≡ readAt kind31 tape.now c }
+    ensures { result ≡ read_at kind31 tape.now c }
 {
     let text = counted(tape, pass(tape, c, 1), 1);
     let end = text.cursor;
@@ -185,7 +185,7 @@ pub fn message(tape: &[u8], c: Cursor) -> Body
 
 // The texts of 32: an id, a length and as many bytes each. A text at least is passed in two bytes, so n costs no more than the tape.
 fn texts(tape: &[u8], c: Cursor, n: u32) -> Cursor
-    ensures { result ≡ textsAt tape.now c n }
+    ensures { result ≡ texts_at tape.now c n }
 {
     let mut at = c;
     let mut left = n;
@@ -201,7 +201,7 @@ fn texts(tape: &[u8], c: Cursor, n: u32) -> Cursor
 
 // What the body of 32 holds; the tape is cut where the body ends.
 fn info(tape: &[u8], c: Cursor) -> Body
-    ensures { result ≡ readAt info32 tape.now c }
+    ensures { result ≡ read_at info32 tape.now c }
 {
     let count = field(tape, c, 1);
     let rest = count.cursor;
@@ -210,7 +210,7 @@ fn info(tape: &[u8], c: Cursor) -> Body
 
 // 32
 pub fn archive(tape: &[u8], c: Cursor) -> Body
-    ensures { result ≡ readAt kind32 tape.now c }
+    ensures { result ≡ read_at kind32 tape.now c }
 {
     let length = field(tape, c, 2);
     let from = length.cursor;
@@ -225,7 +225,7 @@ pub fn archive(tape: &[u8], c: Cursor) -> Body
 
 // 33
 pub fn hardware(tape: &[u8], c: Cursor) -> Body
-    ensures { result ≡ readAt kind33 tape.now c }
+    ensures { result ≡ read_at kind33 tape.now c }
 {
     let count = field(tape, c, 1);
     let rest = count.cursor;
@@ -237,7 +237,7 @@ pub fn hardware(tape: &[u8], c: Cursor) -> Body
 
 // 35
 pub fn custom(tape: &[u8], c: Cursor) -> Body
-    ensures { result ≡ readAt kind35 tape.now c }
+    ensures { result ≡ read_at kind35 tape.now c }
 {
     let body = counted(tape, pass(tape, c, 16), 4);
     let end = body.cursor;

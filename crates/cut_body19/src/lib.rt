@@ -1,6 +1,6 @@
 // What stands after the kind byte of 19: its numbers, its four tables, and the test of its data bits.
 ghost use Rattle.std.specs.Prelude.{◌≡◌, ◌-◌};
-ghost use Rattle.cut_grammar.specs.Grammar.{readAt, bits_of, orFull, heldIf};
+ghost use Rattle.cut_grammar.specs.Grammar.{read_at, bits_of, or_full, held_if};
 ghost use Rattle.cut_grammar.specs.Kinds.{stream19, kind19};
 ghost use Rattle.cut_grammar.specs.Steps.{head19};
 
@@ -34,14 +34,14 @@ fn general_head(tape: &[u8], c: Cursor) -> GeneralHead
 
 // What an alphabet's size means.
 fn or_full(full: u32, size: u32) -> u32
-    ensures { result ≡ orFull full size }
+    ensures { result ≡ or_full full size }
 {
     if size == 0 { full } else { size }
 }
 
 // How many symbols of an alphabet are there.
 fn held_if(uses: u32, size: u32) -> u32
-    ensures { result ≡ heldIf uses size }
+    ensures { result ≡ held_if uses size }
 {
     if uses == 0 { 0 } else { size }
 }
@@ -71,7 +71,7 @@ fn symbol_bits(size: u32) -> u32
 
 // The data bytes of 19, whose count of bits is tested before them.
 fn stream(tape: &[u8], c: Cursor, bits: u64, general: GeneralizedData) -> Body
-    ensures { result ≡ readAt (stream19 bits general) tape.now c }
+    ensures { result ≡ read_at (stream19 bits general) tape.now c }
 {
     match c {
         Cursor::At(from) => {
@@ -87,7 +87,7 @@ fn stream(tape: &[u8], c: Cursor, bits: u64, general: GeneralizedData) -> Body
 
 // 19
 pub fn general(tape: &[u8], c: Cursor, full: u32) -> Body
-    ensures { result ≡ readAt (kind19 full) tape.now c }
+    ensures { result ≡ read_at (kind19 full) tape.now c }
 {
     let h = general_head(tape, c);
     let asp = or_full(full, h.asp);

@@ -7,11 +7,11 @@ use native.Mathlib.Omega.{arith}
 use native.Mathlib.Nat.{zero-mul, mul-zero, suc-mul, mul-le-mul_right, div-mul-le_self, div-add-mod', mod-lt, not-suc-le-zero}
 use lib.ListN.{length}
 use borrow.Author.Tests.{le-leb, lt-leb}
-use Rattle.law_base.proofs.Numbers.{lt-or-ge}
+use Rattle.law_base.proofs.Numbers.{lt_or_ge}
 use Rattle.cut_fields.specs.declared.Cursor.{Cursor}
 use Rattle.cut_fields.specs.declared.Cursor.TheVariants.{At, Short}
 use Rattle.cut_fields.specs.Field.{number_at, field_at, place_of}
-use Rattle.cut_fields.specs.Run.{times, eachAt, groupsAt, Wholes}
+use Rattle.cut_fields.specs.Run.{times, each_at, groups_at, Wholes}
 
 -- a cursor that came up short
 pub data Stopped : Cursor → Type 0 where
@@ -51,20 +51,20 @@ module _ (f : Cursor → Cursor) (g l : ℕ) (moves : (p : ℕ) → p + g ≤ l 
       (times-short q n (p + g) (omega arith) (λ _. omega arith) (rw e at s))
 
   -- what code that divides gives: q steps at once, then, where steps are left, the one that stops
-  pub times-wholes : {n p q : ℕ} → Wholes l p n g q → (l < p + q * g + g → Stopped (f (At (p + q * g)))) → q < n
+  pub times_wholes : {n p q : ℕ} → Wholes l p n g q → (l < p + q * g + g → Stopped (f (At (p + q * g)))) → q < n
       → times f n (At p) ≡ f (At (p + q * g))
-  times-wholes {n} {p} {q} w stops h =
+  times_wholes {n} {p} {q} w stops h =
       let a = w.fits in
       times-short q n p h (λ k. let b = w.there k in omega arith) (stops (w.most h))
 
-  pub times-all : (n : ℕ) {p q : ℕ} → Wholes l p n g q → n ≤ q → times f n (At p) ≡ At (p + q * g)
+  pub times_all : (n : ℕ) {p q : ℕ} → Wholes l p n g q → n ≤ q → times f n (At p) ≡ At (p + q * g)
   unfolding times
-  times-all zero {p} {q} w h =
+  times_all zero {p} {q} w h =
       let a = w.few in
       let z : q ≡ 0 = omega arith in
       let e : p ≡ p + q * g = rw z (omega (arith, zero-mul g)) in
       ap At e
-  times-all (suc n) {p} {q} w h =
+  times_all (suc n) {p} {q} w h =
       let a = w.few in
       let b = w.fits in
       let e : q ≡ suc n = omega arith in
@@ -82,38 +82,38 @@ not_there stopped e = told e
 
 module _ (f : Cursor → Cursor) (g l : ℕ) (moves : (p : ℕ) → p + g ≤ l → f (At p) ≡ At (p + g))
     (stops : (p : ℕ) → l < p + g → Stopped (f (At p))) where
-  times-moved : (n p : ℕ) {q : ℕ} → times f n (At p) ≡ At q → q ≡ p + n * g
+  times_moved : (n p : ℕ) {q : ℕ} → times f n (At p) ≡ At q → q ≡ p + n * g
   unfolding times
-  times-moved zero p {q} e = let z = zero-mul g in let i : p ≡ q = cc in omega arith
-  times-moved (suc n) p {q} e =
+  times_moved zero p {q} e = let z = zero-mul g in let i : p ≡ q = cc in omega arith
+  times_moved (suc n) p {q} e =
       ⊎_elim
       (λ (a : l < p + g). let t = stops p a in absurd (not_there t (sym (times-stopped f n t) ∙ e)))
-      (λ (a : p + g ≤ l). let i : q ≡ p + g + n * g = times-moved n (p + g) (rw (moves p a) at e) in omega (arith, suc-mul n g))
-      (lt-or-ge l (p + g))
+      (λ (a : p + g ≤ l). let i : q ≡ p + g + n * g = times_moved n (p + g) (rw (moves p a) at e) in omega (arith, suc-mul n g))
+      (lt_or_ge l (p + g))
 
-  times-stood : (n : ℕ) (c : Cursor) {q : ℕ} → times f n c ≡ At q → Stood c (n * g) q
+  times_stood : (n : ℕ) (c : Cursor) {q : ℕ} → times f n c ≡ At q → Stood c (n * g) q
   unfolding place_of
-  times-stood n (At p) e = record { began = refl; moved = times-moved n p e }
-  times-stood n (Short p w) e = absurd (not_there stopped (sym (times-stopped f n (stopped {p = p} {w = w})) ∙ e))
+  times_stood n (At p) e = record { began = refl; moved = times_moved n p e }
+  times_stood n (Short p w) e = absurd (not_there stopped (sym (times-stopped f n (stopped {p = p} {w = w})) ∙ e))
 
 -- how many are whole, by division
-pub wholes-none : (l p n g : ℕ) → l < p → Wholes l p n g 0
-wholes-none l p n g h =
+pub wholes_none : (l p n g : ℕ) → l < p → Wholes l p n g 0
+wholes_none l p n g h =
     let z = zero-mul g in record { few = omega arith; there = λ k. absurd (omega arith); fits = omega arith; most = λ _. omega arith }
 
-pub wholes-empty : (l p n : ℕ) → p ≤ l → Wholes l p n 0 n
-wholes-empty l p n h =
+pub wholes_empty : (l p n : ℕ) → p ≤ l → Wholes l p n 0 n
+wholes_empty l p n h =
     let z = mul-zero n in record { few = omega arith; there = λ _. h; fits = omega arith; most = λ k. absurd (omega arith) }
 
-pub wholes-all : (l p n g : ℕ) → p ≤ l → n < (l - p) / g → Wholes l p n g n
-wholes-all l p n g h k =
+pub wholes_all : (l p n g : ℕ) → p ≤ l → n < (l - p) / g → Wholes l p n g n
+wholes_all l p n g h k =
     let a = div-mul-le_self (l - p) g in
     let b : n ≤ (l - p) / g = omega arith in
     let d = mul-le-mul_right g b in
     record { few = omega arith; there = λ _. h; fits = omega arith; most = λ k. absurd (omega arith) }
 
-pub wholes-some : (l p n g : ℕ) → p ≤ l → 0 < g → (l - p) / g ≤ n → Wholes l p n g ((l - p) / g)
-wholes-some l p n g h k j =
+pub wholes_some : (l p n g : ℕ) → p ≤ l → 0 < g → (l - p) / g ≤ n → Wholes l p n g ((l - p) / g)
+wholes_some l p n g h k j =
     let a = div-mul-le_self (l - p) g in
     let b = div-add-mod' (l - p) g in
     let d = mod-lt (l - p) k in
@@ -121,16 +121,16 @@ wholes-some l p n g h k j =
 
 module _ (s : List ℕ) where
   -- a field that is there, and one that is not
-  pub field-there : (w p : ℕ) → p + w ≤ length s → field_at s (At p) w ≡ record { value = number_at s p w; cursor = At (p + w) }
+  pub field_there : (w p : ℕ) → p + w ≤ length s → field_at s (At p) w ≡ record { value = number_at s p w; cursor = At (p + w) }
   unfolding field_at
-  field-there w p h = rw (le-leb (p + w) (length s) h)
+  field_there w p h = rw (le-leb (p + w) (length s) h)
 
   pub field-short : (w p : ℕ) → length s < p + w → field_at s (At p) w ≡ record { value = 0; cursor = Short p w }
   unfolding field_at
   field-short w p h = rw (lt-leb (p + w) (length s) h)
 
-  field-moves : (w p : ℕ) → p + w ≤ length s → (field_at s (At p) w).cursor ≡ At (p + w)
-  field-moves w p h = rw (field-there w p h)
+  field_moves : (w p : ℕ) → p + w ≤ length s → (field_at s (At p) w).cursor ≡ At (p + w)
+  field_moves w p h = rw (field_there w p h)
 
   field-stops : (w p : ℕ) → length s < p + w → (field_at s (At p) w).cursor ≡ Short p w
   field-stops w p h = rw (field-short w p h)
@@ -141,78 +141,78 @@ module _ (s : List ℕ) where
   field-inside (At p) w {e} h =
       ⊎_elim
       (λ (a : length s < p + w). let z : ◌≡◌ {A = Cursor} (Short p w) (At e) = sym (field-stops w p a) ∙ h in absurd (told z))
-      (λ (a : p + w ≤ length s). let z : ◌≡◌ {A = Cursor} (At (p + w)) (At e) = sym (field-moves w p a) ∙ h in
+      (λ (a : p + w ≤ length s). let z : ◌≡◌ {A = Cursor} (At (p + w)) (At e) = sym (field_moves w p a) ∙ h in
       let i : p + w ≡ e = cc in omega arith)
-      (lt-or-ge (length s) (p + w))
+      (lt_or_ge (length s) (p + w))
   field-inside (Short p v) w h = absurd (told h)
 
-  each-moves : (k w p : ℕ) → p + k * w ≤ length s → eachAt s (At p) k w ≡ At (p + k * w)
-  unfolding eachAt
-  each-moves k w p h = times-whole (λ c. (field_at s c w).cursor) w (length s) (field-moves w) k p h
+  each_moves : (k w p : ℕ) → p + k * w ≤ length s → each_at s (At p) k w ≡ At (p + k * w)
+  unfolding each_at
+  each_moves k w p h = times-whole (λ c. (field_at s c w).cursor) w (length s) (field_moves w) k p h
 
-  pub each-stopped : (k w : ℕ) {c : Cursor} → Stopped c → eachAt s c k w ≡ c
-  unfolding eachAt
+  pub each-stopped : (k w : ℕ) {c : Cursor} → Stopped c → each_at s c k w ≡ c
+  unfolding each_at
   each-stopped k w h = times-stopped (λ c. (field_at s c w).cursor) k h
 
   -- k fields of w bytes that are not all there stop
-  each-stops : (k w p : ℕ) → p ≤ length s → length s < p + k * w → Stopped (eachAt s (At p) k w)
-  unfolding eachAt times
+  each-stops : (k w p : ℕ) → p ≤ length s → length s < p + k * w → Stopped (each_at s (At p) k w)
+  unfolding each_at times
   each-stops zero w p h l = let z = zero-mul w in absurd (omega arith)
   each-stops (suc k) w p h l =
       let m = suc-mul k w in
       ⊎_elim
       (λ (a : length s < p + w). rw (field-stops w p a, times-stopped (λ c. (field_at s c w).cursor) k (stopped {p = p} {w = w})) stopped)
-      (λ (a : p + w ≤ length s). rw (field-moves w p a) (each-stops k w (p + w) a (omega arith)))
-      (lt-or-ge (length s) (p + w))
+      (λ (a : p + w ≤ length s). rw (field_moves w p a) (each-stops k w (p + w) a (omega arith)))
+      (lt_or_ge (length s) (p + w))
 
   -- a group is a step of its own
-  group-moves : (h k w p : ℕ) → p + (h + k * w) ≤ length s → eachAt s (field_at s (At p) h).cursor k w ≡ At (p + (h + k * w))
-  group-moves h k w p l =
+  group_moves : (h k w p : ℕ) → p + (h + k * w) ≤ length s → each_at s (field_at s (At p) h).cursor k w ≡ At (p + (h + k * w))
+  group_moves h k w p l =
       let e : p + h + k * w ≡ p + (h + k * w) = omega arith in
-      rw (field-moves h p (omega arith)) (each-moves k w (p + h) (omega arith) ∙ ap At e)
+      rw (field_moves h p (omega arith)) (each_moves k w (p + h) (omega arith) ∙ ap At e)
 
-  group-stops : (h k w p : ℕ) → length s < p + (h + k * w) → Stopped (eachAt s (field_at s (At p) h).cursor k w)
-  group-stops h k w p l =
+  group_stops : (h k w p : ℕ) → length s < p + (h + k * w) → Stopped (each_at s (field_at s (At p) h).cursor k w)
+  group_stops h k w p l =
       ⊎_elim
       (λ (a : length s < p + h). rw (field-stops h p a, each-stopped k w (stopped {p = p} {w = h})) stopped)
-      (λ (a : p + h ≤ length s). rw (field-moves h p a) (each-stops k w (p + h) a (omega arith)))
-      (lt-or-ge (length s) (p + h))
+      (λ (a : p + h ≤ length s). rw (field_moves h p a) (each-stops k w (p + h) a (omega arith)))
+      (lt_or_ge (length s) (p + h))
 
   -- the answers of `each`
-  pub each-short : {n w p q : ℕ} → Wholes (length s) p n w q → q < n → eachAt s (At p) n w ≡ Short (p + q * w) w
-  unfolding eachAt
+  pub each-short : {n w p q : ℕ} → Wholes (length s) p n w q → q < n → each_at s (At p) n w ≡ Short (p + q * w) w
+  unfolding each_at
   each-short {n} {w} {p} {q} h k =
       let e = field-stops w (p + q * w) (h.most k) in
-      times-wholes (λ c. (field_at s c w).cursor) w (length s) (field-moves w) h (λ _. rw e stopped) k ∙ e
+      times_wholes (λ c. (field_at s c w).cursor) w (length s) (field_moves w) h (λ _. rw e stopped) k ∙ e
 
-  pub each_all : {n w p q : ℕ} → Wholes (length s) p n w q → n ≤ q → eachAt s (At p) n w ≡ At (p + q * w)
-  unfolding eachAt
-  each_all {n} {w} h k = times-all (λ c. (field_at s c w).cursor) w (length s) (field-moves w) n h k
+  pub each_all : {n w p q : ℕ} → Wholes (length s) p n w q → n ≤ q → each_at s (At p) n w ≡ At (p + q * w)
+  unfolding each_at
+  each_all {n} {w} h k = times_all (λ c. (field_at s c w).cursor) w (length s) (field_moves w) n h k
 
   -- the answers of `groups`
   pub groups-short : (h k w : ℕ) {n p q : ℕ} → Wholes (length s) p n (h + k * w) q → q < n
-      → groupsAt s (At p) n h k w ≡ eachAt s (field_at s (At (p + q * (h + k * w))) h).cursor k w
-  unfolding groupsAt
+      → groups_at s (At p) n h k w ≡ each_at s (field_at s (At (p + q * (h + k * w))) h).cursor k w
+  unfolding groups_at
   groups-short h k w {n} {p} {q} t l =
-      times-wholes (λ c. eachAt s (field_at s c h).cursor k w) (h + k * w) (length s) (group-moves h k w) t
-      (group-stops h k w (p + q * (h + k * w))) l
+      times_wholes (λ c. each_at s (field_at s c h).cursor k w) (h + k * w) (length s) (group_moves h k w) t
+      (group_stops h k w (p + q * (h + k * w))) l
 
-  pub groups-all : (h k w : ℕ) {n p q : ℕ} → Wholes (length s) p n (h + k * w) q → n ≤ q
-      → groupsAt s (At p) n h k w ≡ At (p + q * (h + k * w))
-  unfolding groupsAt
-  groups-all h k w {n} t l = times-all (λ c. eachAt s (field_at s c h).cursor k w) (h + k * w) (length s) (group-moves h k w) n t l
+  pub groups_all : (h k w : ℕ) {n p q : ℕ} → Wholes (length s) p n (h + k * w) q → n ≤ q
+      → groups_at s (At p) n h k w ≡ At (p + q * (h + k * w))
+  unfolding groups_at
+  groups_all h k w {n} t l = times_all (λ c. each_at s (field_at s c h).cursor k w) (h + k * w) (length s) (group_moves h k w) n t l
 
-  pub groups-stopped : (n h k w : ℕ) {c : Cursor} → Stopped c → groupsAt s c n h k w ≡ c
-  unfolding groupsAt
-  groups-stopped n h k w t = times-stopped (λ c. eachAt s (field_at s c h).cursor k w) n t
+  pub groups-stopped : (n h k w : ℕ) {c : Cursor} → Stopped c → groups_at s c n h k w ≡ c
+  unfolding groups_at
+  groups-stopped n h k w t = times-stopped (λ c. each_at s (field_at s c h).cursor k w) n t
 
   -- fields and groups that are all there
-  pub each-stood : (n w : ℕ) (c : Cursor) {q : ℕ} → eachAt s c n w ≡ At q → Stood c (n * w) q
-  unfolding eachAt
-  each-stood n w c e =
-      times-stood (λ c. (field_at s c w).cursor) w (length s) (field-moves w) (λ p a. rw (field-stops w p a) stopped) n c e
+  pub each_stood : (n w : ℕ) (c : Cursor) {q : ℕ} → each_at s c n w ≡ At q → Stood c (n * w) q
+  unfolding each_at
+  each_stood n w c e =
+      times_stood (λ c. (field_at s c w).cursor) w (length s) (field_moves w) (λ p a. rw (field-stops w p a) stopped) n c e
 
-  pub groups-stood : (n h k w : ℕ) (c : Cursor) {q : ℕ} → groupsAt s c n h k w ≡ At q → Stood c (n * (h + k * w)) q
-  unfolding groupsAt
-  groups-stood n h k w c e =
-      times-stood (λ c. eachAt s (field_at s c h).cursor k w) (h + k * w) (length s) (group-moves h k w) (group-stops h k w) n c e
+  pub groups_stood : (n h k w : ℕ) (c : Cursor) {q : ℕ} → groups_at s c n h k w ≡ At q → Stood c (n * (h + k * w)) q
+  unfolding groups_at
+  groups_stood n h k w c e =
+      times_stood (λ c. each_at s (field_at s c h).cursor k w) (h + k * w) (length s) (group_moves h k w) (group_stops h k w) n c e

@@ -6,13 +6,13 @@ use Rattle.cut_fields.specs.declared.Cursor.TheVariants.{At, Short}
 use Rattle.cut_fields.specs.declared.Read.{Read}
 
 -- the number that the w bytes from p on spell, the lowest first
-unfoldable pub leAt : List ℕ → ℕ → ℕ → ℕ
-leAt s p zero = 0
-leAt s p (suc w) = leAt s (p + 1) w * 256 + get_or s p 0
+unfoldable pub le_at : List ℕ → ℕ → ℕ → ℕ
+le_at s p zero = 0
+le_at s p (suc w) = le_at s (p + 1) w * 256 + get_or s p 0
 
 -- a field of up to four bytes has a number; a wider one is passed over, with 0 in its place
 unfoldable pub number_at : List ℕ → ℕ → ℕ → ℕ
-number_at s p w = leb w 4 ⇒ leAt s p w ∣ 0
+number_at s p w = leb w 4 ⇒ le_at s p w ∣ 0
 
 -- a field of w bytes: its number and the cursor past it, where the tape holds it
 unfoldable pub field_at : List ℕ → Cursor → ℕ → Read

@@ -11,12 +11,12 @@ times f (suc n) (At p) = times f n (f (At p))
 times f (suc n) (Short p w) = Short p w
 
 -- n fields of w bytes
-unfoldable pub eachAt : List ℕ → Cursor → ℕ → ℕ → Cursor
-eachAt s c n w = times (λ c. (field_at s c w).cursor) n c
+unfoldable pub each_at : List ℕ → Cursor → ℕ → ℕ → Cursor
+each_at s c n w = times (λ c. (field_at s c w).cursor) n c
 
 -- n groups of a field of h bytes and k fields of w bytes
-unfoldable pub groupsAt : List ℕ → Cursor → ℕ → ℕ → ℕ → ℕ → Cursor
-groupsAt s c n h k w = times (λ c. eachAt s (field_at s c h).cursor k w) n c
+unfoldable pub groups_at : List ℕ → Cursor → ℕ → ℕ → ℕ → ℕ → Cursor
+groups_at s c n h k w = times (λ c. each_at s (field_at s c h).cursor k w) n c
 
 -- q of n things of g bytes are whole from p on in l bytes: they are there, and where they are not all, one more is not
 pub record Wholes (l p n g q : ℕ) : Type 0 where

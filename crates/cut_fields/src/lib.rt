@@ -1,8 +1,8 @@
 // Little-endian fields of a tape, read with a cursor that keeps the first field that came up short.
 ghost use Rattle.std.specs.Prelude.{◌≡◌, ◌+◌, ◌≤◌, length, leb};
 ghost use Rattle.cut_fields.specs.declared.Cursor.TheVariants.{At};
-ghost use Rattle.cut_fields.specs.Field.{leAt, number_at, field_at, place_of};
-ghost use Rattle.cut_fields.specs.Run.{Wholes, eachAt, groupsAt};
+ghost use Rattle.cut_fields.specs.Field.{le_at, number_at, field_at, place_of};
+ghost use Rattle.cut_fields.specs.Run.{Wholes, each_at, groups_at};
 
 // A place, or the place and the width of the first field in reading order that came up short.
 #[derive(Drop)]
@@ -39,7 +39,7 @@ fn room(tape: &[u8], at: u64, n: u64) -> bool
 // The number of `width` bytes at `at`, the lowest first; its callers know the bytes to be there.
 pub fn low_first(tape: &[u8], at: u64, width: u64) -> u32
     requires { (at + width ≤ length tape.now) × (width ≤ 4) }
-    ensures { result ≡ leAt tape.now at width }
+    ensures { result ≡ le_at tape.now at width }
 {
     let mut value: u32 = 0;
     let mut left = width;
@@ -129,7 +129,7 @@ fn wholes(tape: &[u8], at: u64, n: u64, size: u64) -> u64
 
 // n fields of one width, one after the other, at no cost a field.
 pub fn each(tape: &[u8], c: Cursor, n: u64, width: u64) -> Cursor
-    ensures { result ≡ eachAt tape.now c n width }
+    ensures { result ≡ each_at tape.now c n width }
 {
     match c {
         Cursor::At(at) => {
@@ -147,7 +147,7 @@ pub fn each(tape: &[u8], c: Cursor, n: u64, width: u64) -> Cursor
 
 // n groups, each a field of `head` bytes and k fields of `width` bytes, at no cost a group.
 pub fn groups(tape: &[u8], c: Cursor, n: u64, head: u32, k: u32, width: u32) -> Cursor
-    ensures { result ≡ groupsAt tape.now c n head k width }
+    ensures { result ≡ groups_at tape.now c n head k width }
 {
     match c {
         Cursor::At(at) => {

@@ -5,8 +5,8 @@ use mathlib.Core.Path.{◌≡◌, refl}
 use mathlib.Core.Bool.{true, false}
 use mathlib.Core.List.{List, [], ◌∷◌, map, ◌++◌}
 use lib.ListN.{take, get_or}
-use Rattle.cut_fields.specs.Field.{leAt, number_at, field_at, place_of}
-use Rattle.cut_fields.specs.Run.{times, eachAt, groupsAt}
+use Rattle.cut_fields.specs.Field.{le_at, number_at, field_at, place_of}
+use Rattle.cut_fields.specs.Run.{times, each_at, groups_at}
 use Rattle.cut_grammar.specs.declared.Piece.TheVariants.{Standard, Turbo, Tone, Pulses, Pure, Generalized, Pause, GroupStart}
 use Rattle.cut_grammar.specs.declared.Piece.TheVariants.{GroupEnd, LoopStart, LoopEnd, Stop48, Text, Message, Archive, Hardware}
 use Rattle.cut_grammar.specs.declared.Piece.TheVariants.{Custom, Glue}
@@ -14,12 +14,12 @@ use Rattle.cut_grammar.specs.declared.Taken.{Taken}
 use Rattle.cut_grammar.specs.declared.Taken.TheVariants as taken
 use Rattle.cut_grammar.specs.declared.TakenTap.TheVariants as tap
 use Rattle.cut_grammar.specs.declared.Heading.TheVariants as head
-use Rattle.cut_grammar.specs.Grammar.{passAt, countedAt, textsAt, whole_at, sealed, enclosed, fittingAt, readAt, binaryDigits}
-use Rattle.cut_grammar.specs.Grammar.{orFull, heldIf}
+use Rattle.cut_grammar.specs.Grammar.{pass_at, counted_at, texts_at, whole_at, sealed, enclosed, fitting_at, read_at, binary_digits}
+use Rattle.cut_grammar.specs.Grammar.{or_full, held_if}
 use Rattle.cut_grammar.specs.Kinds.{kind10, kind11, kind12, kind13, kind14, stream19, kind19, kind20, kind21, kind22, kind24}
-use Rattle.cut_grammar.specs.Kinds.{kind25, kind2A, kind30, kind31, info32, kind32, kind33, kind35, kind5A, kinds, kind_of}
-use Rattle.cut_grammar.specs.Cut.{signature, startsAt, headAt, takenAs, cut_at, tapBlock, tapAt}
-use Rattle.cut_grammar.specs.Trace.{eachTrace, countedTrace, textsTrace, passTrace, trace}
+use Rattle.cut_grammar.specs.Kinds.{kind25, kind_2a, kind30, kind31, info32, kind32, kind33, kind35, kind_5a, kinds, kind_of}
+use Rattle.cut_grammar.specs.Cut.{signature, starts_at, head_at, taken_as, cut_at, tap_block, tap_at}
+use Rattle.cut_grammar.specs.Trace.{each_trace, counted_trace, texts_trace, pass_trace, trace}
 
 pub record Example : Type 0 where
   pub tape : List ℕ
@@ -186,11 +186,11 @@ examples =
     row ([]) 7 255 (taken.End) ∷
     []
 
-pub examples-hold : map (λ e. cut_at e.tape e.at e.full) examples ≡ map (λ e. e.wants) examples
-unfolding examples cut_at kind_of kinds kind10 kind11 kind12 kind13 kind14 stream19 kind19 kind20 kind21 kind22 kind24 kind25 kind2A kind30
-    kind31 info32 kind32 kind33 kind35 kind5A takenAs readAt passAt countedAt textsAt whole_at sealed enclosed fittingAt binaryDigits orFull
-    heldIf field_at number_at leAt place_of times eachAt groupsAt
-examples-hold = refl
+pub examples_hold : map (λ e. cut_at e.tape e.at e.full) examples ≡ map (λ e. e.wants) examples
+unfolding examples cut_at kind_of kinds kind10 kind11 kind12 kind13 kind14 stream19 kind19 kind20 kind21 kind22 kind24 kind25 kind_2a kind30
+    kind31 info32 kind32 kind33 kind35 kind_5a taken_as read_at pass_at counted_at texts_at whole_at sealed enclosed fitting_at binary_digits or_full
+    held_if field_at number_at le_at place_of times each_at groups_at
+examples_hold = refl
 
 -- a piece cut inside each of these fields, places and widths, one byte before its end: that field comes up short
 unfoldable pub short_at : List ℕ → List (ℕ × ℕ) → List Taken
@@ -199,23 +199,23 @@ short_at whole fs = map (λ f. cut_at (take (f.0 + f.1 - 1) whole) 0 255) fs
 unfoldable pub shorts : ℕ → List (ℕ × ℕ) → List Taken
 shorts kind fs = map (λ f. taken.Short kind f.0 f.1) fs
 
-pub cut-11 : short_at (0x11 ∷ 0x78 ∷ 0x08 ∷ 0x9B ∷ 0x02 ∷ 0xDF ∷ 0x02 ∷ 0x57 ∷ 0x03 ∷ 0xAE ∷ 0x06 ∷ 0x7F ∷ 0x1F ∷
+pub cut_11 : short_at (0x11 ∷ 0x78 ∷ 0x08 ∷ 0x9B ∷ 0x02 ∷ 0xDF ∷ 0x02 ∷ 0x57 ∷ 0x03 ∷ 0xAE ∷ 0x06 ∷ 0x7F ∷ 0x1F ∷
     0x08 ∷ 0xE8 ∷ 0x03 ∷ 0x03 ∷ 0x00 ∷ 0x00 ∷ 0x01 ∷ 0x02 ∷ 0x03 ∷ [])
     ((1, 2) ∷ (3, 2) ∷ (5, 2) ∷ (7, 2) ∷ (9, 2) ∷ (11, 2) ∷ (13, 1) ∷ (14, 2) ∷ (16, 3) ∷ (19, 3) ∷ [])
     ≡ shorts 0x11 ((1, 2) ∷ (3, 2) ∷ (5, 2) ∷ (7, 2) ∷ (9, 2) ∷ (11, 2) ∷ (13, 1) ∷ (14, 2) ∷ (16, 3) ∷ (19, 3) ∷ [])
-unfolding short_at shorts cut_at kind_of kinds kind10 kind11 kind12 kind13 kind14 stream19 kind19 kind20 kind21 kind22 kind24 kind25 kind2A
-    kind30 kind31 info32 kind32 kind33 kind35 kind5A takenAs readAt passAt countedAt textsAt whole_at sealed enclosed fittingAt binaryDigits
-    orFull heldIf field_at number_at leAt place_of times eachAt groupsAt
-cut-11 = refl
+unfolding short_at shorts cut_at kind_of kinds kind10 kind11 kind12 kind13 kind14 stream19 kind19 kind20 kind21 kind22 kind24 kind25 kind_2a
+    kind30 kind31 info32 kind32 kind33 kind35 kind_5a taken_as read_at pass_at counted_at texts_at whole_at sealed enclosed fitting_at binary_digits
+    or_full held_if field_at number_at le_at place_of times each_at groups_at
+cut_11 = refl
 
-pub cut-13 : short_at (0x13 ∷ 0x02 ∷ 0x2C ∷ 0x01 ∷ 0x90 ∷ 0x01 ∷ []) ((1, 1) ∷ (2, 2) ∷ (4, 2) ∷ [])
+pub cut_13 : short_at (0x13 ∷ 0x02 ∷ 0x2C ∷ 0x01 ∷ 0x90 ∷ 0x01 ∷ []) ((1, 1) ∷ (2, 2) ∷ (4, 2) ∷ [])
     ≡ shorts 0x13 ((1, 1) ∷ (2, 2) ∷ (4, 2) ∷ [])
-unfolding short_at shorts cut_at kind_of kinds kind10 kind11 kind12 kind13 kind14 stream19 kind19 kind20 kind21 kind22 kind24 kind25 kind2A
-    kind30 kind31 info32 kind32 kind33 kind35 kind5A takenAs readAt passAt countedAt textsAt whole_at sealed enclosed fittingAt binaryDigits
-    orFull heldIf field_at number_at leAt place_of times eachAt groupsAt
-cut-13 = refl
+unfolding short_at shorts cut_at kind_of kinds kind10 kind11 kind12 kind13 kind14 stream19 kind19 kind20 kind21 kind22 kind24 kind25 kind_2a
+    kind30 kind31 info32 kind32 kind33 kind35 kind_5a taken_as read_at pass_at counted_at texts_at whole_at sealed enclosed fitting_at binary_digits
+    or_full held_if field_at number_at le_at place_of times each_at groups_at
+cut_13 = refl
 
-pub cut-19 : short_at
+pub cut_19 : short_at
     (0x19 ∷ 0x26 ∷ 0x00 ∷ 0x00 ∷ 0x00 ∷ 0x07 ∷ 0x00 ∷ 0x02 ∷ 0x00 ∷ 0x00 ∷ 0x00 ∷ 0x01 ∷ 0x02 ∷ 0x09 ∷ 0x00 ∷
     0x00 ∷ 0x00 ∷ 0x02 ∷ 0x02 ∷ 0x00 ∷ 0xF4 ∷ 0x01 ∷ 0x00 ∷ 0x58 ∷ 0x02 ∷ 0x00 ∷ 0x03 ∷ 0x00 ∷ 0x01 ∷ 0x04 ∷
     0x00 ∷ 0x00 ∷ 0x0A ∷ 0x00 ∷ 0x0A ∷ 0x00 ∷ 0x00 ∷ 0x14 ∷ 0x00 ∷ 0x14 ∷ 0x00 ∷ 0xAA ∷ 0x80 ∷ []) ((1, 4) ∷ (
@@ -226,44 +226,44 @@ pub cut-19 : short_at
     ≡ shorts 0x19 ((1, 4) ∷ (5, 2) ∷ (7, 4) ∷ (11, 1) ∷ (12, 1) ∷ (13, 4) ∷ (17, 1) ∷ (18, 1) ∷ (19, 1) ∷ (20, 2) ∷
     (22, 1) ∷ (23, 2) ∷ (25, 1) ∷ (26, 2) ∷ (28, 1) ∷ (29, 2) ∷ (31, 1) ∷ (32, 2) ∷ (34, 2) ∷ (36, 1) ∷ (37, 2) ∷
     (39, 2) ∷ (41, 1) ∷ (42, 1) ∷ [])
-unfolding short_at shorts cut_at kind_of kinds kind10 kind11 kind12 kind13 kind14 stream19 kind19 kind20 kind21 kind22 kind24 kind25 kind2A
-    kind30 kind31 info32 kind32 kind33 kind35 kind5A takenAs readAt passAt countedAt textsAt whole_at sealed enclosed fittingAt binaryDigits
-    orFull heldIf field_at number_at leAt place_of times eachAt groupsAt
-cut-19 = refl
+unfolding short_at shorts cut_at kind_of kinds kind10 kind11 kind12 kind13 kind14 stream19 kind19 kind20 kind21 kind22 kind24 kind25 kind_2a
+    kind30 kind31 info32 kind32 kind33 kind35 kind_5a taken_as read_at pass_at counted_at texts_at whole_at sealed enclosed fitting_at binary_digits
+    or_full held_if field_at number_at le_at place_of times each_at groups_at
+cut_19 = refl
 
-pub cut-32 : short_at (0x32 ∷ 0x08 ∷ 0x00 ∷ 0x02 ∷ 0x00 ∷ 0x02 ∷ 0x41 ∷ 0x42 ∷ 0x01 ∷ 0x01 ∷ 0x43 ∷ [])
+pub cut_32 : short_at (0x32 ∷ 0x08 ∷ 0x00 ∷ 0x02 ∷ 0x00 ∷ 0x02 ∷ 0x41 ∷ 0x42 ∷ 0x01 ∷ 0x01 ∷ 0x43 ∷ [])
     ((1, 2) ∷ (3, 8) ∷ [])
     ≡ shorts 0x32 ((1, 2) ∷ (3, 8) ∷ [])
-unfolding short_at shorts cut_at kind_of kinds kind10 kind11 kind12 kind13 kind14 stream19 kind19 kind20 kind21 kind22 kind24 kind25 kind2A
-    kind30 kind31 info32 kind32 kind33 kind35 kind5A takenAs readAt passAt countedAt textsAt whole_at sealed enclosed fittingAt binaryDigits
-    orFull heldIf field_at number_at leAt place_of times eachAt groupsAt
-cut-32 = refl
+unfolding short_at shorts cut_at kind_of kinds kind10 kind11 kind12 kind13 kind14 stream19 kind19 kind20 kind21 kind22 kind24 kind25 kind_2a
+    kind30 kind31 info32 kind32 kind33 kind35 kind_5a taken_as read_at pass_at counted_at texts_at whole_at sealed enclosed fitting_at binary_digits
+    or_full held_if field_at number_at le_at place_of times each_at groups_at
+cut_32 = refl
 
 -- the fields inside a 32 come up short where its length says that it ends
-pub cut-32-inside : map
+pub cut_32_inside : map
     (λ n. cut_at (0x32 ∷ n ∷ 0 ∷ 0x02 ∷ 0x00 ∷ 0x02 ∷ 0x41 ∷ 0x42 ∷ 0x01 ∷ 0x01 ∷ 0x43 ∷ 0x00 ∷ []) 0 255)
     (0 ∷ 1 ∷ 2 ∷ 3 ∷ 4 ∷ 5 ∷ 6 ∷ 7 ∷ [])
     ≡ taken.Short 0x32 3 1 ∷ taken.Short 0x32 4 1 ∷ taken.Short 0x32 5 1 ∷ taken.Short 0x32 6 2 ∷ taken.Short 0x32 6 2 ∷
     taken.Short 0x32 8 1 ∷ taken.Short 0x32 9 1 ∷ taken.Short 0x32 10 1 ∷ []
-unfolding cut_at kind_of kinds kind10 kind11 kind12 kind13 kind14 stream19 kind19 kind20 kind21 kind22 kind24 kind25 kind2A kind30 kind31
-    info32 kind32 kind33 kind35 kind5A takenAs readAt passAt countedAt textsAt whole_at sealed enclosed fittingAt binaryDigits orFull heldIf
-    field_at number_at leAt place_of times eachAt groupsAt
-cut-32-inside = refl
+unfolding cut_at kind_of kinds kind10 kind11 kind12 kind13 kind14 stream19 kind19 kind20 kind21 kind22 kind24 kind25 kind_2a kind30 kind31
+    info32 kind32 kind33 kind35 kind_5a taken_as read_at pass_at counted_at texts_at whole_at sealed enclosed fitting_at binary_digits or_full held_if
+    field_at number_at le_at place_of times each_at groups_at
+cut_32_inside = refl
 
-pub heads-hold : map headAt ((0x5A ∷ 0x58 ∷ 0x54 ∷ 0x61 ∷ 0x70 ∷ 0x65 ∷ 0x21 ∷ 0x1A ∷ 0x01 ∷ 0x14 ∷ 0x22 ∷ []) ∷
+pub heads_hold : map head_at ((0x5A ∷ 0x58 ∷ 0x54 ∷ 0x61 ∷ 0x70 ∷ 0x65 ∷ 0x21 ∷ 0x1A ∷ 0x01 ∷ 0x14 ∷ 0x22 ∷ []) ∷
     (0x5A ∷ 0x58 ∷ 0x54 ∷ 0x61 ∷ 0x70 ∷ 0x65 ∷ 0x21 ∷ 0x1B ∷ 0x01 ∷ 0x14 ∷ []) ∷
     (0x5A ∷ 0x58 ∷ 0x54 ∷ 0x61 ∷ 0x70 ∷ 0x65 ∷ 0x21 ∷ 0x1A ∷ 0x01 ∷ []) ∷ ([]) ∷ [])
     ≡ head.Version 1 20 ∷ head.BadSignature ∷ head.Short 0 10 ∷ head.Short 0 10 ∷ []
-unfolding headAt startsAt
-heads-hold = refl
+unfolding head_at starts_at
+heads_hold = refl
 
 -- nothing left, a lone byte, an empty block, a block, and one behind it, a length without its data
-pub taps-hold : map (λ (e : List ℕ × ℕ). tapAt e.0 e.1) (([], 0) ∷ (0x05 ∷ [], 0) ∷ (0x00 ∷ 0x00 ∷ [], 0) ∷ (
+pub taps_hold : map (λ (e : List ℕ × ℕ). tap_at e.0 e.1) (([], 0) ∷ (0x05 ∷ [], 0) ∷ (0x00 ∷ 0x00 ∷ [], 0) ∷ (
   0x01 ∷ 0x00 ∷ 0xFF ∷ 0x02 ∷ 0x00 ∷ 0x01 ∷ 0x02 ∷ [],
   3,
 ) ∷ (0x02 ∷ 0x00 ∷ 0xFF ∷ [], 0) ∷ []) ≡ tap.End ∷ tap.Lone ∷ tap.Block 2 0 2 ∷ tap.Block 5 2 7 ∷ tap.Short 2 2 ∷ []
-unfolding tapAt tapBlock countedAt field_at number_at leAt place_of
-taps-hold = refl
+unfolding tap_at tap_block counted_at field_at number_at le_at place_of
+taps_hold = refl
 
 -- the fields of the piece behind a head of 10 bytes, each with its place, its width and the end of the bytes that it is read from
 unfoldable pub fields_of : List ℕ → List (ℕ × (ℕ × ℕ))
@@ -273,12 +273,12 @@ fields_of piece =
 
 -- a 20, a 10 and a 13 without their last bytes; a 32 whose body ends before the tape does: what stands in the body is read from the body;
 -- a 32 whose body goes on behind the tape's end
-pub fields-hold : map fields_of ((0x20 ∷ 0x01 ∷ []) ∷ (0x10 ∷ 0x00 ∷ 0x00 ∷ 0x05 ∷ 0x00 ∷ 0xAA ∷ []) ∷
+pub fields_hold : map fields_of ((0x20 ∷ 0x01 ∷ []) ∷ (0x10 ∷ 0x00 ∷ 0x00 ∷ 0x05 ∷ 0x00 ∷ 0xAA ∷ []) ∷
     (0x13 ∷ 0x03 ∷ 0x01 ∷ 0x00 ∷ 0x02 ∷ []) ∷ (0x32 ∷ 0x01 ∷ 0x00 ∷ 0x01 ∷ 0x20 ∷ 0x01 ∷ 0x00 ∷ []) ∷
     (0x32 ∷ 0x05 ∷ 0x00 ∷ 0x01 ∷ []) ∷ [])
     ≡ ((11, (2, 12)) ∷ []) ∷ ((11, (2, 16)) ∷ (13, (2, 16)) ∷ (15, (5, 16)) ∷ []) ∷
     ((11, (1, 15)) ∷ (12, (2, 15)) ∷ (14, (2, 15)) ∷ (16, (2, 15)) ∷ []) ∷
     ((11, (2, 17)) ∷ (13, (1, 17)) ∷ (13, (1, 14)) ∷ (14, (1, 14)) ∷ (15, (1, 14)) ∷ (16, (0, 14)) ∷ []) ∷
     ((11, (2, 14)) ∷ (13, (5, 14)) ∷ (13, (1, 14)) ∷ (14, (1, 14)) ∷ (15, (1, 14)) ∷ (16, (0, 14)) ∷ []) ∷ []
-unfolding fields_of kind_of kinds kind10 kind13 kind20 info32 kind32 trace passTrace eachTrace countedTrace textsTrace number_at leAt
-fields-hold = refl
+unfolding fields_of kind_of kinds kind10 kind13 kind20 info32 kind32 trace pass_trace each_trace counted_trace texts_trace number_at le_at
+fields_hold = refl

@@ -17,9 +17,9 @@ use Rattle.cut_grammar.specs.declared.Piece.{Piece}
 use Rattle.cut_grammar.specs.declared.Body.{Body}
 use Rattle.cut_grammar.specs.declared.Body.TheVariants.{Whole, Unknown, Short, Overflow}
 use Rattle.cut_grammar.specs.declared.Taken.TheVariants as taken
-use Rattle.cut_grammar.specs.Grammar.{Layout, number, counted, here, pass, within, fitting, whole, unknown, countedAt, passAt}
-use Rattle.cut_grammar.specs.Grammar.{whole_at, sealed, enclosed, fittingAt, unknownAt, readAt}
-use Rattle.cut_grammar.specs.Cut.{takenAs}
+use Rattle.cut_grammar.specs.Grammar.{Layout, number, counted, here, pass, within, fitting, whole, unknown, counted_at, pass_at}
+use Rattle.cut_grammar.specs.Grammar.{whole_at, sealed, enclosed, fitting_at, unknown_at, read_at}
+use Rattle.cut_grammar.specs.Cut.{taken_as}
 
 module _ (is : Piece → Bool) where
   -- a layout that gives no such piece, whatever it reads
@@ -37,50 +37,50 @@ module _ (is : Piece → Bool) where
   abbrev pub Never : Body → Type 0
   Never b = (x : Piece) (next : ℕ) → is x ≡ true → b ≡ Whole x next → ⊥
 
-  whole-other : (x : Piece) (c : Cursor) → is x ≡ false → Never (whole_at x c)
+  whole_other : (x : Piece) (c : Cursor) → is x ≡ false → Never (whole_at x c)
   unfolding whole_at
-  whole-other x (At p) h y next t e =
+  whole_other x (At p) h y next t e =
       let i : x ≡ y = cc in let z : false ≡ true = sym h ∙ ap is i ∙ t in let n : ◌≡◌ {A = ℕ} 0 1 = cc in omega arith
-  whole-other x (cursor.Short p w) h y next t e = let z : ◌≡◌ {A = ℕ} 0 1 = cc in omega arith
+  whole_other x (cursor.Short p w) h y next t e = let z : ◌≡◌ {A = ℕ} 0 1 = cc in omega arith
 
-  unknown-other : (described : Bool) (c : Cursor) → Never (unknownAt described c)
-  unknown-other described (At p) y next t e = let z : ◌≡◌ {A = ℕ} 0 1 = cc in omega arith
-  unknown-other described (cursor.Short p w) y next t e = let z : ◌≡◌ {A = ℕ} 0 1 = cc in omega arith
+  unknown_other : (described : Bool) (c : Cursor) → Never (unknown_at described c)
+  unknown_other described (At p) y next t e = let z : ◌≡◌ {A = ℕ} 0 1 = cc in omega arith
+  unknown_other described (cursor.Short p w) y next t e = let z : ◌≡◌ {A = ℕ} 0 1 = cc in omega arith
 
-  sealed-other : (end : ℕ) (b : Body) → Never b → Never (sealed end b)
+  sealed_other : (end : ℕ) (b : Body) → Never b → Never (sealed end b)
   unfolding sealed
-  sealed-other end (Whole x p) h y next t e = let i : x ≡ y = cc in h y p t (ap (λ (z : Piece). Whole z p) i)
-  sealed-other end (Unknown described) h y next t e = let z : ◌≡◌ {A = ℕ} 0 1 = cc in omega arith
-  sealed-other end (Short p w) h y next t e = let z : ◌≡◌ {A = ℕ} 0 1 = cc in omega arith
-  sealed-other end (Overflow p) h y next t e = let z : ◌≡◌ {A = ℕ} 0 1 = cc in omega arith
+  sealed_other end (Whole x p) h y next t e = let i : x ≡ y = cc in h y p t (ap (λ (z : Piece). Whole z p) i)
+  sealed_other end (Unknown described) h y next t e = let z : ◌≡◌ {A = ℕ} 0 1 = cc in omega arith
+  sealed_other end (Short p w) h y next t e = let z : ◌≡◌ {A = ℕ} 0 1 = cc in omega arith
+  sealed_other end (Overflow p) h y next t e = let z : ◌≡◌ {A = ℕ} 0 1 = cc in omega arith
 
-  enclosed-other : (inner : ℕ → Body) (c : Cursor) → ((end : ℕ) → Never (inner end)) → Never (enclosed inner c)
+  enclosed_other : (inner : ℕ → Body) (c : Cursor) → ((end : ℕ) → Never (inner end)) → Never (enclosed inner c)
   unfolding enclosed
-  enclosed-other inner (At end) h y next t e = sealed-other end (inner end) (h end) y next t e
-  enclosed-other inner (cursor.Short p w) h y next t e = let z : ◌≡◌ {A = ℕ} 0 1 = cc in omega arith
+  enclosed_other inner (At end) h y next t e = sealed_other end (inner end) (h end) y next t e
+  enclosed_other inner (cursor.Short p w) h y next t e = let z : ◌≡◌ {A = ℕ} 0 1 = cc in omega arith
 
-  fitting-other : (bits : ℕ) (c : Cursor) (rest : Body) → Never rest → Never (fittingAt bits c rest)
-  unfolding fittingAt
-  fitting-other bits (At p) rest h y next t e = by_cases (leb bits 4294967295) e
+  fitting_other : (bits : ℕ) (c : Cursor) (rest : Body) → Never rest → Never (fitting_at bits c rest)
+  unfolding fitting_at
+  fitting_other bits (At p) rest h y next t e = by_cases (leb bits 4294967295) e
     where
       by_cases : (b : Bool) → (b ⇒ rest ∣ Overflow p) ≡ Whole y next → ⊥
       by_cases true q = h y next t q
       by_cases false q = let z : ◌≡◌ {A = ℕ} 0 1 = cc in omega arith
-  fitting-other bits (cursor.Short p w) rest h y next t e = h y next t e
+  fitting_other bits (cursor.Short p w) rest h y next t e = h y next t e
 
-  pub other_none : (l : Layout) → Other l → (s : List ℕ) (c : Cursor) → Never (readAt l s c)
-  unfolding readAt
+  pub other_none : (l : Layout) → Other l → (s : List ℕ) (c : Cursor) → Never (read_at l s c)
+  unfolding read_at
   other_none (number w rest) o s c = other_none (rest (field_at s c w).value) (o (field_at s c w).value) s (field_at s c w).cursor
   other_none (counted w rest) o s c =
-      other_none (rest (countedAt s c w).from (countedAt s c w).size) (o (countedAt s c w).from (countedAt s c w).size) s
-      (countedAt s c w).cursor
+      other_none (rest (counted_at s c w).from (counted_at s c w).size) (o (counted_at s c w).from (counted_at s c w).size) s
+      (counted_at s c w).cursor
   other_none (here rest) o s c = other_none (rest (place_of c)) (o (place_of c)) s c
-  other_none (pass part rest) o s c = other_none rest o s (passAt part s c)
+  other_none (pass part rest) o s c = other_none rest o s (pass_at part s c)
   other_none (within n inner) o s c =
-      enclosed-other (λ end. readAt inner (take end s) c) (field_at s c n).cursor (λ end. other_none inner o (take end s) c)
-  other_none (fitting bits rest) o s c = fitting-other bits c (readAt rest s c) (other_none rest o s c)
-  other_none (whole x) o s c = whole-other x c o
-  other_none (unknown described) o s c = unknown-other described c
+      enclosed_other (λ end. read_at inner (take end s) c) (field_at s c n).cursor (λ end. other_none inner o (take end s) c)
+  other_none (fitting bits rest) o s c = fitting_other bits c (read_at rest s c) (other_none rest o s c)
+  other_none (whole x) o s c = whole_other x c o
+  other_none (unknown described) o s c = unknown_other described c
 
 -- what holds of every row of a table, of its key and its value, a row after the other
 infixr 20 ◌&◌
@@ -93,22 +93,22 @@ abbrev pub Every : {A : Type 0} → (A → Type 0) → List (Arm A) → Type 0
 Every P arms = EveryRow (λ _. P) arms
 
 -- what holds of every row of a table holds of what is found there, and of the key that found it
-pub found-row : {A : Type 0} (P : ℕ → A → Type 0) (arms : List (Arm A)) (x : ℕ) (d : A) → EveryRow P arms → P x d
+pub found_row : {A : Type 0} (P : ℕ → A → Type 0) (arms : List (Arm A)) (x : ℕ) (d : A) → EveryRow P arms → P x d
     → P x (lookup arms x d)
-found-row P [] x d no_more k = k
-found-row P (a ∷ more) x d (h & rest) k = by_cases (eqb x a.key) refl (found-row P more x d rest k)
+found_row P [] x d no_more k = k
+found_row P (a ∷ more) x d (h & rest) k = by_cases (eqb x a.key) refl (found_row P more x d rest k)
   where
     by_cases : (t : Bool) → eqb x a.key ≡ t → P x (lookup more x d) → P x (cond t a.val (lookup more x d))
     by_cases true e r = subst (λ (k : ℕ). P k a.val) (sym (eqb-true x a.key e)) h
     by_cases false e r = r
 
-pub found-every : {A : Type 0} (P : A → Type 0) (arms : List (Arm A)) (x : ℕ) (d : A) → Every P arms → P d → P (lookup arms x d)
-found-every P arms x d every k = found-row (λ _. P) arms x d every k
+pub found_every : {A : Type 0} (P : A → Type 0) (arms : List (Arm A)) (x : ℕ) (d : A) → Every P arms → P d → P (lookup arms x d)
+found_every P arms x d every k = found_row (λ _. P) arms x d every k
 
 -- a body under its name
-pub unnamed : (kind at : ℕ) (b : Body) {k a next : ℕ} {x : Piece} → takenAs kind at b ≡ taken.Whole k a next x
+pub unnamed : (kind at : ℕ) (b : Body) {k a next : ℕ} {x : Piece} → taken_as kind at b ≡ taken.Whole k a next x
     → b ≡ Whole x next
-unfolding takenAs
+unfolding taken_as
 unnamed kind at (Whole y p) e = cc
 unnamed kind at (Unknown described) e = absurd (let z : ◌≡◌ {A = ℕ} 0 1 = cc in omega arith)
 unnamed kind at (Short p w) e = absurd (let z : ◌≡◌ {A = ℕ} 0 1 = cc in omega arith)

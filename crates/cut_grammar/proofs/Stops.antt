@@ -6,21 +6,21 @@ use mathlib.Core.List.{List}
 use mathlib.Core.Logic.{⊎_elim}
 use native.Mathlib.Omega.{arith}
 use lib.ListN.{length, get_or}
-use Rattle.law_base.proofs.Numbers.{lt-or-ge}
+use Rattle.law_base.proofs.Numbers.{lt_or_ge}
 use Rattle.cut_fields.specs.declared.Cursor.TheVariants.{At}
 use Rattle.cut_fields.specs.Field.{number_at}
-use Rattle.cut_fields.proofs.Runs.{field-there, field-short}
+use Rattle.cut_fields.proofs.Runs.{field_there, field-short}
 use Rattle.cut_grammar.specs.declared.Piece.{Piece}
 use Rattle.cut_grammar.specs.declared.Piece.TheVariants as piece
 use Rattle.cut_grammar.specs.declared.Body.{Body}
 use Rattle.cut_grammar.specs.declared.Body.TheVariants.{Whole, Short}
 use Rattle.cut_grammar.specs.declared.Taken.TheVariants as taken
-use Rattle.cut_grammar.specs.Grammar.{Layout, whole_at, readAt}
-use Rattle.cut_grammar.specs.Kinds.{kind13, stream19, kind19, kind2A, kinds, kind_of}
-use Rattle.cut_grammar.specs.Cut.{takenAs, cut_at}
-use Rattle.cut_grammar.proofs.Cutting.{cut-there, cut_inside, cut-kind}
+use Rattle.cut_grammar.specs.Grammar.{Layout, whole_at, read_at}
+use Rattle.cut_grammar.specs.Kinds.{kind13, stream19, kind19, kind_2a, kinds, kind_of}
+use Rattle.cut_grammar.specs.Cut.{taken_as, cut_at}
+use Rattle.cut_grammar.proofs.Cutting.{cut_there, cut_inside, cut_kind}
 use Rattle.cut_grammar.proofs.Others.{Other, other_none, unnamed}
-use Rattle.cut_grammar.proofs.Sorts.{sortOf, isStop48, isListed, RowSort, pulses, general, stop48, other, row_of}
+use Rattle.cut_grammar.proofs.Sorts.{sort_of, is_stop48, is_listed, RowSort, pulses, general, stop48, other, row_of}
 
 -- a stop of the length that the four bytes at p say
 record Stopped (kind : ℕ) (s : List ℕ) (p n next : ℕ) : Type 0 where
@@ -32,52 +32,52 @@ record Stopped (kind : ℕ) (s : List ℕ) (p n next : ℕ) : Type 0 where
 abbrev Stops : ℕ → List ℕ → ℕ → Body → Type 0
 Stops kind s p b = (n next : ℕ) → b ≡ Whole (piece.Stop48 n) next → Stopped kind s p n next
 
-other-stops : (is : Piece → Bool) → ((n : ℕ) → is (piece.Stop48 n) ≡ true) → (l : Layout) → Other is l
-    → (kind : ℕ) (s : List ℕ) (p : ℕ) → Stops kind s p (readAt l s (At p))
-other-stops is h l o kind s p n next e = absurd (other_none is l o s (At p) (piece.Stop48 n) next (h n) e)
+other_stops : (is : Piece → Bool) → ((n : ℕ) → is (piece.Stop48 n) ≡ true) → (l : Layout) → Other is l
+    → (kind : ℕ) (s : List ℕ) (p : ℕ) → Stops kind s p (read_at l s (At p))
+other_stops is h l o kind s p n next e = absurd (other_none is l o s (At p) (piece.Stop48 n) next (h n) e)
 
 -- a 2A whose length is there, and one whose length is not
-whole-2A : (s : List ℕ) (p : ℕ) → p + 4 ≤ length s → readAt kind2A s (At p) ≡ Whole (piece.Stop48 (number_at s p 4)) (p + 4)
-unfolding readAt kind2A whole_at
-whole-2A s p h = rw (field-there s 4 p h)
+whole_2a : (s : List ℕ) (p : ℕ) → p + 4 ≤ length s → read_at kind_2a s (At p) ≡ Whole (piece.Stop48 (number_at s p 4)) (p + 4)
+unfolding read_at kind_2a whole_at
+whole_2a s p h = rw (field_there s 4 p h)
 
-short-2A : (s : List ℕ) (p : ℕ) → length s < p + 4 → readAt kind2A s (At p) ≡ Short p 4
-unfolding readAt kind2A whole_at
-short-2A s p h = rw (field-short s 4 p h)
+short_2a : (s : List ℕ) (p : ℕ) → length s < p + 4 → read_at kind_2a s (At p) ≡ Short p 4
+unfolding read_at kind_2a whole_at
+short_2a s p h = rw (field-short s 4 p h)
 
-stops-2A : (s : List ℕ) (p : ℕ) → Stops 0x2A s p (readAt kind2A s (At p))
-stops-2A s p n next e =
+stops_2a : (s : List ℕ) (p : ℕ) → Stops 0x2A s p (read_at kind_2a s (At p))
+stops_2a s p n next e =
     ⊎_elim
-    (λ (h : length s < p + 4). absurd (not-whole (sym (short-2A s p h) ∙ e)))
-    (λ (h : p + 4 ≤ length s). let q = sym (whole-2A s p h) ∙ e in
+    (λ (h : length s < p + 4). absurd (not-whole (sym (short_2a s p h) ∙ e)))
+    (λ (h : p + 4 ≤ length s). let q = sym (whole_2a s p h) ∙ e in
     let i : number_at s p 4 ≡ n = cc in
     let j : p + 4 ≡ next = cc in
     record { sort = refl; says = sym i; end = sym j; inside = h })
-    (lt-or-ge (length s) (p + 4))
+    (lt_or_ge (length s) (p + 4))
   where
     not-whole : Short p 4 ≡ Whole (piece.Stop48 n) next → ⊥
     not-whole q = let z : ◌≡◌ {A = ℕ} 0 1 = cc in omega arith
 
 -- of all rows, that of 2A alone gives a stop of a 48K
-rows-stop : {full kind : ℕ} {l : Layout} → RowSort full kind l → (s : List ℕ) (p : ℕ) → Stops kind s p (readAt l s (At p))
-unfolding sortOf kind13 kind19 stream19
-rows-stop pulses s p = other-stops isStop48 (λ _. refl) kind13 (λ _ _. refl) _ s p
-rows-stop {full} general s p = other-stops isStop48 (λ _. refl) (kind19 full) (λ _ _ _ _ _ _ _ _ _ _ _ _. refl) _ s p
-rows-stop stop48 s p = stops-2A s p
-rows-stop {kind = kind} (other l o) s p = other-stops isListed (λ _. refl) l o kind s p
+rows-stop : {full kind : ℕ} {l : Layout} → RowSort full kind l → (s : List ℕ) (p : ℕ) → Stops kind s p (read_at l s (At p))
+unfolding sort_of kind13 kind19 stream19
+rows-stop pulses s p = other_stops is_stop48 (λ _. refl) kind13 (λ _ _. refl) _ s p
+rows-stop {full} general s p = other_stops is_stop48 (λ _. refl) (kind19 full) (λ _ _ _ _ _ _ _ _ _ _ _ _. refl) _ s p
+rows-stop stop48 s p = stops_2a s p
+rows-stop {kind = kind} (other l o) s p = other_stops is_listed (λ _. refl) l o kind s p
 
 -- A STOP OF A 48K IS A 2A: it has the length that its four bytes say, ends behind them and stands inside the tape
-pub cut-stop : (s : List ℕ) (at full : ℕ) {k a next n : ℕ} → cut_at s at full ≡ taken.Whole k a next (piece.Stop48 n)
+pub cut_stop : (s : List ℕ) (at full : ℕ) {k a next n : ℕ} → cut_at s at full ≡ taken.Whole k a next (piece.Stop48 n)
     → (k ≡ 0x2A) × ((n ≡ number_at s (at + 1) 4) × ((next ≡ at + 5) × (at + 5 ≤ length s)))
-cut-stop s at full {next = next} {n} e =
+cut_stop s at full {next = next} {n} e =
     let x = rows-stop (row_of full (get_or s at 0)) s (at + 1) n next
-    (unnamed (get_or s at 0) at _ (sym (cut-there s at full (cut_inside s at full e)) ∙ e)) in
-    (cut-kind s at full e ∙ x.sort, (x.says, (omega (arith, x.end), omega (arith, x.inside))))
+    (unnamed (get_or s at 0) at _ (sym (cut_there s at full (cut_inside s at full e)) ∙ e)) in
+    (cut_kind s at full e ∙ x.sort, (x.says, (omega (arith, x.end), omega (arith, x.inside))))
 
 -- and every 2A whose four bytes are there is one
-pub stop-cut : (s : List ℕ) (at full : ℕ) → get_or s at 0 ≡ 0x2A → at + 5 ≤ length s
+pub stop_cut : (s : List ℕ) (at full : ℕ) → get_or s at 0 ≡ 0x2A → at + 5 ≤ length s
     → cut_at s at full ≡ taken.Whole 0x2A at (at + 5) (piece.Stop48 (number_at s (at + 1) 4))
-unfolding takenAs kind_of kinds
-stop-cut s at full q h =
+unfolding taken_as kind_of kinds
+stop_cut s at full q h =
     let i : at + 1 + 4 ≡ at + 5 = omega arith in
-    cut-there s at full (omega arith) ∙ rw (q, whole-2A s (at + 1) (omega arith), i)
+    cut_there s at full (omega arith) ∙ rw (q, whole_2a s (at + 1) (omega arith), i)

@@ -15,33 +15,33 @@ use Rattle.cut_fields.specs.declared.Cursor.TheVariants as cursor
 use Rattle.cut_fields.specs.Field.{field_at}
 use Rattle.cut_fields.specs.Run.{times}
 use Rattle.cut_fields.proofs.Runs.{times-stopped, stopped}
-use Rattle.cut_grammar.specs.Grammar.{countedAt, textsAt, binaryDigits}
-use Rattle.cut_grammar.specs.Cut.{startsAt}
+use Rattle.cut_grammar.specs.Grammar.{counted_at, texts_at, binary_digits}
+use Rattle.cut_grammar.specs.Cut.{starts_at}
 
 -- halving: 0 has no digits, and another number one more than its half
-pub digits-zero : (f : ℕ) → binaryDigits f 0 ≡ 0
-unfolding binaryDigits
+pub digits-zero : (f : ℕ) → binary_digits f 0 ≡ 0
+unfolding binary_digits
 digits-zero zero = refl
 digits-zero (suc f) = refl
 
 pub digits_more : (k n : ℕ) → k < 32 → (n ≡ 0 → ⊥)
-    → k + binaryDigits (32 - k) n ≡ k + 1 + binaryDigits (32 - (k + 1)) (n / 2)
-unfolding binaryDigits
+    → k + binary_digits (32 - k) n ≡ k + 1 + binary_digits (32 - (k + 1)) (n / 2)
+unfolding binary_digits
 digits_more k n h z =
     let e : 32 - k ≡ suc (32 - (k + 1)) = omega arith in
     rw (e, ne_eqb n 0 z) (omega arith)
 
 -- the texts after one of them
-pub texts-more : (s : List ℕ) (c : Cursor) (n : ℕ) → 0 < n
-    → textsAt s c n ≡ textsAt s (countedAt s (field_at s c 1).cursor 1).cursor (n - 1)
-unfolding textsAt times
-texts-more s c zero h = absurd (omega arith)
-texts-more s (At p) (suc n) h = let e : suc n - 1 ≡ n = omega arith in rw e
-texts-more s (cursor.Short p w) (suc n) h =
-    unfold countedAt field_at in sym (times-stopped (λ c. (countedAt s (field_at s c 1).cursor 1).cursor) (suc n - 1) stopped)
+pub texts_more : (s : List ℕ) (c : Cursor) (n : ℕ) → 0 < n
+    → texts_at s c n ≡ texts_at s (counted_at s (field_at s c 1).cursor 1).cursor (n - 1)
+unfolding texts_at times
+texts_more s c zero h = absurd (omega arith)
+texts_more s (At p) (suc n) h = let e : suc n - 1 ≡ n = omega arith in rw e
+texts_more s (cursor.Short p w) (suc n) h =
+    unfold counted_at field_at in sym (times-stopped (λ c. (counted_at s (field_at s c 1).cursor 1).cursor) (suc n - 1) stopped)
 
 -- one byte of what a tape begins with
 pub starts_more : (s xs : List ℕ) (i : ℕ) → i < length xs
-    → startsAt s i (drop i xs) ≡ (eqb (get_or s i 0) (get_or xs i 0) && startsAt s (i + 1) (drop (i + 1) xs))
-unfolding startsAt
+    → starts_at s i (drop i xs) ≡ (eqb (get_or s i 0) (get_or xs i 0) && starts_at s (i + 1) (drop (i + 1) xs))
+unfolding starts_at
 starts_more s xs i h = rw (drop-cons xs i 0 h, add-one)

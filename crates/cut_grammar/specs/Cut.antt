@@ -13,7 +13,7 @@ use Rattle.cut_grammar.specs.declared.TakenTap.TheVariants as tap
 use Rattle.cut_grammar.specs.declared.Heading.{Heading}
 use Rattle.cut_grammar.specs.declared.Heading.TheVariants as head
 use Rattle.cut_grammar.specs.declared.Span.{Span}
-use Rattle.cut_grammar.specs.Grammar.{readAt, countedAt}
+use Rattle.cut_grammar.specs.Grammar.{read_at, counted_at}
 use Rattle.cut_grammar.specs.Kinds.{kind_of}
 
 -- `ZXTape!` and 1A
@@ -21,36 +21,36 @@ abbrev pub signature : List ℕ
 signature = 0x5A ∷ 0x58 ∷ 0x54 ∷ 0x61 ∷ 0x70 ∷ 0x65 ∷ 0x21 ∷ 0x1A ∷ []
 
 -- the bytes from p on are these
-unfoldable pub startsAt : List ℕ → ℕ → List ℕ → Bool
-startsAt s p [] = true
-startsAt s p (x ∷ xs) = eqb (get_or s p 0) x && startsAt s (p + 1) xs
+unfoldable pub starts_at : List ℕ → ℕ → List ℕ → Bool
+starts_at s p [] = true
+starts_at s p (x ∷ xs) = eqb (get_or s p 0) x && starts_at s (p + 1) xs
 
 -- 10 bytes, one field: the signature, major, minor
-unfoldable pub headAt : List ℕ → Heading
-headAt s =
-    leb 10 (length s) ⇒ (startsAt s 0 signature ⇒ head.Version (get_or s 8 0) (get_or s 9 0) ∣ head.BadSignature)
+unfoldable pub head_at : List ℕ → Heading
+head_at s =
+    leb 10 (length s) ⇒ (starts_at s 0 signature ⇒ head.Version (get_or s 8 0) (get_or s 9 0) ∣ head.BadSignature)
     ∣ head.Short 0 10
 
 -- a body under the kind and the place of its piece
-unfoldable pub takenAs : ℕ → ℕ → Body → Taken
-takenAs kind at (body.Whole piece next) = taken.Whole kind at next piece
-takenAs kind at (body.Unknown described) = taken.Unknown kind described
-takenAs kind at (body.Short p w) = taken.Short kind p w
-takenAs kind at (body.Overflow p) = taken.Overflow kind p
+unfoldable pub taken_as : ℕ → ℕ → Body → Taken
+taken_as kind at (body.Whole piece next) = taken.Whole kind at next piece
+taken_as kind at (body.Unknown described) = taken.Unknown kind described
+taken_as kind at (body.Short p w) = taken.Short kind p w
+taken_as kind at (body.Overflow p) = taken.Overflow kind p
 
 -- the piece at a place: a kind byte and its body
 unfoldable pub cut_at : List ℕ → ℕ → ℕ → Taken
 cut_at s at full =
     leb (length s) at ⇒ taken.End
-    ∣ takenAs (get_or s at 0) at (readAt (kind_of full (get_or s at 0)) s (At (at + 1)))
+    ∣ taken_as (get_or s at 0) at (read_at (kind_of full (get_or s at 0)) s (At (at + 1)))
 
 -- the block at a place of a TAP: length 2, data; zero or one byte left ends the list
-unfoldable pub tapBlock : Span → Cursor → TakenTap
-tapBlock data' (At next) = tap.Block data'.from data'.size next
-tapBlock data' (cursor.Short p w) = tap.Short p w
+unfoldable pub tap_block : Span → Cursor → TakenTap
+tap_block data' (At next) = tap.Block data'.from data'.size next
+tap_block data' (cursor.Short p w) = tap.Short p w
 
-unfoldable pub tapAt : List ℕ → ℕ → TakenTap
-tapAt s at =
+unfoldable pub tap_at : List ℕ → ℕ → TakenTap
+tap_at s at =
     leb (length s) at ⇒ tap.End
     ∣ eqb (at + 1) (length s) ⇒ tap.Lone
-    ∣ tapBlock (countedAt s (At at) 2) (countedAt s (At at) 2).cursor
+    ∣ tap_block (counted_at s (At at) 2) (counted_at s (At at) 2).cursor

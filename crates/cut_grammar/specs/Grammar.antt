@@ -1,4 +1,4 @@
--- What a layout is made of, and how one is read: `readAt` hands what a part holds, and the cursor past it, to the rest.
+-- What a layout is made of, and how one is read: `read_at` hands what a part holds, and the cursor past it, to the rest.
 -- A cursor that came up short stays, so a layout ends at its last part or at the first field that is not there. Assumes nothing.
 use Rattle.std.specs.Prelude.{ℕ, zero, suc, ◌+◌, ◌/◌, Bool, List, take, leb, eqb}
 use Rattle.law_base.specs.Rules.{◌⇒◌, ◌∣◌}
@@ -6,7 +6,7 @@ use Rattle.cut_fields.specs.declared.Cursor.{Cursor}
 use Rattle.cut_fields.specs.declared.Cursor.TheVariants.{At}
 use Rattle.cut_fields.specs.declared.Cursor.TheVariants as cursor
 use Rattle.cut_fields.specs.Field.{field_at, place_of}
-use Rattle.cut_fields.specs.Run.{times, eachAt, groupsAt}
+use Rattle.cut_fields.specs.Run.{times, each_at, groups_at}
 use Rattle.cut_grammar.specs.declared.Piece.{Piece}
 use Rattle.cut_grammar.specs.declared.Body.{Body}
 use Rattle.cut_grammar.specs.declared.Body.TheVariants.{Whole, Unknown, Short, Overflow}
@@ -37,19 +37,19 @@ pub data Layout : Type 0 where
   -- no row of ours, though the format may describe the kind
   unknown : Bool → Layout
 
-unfoldable pub countedAt : List ℕ → Cursor → ℕ → Span
-countedAt s c w =
+unfoldable pub counted_at : List ℕ → Cursor → ℕ → Span
+counted_at s c w =
     let size = field_at s c w in
     record { from = place_of size.cursor; size = size.value; cursor = (field_at s size.cursor size.value).cursor }
 
-unfoldable pub textsAt : List ℕ → Cursor → ℕ → Cursor
-textsAt s c n = times (λ c. (countedAt s (field_at s c 1).cursor 1).cursor) n c
+unfoldable pub texts_at : List ℕ → Cursor → ℕ → Cursor
+texts_at s c n = times (λ c. (counted_at s (field_at s c 1).cursor 1).cursor) n c
 
-unfoldable pub passAt : Passed → List ℕ → Cursor → Cursor
-passAt (bytes n) s c = (field_at s c n).cursor
-passAt (fields n w) s c = eachAt s c n w
-passAt (groups n h k w) s c = groupsAt s c n h k w
-passAt (texts n) s c = textsAt s c n
+unfoldable pub pass_at : Passed → List ℕ → Cursor → Cursor
+pass_at (bytes n) s c = (field_at s c n).cursor
+pass_at (fields n w) s c = each_at s c n w
+pass_at (groups n h k w) s c = groups_at s c n h k w
+pass_at (texts n) s c = texts_at s c n
 
 unfoldable pub whole_at : Piece → Cursor → Body
 whole_at piece (At p) = Whole piece p
@@ -66,35 +66,35 @@ unfoldable pub enclosed : (ℕ → Body) → Cursor → Body
 enclosed inner (At end) = sealed end (inner end)
 enclosed inner (cursor.Short p w) = Short p w
 
-unfoldable pub fittingAt : ℕ → Cursor → Body → Body
-fittingAt bits (At p) rest = leb bits 4294967295 ⇒ rest ∣ Overflow p
-fittingAt bits (cursor.Short p w) rest = rest
+unfoldable pub fitting_at : ℕ → Cursor → Body → Body
+fitting_at bits (At p) rest = leb bits 4294967295 ⇒ rest ∣ Overflow p
+fitting_at bits (cursor.Short p w) rest = rest
 
-abbrev pub unknownAt : Bool → Cursor → Body
-unknownAt described (At p) = Unknown described
-unknownAt described (cursor.Short p w) = Short p w
+abbrev pub unknown_at : Bool → Cursor → Body
+unknown_at described (At p) = Unknown described
+unknown_at described (cursor.Short p w) = Short p w
 
-unfoldable pub readAt : Layout → List ℕ → Cursor → Body
-readAt (number w rest) s c = readAt (rest (field_at s c w).value) s (field_at s c w).cursor
-readAt (counted w rest) s c = readAt (rest (countedAt s c w).from (countedAt s c w).size) s (countedAt s c w).cursor
-readAt (here rest) s c = readAt (rest (place_of c)) s c
-readAt (pass part rest) s c = readAt rest s (passAt part s c)
-readAt (within n inner) s c = enclosed (λ end. readAt inner (take end s) c) (field_at s c n).cursor
-readAt (fitting bits rest) s c = fittingAt bits c (readAt rest s c)
-readAt (whole piece) s c = whole_at piece c
-readAt (unknown described) s c = unknownAt described c
+unfoldable pub read_at : Layout → List ℕ → Cursor → Body
+read_at (number w rest) s c = read_at (rest (field_at s c w).value) s (field_at s c w).cursor
+read_at (counted w rest) s c = read_at (rest (counted_at s c w).from (counted_at s c w).size) s (counted_at s c w).cursor
+read_at (here rest) s c = read_at (rest (place_of c)) s c
+read_at (pass part rest) s c = read_at rest s (pass_at part s c)
+read_at (within n inner) s c = enclosed (λ end. read_at inner (take end s) c) (field_at s c n).cursor
+read_at (fitting bits rest) s c = fitting_at bits c (read_at rest s c)
+read_at (whole piece) s c = whole_at piece c
+read_at (unknown described) s c = unknown_at described c
 
 -- the binary digits of n, f of them at the most; a number of 32 bits has no more than 32
-unfoldable pub binaryDigits : ℕ → ℕ → ℕ
-binaryDigits zero n = 0
-binaryDigits (suc f) n = eqb n 0 ⇒ 0 ∣ 1 + binaryDigits f (n / 2)
+unfoldable pub binary_digits : ℕ → ℕ → ℕ
+binary_digits zero n = 0
+binary_digits (suc f) n = eqb n 0 ⇒ 0 ∣ 1 + binary_digits f (n / 2)
 
 abbrev pub bits_of : ℕ → ℕ
-bits_of n = binaryDigits 32 n
+bits_of n = binary_digits 32 n
 
 -- an alphabet's size, where 0 means `full`; an alphabet that nothing uses is left out
-unfoldable pub orFull : ℕ → ℕ → ℕ
-orFull full size = eqb size 0 ⇒ full ∣ size
+unfoldable pub or_full : ℕ → ℕ → ℕ
+or_full full size = eqb size 0 ⇒ full ∣ size
 
-unfoldable pub heldIf : ℕ → ℕ → ℕ
-heldIf uses size = eqb uses 0 ⇒ 0 ∣ size
+unfoldable pub held_if : ℕ → ℕ → ℕ
+held_if uses size = eqb uses 0 ⇒ 0 ∣ size

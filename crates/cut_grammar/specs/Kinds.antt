@@ -6,7 +6,7 @@ use Rattle.cut_grammar.specs.declared.Piece.TheVariants.{Standard, Turbo, Tone, 
 use Rattle.cut_grammar.specs.declared.Piece.TheVariants.{GroupEnd, LoopStart, LoopEnd, Stop48, Text, Message, Archive, Hardware}
 use Rattle.cut_grammar.specs.declared.Piece.TheVariants.{Custom, Glue}
 use Rattle.cut_grammar.specs.Grammar.{Layout, number, counted, here, pass, within, fitting, whole, unknown, bytes, fields, groups}
-use Rattle.cut_grammar.specs.Grammar.{texts, bits_of, orFull, heldIf}
+use Rattle.cut_grammar.specs.Grammar.{texts, bits_of, or_full, held_if}
 
 -- 10: pause ms 2, length 2, data
 unfoldable pub kind10 : Layout
@@ -58,13 +58,13 @@ body19 full length =
     number 2 λ pause.
     number 4 λ totp. number 1 λ npp. number 1 λ asp0.
     number 4 λ totd. number 1 λ npd. number 1 λ asd0.
-    let asp = orFull full asp0 in
-    let asd = orFull full asd0 in
+    let asp = or_full full asp0 in
+    let asd = or_full full asd0 in
     let nb = bits_of (asd - 1) in
     let size = (nb * totd + 7) / 8 in
-    here λ pilot. pass (groups (heldIf totp asp) 1 npp 2) (
+    here λ pilot. pass (groups (held_if totp asp) 1 npp 2) (
     here λ entries. pass (groups totp 1 1 2) (
-    here λ symbols. pass (groups (heldIf totd asd) 1 npd 2) (
+    here λ symbols. pass (groups (held_if totd asd) 1 npd 2) (
     here λ from. stream19 (nb * totd)
     (record {
       length = length;
@@ -109,8 +109,8 @@ unfoldable pub kind25 : Layout
 kind25 = whole LoopEnd
 
 -- 2A: length 4, and no more bytes, whatever it says
-unfoldable pub kind2A : Layout
-kind2A = number 4 λ length. whole (Stop48 length)
+unfoldable pub kind_2a : Layout
+kind_2a = number 4 λ length. whole (Stop48 length)
 
 -- 30: length 1, text
 unfoldable pub kind30 : Layout
@@ -136,8 +136,8 @@ unfoldable pub kind35 : Layout
 kind35 = pass (bytes 16) (counted 4 λ from size. whole Custom)
 
 -- 5A: 9 bytes
-unfoldable pub kind5A : Layout
-kind5A = pass (bytes 9) (whole Glue)
+unfoldable pub kind_5a : Layout
+kind_5a = pass (bytes 9) (whole Glue)
 
 -- a kind that the format describes and no rule names (rule 47)
 abbrev pub unread : Layout
@@ -148,9 +148,9 @@ unfoldable pub kinds : ℕ → List (Arm Layout)
 kinds full =
     0x10 ▸ kind10 ∷ 0x11 ▸ kind11 ∷ 0x12 ▸ kind12 ∷ 0x13 ▸ kind13 ∷ 0x14 ▸ kind14 ∷ 0x19 ▸ kind19 full ∷
     0x20 ▸ kind20 ∷ 0x21 ▸ kind21 ∷ 0x22 ▸ kind22 ∷ 0x23 ▸ unread ∷ 0x24 ▸ kind24 ∷ 0x25 ▸ kind25 ∷
-    0x2A ▸ kind2A ∷ 0x2B ▸ unread ∷
+    0x2A ▸ kind_2a ∷ 0x2B ▸ unread ∷
     0x30 ▸ kind30 ∷ 0x31 ▸ kind31 ∷ 0x32 ▸ kind32 ∷ 0x33 ▸ kind33 ∷ 0x34 ▸ unread ∷ 0x35 ▸ kind35 ∷
-    0x40 ▸ unread ∷ 0x5A ▸ kind5A ∷ []
+    0x40 ▸ unread ∷ 0x5A ▸ kind_5a ∷ []
 
 -- every kind from 0 to 255 has its row: 15 to 18 and 26 to 28 are described too, and any other kind is not
 unfoldable pub kind_of : ℕ → ℕ → Layout

@@ -2,10 +2,10 @@
 use Rattle.std.specs.Prelude.{ℕ, ◌+◌, ◌*◌, ◌-◌, ◌/◌, List}
 use Rattle.cut_fields.specs.declared.Cursor.{Cursor}
 use Rattle.cut_fields.specs.Field.{field_at, place_of}
-use Rattle.cut_fields.specs.Run.{groupsAt}
+use Rattle.cut_fields.specs.Run.{groups_at}
 use Rattle.cut_grammar.specs.declared.Body.{Body}
 use Rattle.cut_grammar.specs.declared.GeneralHead.{GeneralHead}
-use Rattle.cut_grammar.specs.Grammar.{readAt, bits_of, orFull, heldIf}
+use Rattle.cut_grammar.specs.Grammar.{read_at, bits_of, or_full, held_if}
 use Rattle.cut_grammar.specs.Kinds.{stream19}
 
 unfoldable pub head19 : List ℕ → Cursor → GeneralHead
@@ -33,13 +33,13 @@ head19 s c =
 -- its four tables, behind these numbers
 unfoldable pub tables19 : ℕ → List ℕ → GeneralHead → Body
 tables19 full s h =
-    let asp = orFull full h.asp in
-    let asd = orFull full h.asd in
+    let asp = or_full full h.asp in
+    let asd = or_full full h.asd in
     let nb = bits_of (asd - 1) in
-    let entries = groupsAt s h.cursor (heldIf h.totp asp) 1 h.npp 2 in
-    let symbols = groupsAt s entries h.totp 1 1 2 in
-    let from = groupsAt s symbols (heldIf h.totd asd) 1 h.npd 2 in
-    readAt (stream19 (nb * h.totd)
+    let entries = groups_at s h.cursor (held_if h.totp asp) 1 h.npp 2 in
+    let symbols = groups_at s entries h.totp 1 1 2 in
+    let from = groups_at s symbols (held_if h.totd asd) 1 h.npd 2 in
+    read_at (stream19 (nb * h.totd)
     (record {
       length = h.length;
       pause = h.pause;

@@ -2,8 +2,8 @@
 // the head and one TAP block cut out of the bytes.
 // What a reading makes of them is not here.
 ghost use Rattle.std.specs.Prelude.{◌≡◌, ◌≤◌, length};
-ghost use Rattle.cut_grammar.specs.Grammar.{countedAt, whole_at, sealed};
-ghost use Rattle.cut_grammar.specs.Cut.{signature, startsAt, headAt, tapAt};
+ghost use Rattle.cut_grammar.specs.Grammar.{counted_at, whole_at, sealed};
+ghost use Rattle.cut_grammar.specs.Cut.{signature, starts_at, head_at, tap_at};
 
 use cut_fields::{Cursor, field, pass, place};
 
@@ -158,7 +158,7 @@ pub struct Span {
 
 // A length of `width` bytes and as many bytes.
 pub fn counted(tape: &[u8], c: Cursor, width: u64) -> Span
-    ensures { result ≡ countedAt tape.now c width }
+    ensures { result ≡ counted_at tape.now c width }
 {
     let size = field(tape, c, width);
     let from = size.cursor;
@@ -207,7 +207,7 @@ pub fn sealed(end: u64, inner: Body) -> Body
 
 // The block at a place of a TAP.
 pub fn cut_tap(tape: &[u8], at: u64) -> TakenTap
-    ensures { result ≡ tapAt tape.now at }
+    ensures { result ≡ tap_at tape.now at }
 {
     let end = tape.len() as u64;
     if end <= at {
@@ -233,7 +233,7 @@ const SIGNATURE: [u8; 8] = [0x5A, 0x58, 0x54, 0x61, 0x70, 0x65, 0x21, 0x1A];
 // Whether a tape of 8 bytes or more begins with the signature.
 fn signed(tape: &[u8]) -> bool
     requires { 8 ≤ length tape.now }
-    ensures { result ≡ startsAt tape.now 0 signature }
+    ensures { result ≡ starts_at tape.now 0 signature }
 {
     let mut i = 0;
     while i < 8 {
@@ -247,7 +247,7 @@ fn signed(tape: &[u8]) -> bool
 
 // What a tape begins with.
 pub fn head(tape: &[u8]) -> Heading
-    ensures { result ≡ headAt tape.now }
+    ensures { result ≡ head_at tape.now }
 {
     if tape.len() < 10 {
         return Heading::Short {

@@ -1,9 +1,9 @@
 // One piece of a TZX, cut out of the bytes: every kind from 0 to 255 has its row.
 ghost use Rattle.std.specs.Prelude.{◌≡◌};
 ghost use Rattle.cut_fields.specs.declared.Cursor.TheVariants.{At};
-ghost use Rattle.cut_grammar.specs.Grammar.{readAt};
+ghost use Rattle.cut_grammar.specs.Grammar.{read_at};
 ghost use Rattle.cut_grammar.specs.Kinds.{kind_of};
-ghost use Rattle.cut_grammar.specs.Cut.{cut_at, takenAs};
+ghost use Rattle.cut_grammar.specs.Cut.{cut_at, taken_as};
 
 use cut_bodies::{
     archive, custom, group_start, hardware, loop_start, message, pause, pulses, pure, standard,
@@ -15,7 +15,7 @@ use cut_grammar::{Body, Piece, Taken, whole};
 
 // What stands after a kind byte, from a place on: every kind from 0 to 255 has its row.
 fn body_of(tape: &[u8], kind: u8, from: u64, full: u32) -> Body
-    ensures { result ≡ readAt (kind_of full kind) tape.now (At from) }
+    ensures { result ≡ read_at (kind_of full kind) tape.now (At from) }
 {
     let c = Cursor::At(from);
     match kind {
@@ -49,7 +49,7 @@ fn body_of(tape: &[u8], kind: u8, from: u64, full: u32) -> Body
 
 // A body under its kind and the place of its piece.
 fn named(kind: u8, at: u64, body: Body) -> Taken
-    ensures { result ≡ takenAs kind at body }
+    ensures { result ≡ taken_as kind at body }
 {
     match body {
         Body::Whole(piece, next) => Taken::Whole {

@@ -2,9 +2,9 @@
 ghost use Rattle.std.specs.Prelude.{◌≡◌, List, [], ℕ, suc, ◌<◌, ◌≤◌, length, get_or, drop};
 ghost use Rattle.text_out.specs.Out.{Fitted};
 ghost use Rattle.load_source.specs.Source.{no};
-ghost use Rattle.listing.specs.Listing.{blockWords, toneWords};
+ghost use Rattle.listing.specs.Listing.{block_words, tone_words};
 ghost use Rattle.prog_tape.specs.Lines.{Opens};
-ghost use Rattle.dump.specs.Dumped.{loadHeard, dumpLines, Dumping};
+ghost use Rattle.dump.specs.Dumped.{load_heard, dump_lines, Dumping};
 
 use load_tape::Loaded;
 use prog_model::model_of;
@@ -26,9 +26,9 @@ fn refuse(blocks: &mut [u64], tones: &mut [u64], out: &mut [u8], k: u32) -> Open
 
 // The first line, how many follow it, and the tables that they are read from.
 fn first(input: &[u8], blocks: &mut [u64], tones: &mut [u64], out: &mut [u8]) -> Opening
-    requires blocks_len { (length blocks.old ≡ blockWords) × (length tones.old ≡ toneWords) }
+    requires blocks_len { (length blocks.old ≡ block_words) × (length tones.old ≡ tone_words) }
     requires in_bounds { 32 ≤ length out.old }
-    ensures { Opens blockWords toneWords (drop 1 input.now) (loadHeard input.now) result
+    ensures { Opens block_words tone_words (drop 1 input.now) (load_heard input.now) result
         blocks.new tones.new out.old out.new }
 {
     if input.len() == 0 {
@@ -48,16 +48,16 @@ fn first(input: &[u8], blocks: &mut [u64], tones: &mut [u64], out: &mut [u8]) ->
 // Line i of those that follow.
 fn line(input: &[u8], tones: &[u64], blocks: &[u64], i: usize, out: &mut [u8]) -> usize
     requires dumping { Dumping input.now blocks.now tones.now }
-    requires i_in_bounds { suc i < length (dumpLines input.now) }
-    requires tones_len { (length tones.now ≡ toneWords) × (180000 ≤ length out.old) }
-    ensures { Fitted (get_or (dumpLines input.now) (suc i) []) out.old out.new result }
+    requires i_in_bounds { suc i < length (dump_lines input.now) }
+    requires tones_len { (length tones.now ≡ tone_words) × (180000 ≤ length out.old) }
+    ensures { Fitted (get_or (dump_lines input.now) (suc i) []) out.old out.new result }
 {
     block_line(&input[1..], tones, blocks, i, out)
 }
 
 // All lines; that each is written once and in order is all that no contract says.
 fn print(input: &[u8], blocks: &mut [u64], tones: &mut [u64], out: &mut [u8])
-    requires blocks_len { (length blocks.old ≡ blockWords) × (length tones.old ≡ toneWords) }
+    requires blocks_len { (length blocks.old ≡ block_words) × (length tones.old ≡ tone_words) }
     requires in_bounds { 180000 ≤ length out.old }
 {
     let opening = first(input, blocks, tones, out);

@@ -9,46 +9,46 @@ use mathlib.Core.List.{List, [], ◌∷◌}
 use lib.ListN.{length, get_or, take}
 use Rattle.law_base.specs.Rules.{◌⇒◌, ◌∣◌}
 use Rattle.law_base.proofs.Tests.{first, second}
-use Rattle.law_base.proofs.Numbers.{lt-or-ge}
+use Rattle.law_base.proofs.Numbers.{lt_or_ge}
 use Rattle.law_pulses.specs.Play.{Level}
-use Rattle.refusals.specs.Refusals.{noRoom}
+use Rattle.refusals.specs.Refusals.{no_room}
 use Rattle.text_out.specs.Out.{fits, told}
 use Rattle.play_entries.specs.declared.Duration.{Duration}
 use Rattle.play_entries.specs.declared.Duration.TheVariants.{T, Endless}
-use Rattle.play_entries.specs.Places.{Tape, levelIn}
+use Rattle.play_entries.specs.Places.{Tape, level_in}
 use Rattle.play_walk.specs.declared.Position.{Position}
 use Rattle.play_walk.specs.declared.Reached.TheVariants.{At}
 use Rattle.play_walk.specs.Heads.{placed, stand, Walkable}
 use Rattle.play_deck.specs.declared.Check.TheVariants.{Fine}
 use Rattle.play_deck.specs.declared.Finding.{Finding}
 use Rattle.play_deck.specs.Assay.{passes, Assayed}
-use Rattle.play_deck.specs.Inside.{endsInside, less_by}
-use Rattle.play_deck.proofs.Assays.{fine_of, fine-so, level-below}
-use Rattle.play_deck.proofs.Checks.{fine-below, fine-none}
-use Rattle.play_deck.proofs.Inside.{inside-less}
+use Rattle.play_deck.specs.Inside.{ends_inside, less_by}
+use Rattle.play_deck.proofs.Assays.{fine_of, fine_so, level_below}
+use Rattle.play_deck.proofs.Checks.{fine_below, fine_none}
+use Rattle.play_deck.proofs.Inside.{inside_less}
 use Rattle.host_words.specs.declared.Placed.TheVariants as place
-use Rattle.host_words.specs.Words.{flagOf, span_of, words_of, positionFrom}
+use Rattle.host_words.specs.Words.{flag_of, span_of, words_of, position_from}
 use Rattle.host_words.proofs.Positions.{position-words}
-use Rattle.host_run.specs.Runs.{playerOf}
-use Rattle.host_run.proofs.Runs.{inside-play, never-none}
-use Rattle.host_answers.specs.Answers.{standWords, insideWords, ofReached, number_of, values_of}
+use Rattle.host_run.specs.Runs.{player_of}
+use Rattle.host_run.proofs.Runs.{inside_play, never_none}
+use Rattle.host_answers.specs.Answers.{stand_words, inside_words, of_reached, number_of, values_of}
 
 -- the words told, of the seven that a position has
-abbrev onWords : List ℕ → ℕ → Bool → List ℕ
-onWords l n v =
-    0 ∷ 0 ∷ flagOf v ∷ get_or l 0 0 ∷ get_or l 1 0 ∷ get_or l 2 0 ∷ get_or l 3 0 ∷ get_or l 4 0 ∷ get_or l 5 0 ∷ (get_or l 6 0 - n) ∷ []
+abbrev on_words : List ℕ → ℕ → Bool → List ℕ
+on_words l n v =
+    0 ∷ 0 ∷ flag_of v ∷ get_or l 0 0 ∷ get_or l 1 0 ∷ get_or l 2 0 ∷ get_or l 3 0 ∷ get_or l 4 0 ∷ get_or l 5 0 ∷ (get_or l 6 0 - n) ∷ []
 
 pub record Inside (ws : List ℕ) (q : Position) (t n : ℕ) (v : Bool) : Type 0 where
   pub seven : 7 ≤ length ws
   pub left : get_or ws 6 0 ≡ t
-  pub words : insideWords ws n v ≡ standWords 0 (stand (placed q.block q.phase (T (t - n))) 0 v)
+  pub words : inside_words ws n v ≡ stand_words 0 (stand (placed q.block q.phase (T (t - n))) 0 v)
 
 no : {ws : List ℕ} {q p : Position} {t n : ℕ} {v : Bool} → place.Not ≡ place.Is p → Inside ws q t n v
 no e = let z : ◌≡◌ {A = ℕ} 0 1 = cc in absurd (omega arith)
 
 -- words that name a position with t T-states left
-pub words_inside : (ws : List ℕ) (q : Position) (t n : ℕ) (v : Bool) → positionFrom ws ≡ place.Is q → q.left ≡ T t → Inside ws q t n v
-unfolding positionFrom insideWords standWords words_of span_of
+pub words_inside : (ws : List ℕ) (q : Position) (t n : ℕ) (v : Bool) → position_from ws ≡ place.Is q → q.left ≡ T t → Inside ws q t n v
+unfolding position_from inside_words stand_words words_of span_of
 words_inside [] q t n v e l = no e
 words_inside (b ∷ []) q t n v e l = no e
 words_inside (b ∷ f ∷ []) q t n v e l = no e
@@ -60,42 +60,42 @@ words_inside (b ∷ f ∷ a ∷ p ∷ h ∷ d ∷ k ∷ rest) q t n v e l =
     let ws = b ∷ f ∷ a ∷ p ∷ h ∷ d ∷ k ∷ rest in
     let y : b ∷ f ∷ a ∷ p ∷ h ∷ d ∷ k ∷ [] ≡ words_of (placed q.block q.phase (T t)) =
     position-words.1 ws q e ∙ ap (λ (x : Duration). words_of (placed q.block q.phase x)) l in
-    record { seven = omega arith; left = ap (λ (x : List ℕ). get_or x 6 0) y; words = ap (λ (x : List ℕ). onWords x n v) y }
+    record { seven = omega arith; left = ap (λ (x : List ℕ). get_or x 6 0) y; words = ap (λ (x : List ℕ). on_words x n v) y }
 
 -- what a call that ends inside tells
 pub record Told (m : Bool) (w : Tape) (ws : List ℕ) (q : Position) (n : ℕ) (v : Bool) : Type 0 where
   pub seven : 7 ≤ length ws
   pub less : n ≤ get_or ws 6 0
-  pub number : (row : List ℕ) → number_of (ofReached (playerOf m w q n)) row ≡ (fits (insideWords ws n v) row ⇒ 0 ∣ noRoom)
-  pub values : (row : List ℕ) → values_of (ofReached (playerOf m w q n)) row ≡ told (insideWords ws n v) row
+  pub number : (row : List ℕ) → number_of (of_reached (player_of m w q n)) row ≡ (fits (inside_words ws n v) row ⇒ 0 ∣ no_room)
+  pub values : (row : List ℕ) → values_of (of_reached (player_of m w q n)) row ≡ told (inside_words ws n v) row
 
-module _ (m : Bool) (w : Tape) (ws : List ℕ) (q : Position) (n : ℕ) (a : Finding) (e : positionFrom ws ≡ place.Is q) (x : Assayed w q a)
+module _ (m : Bool) (w : Tape) (ws : List ℕ) (q : Position) (n : ℕ) (a : Finding) (e : position_from ws ≡ place.Is q) (x : Assayed w q a)
     (fine : a.check ≡ Fine) where
-  told-left : (left : Duration) → q.left ≡ left → endsInside left n ≡ true → Told m w ws q n a.level
-  unfolding endsInside less_by number_of values_of ofReached
-  told-left (T t) l i =
-      let h = inside-less (T t) t n refl i in
-      let y : Walkable w q = ⊎_elim (λ b. fine-below w q (fine-so x fine) b)
-      (λ b. absurd (never-none t (sym l ∙ fine-none w q (fine-so x fine) b) (omega arith))) (lt-or-ge q.block w.count) in
+  told_left : (left : Duration) → q.left ≡ left → ends_inside left n ≡ true → Told m w ws q n a.level
+  unfolding ends_inside less_by number_of values_of of_reached
+  told_left (T t) l i =
+      let h = inside_less (T t) t n refl i in
+      let y : Walkable w q = ⊎_elim (λ b. fine_below w q (fine_so x fine) b)
+      (λ b. absurd (never_none t (sym l ∙ fine_none w q (fine_so x fine) b) (omega arith))) (lt_or_ge q.block w.count) in
       let z = words_inside ws q t n a.level e l in
-      let s = inside-play w q n t y l h m
-      ∙ ap (λ (d : Duration). At (stand (placed q.block q.phase (less_by d n)) 0 (levelIn w q.block q.phase))) l
-      ∙ ap (λ (k : Level). At (stand (placed q.block q.phase (T (t - n))) 0 k)) (sym (level-below x fine y.below)) in
+      let s = inside_play w q n t y l h m
+      ∙ ap (λ (d : Duration). At (stand (placed q.block q.phase (less_by d n)) 0 (level_in w q.block q.phase))) l
+      ∙ ap (λ (k : Level). At (stand (placed q.block q.phase (T (t - n))) 0 k)) (sym (level_below x fine y.below)) in
       record {
         seven = z.seven;
         less = omega (arith, z.left);
         number = λ row. rw (s, z.words);
         values = λ row. rw (s, z.words);
       }
-  told-left Endless l i = let y : ◌≡◌ {A = ℕ} 1 0 = ap (λ (t : Bool). t ⇒ 0 ∣ 1) i in absurd (omega arith)
+  told_left Endless l i = let y : ◌≡◌ {A = ℕ} 1 0 = ap (λ (t : Bool). t ⇒ 0 ∣ 1) i in absurd (omega arith)
 
-  pub call-inside : endsInside q.left n ≡ true → Told m w ws q n a.level
-  call-inside i = told-left q.left refl i
+  pub call_inside : ends_inside q.left n ≡ true → Told m w ws q n a.level
+  call_inside i = told_left q.left refl i
 
 -- .. by the code's own test
-pub passed-inside : (m : Bool) (w : Tape) (ws : List ℕ) (q : Position) (n : ℕ) (a : Finding) → positionFrom ws ≡ place.Is q
-    → Assayed w q a → (passes a.check && endsInside q.left n) ≡ true
+pub passed_inside : (m : Bool) (w : Tape) (ws : List ℕ) (q : Position) (n : ℕ) (a : Finding) → position_from ws ≡ place.Is q
+    → Assayed w q a → (passes a.check && ends_inside q.left n) ≡ true
     → Told m w ws q n a.level
-passed-inside m w ws q n a e x t =
-    call-inside m w ws q n a e x (fine_of a.check (first (passes a.check) (endsInside q.left n) t))
-    (second (passes a.check) (endsInside q.left n) t)
+passed_inside m w ws q n a e x t =
+    call_inside m w ws q n a e x (fine_of a.check (first (passes a.check) (ends_inside q.left n) t))
+    (second (passes a.check) (ends_inside q.left n) t)

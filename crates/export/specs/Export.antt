@@ -2,76 +2,76 @@
 -- Definitions alone; assumes nothing.
 use Rattle.std.specs.Prelude.{ℕ, Bool, List, [], ◌∷◌, ltb, leb, eqb, length}
 use Rattle.law_base.specs.Rules.{◌⇒◌, ◌∣◌}
-use Rattle.refusals.specs.Refusals.{noPosition, noRoom, badRow}
+use Rattle.refusals.specs.Refusals.{no_position, no_room, bad_row}
 use Rattle.play_entries.specs.Places.{Tape}
-use Rattle.play_entries.specs.Mounted.{overfull, wellRow}
+use Rattle.play_entries.specs.Mounted.{overfull, well_row}
 use Rattle.play_walk.specs.declared.Position.{Position}
-use Rattle.ask.specs.Queries.{nameBytes}
-use Rattle.play_deck.specs.Deck.{playMeasured, playSource, playMounted, block_at}
+use Rattle.ask.specs.Queries.{name_bytes}
+use Rattle.play_deck.specs.Deck.{play_measured, play_source, play_mounted, block_at}
 use Rattle.text_out.specs.Out.{told}
 use Rattle.load_blocks.specs.Does.{lent_of}
 use Rattle.load_source.specs.Source.{Load}
-use Rattle.load_tape.specs.Load.{loadNamed}
+use Rattle.load_tape.specs.Load.{load_named}
 use Rattle.load_tape.specs.declared.Loaded.{Loaded}
 use Rattle.host_words.specs.declared.Placed.{Placed}
 use Rattle.host_words.specs.declared.Placed.TheVariants as place
-use Rattle.host_words.specs.Words.{words_of, positionFrom}
-use Rattle.host_run.specs.Runs.{runNo, runTable}
-use Rattle.host_answers.specs.Answers.{Reply, refusedBy, number_of, ofSelected, ofReached, ofLoaded}
+use Rattle.host_words.specs.Words.{words_of, position_from}
+use Rattle.host_run.specs.Runs.{run_no, run_table}
+use Rattle.host_answers.specs.Answers.{Reply, refused_by, number_of, of_selected, of_reached, of_loaded}
 
 -- WORDS THAT NAME NO POSITION are refused in rule 37's order, the first of them the block's number: 11 for the count, 9 at or past it,
 -- 11 for its row, 9. With no word there is no row to look at
-unfoldable pub misplacedNo : Tape → List ℕ → ℕ
-misplacedNo w [] = overfull w ⇒ badRow ∣ noPosition
-misplacedNo w (b ∷ ws) = overfull w ⇒ badRow ∣ leb w.count b ⇒ noPosition ∣ wellRow w b ⇒ noPosition ∣ badRow
+unfoldable pub misplaced_no : Tape → List ℕ → ℕ
+misplaced_no w [] = overfull w ⇒ bad_row ∣ no_position
+misplaced_no w (b ∷ ws) = overfull w ⇒ bad_row ∣ leb w.count b ⇒ no_position ∣ well_row w b ⇒ no_position ∣ bad_row
 
 -- WITH A POSITION as words: what f says of it, or that refusal where they name none
-unfoldable pub withPlace : (Position → Reply) → Tape → List ℕ → Placed → Reply
-withPlace f w ws (place.Is q) = f q
-withPlace f w ws place.Not = refusedBy (misplacedNo w ws)
+unfoldable pub with_place : (Position → Reply) → Tape → List ℕ → Placed → Reply
+with_place f w ws (place.Is q) = f q
+with_place f w ws place.Not = refused_by (misplaced_no w ws)
 
 -- a position's block, and both players' answers, from lent words
-abbrev pub selectedAt : Tape → List ℕ → Reply
-selectedAt w ws = withPlace (λ q. ofSelected (block_at w q)) w ws (positionFrom ws)
+abbrev pub selected_at : Tape → List ℕ → Reply
+selected_at w ws = with_place (λ q. of_selected (block_at w q)) w ws (position_from ws)
 
-abbrev pub sourceAt : Tape → List ℕ → ℕ → Reply
-sourceAt w ws n = withPlace (λ q. ofReached (playSource w q n)) w ws (positionFrom ws)
+abbrev pub source_at : Tape → List ℕ → ℕ → Reply
+source_at w ws n = with_place (λ q. of_reached (play_source w q n)) w ws (position_from ws)
 
-abbrev pub measuredAt : Tape → List ℕ → ℕ → Reply
-measuredAt w ws n = withPlace (λ q. ofReached (playMeasured w q n)) w ws (positionFrom ws)
+abbrev pub measured_at : Tape → List ℕ → ℕ → Reply
+measured_at w ws n = with_place (λ q. of_reached (play_measured w q n)) w ws (position_from ws)
 
 -- what f says of the position that words name, or other
-unfoldable pub fromPlace : {A : Type 0} → (Position → A) → A → Placed → A
-fromPlace f other (place.Is q) = f q
-fromPlace f other place.Not = other
+unfoldable pub from_place : {A : Type 0} → (Position → A) → A → Placed → A
+from_place f other (place.Is q) = f q
+from_place f other place.Not = other
 
 -- A RUN OF CALLS from lent words: its number, and what is left of the table
-abbrev pub runNumber : Tape → List ℕ → List ℕ → List ℕ → ℕ
-runNumber w ws ns table = fromPlace (λ q. runNo w q ns table) (misplacedNo w ws) (positionFrom ws)
+abbrev pub run_number : Tape → List ℕ → List ℕ → List ℕ → ℕ
+run_number w ws ns table = from_place (λ q. run_no w q ns table) (misplaced_no w ws) (position_from ws)
 
-abbrev pub runLeft : Bool → Tape → List ℕ → List ℕ → List ℕ → List ℕ
-runLeft measured w ws ns table = fromPlace (λ q. runTable measured w q ns table) table (positionFrom ws)
+abbrev pub run_left : Bool → Tape → List ℕ → List ℕ → List ℕ → List ℕ
+run_left measured w ws ns table = from_place (λ q. run_table measured w q ns table) table (position_from ws)
 
 -- THE MOUNTED HEAD as lent words: where the call leaves it; a refusal, 10 too, leaves them as they were
 unfoldable pub moved_to : Tape → Position → ℕ → List ℕ → List ℕ → List ℕ
 moved_to w q n row ws =
-    let p = playMounted w (record { position = q }) n in
-    eqb (number_of (ofReached p.answer) row) 0 ⇒ told (words_of p.head.position) ws ∣ ws
+    let p = play_mounted w (record { position = q }) n in
+    eqb (number_of (of_reached p.answer) row) 0 ⇒ told (words_of p.head.position) ws ∣ ws
 
-abbrev pub headLeft : Tape → List ℕ → ℕ → List ℕ → List ℕ
-headLeft w ws n row = fromPlace (λ q. moved_to w q n row ws) ws (positionFrom ws)
+abbrev pub head_left : Tape → List ℕ → ℕ → List ℕ → List ℕ
+head_left w ws n row = from_place (λ q. moved_to w q n row ws) ws (position_from ws)
 
 -- the load of a tape for a model into lent tables
-abbrev pub loadIn : List ℕ → List ℕ → List ℕ → ℕ → Load
-loadIn blocks tones tape model = loadNamed (lent_of (length blocks) (length tones)) tape model
+abbrev pub load_in : List ℕ → List ℕ → List ℕ → ℕ → Load
+load_in blocks tones tape model = load_named (lent_of (length blocks) (length tones)) tape model
 
 -- a load whose answer doesn't fit its row of three words is 10, before anything is read, and alters nothing
-unfoldable pub loadNumber : Loaded → List ℕ → ℕ
-loadNumber a row = ltb (length row) 3 ⇒ noRoom ∣ (ofLoaded a).no
+unfoldable pub load_number : Loaded → List ℕ → ℕ
+load_number a row = ltb (length row) 3 ⇒ no_room ∣ (of_loaded a).no
 
-unfoldable pub loadTable : List ℕ → List ℕ → List ℕ → List ℕ
-loadTable row was now = ltb (length row) 3 ⇒ was ∣ now
+unfoldable pub load_table : List ℕ → List ℕ → List ℕ → List ℕ
+load_table row was now = ltb (length row) 3 ⇒ was ∣ now
 
 -- a name's bytes are not written where there is no word for its length
-unfoldable pub nameLeft : Tape → ℕ → List ℕ → List ℕ → List ℕ
-nameLeft w i row out = ltb (length row) 1 ⇒ out ∣ nameBytes w i out
+unfoldable pub name_left : Tape → ℕ → List ℕ → List ℕ → List ℕ
+name_left w i row out = ltb (length row) 1 ⇒ out ∣ name_bytes w i out

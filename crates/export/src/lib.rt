@@ -1,19 +1,19 @@
 // Thin functions that a C host calls over tables of its own: include/glyvrask.h says what each takes and which words it answers.
 ghost use Rattle.std.specs.Prelude.{◌≡◌, not, ◌&&◌, List, eqb, ℕ, length};
-ghost use Rattle.play_entries.specs.Mounted.{tapeOf};
+ghost use Rattle.play_entries.specs.Mounted.{tape_of};
 ghost use Rattle.play_walk.specs.Heads.{start_at};
-ghost use Rattle.ask.specs.Queries.{len_of, size_of, selectableOf, timeOf, nameAnswer, loadingOf};
-ghost use Rattle.load_tape.specs.Load.{answer_of, blockTable, toneTable};
-ghost use Rattle.host_answers.specs.Answers.{number_of, values_of, ofNumber, ofMark, ofTime, ofPosition, ofLoaded};
+ghost use Rattle.ask.specs.Queries.{len_of, size_of, selectable_of, time_of, name_answer, loading_of};
+ghost use Rattle.load_tape.specs.Load.{answer_of, block_table, tone_table};
+ghost use Rattle.host_answers.specs.Answers.{number_of, values_of, of_number, of_mark, of_time, of_position, of_loaded};
 ghost use Rattle.play_deck.specs.Assay.{passes};
-ghost use Rattle.play_deck.specs.Inside.{endsInside};
-ghost use Rattle.play_deck.specs.Deck.{playMeasured};
+ghost use Rattle.play_deck.specs.Inside.{ends_inside};
+ghost use Rattle.play_deck.specs.Deck.{play_measured};
 ghost use Rattle.host_words.specs.declared.Placed.TheVariants.{Is};
-ghost use Rattle.host_words.specs.Words.{positionFrom};
-ghost use Rattle.host_run.specs.Runs.{playerOf};
-ghost use Rattle.host_answers.specs.Answers.{ofReached};
-ghost use Rattle.export.specs.Export.{runNumber, runLeft, moved_to, headLeft};
-ghost use Rattle.export.specs.Export.{loadIn, misplacedNo, selectedAt, sourceAt, measuredAt, loadNumber, loadTable, nameLeft};
+ghost use Rattle.host_words.specs.Words.{position_from};
+ghost use Rattle.host_run.specs.Runs.{player_of};
+ghost use Rattle.host_answers.specs.Answers.{of_reached};
+ghost use Rattle.export.specs.Export.{run_number, run_left, moved_to, head_left};
+ghost use Rattle.export.specs.Export.{load_in, misplaced_no, selected_at, source_at, measured_at, load_number, load_table, name_left};
 
 use ask::{overfull, refusal};
 use host_answers::{
@@ -30,7 +30,7 @@ use refusals::{BAD_ROW, NO_POSITION, NO_ROOM};
 // Words that name no position, in rule 37's order: 11 for the count, 9 for the block number that stands first, 11 for its row, 9.
 fn misplaced(tape: &[u8], tones: &[u64], blocks: &[u64], count: u64, words: &[u64]) -> u32
     ensures { result
-        ≡ misplacedNo (tapeOf tape.now tones.now blocks.now count) words.now }
+        ≡ misplaced_no (tape_of tape.now tones.now blocks.now count) words.now }
 {
     if overfull(blocks, count) {
         return BAD_ROW;
@@ -54,15 +54,15 @@ pub extern "C" fn glyvrask_load(
     answer: &mut [u64],
 ) -> u32
     ensures value { result
-        ≡ loadNumber (answer_of (loadIn blocks.old tones.old tape.now model)) answer.old }
+        ≡ load_number (answer_of (load_in blocks.old tones.old tape.now model)) answer.old }
     ensures blocks_after { blocks.new
-        ≡ loadTable answer.old blocks.old
-        (blockTable (length blocks.old) (loadIn blocks.old tones.old tape.now model)) }
+        ≡ load_table answer.old blocks.old
+        (block_table (length blocks.old) (load_in blocks.old tones.old tape.now model)) }
     ensures tones_after { tones.new
-        ≡ loadTable answer.old tones.old
-        (toneTable (length tones.old) (loadIn blocks.old tones.old tape.now model)) }
+        ≡ load_table answer.old tones.old
+        (tone_table (length tones.old) (load_in blocks.old tones.old tape.now model)) }
     ensures answer_after { answer.new
-        ≡ values_of (ofLoaded (answer_of (loadIn blocks.old tones.old tape.now model)))
+        ≡ values_of (of_loaded (answer_of (load_in blocks.old tones.old tape.now model)))
         answer.old }
 {
     if answer.len() < 3 {
@@ -75,9 +75,9 @@ pub extern "C" fn glyvrask_load(
 #[unsafe(no_mangle)]
 pub extern "C" fn glyvrask_len(blocks: &[u64], count: u64, answer: &mut [u64]) -> u32
     ensures by_index { (bytes tones : List ℕ)
-        → result ≡ number_of (ofNumber (len_of (tapeOf bytes tones blocks.now count))) answer.old }
+        → result ≡ number_of (of_number (len_of (tape_of bytes tones blocks.now count))) answer.old }
     ensures by_index_2 { (bytes tones : List ℕ)
-        → answer.new ≡ values_of (ofNumber (len_of (tapeOf bytes tones blocks.now count))) answer.old }
+        → answer.new ≡ values_of (of_number (len_of (tape_of bytes tones blocks.now count))) answer.old }
 {
     tell_number(ask::len(blocks, count), answer)
 }
@@ -95,14 +95,14 @@ pub extern "C" fn glyvrask_block_name(
 ) -> u32
     ensures value { result
         ≡ number_of
-        (ofNumber (nameAnswer (tapeOf tape.now tones.now blocks.now count) i out.old))
+        (of_number (name_answer (tape_of tape.now tones.now blocks.now count) i out.old))
         answer.old }
     ensures out_after { out.new
-        ≡ nameLeft (tapeOf tape.now tones.now blocks.now count) i answer.old
+        ≡ name_left (tape_of tape.now tones.now blocks.now count) i answer.old
         out.old }
     ensures answer_after { answer.new
         ≡ values_of
-        (ofNumber (nameAnswer (tapeOf tape.now tones.now blocks.now count) i out.old))
+        (of_number (name_answer (tape_of tape.now tones.now blocks.now count) i out.old))
         answer.old }
 {
     if answer.len() < 1 {
@@ -122,10 +122,10 @@ pub extern "C" fn glyvrask_block_size(
     answer: &mut [u64],
 ) -> u32
     ensures value { result
-        ≡ number_of (ofNumber (size_of (tapeOf tape.now tones.now blocks.now count) i))
+        ≡ number_of (of_number (size_of (tape_of tape.now tones.now blocks.now count) i))
         answer.old }
     ensures answer_after { answer.new
-        ≡ values_of (ofNumber (size_of (tapeOf tape.now tones.now blocks.now count) i))
+        ≡ values_of (of_number (size_of (tape_of tape.now tones.now blocks.now count) i))
         answer.old }
 {
     tell_number(ask::block_size(tape, tones, blocks, count, i), answer)
@@ -142,10 +142,10 @@ pub extern "C" fn glyvrask_block_selectable(
     answer: &mut [u64],
 ) -> u32
     ensures value { result
-        ≡ number_of (ofMark (selectableOf (tapeOf tape.now tones.now blocks.now count) i))
+        ≡ number_of (of_mark (selectable_of (tape_of tape.now tones.now blocks.now count) i))
         answer.old }
     ensures answer_after { answer.new
-        ≡ values_of (ofMark (selectableOf (tapeOf tape.now tones.now blocks.now count) i))
+        ≡ values_of (of_mark (selectable_of (tape_of tape.now tones.now blocks.now count) i))
         answer.old }
 {
     tell_mark(ask::block_selectable(tape, tones, blocks, count, i), answer)
@@ -162,10 +162,10 @@ pub extern "C" fn glyvrask_block_time(
     answer: &mut [u64],
 ) -> u32
     ensures value { result
-        ≡ number_of (ofTime (timeOf (tapeOf tape.now tones.now blocks.now count) i))
+        ≡ number_of (of_time (time_of (tape_of tape.now tones.now blocks.now count) i))
         answer.old }
     ensures answer_after { answer.new
-        ≡ values_of (ofTime (timeOf (tapeOf tape.now tones.now blocks.now count) i))
+        ≡ values_of (of_time (time_of (tape_of tape.now tones.now blocks.now count) i))
         answer.old }
 {
     tell_time(ask::block_time(tape, tones, blocks, count, i), answer)
@@ -181,10 +181,10 @@ pub extern "C" fn glyvrask_loading_time(
     answer: &mut [u64],
 ) -> u32
     ensures value { result
-        ≡ number_of (ofNumber (loadingOf (tapeOf tape.now tones.now blocks.now count)))
+        ≡ number_of (of_number (loading_of (tape_of tape.now tones.now blocks.now count)))
         answer.old }
     ensures answer_after { answer.new
-        ≡ values_of (ofNumber (loadingOf (tapeOf tape.now tones.now blocks.now count)))
+        ≡ values_of (of_number (loading_of (tape_of tape.now tones.now blocks.now count)))
         answer.old }
 {
     tell_number(ask::loading_time(tape, tones, blocks, count), answer)
@@ -193,8 +193,8 @@ pub extern "C" fn glyvrask_loading_time(
 // A block's start, as a position's words.
 #[unsafe(no_mangle)]
 pub extern "C" fn glyvrask_new_at_block(block: u64, answer: &mut [u64]) -> u32
-    ensures value { result ≡ number_of (ofPosition (start_at block)) answer.old }
-    ensures answer_after { answer.new ≡ values_of (ofPosition (start_at block)) answer.old }
+    ensures value { result ≡ number_of (of_position (start_at block)) answer.old }
+    ensures answer_after { answer.new ≡ values_of (of_position (start_at block)) answer.old }
 {
     tell_position(Position::new_at_block(block), answer)
 }
@@ -210,10 +210,10 @@ pub extern "C" fn glyvrask_position_block(
     answer: &mut [u64],
 ) -> u32
     ensures value { result
-        ≡ number_of (selectedAt (tapeOf tape.now tones.now blocks.now count) position.now)
+        ≡ number_of (selected_at (tape_of tape.now tones.now blocks.now count) position.now)
         answer.old }
     ensures answer_after { answer.new
-        ≡ values_of (selectedAt (tapeOf tape.now tones.now blocks.now count) position.now)
+        ≡ values_of (selected_at (tape_of tape.now tones.now blocks.now count) position.now)
         answer.old }
 {
     match position_from(position) {
@@ -224,7 +224,7 @@ pub extern "C" fn glyvrask_position_block(
 
 // Whether a call of n from a position ends inside its entry, by what the position came to.
 fn is_inside(pos: Position, n: u64, a: Finding) -> bool
-    ensures { result ≡ (passes a.check && endsInside pos.left n) }
+    ensures { result ≡ (passes a.check && ends_inside pos.left n) }
 {
     let c = a.check;
     let left = pos.left;
@@ -246,12 +246,12 @@ fn call_words(
     n: u32,
     answer: &mut [u64],
 ) -> u32
-    requires { positionFrom position.now ≡ Is pos }
+    requires { position_from position.now ≡ Is pos }
     ensures value { result
-        ≡ number_of (ofReached (playerOf measured (tapeOf tape.now tones.now blocks.now count) pos n))
+        ≡ number_of (of_reached (player_of measured (tape_of tape.now tones.now blocks.now count) pos n))
         answer.old }
     ensures answer_after { answer.new
-        ≡ values_of (ofReached (playerOf measured (tapeOf tape.now tones.now blocks.now count) pos n))
+        ≡ values_of (of_reached (player_of measured (tape_of tape.now tones.now blocks.now count) pos n))
         answer.old }
 {
     let a = assay(tape, tones, blocks, count, pos);
@@ -276,10 +276,10 @@ pub extern "C" fn glyvrask_play(
     answer: &mut [u64],
 ) -> u32
     ensures value { result
-        ≡ number_of (sourceAt (tapeOf tape.now tones.now blocks.now count) position.now n)
+        ≡ number_of (source_at (tape_of tape.now tones.now blocks.now count) position.now n)
         answer.old }
     ensures answer_after { answer.new
-        ≡ values_of (sourceAt (tapeOf tape.now tones.now blocks.now count) position.now n)
+        ≡ values_of (source_at (tape_of tape.now tones.now blocks.now count) position.now n)
         answer.old }
 {
     match position_from(position) {
@@ -300,10 +300,10 @@ pub extern "C" fn glyvrask_play_measured(
     answer: &mut [u64],
 ) -> u32
     ensures value { result
-        ≡ number_of (measuredAt (tapeOf tape.now tones.now blocks.now count) position.now n)
+        ≡ number_of (measured_at (tape_of tape.now tones.now blocks.now count) position.now n)
         answer.old }
     ensures answer_after { answer.new
-        ≡ values_of (measuredAt (tapeOf tape.now tones.now blocks.now count) position.now n)
+        ≡ values_of (measured_at (tape_of tape.now tones.now blocks.now count) position.now n)
         answer.old }
 {
     match position_from(position) {
@@ -323,15 +323,15 @@ fn move_head(
     n: u32,
     answer: &mut [u64],
 ) -> u32
-    requires { positionFrom head.old ≡ Is pos }
+    requires { position_from head.old ≡ Is pos }
     ensures value { result
-        ≡ number_of (ofReached (playMeasured (tapeOf tape.now tones.now blocks.now count) pos n))
+        ≡ number_of (of_reached (play_measured (tape_of tape.now tones.now blocks.now count) pos n))
         answer.old }
     ensures head_after { head.new
-        ≡ moved_to (tapeOf tape.now tones.now blocks.now count) pos n answer.old
+        ≡ moved_to (tape_of tape.now tones.now blocks.now count) pos n answer.old
         head.old }
     ensures answer_after { answer.new
-        ≡ values_of (ofReached (playMeasured (tapeOf tape.now tones.now blocks.now count) pos n))
+        ≡ values_of (of_reached (play_measured (tape_of tape.now tones.now blocks.now count) pos n))
         answer.old }
 {
     let p = play_once(tape, tones, blocks, count, Head { position: pos }, n);
@@ -358,10 +358,10 @@ pub extern "C" fn glyvrask_play_run(
     answers: &mut [u64],
 ) -> u32
     ensures value { result
-        ≡ runNumber (tapeOf tape.now tones.now blocks.now count) position.now
+        ≡ run_number (tape_of tape.now tones.now blocks.now count) position.now
         counts.now answers.old }
     ensures answers_after { answers.new
-        ≡ runLeft (not (eqb measured 0)) (tapeOf tape.now tones.now blocks.now count)
+        ≡ run_left (not (eqb measured 0)) (tape_of tape.now tones.now blocks.now count)
         position.now counts.now answers.old }
 {
     match position_from(position) {
@@ -391,13 +391,13 @@ pub extern "C" fn glyvrask_play_head(
     answer: &mut [u64],
 ) -> u32
     ensures value { result
-        ≡ number_of (measuredAt (tapeOf tape.now tones.now blocks.now count) head.old n)
+        ≡ number_of (measured_at (tape_of tape.now tones.now blocks.now count) head.old n)
         answer.old }
     ensures head_after { head.new
-        ≡ headLeft (tapeOf tape.now tones.now blocks.now count) head.old n
+        ≡ head_left (tape_of tape.now tones.now blocks.now count) head.old n
         answer.old }
     ensures answer_after { answer.new
-        ≡ values_of (measuredAt (tapeOf tape.now tones.now blocks.now count) head.old n)
+        ≡ values_of (measured_at (tape_of tape.now tones.now blocks.now count) head.old n)
         answer.old }
 {
     match position_from(head) {

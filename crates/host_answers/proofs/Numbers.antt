@@ -5,50 +5,50 @@ use Rattle.play_walk.specs.declared.Reached.TheVariants.{At, Stopped, Ended, Not
 use Rattle.play_walk.specs.Heads as walks
 use Rattle.play_deck.specs.declared.Selected.{Selected}
 use Rattle.play_deck.specs.declared.Selected.TheVariants.{Block, BadPosition, BadRow}
-use Rattle.play_deck.specs.Deck.{numberFor}
+use Rattle.play_deck.specs.Deck.{number_for}
 use Rattle.ask.specs.declared.Number.{Number}
 use Rattle.ask.specs.declared.Number.TheVariants as number
 use Rattle.ask.specs.declared.Mark.{Mark}
 use Rattle.ask.specs.declared.Mark.TheVariants as mark
 use Rattle.ask.specs.declared.Time.{Time}
 use Rattle.ask.specs.declared.Time.TheVariants as lasting
-use Rattle.ask.specs.Queries.{numberNo, markNo, timeNo}
+use Rattle.ask.specs.Queries.{number_no, mark_no, time_no}
 use Rattle.load_tape.specs.declared.Loaded.{Loaded}
 use Rattle.load_tape.specs.declared.Loaded.TheVariants as loaded
-use Rattle.load_tape.specs.Load.{refusalNo}
-use Rattle.host_answers.specs.Answers.{ofNumber, ofMark, ofTime, ofSelected, ofReached, ofLoaded}
+use Rattle.load_tape.specs.Load.{refusal_no}
+use Rattle.host_answers.specs.Answers.{of_number, of_mark, of_time, of_selected, of_reached, of_loaded}
 
-pub number-no : (a : Number) → (ofNumber a).no ≡ numberNo a
-unfolding ofNumber numberNo
+pub number-no : (a : Number) → (of_number a).no ≡ number_no a
+unfolding of_number number_no
 number-no (number.Is n) = refl
 number-no (number.Refused k) = refl
 
-pub mark-no : (a : Mark) → (ofMark a).no ≡ markNo a
-unfolding ofMark markNo
-mark-no (mark.Is b) = refl
-mark-no (mark.Refused k) = refl
+pub mark_no_lem : (a : Mark) → (of_mark a).no ≡ mark_no a
+unfolding of_mark mark_no
+mark_no_lem (mark.Is b) = refl
+mark_no_lem (mark.Refused k) = refl
 
-pub time-no : (a : Time) → (ofTime a).no ≡ timeNo a
-unfolding ofTime timeNo
+pub time-no : (a : Time) → (of_time a).no ≡ time_no a
+unfolding of_time time_no
 time-no (lasting.Lasts d) = refl
 time-no (lasting.Refused k) = refl
 
-pub selected-no : (a : Selected) → (ofSelected a).no ≡ numberFor a
-unfolding ofSelected numberFor
-selected-no (Block b) = refl
-selected-no BadPosition = refl
-selected-no BadRow = refl
+pub selected_no : (a : Selected) → (of_selected a).no ≡ number_for a
+unfolding of_selected number_for
+selected_no (Block b) = refl
+selected_no BadPosition = refl
+selected_no BadRow = refl
 
-pub reached-no : (a : Reached) → (ofReached a).no ≡ walks.reachedNo a
-unfolding ofReached walks.reachedNo
+pub reached-no : (a : Reached) → (of_reached a).no ≡ walks.reached_no a
+unfolding of_reached walks.reached_no
 reached-no (At s) = refl
 reached-no (Stopped s) = refl
 reached-no (Ended s) = refl
 reached-no NotValid = refl
 reached-no NotFormed = refl
 
-pub loaded-no : (a : Loaded) → (ofLoaded a).no ≡ refusalNo a
-unfolding ofLoaded refusalNo
-loaded-no (loaded.Tape f b t) = refl
-loaded-no (loaded.Unread f g) = refl
-loaded-no (loaded.Refused k) = refl
+pub loaded_no : (a : Loaded) → (of_loaded a).no ≡ refusal_no a
+unfolding of_loaded refusal_no
+loaded_no (loaded.Tape f b t) = refl
+loaded_no (loaded.Unread f g) = refl
+loaded_no (loaded.Refused k) = refl

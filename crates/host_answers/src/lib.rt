@@ -1,10 +1,10 @@
 // Each answer of the load, the queries and the players as words, told into a lent row.
 ghost use Rattle.std.specs.Prelude.{◌≡◌, ◌≤◌, length, get_or};
 ghost use Rattle.law_base.specs.Rules.{◌⇒◌, ◌∣◌};
-ghost use Rattle.refusals.specs.Refusals.{noRoom, tapeBad};
+ghost use Rattle.refusals.specs.Refusals.{no_room, tape_bad};
 ghost use Rattle.text_out.specs.Out.{fits, told};
-ghost use Rattle.host_answers.specs.Answers.{number_of, values_of, ofNumber, ofMark, ofTime, ofPosition, ofSelected, standWords};
-ghost use Rattle.host_answers.specs.Answers.{ofReached, insideWords, formatNumber, refusedWith, metOf, bothWords, ofLoaded};
+ghost use Rattle.host_answers.specs.Answers.{number_of, values_of, of_number, of_mark, of_time, of_position, of_selected, stand_words};
+ghost use Rattle.host_answers.specs.Answers.{of_reached, inside_words, format_number, refused_with, met_of, both_words, of_loaded};
 
 use ask::{Mark, Number, Time};
 use host_words::{flag, span_of, spot_of};
@@ -16,7 +16,7 @@ use refusals::{BAD_ROW, NO_POSITION, NO_ROOM, TAPE_BAD};
 
 // The words into a row that holds them, and 0; else 10, and nothing is written.
 fn tell(words: &[u64], answer: &mut [u64]) -> u32
-    ensures value { result ≡ (fits words.now answer.old ⇒ 0 ∣ noRoom) }
+    ensures value { result ≡ (fits words.now answer.old ⇒ 0 ∣ no_room) }
     ensures answer_after { answer.new ≡ told words.now answer.old }
 {
     if answer.len() < words.len() {
@@ -32,16 +32,16 @@ fn tell(words: &[u64], answer: &mut [u64]) -> u32
 
 // A refusal with words: the words where the row holds all of them, and the number whether it does or not.
 pub fn tell_refused(no: u32, words: &[u64], answer: &mut [u64]) -> u32
-    ensures value { result ≡ number_of (refusedWith no words.now) answer.old }
-    ensures answer_after { answer.new ≡ values_of (refusedWith no words.now) answer.old }
+    ensures value { result ≡ number_of (refused_with no words.now) answer.old }
+    ensures answer_after { answer.new ≡ values_of (refused_with no words.now) answer.old }
 {
     tell(words, answer);
     no
 }
 
 pub fn tell_number(a: Number, answer: &mut [u64]) -> u32
-    ensures value { result ≡ number_of (ofNumber a) answer.old }
-    ensures answer_after { answer.new ≡ values_of (ofNumber a) answer.old }
+    ensures value { result ≡ number_of (of_number a) answer.old }
+    ensures answer_after { answer.new ≡ values_of (of_number a) answer.old }
 {
     match a {
         Number::Is(n) => {
@@ -53,8 +53,8 @@ pub fn tell_number(a: Number, answer: &mut [u64]) -> u32
 }
 
 pub fn tell_mark(a: Mark, answer: &mut [u64]) -> u32
-    ensures value { result ≡ number_of (ofMark a) answer.old }
-    ensures answer_after { answer.new ≡ values_of (ofMark a) answer.old }
+    ensures value { result ≡ number_of (of_mark a) answer.old }
+    ensures answer_after { answer.new ≡ values_of (of_mark a) answer.old }
 {
     match a {
         Mark::Is(b) => {
@@ -66,8 +66,8 @@ pub fn tell_mark(a: Mark, answer: &mut [u64]) -> u32
 }
 
 pub fn tell_time(a: Time, answer: &mut [u64]) -> u32
-    ensures value { result ≡ number_of (ofTime a) answer.old }
-    ensures answer_after { answer.new ≡ values_of (ofTime a) answer.old }
+    ensures value { result ≡ number_of (of_time a) answer.old }
+    ensures answer_after { answer.new ≡ values_of (of_time a) answer.old }
 {
     match a {
         Time::Lasts(d) => {
@@ -80,8 +80,8 @@ pub fn tell_time(a: Time, answer: &mut [u64]) -> u32
 }
 
 pub fn tell_position(pos: Position, answer: &mut [u64]) -> u32
-    ensures value { result ≡ number_of (ofPosition pos) answer.old }
-    ensures answer_after { answer.new ≡ values_of (ofPosition pos) answer.old }
+    ensures value { result ≡ number_of (of_position pos) answer.old }
+    ensures answer_after { answer.new ≡ values_of (of_position pos) answer.old }
 {
     let phase = pos.phase;
     let left = pos.left;
@@ -94,8 +94,8 @@ pub fn tell_position(pos: Position, answer: &mut [u64]) -> u32
 }
 
 pub fn tell_selected(a: Selected, answer: &mut [u64]) -> u32
-    ensures value { result ≡ number_of (ofSelected a) answer.old }
-    ensures answer_after { answer.new ≡ values_of (ofSelected a) answer.old }
+    ensures value { result ≡ number_of (of_selected a) answer.old }
+    ensures answer_after { answer.new ≡ values_of (of_selected a) answer.old }
 {
     match a {
         Selected::Block(b) => {
@@ -108,8 +108,8 @@ pub fn tell_selected(a: Selected, answer: &mut [u64]) -> u32
 }
 
 fn tell_stand(how: u64, s: Stand, answer: &mut [u64]) -> u32
-    ensures value { result ≡ (fits (standWords how s) answer.old ⇒ 0 ∣ noRoom) }
-    ensures answer_after { answer.new ≡ told (standWords how s) answer.old }
+    ensures value { result ≡ (fits (stand_words how s) answer.old ⇒ 0 ∣ no_room) }
+    ensures answer_after { answer.new ≡ told (stand_words how s) answer.old }
 {
     let pos = s.position;
     let phase = pos.phase;
@@ -132,8 +132,8 @@ fn tell_stand(how: u64, s: Stand, answer: &mut [u64]) -> u32
 }
 
 pub fn tell_reached(a: Reached, answer: &mut [u64]) -> u32
-    ensures value { result ≡ number_of (ofReached a) answer.old }
-    ensures answer_after { answer.new ≡ values_of (ofReached a) answer.old }
+    ensures value { result ≡ number_of (of_reached a) answer.old }
+    ensures answer_after { answer.new ≡ values_of (of_reached a) answer.old }
 {
     match a {
         Reached::At(s) => tell_stand(0, s, answer),
@@ -147,8 +147,8 @@ pub fn tell_reached(a: Reached, answer: &mut [u64]) -> u32
 // The answer to a call of n that ends inside its entry, straight on the position's words; our crates alone call it.
 pub fn tell_inside(position: &[u64], n: u64, level: bool, answer: &mut [u64]) -> u32
     requires { (7 ≤ length position.now) × (n ≤ get_or position.now 6 0) }
-    ensures value { result ≡ (fits (insideWords position.now n level) answer.old ⇒ 0 ∣ noRoom) }
-    ensures answer_after { answer.new ≡ told (insideWords position.now n level) answer.old }
+    ensures value { result ≡ (fits (inside_words position.now n level) answer.old ⇒ 0 ∣ no_room) }
+    ensures answer_after { answer.new ≡ told (inside_words position.now n level) answer.old }
 {
     let w = [
         0,
@@ -166,7 +166,7 @@ pub fn tell_inside(position: &[u64], n: u64, level: bool, answer: &mut [u64]) ->
 }
 
 fn format_number(f: Format) -> u64
-    ensures { result ≡ formatNumber f }
+    ensures { result ≡ format_number f }
 {
     match f {
         Format::Tap => 0,
@@ -186,7 +186,7 @@ pub struct Met {
 }
 
 fn met_words(f: Failure) -> Met
-    ensures { result ≡ metOf f }
+    ensures { result ≡ met_of f }
 {
     match f {
         Failure::Short { place, width } => Met {
@@ -230,8 +230,8 @@ fn met_words(f: Failure) -> Met
 }
 
 fn tell_both(tzx: Failure, tap: Failure, answer: &mut [u64]) -> u32
-    ensures value { result ≡ number_of (refusedWith tapeBad (bothWords tzx tap)) answer.old }
-    ensures answer_after { answer.new ≡ values_of (refusedWith tapeBad (bothWords tzx tap)) answer.old }
+    ensures value { result ≡ number_of (refused_with tape_bad (both_words tzx tap)) answer.old }
+    ensures answer_after { answer.new ≡ values_of (refused_with tape_bad (both_words tzx tap)) answer.old }
 {
     let x = met_words(tzx);
     let y = met_words(tap);
@@ -242,8 +242,8 @@ fn tell_both(tzx: Failure, tap: Failure, answer: &mut [u64]) -> u32
 }
 
 pub fn tell_loaded(a: Loaded, answer: &mut [u64]) -> u32
-    ensures value { result ≡ number_of (ofLoaded a) answer.old }
-    ensures answer_after { answer.new ≡ values_of (ofLoaded a) answer.old }
+    ensures value { result ≡ number_of (of_loaded a) answer.old }
+    ensures answer_after { answer.new ≡ values_of (of_loaded a) answer.old }
 {
     match a {
         Loaded::Tape {

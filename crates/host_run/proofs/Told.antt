@@ -9,52 +9,52 @@ use Rattle.play_walk.specs.declared.Position.{Position}
 use Rattle.play_walk.specs.declared.Stand.{Stand}
 use Rattle.play_walk.specs.declared.Reached.{Reached}
 use Rattle.play_walk.specs.declared.Reached.TheVariants.{At, Stopped, Ended}
-use Rattle.play_deck.specs.Deck.{playMeasured, playSource}
-use Rattle.play_deck.specs.Calls.{positionIn, passedIn, answerLevel, counting, runCalls, runSources}
-use Rattle.host_words.specs.Words.{words_of, flagOf}
+use Rattle.play_deck.specs.Deck.{play_measured, play_source}
+use Rattle.play_deck.specs.Calls.{position_in, passed_in, answer_level, counting, run_calls, run_sources}
+use Rattle.host_words.specs.Words.{words_of, flag_of}
 use Rattle.host_run.specs.declared.AnswerRow.{AnswerRow}
-use Rattle.host_run.specs.Rows.{encodeAnswer, howOf, callRow}
-use Rattle.host_run.specs.Runs.{answersOf, tallied, lastAnswer, runRows, rowsOver}
+use Rattle.host_run.specs.Rows.{encode_answer, how_of, call_row}
+use Rattle.host_run.specs.Runs.{answers_of, tallied, last_answer, run_rows, rows_over}
 
 -- a row has the player's ten words: how it stands, the entries passed, the level, the position
 pub row_words : (q : Position) (r : Reached)
-    → encodeAnswer (callRow q r) ≡ howOf r ∷ passedIn r ∷ flagOf (answerLevel r) ∷ words_of (positionIn q r)
-unfolding callRow words_of
+    → encode_answer (call_row q r) ≡ how_of r ∷ passed_in r ∷ flag_of (answer_level r) ∷ words_of (position_in q r)
+unfolding call_row words_of
 row_words q r = refl
 
 module _ (w : Tape) where
-  -- THE MEASURED PLAYER'S RUN comes to `runCalls`
+  -- THE MEASURED PLAYER'S RUN comes to `run_calls`
   pub run-calls : (q : Position) (n : ℕ) (ns : List ℕ)
-      → tallied (playMeasured w q n) (answersOf (playMeasured w) (positionIn q (playMeasured w q n)) ns) ≡ runCalls w q n ns
-  unfolding answersOf tallied runCalls
+      → tallied (play_measured w q n) (answers_of (play_measured w) (position_in q (play_measured w q n)) ns) ≡ run_calls w q n ns
+  unfolding answers_of tallied run_calls
   run-calls q n [] = refl
-  run-calls q n (m ∷ ms) = ap (counting (passedIn (playMeasured w q n))) (run-calls (positionIn q (playMeasured w q n)) m ms)
+  run-calls q n (m ∷ ms) = ap (counting (passed_in (play_measured w q n))) (run-calls (position_in q (play_measured w q n)) m ms)
 
-  -- the source's play's to `runSources`
+  -- the source's play's to `run_sources`
   pub run-sources : (q : Position) (n : ℕ) (ns : List ℕ)
-      → lastAnswer (playSource w q n) (answersOf (playSource w) (positionIn q (playSource w q n)) ns) ≡ runSources w q n ns
-  unfolding answersOf lastAnswer runSources
+      → last_answer (play_source w q n) (answers_of (play_source w) (position_in q (play_source w q n)) ns) ≡ run_sources w q n ns
+  unfolding answers_of last_answer run_sources
   run-sources q n [] = refl
-  run-sources q n (m ∷ ms) = run-sources (positionIn q (playSource w q n)) m ms
+  run-sources q n (m ∷ ms) = run-sources (position_in q (play_source w q n)) m ms
 
 -- a run is as long as its calls, and cut in two it is two runs, the second from where the first leaves the head
 module _ (play : Position → ℕ → Reached) where
   -- the rows are those of the answers
-  pub rows-answers : (q : Position) (ns : List ℕ) → runRows play q ns ≡ rowsOver q (answersOf play q ns)
-  unfolding runRows rowsOver answersOf
+  pub rows-answers : (q : Position) (ns : List ℕ) → run_rows play q ns ≡ rows_over q (answers_of play q ns)
+  unfolding run_rows rows_over answers_of
   rows-answers q [] = refl
-  rows-answers q (n ∷ ns) = ap (λ (rs : List AnswerRow). callRow q (play q n) ∷ rs) (rows-answers (positionIn q (play q n)) ns)
+  rows-answers q (n ∷ ns) = ap (λ (rs : List AnswerRow). call_row q (play q n) ∷ rs) (rows-answers (position_in q (play q n)) ns)
 
-  pub rows-many : (q : Position) (ns : List ℕ) → length (runRows play q ns) ≡ length ns
-  unfolding runRows
-  rows-many q [] = refl
-  rows-many q (n ∷ ns) = ap suc (rows-many (positionIn q (play q n)) ns)
+  pub rows_many : (q : Position) (ns : List ℕ) → length (run_rows play q ns) ≡ length ns
+  unfolding run_rows
+  rows_many q [] = refl
+  rows_many q (n ∷ ns) = ap suc (rows_many (position_in q (play q n)) ns)
 
-  unfoldable pub headBehind : Position → List ℕ → Position
-  headBehind q [] = q
-  headBehind q (n ∷ ns) = headBehind (positionIn q (play q n)) ns
+  unfoldable pub head_behind : Position → List ℕ → Position
+  head_behind q [] = q
+  head_behind q (n ∷ ns) = head_behind (position_in q (play q n)) ns
 
-  pub run-cut : (q : Position) (ns ms : List ℕ) → runRows play q (ns ++ ms) ≡ runRows play q ns ++ runRows play (headBehind q ns) ms
-  unfolding runRows headBehind
-  run-cut q [] ms = refl
-  run-cut q (n ∷ ns) ms = ap (λ (rs : List AnswerRow). callRow q (play q n) ∷ rs) (run-cut (positionIn q (play q n)) ns ms)
+  pub run_cut : (q : Position) (ns ms : List ℕ) → run_rows play q (ns ++ ms) ≡ run_rows play q ns ++ run_rows play (head_behind q ns) ms
+  unfolding run_rows head_behind
+  run_cut q [] ms = refl
+  run_cut q (n ∷ ns) ms = ap (λ (rs : List AnswerRow). call_row q (play q n) ∷ rs) (run_cut (position_in q (play q n)) ns ms)

@@ -7,12 +7,12 @@ use Rattle.play_entries.specs.Places.{Tape}
 use Rattle.play_deck.specs.Assay.{Assayed}
 use Rattle.host_run.specs.declared.AnswerRow.{AnswerRow}
 use Rattle.host_run.specs.declared.Going.{Going}
-use Rattle.host_run.specs.Rows.{answerRow}
-use Rattle.host_run.specs.Runs.{playerOf, runRows}
+use Rattle.host_run.specs.Rows.{answer_row}
+use Rattle.host_run.specs.Runs.{player_of, run_rows}
 
 -- a row with so much left
-abbrev pub withLeft : AnswerRow → ℕ → AnswerRow
-withLeft r left =
+abbrev pub with_left : AnswerRow → ℕ → AnswerRow
+with_left r left =
     record {
       how = r.how;
       passed = r.passed;
@@ -27,18 +27,18 @@ withLeft r left =
     }
 
 -- the rows of the first calls that end inside an entry of which t T-states are left, r being the head's row before them
-unfoldable pub insideRows : AnswerRow → ℕ → List ℕ → List AnswerRow
-insideRows r t [] = []
-insideRows r t (n ∷ ns) = ltb n t ⇒ withLeft r (t - n) ∷ insideRows r (t - n) ns ∣ []
+unfoldable pub inside_rows : AnswerRow → ℕ → List ℕ → List AnswerRow
+inside_rows r t [] = []
+inside_rows r t (n ∷ ns) = ltb n t ⇒ with_left r (t - n) ∷ inside_rows r (t - n) ns ∣ []
 
 -- what they leave of the entry
-unfoldable pub insideLeft : ℕ → List ℕ → ℕ
-insideLeft t [] = t
-insideLeft t (n ∷ ns) = ltb n t ⇒ insideLeft (t - n) ns ∣ t
+unfoldable pub inside_left : ℕ → List ℕ → ℕ
+inside_left t [] = t
+inside_left t (n ∷ ns) = ltb n t ⇒ inside_left (t - n) ns ∣ t
 
 -- the table that a run still leads to
-abbrev pub leadsTo : Bool → Tape → List ℕ → List ℕ → Going → List ℕ
-leadsTo measured w ns table g = put_all answerRow table g.next (runRows (playerOf measured w) g.position (drop g.next ns))
+abbrev pub leads_to : Bool → Tape → List ℕ → List ℕ → Going → List ℕ
+leads_to measured w ns table g = put_all answer_row table g.next (run_rows (player_of measured w) g.position (drop g.next ns))
 
 -- where a run stands: what its position comes to is known
 abbrev pub Known : Tape → Going → Type 0
@@ -46,4 +46,4 @@ Known w g = Assayed w g.position g.finding
 
 -- the table holds a row for each call
 abbrev pub HoldsRows : List ℕ → List ℕ → Type 0
-HoldsRows ns table = length ns * answerRow.width ≤ length table
+HoldsRows ns table = length ns * answer_row.width ≤ length table

@@ -1,22 +1,22 @@
 -- AN ANSWER OF A RUN AS TEN WORDS: a player's words; where a call is refused, its number, and the head as it was.
 -- Definitions alone; assumes nothing.
 use Rattle.std.specs.Prelude.{ℕ, refl, List, [], ◌∷◌, length, get_or}
-use Rattle.refusals.specs.Refusals.{noPosition, badRow}
+use Rattle.refusals.specs.Refusals.{no_position, bad_row}
 use Rattle.rows.specs.Table.{Codec}
 use Rattle.play_walk.specs.declared.Position.{Position}
 use Rattle.play_walk.specs.declared.Stand.{Stand}
 use Rattle.play_walk.specs.declared.Reached.{Reached}
 use Rattle.play_walk.specs.declared.Reached.TheVariants.{At, Stopped, Ended, NotValid, NotFormed}
-use Rattle.play_deck.specs.Calls.{positionIn, passedIn, answerLevel}
-use Rattle.host_words.specs.Words.{flagOf, spot_of, span_of}
+use Rattle.play_deck.specs.Calls.{position_in, passed_in, answer_level}
+use Rattle.host_words.specs.Words.{flag_of, spot_of, span_of}
 use Rattle.host_run.specs.declared.AnswerRow.{AnswerRow}
 
-abbrev pub encodeAnswer : AnswerRow → List ℕ
-encodeAnswer r =
+abbrev pub encode_answer : AnswerRow → List ℕ
+encode_answer r =
     r.how ∷ r.passed ∷ r.level ∷ r.block ∷ r.phase ∷ r.item ∷ r.part ∷ r.half ∷ r.endless ∷ r.left ∷ []
 
-abbrev pub decodeAnswer : List ℕ → AnswerRow
-decodeAnswer w =
+abbrev pub decode_answer : List ℕ → AnswerRow
+decode_answer w =
     record {
       how = get_or w 0 0;
       passed = get_or w 1 0;
@@ -30,33 +30,33 @@ decodeAnswer w =
       left = get_or w 9 0;
     }
 
-abbrev pub answerRow : Codec AnswerRow
-answerRow =
+abbrev pub answer_row : Codec AnswerRow
+answer_row =
     record {
-      width = length (encodeAnswer (decodeAnswer []));
-      enc = encodeAnswer;
-      dec = decodeAnswer;
+      width = length (encode_answer (decode_answer []));
+      enc = encode_answer;
+      dec = decode_answer;
       sized = λ r. refl;
       back = λ r. refl;
     }
 
 -- 0 it stands, 1 it has stopped at an endless pause, 2 it has ended; a refusal's number
-unfoldable pub howOf : Reached → ℕ
-howOf (At s) = 0
-howOf (Stopped s) = 1
-howOf (Ended s) = 2
-howOf NotValid = noPosition
-howOf NotFormed = badRow
+unfoldable pub how_of : Reached → ℕ
+how_of (At s) = 0
+how_of (Stopped s) = 1
+how_of (Ended s) = 2
+how_of NotValid = no_position
+how_of NotFormed = bad_row
 
 -- the words of a stand
-abbrev pub standRow : ℕ → Stand → AnswerRow
-standRow how s =
+abbrev pub stand_row : ℕ → Stand → AnswerRow
+stand_row how s =
     let f = spot_of s.position.phase in
     let d = span_of s.position.left in
     record {
       how = how;
       passed = s.passed;
-      level = flagOf s.level;
+      level = flag_of s.level;
       block = s.position.block;
       phase = f.phase;
       item = f.item;
@@ -67,5 +67,5 @@ standRow how s =
     }
 
 -- THE ROW of a call from a position: how it came out, and where it leaves the head
-unfoldable pub callRow : Position → Reached → AnswerRow
-callRow q r = standRow (howOf r) (record { position = positionIn q r; passed = passedIn r; level = answerLevel r })
+unfoldable pub call_row : Position → Reached → AnswerRow
+call_row q r = stand_row (how_of r) (record { position = position_in q r; passed = passed_in r; level = answer_level r })

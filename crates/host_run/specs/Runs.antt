@@ -1,60 +1,60 @@
 -- A RUN OF CALLS, each from where the one before left the head (rules 147, 148). Definitions alone; assumes nothing.
 use Rattle.std.specs.Prelude.{ℕ, ◌*◌, Bool, true, false, List, [], ◌∷◌, ltb, eqb, length}
 use Rattle.law_base.specs.Rules.{◌⇒◌, ◌∣◌}
-use Rattle.refusals.specs.Refusals.{noPosition, noRoom, badRow}
+use Rattle.refusals.specs.Refusals.{no_position, no_room, bad_row}
 use Rattle.rows.specs.Table.{put_all}
 use Rattle.play_entries.specs.Places.{Tape}
 use Rattle.play_walk.specs.declared.Position.{Position}
 use Rattle.play_walk.specs.declared.Reached.{Reached}
 use Rattle.play_deck.specs.declared.Check.{Check}
 use Rattle.play_deck.specs.declared.Check.TheVariants.{Fine, NotValid, NotFormed}
-use Rattle.play_deck.specs.Deck.{judged, playMeasured, playSource}
-use Rattle.play_deck.specs.Calls.{positionIn, passedIn, counting}
+use Rattle.play_deck.specs.Deck.{judged, play_measured, play_source}
+use Rattle.play_deck.specs.Calls.{position_in, passed_in, counting}
 use Rattle.host_run.specs.declared.AnswerRow.{AnswerRow}
-use Rattle.host_run.specs.Rows.{answerRow, callRow}
+use Rattle.host_run.specs.Rows.{answer_row, call_row}
 
 -- the measured player, or the source's play
-unfoldable pub playerOf : Bool → Tape → Position → ℕ → Reached
-playerOf true w = playMeasured w
-playerOf false w = playSource w
+unfoldable pub player_of : Bool → Tape → Position → ℕ → Reached
+player_of true w = play_measured w
+player_of false w = play_source w
 
 -- EACH CALL'S ANSWER
-unfoldable pub answersOf : (Position → ℕ → Reached) → Position → List ℕ → List Reached
-answersOf play q [] = []
-answersOf play q (n ∷ ns) = play q n ∷ answersOf play (positionIn q (play q n)) ns
+unfoldable pub answers_of : (Position → ℕ → Reached) → Position → List ℕ → List Reached
+answers_of play q [] = []
+answers_of play q (n ∷ ns) = play q n ∷ answers_of play (position_in q (play q n)) ns
 
 -- the last of them, the entries passed added up
 unfoldable pub tallied : Reached → List Reached → Reached
 tallied r [] = r
-tallied r (s ∷ rs) = counting (passedIn r) (tallied s rs)
+tallied r (s ∷ rs) = counting (passed_in r) (tallied s rs)
 
-unfoldable pub lastAnswer : Reached → List Reached → Reached
-lastAnswer r [] = r
-lastAnswer r (s ∷ rs) = lastAnswer s rs
+unfoldable pub last_answer : Reached → List Reached → Reached
+last_answer r [] = r
+last_answer r (s ∷ rs) = last_answer s rs
 
 -- EACH CALL'S ROW
-unfoldable pub runRows : (Position → ℕ → Reached) → Position → List ℕ → List AnswerRow
-runRows play q [] = []
-runRows play q (n ∷ ns) = callRow q (play q n) ∷ runRows play (positionIn q (play q n)) ns
+unfoldable pub run_rows : (Position → ℕ → Reached) → Position → List ℕ → List AnswerRow
+run_rows play q [] = []
+run_rows play q (n ∷ ns) = call_row q (play q n) ∷ run_rows play (position_in q (play q n)) ns
 
 -- the rows of answers that were given one after the other, the first to a call from q
-unfoldable pub rowsOver : Position → List Reached → List AnswerRow
-rowsOver q [] = []
-rowsOver q (r ∷ rs) = callRow q r ∷ rowsOver (positionIn q r) rs
+unfoldable pub rows_over : Position → List Reached → List AnswerRow
+rows_over q [] = []
+rows_over q (r ∷ rs) = call_row q r ∷ rows_over (position_in q r) rs
 
 -- WHAT IS RETURNED: 11 for the count, 9, 11, 9 for the position where the run begins, 10 where the table holds fewer rows; else 0
-unfoldable pub checkNo : Check → ℕ → ℕ
-checkNo Fine k = k
-checkNo NotValid k = noPosition
-checkNo NotFormed k = badRow
+unfoldable pub check_no : Check → ℕ → ℕ
+check_no Fine k = k
+check_no NotValid k = no_position
+check_no NotFormed k = bad_row
 
-unfoldable pub roomNo : List ℕ → List ℕ → ℕ
-roomNo ns table = ltb (length table) (length ns * answerRow.width) ⇒ noRoom ∣ 0
+unfoldable pub room_no : List ℕ → List ℕ → ℕ
+room_no ns table = ltb (length table) (length ns * answer_row.width) ⇒ no_room ∣ 0
 
-unfoldable pub runNo : Tape → Position → List ℕ → List ℕ → ℕ
-runNo w q ns table = checkNo (judged w q) (roomNo ns table)
+unfoldable pub run_no : Tape → Position → List ℕ → List ℕ → ℕ
+run_no w q ns table = check_no (judged w q) (room_no ns table)
 
 -- WHAT IS LEFT OF THE TABLE: a row for each call from row 0 on, then the words that were there; all of them where the run is refused
-unfoldable pub runTable : Bool → Tape → Position → List ℕ → List ℕ → List ℕ
-runTable measured w q ns table =
-    eqb (runNo w q ns table) 0 ⇒ put_all answerRow table 0 (runRows (playerOf measured w) q ns) ∣ table
+unfoldable pub run_table : Bool → Tape → Position → List ℕ → List ℕ → List ℕ
+run_table measured w q ns table =
+    eqb (run_no w q ns table) 0 ⇒ put_all answer_row table 0 (run_rows (player_of measured w) q ns) ∣ table

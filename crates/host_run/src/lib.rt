@@ -4,13 +4,13 @@ ghost use Rattle.play_entries.specs.declared.Duration.TheVariants.{T};
 ghost use Rattle.play_deck.specs.declared.Check.TheVariants.{Fine};
 ghost use Rattle.law_base.specs.Rules.{◌⇒◌, ◌∣◌};
 ghost use Rattle.rows.specs.Table.{put, put_all};
-ghost use Rattle.play_entries.specs.Mounted.{tapeOf};
+ghost use Rattle.play_entries.specs.Mounted.{tape_of};
 ghost use Rattle.play_walk.specs.Heads.{Lands};
 ghost use Rattle.play_deck.specs.Assay.{Assayed};
-ghost use Rattle.play_deck.specs.Calls.{positionIn};
-ghost use Rattle.host_run.specs.Rows.{answerRow, standRow, callRow};
-ghost use Rattle.host_run.specs.Runs.{playerOf, runRows, roomNo, runNo, runTable};
-ghost use Rattle.host_run.specs.Inside.{withLeft, insideRows, insideLeft, leadsTo, Known, HoldsRows};
+ghost use Rattle.play_deck.specs.Calls.{position_in};
+ghost use Rattle.host_run.specs.Rows.{answer_row, stand_row, call_row};
+ghost use Rattle.host_run.specs.Runs.{player_of, run_rows, room_no, run_no, run_table};
+ghost use Rattle.host_run.specs.Inside.{with_left, inside_rows, inside_left, leads_to, Known, HoldsRows};
 
 use host_words::{flag, span_of, spot_of};
 use play_deck::{Check, Finding, assay, assay_after, followed_by, is_fine, measured_by};
@@ -39,8 +39,8 @@ pub const ANSWER_WORDS: usize = 10;
 
 // Row i replaced; its callers know the row to be lent.
 fn put_answer(t: &mut [u64], i: usize, r: AnswerRow)
-    requires { i * answerRow.width + answerRow.width ≤ length t.old }
-    ensures { t.new ≡ put answerRow t.old i r }
+    requires { i * answer_row.width + answer_row.width ≤ length t.old }
+    ensures { t.new ≡ put answer_row t.old i r }
 {
     let w = [
         r.how, r.passed, r.level, r.block, r.phase, r.item, r.part, r.half, r.endless, r.left,
@@ -50,7 +50,7 @@ fn put_answer(t: &mut [u64], i: usize, r: AnswerRow)
 
 // The words of a stand.
 fn stand_row(how: u64, s: Stand) -> AnswerRow
-    ensures { result ≡ standRow how s }
+    ensures { result ≡ stand_row how s }
 {
     let pos = s.position;
     let phase = pos.phase;
@@ -73,7 +73,7 @@ fn stand_row(how: u64, s: Stand) -> AnswerRow
 
 // A refused call's row: its number, and the head as it was.
 fn refused_row(k: u32, pos: Position) -> AnswerRow
-    ensures { result ≡ standRow k (record { position = pos; passed = 0; level = false }) }
+    ensures { result ≡ stand_row k (record { position = pos; passed = 0; level = false }) }
 {
     let s = Stand {
         position: pos,
@@ -85,7 +85,7 @@ fn refused_row(k: u32, pos: Position) -> AnswerRow
 
 // The row of a call from a position.
 fn row_of(pos: Position, r: Reached) -> AnswerRow
-    ensures { result ≡ callRow pos r }
+    ensures { result ≡ call_row pos r }
 {
     match r {
         Reached::At(s) => stand_row(0, s),
@@ -98,7 +98,7 @@ fn row_of(pos: Position, r: Reached) -> AnswerRow
 
 // Where an answer leaves the head.
 fn position_in(pos: Position, r: Reached) -> Position
-    ensures { result ≡ positionIn pos r }
+    ensures { result ≡ position_in pos r }
 {
     match r {
         Reached::At(s) => s.position,
@@ -120,9 +120,9 @@ pub fn call_by(
     n: u32,
     a: Finding,
 ) -> Reached
-    requires { Assayed (tapeOf tape.now tones.now blocks.now count) pos a }
-    ensures value { result ≡ playerOf measured (tapeOf tape.now tones.now blocks.now count) pos n }
-    ensures lands { Lands (tapeOf tape.now tones.now blocks.now count) result }
+    requires { Assayed (tape_of tape.now tones.now blocks.now count) pos a }
+    ensures value { result ≡ player_of measured (tape_of tape.now tones.now blocks.now count) pos n }
+    ensures lands { Lands (tape_of tape.now tones.now blocks.now count) result }
 {
     if measured {
         return measured_by(tape, tones, blocks, count, pos, n, a);
@@ -145,7 +145,7 @@ fn wide(n: u32) -> u64
 
 // A row with so much left.
 fn with_left(r: AnswerRow, left: u64) -> AnswerRow
-    ensures { result ≡ withLeft r left }
+    ensures { result ≡ with_left r left }
 {
     let mut a = r;
     a.left = left;
@@ -156,10 +156,10 @@ fn with_left(r: AnswerRow, left: u64) -> AnswerRow
 fn run_inside(counts: &[u32], answers: &mut [u64], from: usize, row: AnswerRow) -> Ran
     requires holds_rows { HoldsRows counts.now answers.old }
     requires from_in_bounds { from ≤ length counts.now }
-    ensures next_value { result.next ≡ from + length (insideRows row row.left (drop from counts.now)) }
-    ensures left_value { result.left ≡ insideLeft row.left (drop from counts.now) }
+    ensures next_value { result.next ≡ from + length (inside_rows row row.left (drop from counts.now)) }
+    ensures left_value { result.left ≡ inside_left row.left (drop from counts.now) }
     ensures answers_after { answers.new
-        ≡ put_all answerRow answers.old from (insideRows row row.left (drop from counts.now)) }
+        ≡ put_all answer_row answers.old from (inside_rows row row.left (drop from counts.now)) }
     ensures answers_len_unchanged { length answers.new ≡ length answers.old }
 {
     let mut left = row.left;
@@ -196,14 +196,14 @@ fn go_inside(
     g: Going,
     t: u64,
 ) -> Going
-    requires known { Known (tapeOf tape.now tones.now blocks.now count) g }
+    requires known { Known (tape_of tape.now tones.now blocks.now count) g }
     requires check_value { (g.finding.check ≡ Fine) × (g.position.left ≡ T t) }
     requires holds_rows { HoldsRows counts.now answers.old × (g.next ≤ length counts.now) }
-    ensures known_2 { Known (tapeOf tape.now tones.now blocks.now count) result }
+    ensures known_2 { Known (tape_of tape.now tones.now blocks.now count) result }
     ensures next_le_next { (g.next ≤ result.next) × (result.next ≤ length counts.now) }
-    ensures result_after { leadsTo measured (tapeOf tape.now tones.now blocks.now count)
+    ensures result_after { leads_to measured (tape_of tape.now tones.now blocks.now count)
         counts.now answers.new result
-        ≡ leadsTo measured (tapeOf tape.now tones.now blocks.now count)
+        ≡ leads_to measured (tape_of tape.now tones.now blocks.now count)
         counts.now answers.old g }
     ensures answers_len_unchanged { length answers.new ≡ length answers.old }
 {
@@ -238,13 +238,13 @@ fn go_on(
     answers: &mut [u64],
     g: Going,
 ) -> Going
-    requires known { Known (tapeOf tape.now tones.now blocks.now count) g }
+    requires known { Known (tape_of tape.now tones.now blocks.now count) g }
     requires holds_rows { HoldsRows counts.now answers.old × (g.next < length counts.now) }
-    ensures known_2 { Known (tapeOf tape.now tones.now blocks.now count) result }
+    ensures known_2 { Known (tape_of tape.now tones.now blocks.now count) result }
     ensures next_value { result.next ≡ g.next + 1 }
-    ensures result_after { leadsTo measured (tapeOf tape.now tones.now blocks.now count)
+    ensures result_after { leads_to measured (tape_of tape.now tones.now blocks.now count)
         counts.now answers.new result
-        ≡ leadsTo measured (tapeOf tape.now tones.now blocks.now count)
+        ≡ leads_to measured (tape_of tape.now tones.now blocks.now count)
         counts.now answers.old g }
     ensures answers_len_unchanged { length answers.new ≡ length answers.old }
 {
@@ -271,13 +271,13 @@ fn go_far(
     answers: &mut [u64],
     g: Going,
 ) -> Going
-    requires known { Known (tapeOf tape.now tones.now blocks.now count) g }
+    requires known { Known (tape_of tape.now tones.now blocks.now count) g }
     requires holds_rows { HoldsRows counts.now answers.old × (g.next ≤ length counts.now) }
-    ensures known_2 { Known (tapeOf tape.now tones.now blocks.now count) result }
+    ensures known_2 { Known (tape_of tape.now tones.now blocks.now count) result }
     ensures next_le_next { (g.next ≤ result.next) × (result.next ≤ length counts.now) }
-    ensures result_after { leadsTo measured (tapeOf tape.now tones.now blocks.now count)
+    ensures result_after { leads_to measured (tape_of tape.now tones.now blocks.now count)
         counts.now answers.new result
-        ≡ leadsTo measured (tapeOf tape.now tones.now blocks.now count)
+        ≡ leads_to measured (tape_of tape.now tones.now blocks.now count)
         counts.now answers.old g }
     ensures answers_len_unchanged { length answers.new ≡ length answers.old }
 {
@@ -306,11 +306,11 @@ fn run(
     counts: &[u32],
     answers: &mut [u64],
 )
-    requires assayed { Assayed (tapeOf tape.now tones.now blocks.now count) pos a }
+    requires assayed { Assayed (tape_of tape.now tones.now blocks.now count) pos a }
     requires holds_rows { HoldsRows counts.now answers.old }
     ensures { answers.new
-        ≡ put_all answerRow answers.old 0
-        (runRows (playerOf measured (tapeOf tape.now tones.now blocks.now count)) pos
+        ≡ put_all answer_row answers.old 0
+        (run_rows (player_of measured (tape_of tape.now tones.now blocks.now count)) pos
         counts.now) }
 {
     let mut g = Going {
@@ -338,11 +338,11 @@ fn run_fitting(
     counts: &[u32],
     answers: &mut [u64],
 ) -> u32
-    requires { Assayed (tapeOf tape.now tones.now blocks.now count) pos a }
-    ensures value { result ≡ roomNo counts.now answers.old }
+    requires { Assayed (tape_of tape.now tones.now blocks.now count) pos a }
+    ensures value { result ≡ room_no counts.now answers.old }
     ensures answers_after { answers.new
-        ≡ (eqb (roomNo counts.now answers.old) 0 ⇒ put_all answerRow answers.old 0
-        (runRows (playerOf measured (tapeOf tape.now tones.now blocks.now count)) pos
+        ≡ (eqb (room_no counts.now answers.old) 0 ⇒ put_all answer_row answers.old 0
+        (run_rows (player_of measured (tape_of tape.now tones.now blocks.now count)) pos
         counts.now) ∣ answers.old) }
 {
     if answers.len() / ANSWER_WORDS < counts.len() {
@@ -367,10 +367,10 @@ pub fn play_run(
     answers: &mut [u64],
 ) -> u32
     ensures value { result
-        ≡ runNo (tapeOf tape.now tones.now blocks.now count) pos counts.now
+        ≡ run_no (tape_of tape.now tones.now blocks.now count) pos counts.now
         answers.old }
     ensures answers_after { answers.new
-        ≡ runTable measured (tapeOf tape.now tones.now blocks.now count) pos counts.now
+        ≡ run_table measured (tape_of tape.now tones.now blocks.now count) pos counts.now
         answers.old }
 {
     let a = assay(tape, tones, blocks, count, pos);

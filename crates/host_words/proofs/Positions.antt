@@ -19,29 +19,29 @@ use Rattle.host_words.specs.declared.Phased.TheVariants as phased
 use Rattle.host_words.specs.declared.Spanned.{Spanned}
 use Rattle.host_words.specs.declared.Spanned.TheVariants as spanned
 use Rattle.host_words.specs.declared.Placed.TheVariants as place
-use Rattle.host_words.specs.Words.{flagOf, spot, spot_of, span, span_of, words_of, unhalved, halved, phaseFrom, spanFrom}
-use Rattle.host_words.specs.Words.{joined, positionFrom}
+use Rattle.host_words.specs.Words.{flag_of, spot, spot_of, span, span_of, words_of, unhalved, halved, phase_from, span_from}
+use Rattle.host_words.specs.Words.{joined, position_from}
 
 -- the words of a phase name it
-phase-back : (f : Phase) → phaseFrom (spot_of f).phase (spot_of f).item (spot_of f).part (spot_of f).half ≡ phased.Is f
-unfolding phaseFrom spot_of unhalved halved flagOf
-phase-back Start = refl
-phase-back (Tones i p false) = refl
-phase-back (Tones i p true) = refl
-phase-back (Data i k false) = refl
-phase-back (Data i k true) = refl
-phase-back Edge = refl
-phase-back Pause = refl
+phase_back : (f : Phase) → phase_from (spot_of f).phase (spot_of f).item (spot_of f).part (spot_of f).half ≡ phased.Is f
+unfolding phase_from spot_of unhalved halved flag_of
+phase_back Start = refl
+phase_back (Tones i p false) = refl
+phase_back (Tones i p true) = refl
+phase_back (Data i k false) = refl
+phase_back (Data i k true) = refl
+phase_back Edge = refl
+phase_back Pause = refl
 
-span-back : (d : Duration) → spanFrom (span_of d).endless (span_of d).left ≡ spanned.Is d
-unfolding spanFrom span_of
+span-back : (d : Duration) → span_from (span_of d).endless (span_of d).left ≡ spanned.Is d
+unfolding span_from span_of
 span-back (T n) = refl
 span-back Endless = refl
 
-position-back : (q : Position) (rest : List ℕ) → positionFrom (words_of q ++ rest) ≡ place.Is q
-unfolding positionFrom words_of joined
+position-back : (q : Position) (rest : List ℕ) → position_from (words_of q ++ rest) ≡ place.Is q
+unfolding position_from words_of joined
 position-back q rest =
-    rw (le-ltb (length (words_of q ++ rest)) 7 (omega arith), phase-back q.phase, span-back q.left)
+    rw (le-ltb (length (words_of q ++ rest)) 7 (omega arith), phase_back q.phase, span-back q.left)
 
 -- a rule holds or the rest does
 either : {A : Type 0} {B : Type 0} (t : Bool) (x y : A) {z : A} → (t ⇒ x ∣ y) ≡ z → (t ≡ true → x ≡ z → B)
@@ -65,17 +65,17 @@ bare-spot f g n a b h s e =
     ) s)
     (λ t q. cc)
 
-halved-spot : (f : Bool → Phase) (g : Phase) (n a b h : ℕ) → ((v : Bool) → spot_of (f v) ≡ spot n a b (flagOf v))
+halved-spot : (f : Bool → Phase) (g : Phase) (n a b h : ℕ) → ((v : Bool) → spot_of (f v) ≡ spot n a b (flag_of v))
     → halved f h ≡ phased.Is g → spot_of g ≡ spot n a b h
-unfolding halved flagOf
+unfolding halved flag_of
 halved-spot f g n a b h s e =
     either (eqb h 0) _ _ e
     (λ t q. let same : f false ≡ g = cc in rw (eqb-true h 0 t, ← same) (s false))
     (λ t q. either (eqb h 1) _ _ q (λ u r. let same : f true ≡ g = cc in rw (eqb-true h 1 u, ← same) (s true)) (λ u r. cc))
 
-phase-words : (f a b h : ℕ) (g : Phase) → phaseFrom f a b h ≡ phased.Is g → spot_of g ≡ spot f a b h
-unfolding phaseFrom spot_of
-phase-words f a b h g e =
+phase_words : (f a b h : ℕ) (g : Phase) → phase_from f a b h ≡ phased.Is g → spot_of g ≡ spot f a b h
+unfolding phase_from spot_of
+phase_words f a b h g e =
     either (eqb f 0) _ _ e
     (λ t q. bare-spot Start g 0 a b h refl q ∙ as_number f 0 t)
     (λ _ e1. either (eqb f 1) _ _ e1
@@ -91,9 +91,9 @@ phase-words f a b h g e =
     as_number : (m n : ℕ) → eqb m n ≡ true → spot n a b h ≡ spot m a b h
     as_number m n t = ap (λ (k : ℕ). spot k a b h) (sym (eqb-true m n t))
 
-span-words : (e n : ℕ) (d : Duration) → spanFrom e n ≡ spanned.Is d → span_of d ≡ span e n
-unfolding spanFrom span_of
-span-words e n d q =
+span_words : (e n : ℕ) (d : Duration) → span_from e n ≡ spanned.Is d → span_of d ≡ span e n
+unfolding span_from span_of
+span_words e n d q =
     either (eqb e 0) _ _ q
     (λ t r. let same : T n ≡ d = cc in rw (eqb-true e 0 t, ← same))
     (λ _ q1. either (eqb e 1 && eqb n 0) _ _ q1
@@ -102,22 +102,22 @@ span-words e n d q =
     rw (eqb-true e 1 (first (eqb e 1) (eqb n 0) t), eqb-true n 0 (second (eqb e 1) (eqb n 0) t), ← same))
     (λ _ r. cc))
 
-joined_words : (b f a p h e n : ℕ) (q : Position) → joined b (phaseFrom f a p h) (spanFrom e n) ≡ place.Is q
+joined_words : (b f a p h e n : ℕ) (q : Position) → joined b (phase_from f a p h) (span_from e n) ≡ place.Is q
     → b ∷ f ∷ a ∷ p ∷ h ∷ e ∷ n ∷ [] ≡ words_of q
 unfolding joined words_of
-joined_words b f a p h e n q j = parts (phaseFrom f a p h) (spanFrom e n) refl refl j
+joined_words b f a p h e n q j = parts (phase_from f a p h) (span_from e n) refl refl j
   where
-    parts : (x : Phased) (y : Spanned) → phaseFrom f a p h ≡ x → spanFrom e n ≡ y → joined b x y ≡ place.Is q
+    parts : (x : Phased) (y : Spanned) → phase_from f a p h ≡ x → span_from e n ≡ y → joined b x y ≡ place.Is q
         → b ∷ f ∷ a ∷ p ∷ h ∷ e ∷ n ∷ [] ≡ words_of q
     parts (phased.Is g) (spanned.Is d) u v w =
         let at : place.Is (record { block = b; phase = g; left = d }) ≡ place.Is q = w in
         let same : record { block = b; phase = g; left = d } ≡ q = cc in
-        rw (← same, phase-words f a p h g u, span-words e n d v)
+        rw (← same, phase_words f a p h g u, span_words e n d v)
     parts (phased.Is g) spanned.Not u v w = cc
     parts phased.Not y u v w = cc
 
-words_back : (ws : List ℕ) (q : Position) → positionFrom ws ≡ place.Is q → take 7 ws ≡ words_of q
-unfolding positionFrom
+words_back : (ws : List ℕ) (q : Position) → position_from ws ≡ place.Is q → take 7 ws ≡ words_of q
+unfolding position_from
 words_back [] q e = cc
 words_back (b ∷ []) q e = cc
 words_back (b ∷ f ∷ []) q e = cc
@@ -130,6 +130,6 @@ words_back (b ∷ f ∷ a ∷ p ∷ h ∷ v ∷ n ∷ rest) q e =
     joined_words b f a p h v n q (rw long at e)
 
 pub position-words
-    : ((q : Position) (rest : List ℕ) → positionFrom (words_of q ++ rest) ≡ place.Is q)
-    × ((ws : List ℕ) (q : Position) → positionFrom ws ≡ place.Is q → take 7 ws ≡ words_of q)
+    : ((q : Position) (rest : List ℕ) → position_from (words_of q ++ rest) ≡ place.Is q)
+    × ((ws : List ℕ) (q : Position) → position_from ws ≡ place.Is q → take 7 ws ≡ words_of q)
 position-words = (position-back, words_back)

@@ -8,7 +8,7 @@ use Rattle.play_entries.specs.declared.Duration.TheVariants.{T, Endless}
 use Rattle.play_walk.specs.Heads.{placed}
 use Rattle.host_words.specs.declared.Placed.{Placed}
 use Rattle.host_words.specs.declared.Placed.TheVariants.{Is, Not}
-use Rattle.host_words.specs.Words.{unhalved, halved, phaseFrom, spanFrom, joined, positionFrom}
+use Rattle.host_words.specs.Words.{unhalved, halved, phase_from, span_from, joined, position_from}
 
 abbrev named : List (List ℕ × Placed)
 named =
@@ -33,6 +33,6 @@ named =
     ∷ ((2 ∷ 3 ∷ 0 ∷ 0 ∷ 0 ∷ 1 ∷ 1 ∷ []), Not)  -- endless with T-states left
     ∷ []
 
-pub words-named : map (λ (e : List ℕ × Placed). positionFrom e.0) named ≡ map (λ (e : List ℕ × Placed). e.1) named
-unfolding positionFrom joined phaseFrom spanFrom unhalved halved
-words-named = refl
+pub words_named : map (λ (e : List ℕ × Placed). position_from e.0) named ≡ map (λ (e : List ℕ × Placed). e.1) named
+unfolding position_from joined phase_from span_from unhalved halved
+words_named = refl

@@ -17,9 +17,9 @@ use Rattle.host_words.specs.declared.Placed.{Placed}
 use Rattle.host_words.specs.declared.Placed.TheVariants as place
 
 -- a flag as a word
-unfoldable pub flagOf : Bool → ℕ
-flagOf false = 0
-flagOf true = 1
+unfoldable pub flag_of : Bool → ℕ
+flag_of false = 0
+flag_of true = 1
 
 abbrev pub spot : ℕ → ℕ → ℕ → ℕ → Spot
 spot f a b h = record { phase = f; item = a; part = b; half = h }
@@ -27,8 +27,8 @@ spot f a b h = record { phase = f; item = a; part = b; half = h }
 -- A PHASE AS WORDS: its number; the tone row or the data byte; the cycle or the bit; whether it is the last half. Words not used are 0
 unfoldable pub spot_of : Phase → Spot
 spot_of Start = spot 0 0 0 0
-spot_of (Tones i p h) = spot 1 i p (flagOf h)
-spot_of (Data i k h) = spot 2 i k (flagOf h)
+spot_of (Tones i p h) = spot 1 i p (flag_of h)
+spot_of (Data i k h) = spot 2 i k (flag_of h)
 spot_of Edge = spot 4 0 0 0
 spot_of Pause = spot 3 0 0 0
 
@@ -56,8 +56,8 @@ unfoldable pub halved : (Bool → Phase) → ℕ → Phased
 halved f h = eqb h 0 ⇒ phased.Is (f false) ∣ eqb h 1 ⇒ phased.Is (f true) ∣ phased.Not
 
 -- WORDS AS A PHASE, where they name one
-unfoldable pub phaseFrom : ℕ → ℕ → ℕ → ℕ → Phased
-phaseFrom f a b h =
+unfoldable pub phase_from : ℕ → ℕ → ℕ → ℕ → Phased
+phase_from f a b h =
     eqb f 0 ⇒ unhalved Start a b h
     ∣ eqb f 1 ⇒ halved (Tones a b) h
     ∣ eqb f 2 ⇒ halved (Data a b) h
@@ -66,8 +66,8 @@ phaseFrom f a b h =
     ∣ phased.Not
 
 -- WORDS AS A DURATION, where they name one
-unfoldable pub spanFrom : ℕ → ℕ → Spanned
-spanFrom e n =
+unfoldable pub span_from : ℕ → ℕ → Spanned
+span_from e n =
     eqb e 0 ⇒ spanned.Is (T n)
     ∣ (eqb e 1 && eqb n 0) ⇒ spanned.Is Endless
     ∣ spanned.Not
@@ -78,7 +78,7 @@ joined b (phased.Is f) spanned.Not = place.Not
 joined b phased.Not d = place.Not
 
 -- WORDS AS A POSITION: the first seven of a lent row, where they name one; words past them are not read
-unfoldable pub positionFrom : List ℕ → Placed
-positionFrom ws =
+unfoldable pub position_from : List ℕ → Placed
+position_from ws =
     ltb (length ws) 7 ⇒ place.Not
-    ∣ joined (get_or ws 0 0) (phaseFrom (get_or ws 1 0) (get_or ws 2 0) (get_or ws 3 0) (get_or ws 4 0)) (spanFrom (get_or ws 5 0) (get_or ws 6 0))
+    ∣ joined (get_or ws 0 0) (phase_from (get_or ws 1 0) (get_or ws 2 0) (get_or ws 3 0) (get_or ws 4 0)) (span_from (get_or ws 5 0) (get_or ws 6 0))

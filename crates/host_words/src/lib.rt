@@ -2,7 +2,7 @@
 ghost use Rattle.std.specs.Prelude.{◌≡◌};
 ghost use Rattle.play_entries.specs.declared.Phase.TheVariants.{Tones, Data};
 ghost use Rattle.host_words.specs.declared.Phased.TheVariants.{Is};
-ghost use Rattle.host_words.specs.Words.{flagOf, spot_of, span_of, unhalved, halved, phaseFrom, spanFrom, joined, positionFrom};
+ghost use Rattle.host_words.specs.Words.{flag_of, spot_of, span_of, unhalved, halved, phase_from, span_from, joined, position_from};
 
 use play_entries::{Duration, Phase};
 use play_walk::Position;
@@ -43,7 +43,7 @@ pub enum Placed {
 }
 
 pub fn flag(b: bool) -> u64
-    ensures { result ≡ flagOf b }
+    ensures { result ≡ flag_of b }
 {
     if b { 1 } else { 0 }
 }
@@ -165,7 +165,7 @@ fn data_phase(pos: u64, bit: u64, half: u64) -> Phased
 }
 
 fn phase_from(f: u64, a: u64, b: u64, half: u64) -> Phased
-    ensures { result ≡ phaseFrom f a b half }
+    ensures { result ≡ phase_from f a b half }
 {
     if f == 0 {
         return bare_phase(Phase::Start, a, b, half);
@@ -186,7 +186,7 @@ fn phase_from(f: u64, a: u64, b: u64, half: u64) -> Phased
 }
 
 fn span_from(endless: u64, left: u64) -> Spanned
-    ensures { result ≡ spanFrom endless left }
+    ensures { result ≡ span_from endless left }
 {
     if endless == 0 {
         return Spanned::Is(Duration::T(left));
@@ -220,7 +220,7 @@ fn with_phase(block: u64, f: Phased, d: Spanned) -> Placed
 
 // The position that a lent row's first seven words name.
 pub fn position_from(words: &[u64]) -> Placed
-    ensures { result ≡ positionFrom words.now }
+    ensures { result ≡ position_from words.now }
 {
     if words.len() < 7 {
         return Placed::Not;

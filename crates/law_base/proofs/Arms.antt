@@ -16,14 +16,14 @@ NoneAfter P (a ∷ more) x = NoneAfter (P × (x ≡ a.key → ⊥)) more x
 abbrev pub None : {A : Type 0} → List (Arm A) → ℕ → Type 0
 None arms x = NoneAfter (Unit {0}) arms x
 
-first-fact : {A : Type 0} (P : Type 0) (arms : List (Arm A)) (x : ℕ) → NoneAfter P arms x → P
-first-fact P [] x h = h
-first-fact P (a ∷ more) x h = (first-fact (P × (x ≡ a.key → ⊥)) more x h).0
+first_fact : {A : Type 0} (P : Type 0) (arms : List (Arm A)) (x : ℕ) → NoneAfter P arms x → P
+first_fact P [] x h = h
+first_fact P (a ∷ more) x h = (first_fact (P × (x ≡ a.key → ⊥)) more x h).0
 
 none_after : {A : Type 0} (P : Type 0) (arms : List (Arm A)) (x : ℕ) (d : A) → NoneAfter P arms x → lookup arms x d ≡ d
 none_after P [] x d h = refl
 none_after P (a ∷ more) x d h =
-    rw (ne_eqb x a.key (first-fact (P × (x ≡ a.key → ⊥)) more x h).1) (none_after (P × (x ≡ a.key → ⊥)) more x d h)
+    rw (ne_eqb x a.key (first_fact (P × (x ≡ a.key → ⊥)) more x h).1) (none_after (P × (x ≡ a.key → ⊥)) more x d h)
 
 -- where no arm has x, the default is found
 pub lookup-none : {A : Type 0} (arms : List (Arm A)) (x : ℕ) (d : A) → None arms x → lookup arms x d ≡ d
@@ -32,8 +32,8 @@ lookup-none arms x d h = none_after (Unit {0}) arms x d h
 pub between_in : (a b x : ℕ) → a ≤ x → x < suc b → between a b x ≡ true
 between_in a b x h k = rw (le-leb a x h, le-leb x b (omega arith))
 
-pub between-below : (a b x : ℕ) → x < a → between a b x ≡ false
-between-below a b x h = rw (lt-leb _ _ h)
+pub between_below : (a b x : ℕ) → x < a → between a b x ≡ false
+between_below a b x h = rw (lt-leb _ _ h)
 
-pub between-above : (a b x : ℕ) → b < x → between a b x ≡ false
-between-above a b x h = rw (lt-leb _ _ h) (and-false (leb a x))
+pub between_above : (a b x : ℕ) → b < x → between a b x ≡ false
+between_above a b x h = rw (lt-leb _ _ h) (and-false (leb a x))

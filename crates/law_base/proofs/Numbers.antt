@@ -8,16 +8,16 @@ use lib.Dec.{ltb, leb}
 use borrow.Author.Tests.{ltb-true, ltb-false, le-leb, lt-leb, leb-true, leb-false}
 
 -- of two numbers, the one is below the other or not
-pub lt-or-ge : (a b : ℕ) → (a < b) ⊎ (b ≤ a)
-lt-or-ge a b = by_cases (ltb a b) refl
+pub lt_or_ge : (a b : ℕ) → (a < b) ⊎ (b ≤ a)
+lt_or_ge a b = by_cases (ltb a b) refl
   where
     by_cases : (t : Bool) → ltb a b ≡ t → (a < b) ⊎ (b ≤ a)
     by_cases true e = inl (ltb-true a b e)
     by_cases false e = inr (ltb-false a b e)
 
 -- the test of room by a difference is the test by a sum
-pub leb-sub : (p n m : ℕ) → p ≤ m → leb n (m - p) ≡ leb (p + n) m
-leb-sub p n m h = by_cases (leb n (m - p)) refl
+pub leb_sub : (p n m : ℕ) → p ≤ m → leb n (m - p) ≡ leb (p + n) m
+leb_sub p n m h = by_cases (leb n (m - p)) refl
   where
     by_cases : (t : Bool) → leb n (m - p) ≡ t → t ≡ leb (p + n) m
     by_cases true e = sym (le-leb (p + n) m (omega (arith, leb-true n (m - p) e)))

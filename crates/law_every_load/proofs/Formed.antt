@@ -13,15 +13,15 @@ use Rattle.rows.specs.declared.Tone.{Tone}
 use Rattle.rows.specs.Rows.{with_pause}
 use Rattle.load_state.specs.declared.Pending.{Pending}
 use Rattle.load_state.specs.Parser.{renamed, paused}
-use Rattle.load_state.proofs.Kept.{all-at}
+use Rattle.load_state.proofs.Kept.{all_at}
 use Rattle.load_blocks.specs.declared.Origin.{Origin}
 use Rattle.load_blocks.specs.Sounds.{Sound, row_of}
 use Rattle.text_name.specs.Names.{unselected}
 use Rattle.law_every_load.specs.Sizes.{Bytes, Range}
 use Rattle.law_every_load.specs.Made.{Brought, GivenName, of, Births}
-use Rattle.law_every_load.specs.OfSource.{sourceTable, Everywhere}
+use Rattle.law_every_load.specs.OfSource.{source_table, Everywhere}
 use Rattle.law_every_load.specs.Formed.{Formed}
-use Rattle.law_every_load.proofs.Fine.{FineSound, FineName, deed-fine, tap-fine}
+use Rattle.law_every_load.proofs.Fine.{FineSound, FineName, deed_fine, tap_fine}
 
 -- a name that is given
 pub record Named (s : List ℕ) (mark case text chars : ℕ) : Type 0 where
@@ -29,16 +29,16 @@ pub record Named (s : List ℕ) (mark case text chars : ℕ) : Type 0 where
   pub small : mark ≤ 1
   pub told : case ≤ 4
 
-brought-fine : {s : List ℕ} {p : Pending} → Bytes s → Brought (sourceTable s) p → FineName s p
-brought-fine {s} {p} b q = subst (FineName s) q.is (deed-fine s b q.piece q.cut.sized).name
+brought_fine : {s : List ℕ} {p : Pending} → Bytes s → Brought (source_table s) p → FineName s p
+brought_fine {s} {p} b q = subst (FineName s) q.is (deed_fine s b q.piece q.cut.sized).name
 
-pub given-small : {s : List ℕ} {mark case text chars : ℕ} → Bytes s → GivenName (sourceTable s) mark case text chars
+pub given_small : {s : List ℕ} {mark case text chars : ℕ} → Bytes s → GivenName (source_table s) mark case text chars
     → Named s mark case text chars
-given-small b GivenName.none =
+given_small b GivenName.none =
     record { name = record { inside = omega arith; small = omega arith }; small = omega arith; told = omega arith }
-given-small b (GivenName.first q) = record { name = brought-fine b q; small = omega arith; told = omega arith }
-given-small b (GivenName.later q) = record { name = brought-fine b q; small = omega arith; told = omega arith }
-given-small b (GivenName.text q) = record { name = brought-fine b q; small = omega arith; told = omega arith }
+given_small b (GivenName.first q) = record { name = brought_fine b q; small = omega arith; told = omega arith }
+given_small b (GivenName.later q) = record { name = brought_fine b q; small = omega arith; told = omega arith }
+given_small b (GivenName.text q) = record { name = brought_fine b q; small = omega arith; told = omega arith }
 
 -- 22's pause
 paused-formed : {s : List ℕ} (ts : List Tone) (r : Block) → Formed s ts r → Formed s ts (paused r)
@@ -61,9 +61,9 @@ paused-formed {s} ts r h = by_cases (eqb r.endless 0 && eqb r.pause 0)
     by_cases false = h
 
 -- a row at birth
-row-formed : {s : List ℕ} (origin : Origin) (d : Sound) (tone : ℕ) → FineSound s d → Formed s d.tones (row_of s origin d tone)
+row_formed : {s : List ℕ} (origin : Origin) (d : Sound) (tone : ℕ) → FineSound s d → Formed s d.tones (row_of s origin d tone)
 unfolding row_of
-row-formed origin d tone h = record {
+row_formed origin d tone h = record {
   bytes = h.bytes;
   name = omega arith;
   zero = h.zero;
@@ -77,13 +77,13 @@ row-formed origin d tone h = record {
 }
 
 module _ (s : List ℕ) (b : Bytes s) where
-  piece-formed : Births (sourceTable s) (Formed s)
-  piece-formed origin d tone (of {piece = piece} f m) = row-formed origin d tone (all-at (deed-fine s b piece f.sized).sounds m)
+  piece_formed : Births (source_table s) (Formed s)
+  piece_formed origin d tone (of {piece = piece} f m) = row_formed origin d tone (all_at (deed_fine s b piece f.sized).sounds m)
 
-  named-formed : {mark case text chars : ℕ} (ts : List Tone) (r : Block) → GivenName (sourceTable s) mark case text chars
+  named-formed : {mark case text chars : ℕ} (ts : List Tone) (r : Block) → GivenName (source_table s) mark case text chars
       → Formed s ts r → Formed s ts (renamed mark case text chars r)
   named-formed {mark} {case} {text} {chars} ts r g h =
-      let n = given-small b g in
+      let n = given_small b g in
       record {
         bytes = h.bytes;
         name = n.name.inside;
@@ -102,8 +102,8 @@ module _ (s : List ℕ) (b : Bytes s) where
   unfolding unselected
   every-formed =
       record {
-        pieces = piece-formed;
-        taps = λ origin d tone m. row-formed origin d tone (tap-fine s b d m);
+        pieces = piece_formed;
+        taps = λ origin d tone m. row_formed origin d tone (tap_fine s b d m);
         lasts = record {
           naming = λ mark case text chars ts r g h. named-formed ts r g h;
           pausing = λ ts r h. paused-formed ts r h;

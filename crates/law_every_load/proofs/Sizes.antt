@@ -9,31 +9,31 @@ use native.Mathlib.Nat.{le_refl}
 use lib.ListN.{length, get_or, take, length-take, get_or-eq_default}
 use lib.Seq.{get_or-take}
 use lib.Dec.{leb, eqb}
-use Rattle.law_base.proofs.Numbers.{lt-or-ge}
+use Rattle.law_base.proofs.Numbers.{lt_or_ge}
 use Rattle.law_base.specs.Rules.{◌⇒◌, ◌∣◌}
 use Rattle.cut_fields.specs.declared.Cursor.{Cursor}
 use Rattle.cut_fields.specs.declared.Cursor.TheVariants.{At}
 use Rattle.cut_fields.specs.declared.Cursor.TheVariants as cursor
-use Rattle.cut_fields.specs.Field.{leAt, number_at, field_at, place_of}
-use Rattle.cut_fields.proofs.Le.{le-small}
-use Rattle.cut_fields.proofs.Runs.{field-there, field-short}
+use Rattle.cut_fields.specs.Field.{le_at, number_at, field_at, place_of}
+use Rattle.cut_fields.proofs.Le.{le_small}
+use Rattle.cut_fields.proofs.Runs.{field_there, field-short}
 use Rattle.cut_grammar.specs.declared.Piece.{Piece}
 use Rattle.cut_grammar.specs.declared.Body.{Body}
 use Rattle.cut_grammar.specs.declared.Body.TheVariants.{Whole, Unknown, Short, Overflow}
 use Rattle.cut_grammar.specs.declared.Taken.TheVariants as taken
 use Rattle.cut_grammar.specs.declared.TakenTap.{TakenTap}
 use Rattle.cut_grammar.specs.declared.TakenTap.TheVariants as tap
-use Rattle.cut_grammar.specs.Grammar.{Layout, number, counted, here, pass, within, fitting, whole, unknown, countedAt, passAt, whole_at}
-use Rattle.cut_grammar.specs.Grammar.{sealed, enclosed, fittingAt, unknownAt, readAt}
+use Rattle.cut_grammar.specs.Grammar.{Layout, number, counted, here, pass, within, fitting, whole, unknown, counted_at, pass_at, whole_at}
+use Rattle.cut_grammar.specs.Grammar.{sealed, enclosed, fitting_at, unknown_at, read_at}
 use Rattle.cut_grammar.specs.Kinds.{kind10, kind11, kind12, kind13, kind14, stream19, kind19, kind20, kind21, kind22, kind24, kind25}
-use Rattle.cut_grammar.specs.Kinds.{kind2A, kind30, kind31, info32, kind32, kind33, kind35, kind5A, unread, kinds, kind_of}
-use Rattle.cut_grammar.specs.Cut.{takenAs, cut_at, tapBlock, tapAt}
+use Rattle.cut_grammar.specs.Kinds.{kind_2a, kind30, kind31, info32, kind32, kind33, kind35, kind_5a, unread, kinds, kind_of}
+use Rattle.cut_grammar.specs.Cut.{taken_as, cut_at, tap_block, tap_at}
 use Rattle.cut_grammar.proofs.Layouts.{forward}
-use Rattle.cut_grammar.proofs.Cutting.{cut-there, cut_inside}
-use Rattle.cut_grammar.proofs.Others.{Every, no_more, ◌&◌, found-every, unnamed}
+use Rattle.cut_grammar.proofs.Cutting.{cut_there, cut_inside}
+use Rattle.cut_grammar.proofs.Others.{Every, no_more, ◌&◌, found_every, unnamed}
 use Rattle.cut_grammar.specs.Ends.{Ends, ends, none, short, wide, stuck}
 use Rattle.load_source.specs.Source.{full}
-use Rattle.load_source.proofs.Rest.{cut-fit}
+use Rattle.load_source.proofs.Rest.{cut_fit}
 use Rattle.law_every_load.specs.Sizes.{Bytes, Range, Numbers, Sized}
 
 -- a field of w bytes has a number below 256 to the w
@@ -41,18 +41,18 @@ number_small : (s : List ℕ) → Bytes s → (p w : ℕ) → number_at s p w < 
 unfolding number_at
 number_small s b p w = by_cases (leb w 4)
   where
-    by_cases : (t : Bool) → (t ⇒ leAt s p w ∣ 0) < 256 ^ w
-    by_cases true = le-small s b p w
-    by_cases false = omega (arith, le-small s b p w)
+    by_cases : (t : Bool) → (t ⇒ le_at s p w ∣ 0) < 256 ^ w
+    by_cases true = le_small s b p w
+    by_cases false = omega (arith, le_small s b p w)
 
-field-small : (s : List ℕ) → Bytes s → (c : Cursor) (w : ℕ) → (field_at s c w).value < 256 ^ w
+field_small : (s : List ℕ) → Bytes s → (c : Cursor) (w : ℕ) → (field_at s c w).value < 256 ^ w
 unfolding field_at
-field-small s b (At p) w =
+field_small s b (At p) w =
     ⊎_elim
-    (λ (t : length s < p + w). rw (field-short s w p t) (omega (arith, le-small s b p w)))
-    (λ (t : p + w ≤ length s). rw (field-there s w p t) (number_small s b p w))
-    (lt-or-ge (length s) (p + w))
-field-small s b (cursor.Short p v) w = omega (arith, le-small s b p w)
+    (λ (t : length s < p + w). rw (field-short s w p t) (omega (arith, le_small s b p w)))
+    (λ (t : p + w ≤ length s). rw (field_there s w p t) (number_small s b p w))
+    (lt_or_ge (length s) (p + w))
+field_small s b (cursor.Short p v) w = omega (arith, le_small s b p w)
 
 -- a field past which a cursor stands is inside the tape
 field-ends : (s : List ℕ) (c : Cursor) (w : ℕ) {e : ℕ} → (field_at s c w).cursor ≡ At e → place_of c + w ≤ length s
@@ -62,21 +62,21 @@ field-ends s (At p) w {e} q =
     (λ (t : length s < p + w). let z : ◌≡◌ {A = Cursor} (cursor.Short p w) (At e) = sym (rw (field-short s w p t)) ∙ q in
     absurd (let n : ◌≡◌ {A = ℕ} 0 1 = cc in omega arith))
     (λ (t : p + w ≤ length s). t)
-    (lt-or-ge (length s) (p + w))
+    (lt_or_ge (length s) (p + w))
 field-ends s (cursor.Short p v) w q = absurd (let z : ◌≡◌ {A = ℕ} 0 1 = cc in omega arith)
 
-counted-inside : (s : List ℕ) (c : Cursor) (w : ℕ) {e : ℕ} → (countedAt s c w).cursor ≡ At e
-    → (countedAt s c w).from + (countedAt s c w).size ≤ length s
-unfolding countedAt
+counted-inside : (s : List ℕ) (c : Cursor) (w : ℕ) {e : ℕ} → (counted_at s c w).cursor ≡ At e
+    → (counted_at s c w).from + (counted_at s c w).size ≤ length s
+unfolding counted_at
 counted-inside s c w q = field-ends s (field_at s c w).cursor (field_at s c w).value q
 
-counted-small : (s : List ℕ) → Bytes s → (c : Cursor) (w : ℕ) → (countedAt s c w).size < 256 ^ w
-unfolding countedAt
-counted-small s b c w = field-small s b c w
+counted_small : (s : List ℕ) → Bytes s → (c : Cursor) (w : ℕ) → (counted_at s c w).size < 256 ^ w
+unfolding counted_at
+counted_small s b c w = field_small s b c w
 
-counted-range : (s : List ℕ) → Bytes s → (c : Cursor) (w : ℕ) {most e : ℕ} → (countedAt s c w).cursor ≡ At e
-    → length s ≤ most → Range most (256 ^ w) (countedAt s c w).from (countedAt s c w).size
-counted-range s b c w q h = record { inside = omega (arith, counted-inside s c w q); small = counted-small s b c w }
+counted_range : (s : List ℕ) → Bytes s → (c : Cursor) (w : ℕ) {most e : ℕ} → (counted_at s c w).cursor ≡ At e
+    → length s ≤ most → Range most (256 ^ w) (counted_at s c w).from (counted_at s c w).size
+counted_range s b c w q h = record { inside = omega (arith, counted-inside s c w q); small = counted_small s b c w }
 
 -- the first bytes of a tape are bytes
 take-bytes : (s : List ℕ) → Bytes s → (n : ℕ) → Bytes (take n s)
@@ -85,7 +85,7 @@ take-bytes s b n i =
     (λ (h : i < n). rw (get_or-take n s i 0 h) (b i))
     (λ (h : n ≤ i). let l : length (take n s) ≤ i = rw length-take (omega arith) in
     rw (get_or-eq_default (take n s) 0 l) (omega arith))
-    (lt-or-ge i n)
+    (lt_or_ge i n)
 
 -- an answer of which a whole piece has P
 data Gives (P : Piece → Type 0) : Body → Type 0 where
@@ -95,11 +95,11 @@ data Gives (P : Piece → Type 0) : Body → Type 0 where
   too_wide : {p : ℕ} → Gives P (Overflow p)
 
 module _ {P : Piece → Type 0} where
-  gives-piece : {b : Body} {x : Piece} {p : ℕ} → Gives P b → b ≡ Whole x p → P x
-  gives-piece {x = x} (has {x = y} h) e = let i : y ≡ x = cc in rw i at h
-  gives-piece not_known e = absurd (let z : ◌≡◌ {A = ℕ} 0 1 = cc in omega arith)
-  gives-piece too_short e = absurd (let z : ◌≡◌ {A = ℕ} 0 1 = cc in omega arith)
-  gives-piece too_wide e = absurd (let z : ◌≡◌ {A = ℕ} 0 1 = cc in omega arith)
+  gives_piece : {b : Body} {x : Piece} {p : ℕ} → Gives P b → b ≡ Whole x p → P x
+  gives_piece {x = x} (has {x = y} h) e = let i : y ≡ x = cc in rw i at h
+  gives_piece not_known e = absurd (let z : ◌≡◌ {A = ℕ} 0 1 = cc in omega arith)
+  gives_piece too_short e = absurd (let z : ◌≡◌ {A = ℕ} 0 1 = cc in omega arith)
+  gives_piece too_wide e = absurd (let z : ◌≡◌ {A = ℕ} 0 1 = cc in omega arith)
 
   -- a reading that came up short gives no piece
   gives_none : {n : ℕ} {b : Body} → Ends (n + 1) n b → Gives P b
@@ -108,35 +108,35 @@ module _ {P : Piece → Type 0} where
   gives_none short = too_short
   gives_none wide = too_wide
 
-  whole-gives : (x : Piece) (c : Cursor) → P x → Gives P (whole_at x c)
+  whole_gives : (x : Piece) (c : Cursor) → P x → Gives P (whole_at x c)
   unfolding whole_at
-  whole-gives x (At p) h = has h
-  whole-gives x (cursor.Short p w) h = too_short
+  whole_gives x (At p) h = has h
+  whole_gives x (cursor.Short p w) h = too_short
 
-  unknown-gives : (described : Bool) (c : Cursor) → Gives P (unknownAt described c)
-  unknown-gives described (At p) = not_known
-  unknown-gives described (cursor.Short p w) = too_short
+  unknown_gives : (described : Bool) (c : Cursor) → Gives P (unknown_at described c)
+  unknown_gives described (At p) = not_known
+  unknown_gives described (cursor.Short p w) = too_short
 
-  sealed-gives : (end : ℕ) {b : Body} → Gives P b → Gives P (sealed end b)
+  sealed_gives : (end : ℕ) {b : Body} → Gives P b → Gives P (sealed end b)
   unfolding sealed
-  sealed-gives end (has h) = has h
-  sealed-gives end not_known = not_known
-  sealed-gives end too_short = too_short
-  sealed-gives end too_wide = too_wide
+  sealed_gives end (has h) = has h
+  sealed_gives end not_known = not_known
+  sealed_gives end too_short = too_short
+  sealed_gives end too_wide = too_wide
 
-  enclosed-gives : (inner : ℕ → Body) (c : Cursor) → ((end : ℕ) → Gives P (inner end)) → Gives P (enclosed inner c)
+  enclosed_gives : (inner : ℕ → Body) (c : Cursor) → ((end : ℕ) → Gives P (inner end)) → Gives P (enclosed inner c)
   unfolding enclosed
-  enclosed-gives inner (At end) h = sealed-gives end (h end)
-  enclosed-gives inner (cursor.Short p w) h = too_short
+  enclosed_gives inner (At end) h = sealed_gives end (h end)
+  enclosed_gives inner (cursor.Short p w) h = too_short
 
-  fitting-gives : (bits : ℕ) (c : Cursor) (rest : Body) → Gives P rest → Gives P (fittingAt bits c rest)
-  unfolding fittingAt
-  fitting-gives bits (At p) rest h = by_cases (leb bits 4294967295)
+  fitting_gives : (bits : ℕ) (c : Cursor) (rest : Body) → Gives P rest → Gives P (fitting_at bits c rest)
+  unfolding fitting_at
+  fitting_gives bits (At p) rest h = by_cases (leb bits 4294967295)
     where
       by_cases : (t : Bool) → Gives P (t ⇒ rest ∣ Overflow p)
       by_cases true = h
       by_cases false = too_wide
-  fitting-gives bits (cursor.Short p w) rest h = h
+  fitting_gives bits (cursor.Short p w) rest h = h
 
 -- A LAYOUT ALLOWS P: whatever numbers of their widths and ranges among the first `most` bytes it reads, its piece has P
 module _ (P : Piece → Type 0) (most : ℕ) where
@@ -150,45 +150,45 @@ module _ (P : Piece → Type 0) (most : ℕ) where
   Allows (whole x) = P x
   Allows (unknown described) = Unit {0}
 
-  counted-gives : (rest : ℕ → ℕ → Layout) (s : List ℕ) → Bytes s → length s ≤ most → (c : Cursor) (w : ℕ)
-      → (Range most (256 ^ w) (countedAt s c w).from (countedAt s c w).size
-      → Gives P (readAt (rest (countedAt s c w).from (countedAt s c w).size) s (countedAt s c w).cursor))
-      → Gives P (readAt (rest (countedAt s c w).from (countedAt s c w).size) s (countedAt s c w).cursor)
-  counted-gives rest s b h c w go = by_end (countedAt s c w).cursor refl
+  counted_gives : (rest : ℕ → ℕ → Layout) (s : List ℕ) → Bytes s → length s ≤ most → (c : Cursor) (w : ℕ)
+      → (Range most (256 ^ w) (counted_at s c w).from (counted_at s c w).size
+      → Gives P (read_at (rest (counted_at s c w).from (counted_at s c w).size) s (counted_at s c w).cursor))
+      → Gives P (read_at (rest (counted_at s c w).from (counted_at s c w).size) s (counted_at s c w).cursor)
+  counted_gives rest s b h c w go = by_end (counted_at s c w).cursor refl
     where
-      by_end : (d : Cursor) → (countedAt s c w).cursor ≡ d
-          → Gives P (readAt (rest (countedAt s c w).from (countedAt s c w).size) s (countedAt s c w).cursor)
-      by_end (At e) q = go (counted-range s b c w q h)
+      by_end : (d : Cursor) → (counted_at s c w).cursor ≡ d
+          → Gives P (read_at (rest (counted_at s c w).from (counted_at s c w).size) s (counted_at s c w).cursor)
+      by_end (At e) q = go (counted_range s b c w q h)
       by_end (cursor.Short p v) q =
           gives_none
-          (forward (rest (countedAt s c w).from (countedAt s c w).size) s (length s + 1) (countedAt s c w).cursor (rw q stuck))
+          (forward (rest (counted_at s c w).from (counted_at s c w).size) s (length s + 1) (counted_at s c w).cursor (rw q stuck))
 
-  allowed : (l : Layout) → Allows l → (s : List ℕ) → Bytes s → length s ≤ most → (c : Cursor) → Gives P (readAt l s c)
-  unfolding readAt
+  allowed : (l : Layout) → Allows l → (s : List ℕ) → Bytes s → length s ≤ most → (c : Cursor) → Gives P (read_at l s c)
+  unfolding read_at
   allowed (number w rest) a s b h c =
-      allowed (rest (field_at s c w).value) (a (field_at s c w).value (field-small s b c w)) s b h (field_at s c w).cursor
+      allowed (rest (field_at s c w).value) (a (field_at s c w).value (field_small s b c w)) s b h (field_at s c w).cursor
   allowed (counted w rest) a s b h c =
-      counted-gives rest s b h c w (λ r.
-      allowed (rest (countedAt s c w).from (countedAt s c w).size) (a (countedAt s c w).from (countedAt s c w).size r) s b h
-      (countedAt s c w).cursor)
+      counted_gives rest s b h c w (λ r.
+      allowed (rest (counted_at s c w).from (counted_at s c w).size) (a (counted_at s c w).from (counted_at s c w).size r) s b h
+      (counted_at s c w).cursor)
   allowed (here rest) a s b h c = allowed (rest (place_of c)) (a (place_of c)) s b h c
-  allowed (pass part rest) a s b h c = allowed rest a s b h (passAt part s c)
+  allowed (pass part rest) a s b h c = allowed rest a s b h (pass_at part s c)
   allowed (within n inner) a s b h c =
-      enclosed-gives (λ end. readAt inner (take end s) c) (field_at s c n).cursor
+      enclosed_gives (λ end. read_at inner (take end s) c) (field_at s c n).cursor
       (λ end. allowed inner a (take end s) (take-bytes s b end) (rw length-take (omega arith)) c)
-  allowed (fitting bits rest) a s b h c = fitting-gives bits c (readAt rest s c) (allowed rest a s b h c)
-  allowed (whole x) a s b h c = whole-gives x c a
-  allowed (unknown described) a s b h c = unknown-gives described c
+  allowed (fitting bits rest) a s b h c = fitting_gives bits c (read_at rest s c) (allowed rest a s b h c)
+  allowed (whole x) a s b h c = whole_gives x c a
+  allowed (unknown described) a s b h c = unknown_gives described c
 
 -- each kind allows what its piece is said to be
 module _ (most : ℕ) where
   allows : (l : Layout) → Allows (Numbers most) most l → Allows (Numbers most) most l
   allows l h = h
 
-  each-allows : (full : ℕ) → Every (Allows (Numbers most) most) (kinds full)
-  unfolding kinds kind10 kind11 kind12 kind13 kind14 stream19 kind19 kind20 kind21 kind22 kind24 kind25 kind2A kind30 kind31 info32 kind32
-      kind33 kind35 kind5A
-  each-allows full =
+  each_allows : (full : ℕ) → Every (Allows (Numbers most) most) (kinds full)
+  unfolding kinds kind10 kind11 kind12 kind13 kind14 stream19 kind19 kind20 kind21 kind22 kind24 kind25 kind_2a kind30 kind31 info32 kind32
+      kind33 kind35 kind_5a
+  each_allows full =
       allows kind10 (λ _ a _ _ b. (a, b)) &
       allows kind11 (λ _ a _ b _ d _ e _ f _ g _ h _ i _ _ j.
       record { pilot = a; sync1 = b; sync2 = d; zero = e; one = f; pilots = g; last = h; pause = i; bytes = j }) &
@@ -202,7 +202,7 @@ module _ (most : ℕ) where
       allows unread tt &
       allows kind24 (λ _ a. a) &
       allows kind25 tt &
-      allows kind2A (λ _ a. a) &
+      allows kind_2a (λ _ a. a) &
       allows unread tt &
       allows kind30 (λ _ _ a. a) &
       allows kind31 (λ _ _ _ _ _. tt) &
@@ -211,29 +211,29 @@ module _ (most : ℕ) where
       allows unread tt &
       allows kind35 (λ _ _ _. tt) &
       allows unread tt &
-      allows kind5A tt &
+      allows kind_5a tt &
       no_more
 
-  kinds-allow : (full kind : ℕ) → Allows (Numbers most) most (kind_of full kind)
+  kinds_allow : (full kind : ℕ) → Allows (Numbers most) most (kind_of full kind)
   unfolding kind_of
-  kinds-allow full kind = found-every (Allows (Numbers most) most) (kinds full) kind (unknown _) (each-allows full) tt
+  kinds_allow full kind = found_every (Allows (Numbers most) most) (kinds full) kind (unknown _) (each_allows full) tt
 
 module _ (s : List ℕ) (at : ℕ) {k a next : ℕ} {piece : Piece} (e : cut_at s at full ≡ taken.Whole k a next piece) where
-  body : readAt (kind_of full (get_or s at 0)) s (At (at + 1)) ≡ Whole piece next
+  body : read_at (kind_of full (get_or s at 0)) s (At (at + 1)) ≡ Whole piece next
   body = unnamed (get_or s at 0)
-      at (readAt (kind_of full (get_or s at 0)) s (At (at + 1))) (sym (cut-there s at full (cut_inside s at full e)) ∙ e)
+      at (read_at (kind_of full (get_or s at 0)) s (At (at + 1))) (sym (cut_there s at full (cut_inside s at full e)) ∙ e)
 
   -- a piece is named by its own byte and place
-  pub cut-named : cut_at s at full ≡ taken.Whole (get_or s at 0) at next piece
-  unfolding takenAs
-  cut-named = cut-there s at full (cut_inside s at full e) ∙ ap (takenAs (get_or s at 0) at) body
+  pub cut_named : cut_at s at full ≡ taken.Whole (get_or s at 0) at next piece
+  unfolding taken_as
+  cut_named = cut_there s at full (cut_inside s at full e) ∙ ap (taken_as (get_or s at 0) at) body
 
   -- WHAT A CUT PIECE IS
-  pub cut-sized : Bytes s → Sized s piece
-  cut-sized b =
-      let g = allowed (Numbers (length s)) (length s) (kind_of full (get_or s at 0)) (kinds-allow (length s) full (get_or s at 0)) s b
+  pub cut_sized : Bytes s → Sized s piece
+  cut_sized b =
+      let g = allowed (Numbers (length s)) (length s) (kind_of full (get_or s at 0)) (kinds_allow (length s) full (get_or s at 0)) s b
       (le_refl (length s)) (At (at + 1)) in
-      record { numbers = gives-piece g body; fit = cut-fit s at piece b e }
+      record { numbers = gives_piece g body; fit = cut_fit s at piece b e }
 
 -- what a TAP gives of which a block has its range
 data GivesTap (most : ℕ) : TakenTap → Type 0 where
@@ -242,21 +242,21 @@ data GivesTap (most : ℕ) : TakenTap → Type 0 where
   lone : GivesTap most tap.Lone
   too_few : {p w : ℕ} → GivesTap most (tap.Short p w)
 
-tap-gives : (s : List ℕ) → Bytes s → (at : ℕ) → GivesTap (length s) (tapAt s at)
-unfolding tapAt tapBlock
-tap-gives s b at = by_cases (leb (length s) at) (eqb (at + 1) (length s)) (countedAt s (At at) 2).cursor refl
+tap_gives : (s : List ℕ) → Bytes s → (at : ℕ) → GivesTap (length s) (tap_at s at)
+unfolding tap_at tap_block
+tap_gives s b at = by_cases (leb (length s) at) (eqb (at + 1) (length s)) (counted_at s (At at) 2).cursor refl
   where
-    by_cases : (t u : Bool) (d : Cursor) → (countedAt s (At at) 2).cursor ≡ d
-        → GivesTap (length s) (t ⇒ tap.End ∣ u ⇒ tap.Lone ∣ tapBlock (countedAt s (At at) 2) d)
+    by_cases : (t u : Bool) (d : Cursor) → (counted_at s (At at) 2).cursor ≡ d
+        → GivesTap (length s) (t ⇒ tap.End ∣ u ⇒ tap.Lone ∣ tap_block (counted_at s (At at) 2) d)
     by_cases true u d q = end
     by_cases false true d q = lone
-    by_cases false false (At e) q = block (counted-range s b (At at) 2 q (le_refl (length s)))
+    by_cases false false (At e) q = block (counted_range s b (At at) 2 q (le_refl (length s)))
     by_cases false false (cursor.Short p w) q = too_few
 
 -- what a block of a TAP is
-pub tap-sized : (s : List ℕ) (at : ℕ) {from size next : ℕ} → tapAt s at ≡ tap.Block from size next → Bytes s
+pub tap_sized : (s : List ℕ) (at : ℕ) {from size next : ℕ} → tap_at s at ≡ tap.Block from size next → Bytes s
     → Range (length s) 65536 from size
-tap-sized s at e b = of (tap-gives s b at) e
+tap_sized s at e b = of (tap_gives s b at) e
   where
     of : {x : TakenTap} {from size next : ℕ} → GivesTap (length s) x → x ≡ tap.Block from size next
         → Range (length s) 65536 from size

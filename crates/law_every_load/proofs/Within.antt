@@ -6,14 +6,14 @@ use lib.ListN.{length}
 use Rattle.rows.specs.declared.Block.{Block}
 use Rattle.rows.specs.declared.Tone.{Tone}
 use Rattle.load_state.specs.Parser.{Parsed}
-use Rattle.load_state.proofs.Kept.{all-also}
+use Rattle.load_state.proofs.Kept.{all_also}
 use Rattle.load_state.specs.Kept.{All}
 use Rattle.load_blocks.specs.Adds.{Lent}
 use Rattle.load_source.specs.Source.{load_of}
-use Rattle.text_name.specs.Names.{nameAll}
+use Rattle.text_name.specs.Names.{name_all}
 use Rattle.law_every_load.specs.Sizes.{Bytes}
 use Rattle.law_every_load.specs.OfSource.{Reads, Everywhere}
-use Rattle.law_every_load.proofs.Every.{every-row}
+use Rattle.law_every_load.proofs.Every.{every_row}
 
 abbrev Any : List Tone → Block → Type 0
 Any ts r = Unit {0}
@@ -26,5 +26,5 @@ any s = record {
 }
 
 pub rows-within : (lent : Lent) (s : List ℕ) (model : ℕ) {t : Parsed} → Bytes s → Reads (load_of lent s model) t
-    → All (λ r. r.tone + r.tones ≤ length t.tones) (nameAll s false t.blocks)
-rows-within lent s model b r = all-also (λ q h. h.inside) (every-row lent s model (any s) b r)
+    → All (λ r. r.tone + r.tones ≤ length t.tones) (name_all s false t.blocks)
+rows-within lent s model b r = all_also (λ q h. h.inside) (every_row lent s model (any s) b r)

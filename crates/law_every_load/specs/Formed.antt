@@ -3,7 +3,7 @@ use Rattle.std.specs.Prelude.{ℕ, ◌+◌, ◌≤◌, ◌≡◌, List, length}
 use Rattle.rows.specs.declared.Block.{Block}
 use Rattle.rows.specs.declared.Tone.{Tone}
 use Rattle.rows.specs.Well.{Halves}
-use Rattle.play_entries.specs.Figures.{soundIn}
+use Rattle.play_entries.specs.Figures.{sound_in}
 use Rattle.load_state.specs.Kept.{All}
 
 -- what a source row has of a document row's words: 0s
@@ -27,4 +27,4 @@ pub record Formed (s : List ℕ) (ts : List Tone) (r : Block) : Type 0 where
 
 -- its word `sound` is what its own tone rows and its data sound
 abbrev pub SaysSound : List ℕ → List Tone → Block → Type 0
-SaysSound s ts r = r.sound ≡ soundIn s ts r
+SaysSound s ts r = r.sound ≡ sound_in s ts r

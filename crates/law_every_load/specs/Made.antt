@@ -3,14 +3,14 @@
 -- Definitions alone; assumes nothing.
 use Rattle.std.specs.Prelude.{ℕ, ◌+◌, ◌≤◌, ◌≡◌, length}
 use mathlib.Core.List.{List, Memᴰ}
-use Rattle.rows.specs.Rows.{tonesIn}
+use Rattle.rows.specs.Rows.{tones_in}
 use Rattle.rows.specs.declared.Block.{Block}
 use Rattle.rows.specs.declared.Tone.{Tone}
 use Rattle.load_state.specs.declared.Pending.{Pending}
 use Rattle.load_state.specs.declared.Pending.TheVariants as pending
 use Rattle.load_state.specs.Parser.{renamed, paused}
 use Rattle.load_blocks.specs.declared.Origin.{Origin}
-use Rattle.load_blocks.specs.Sounds.{Sound, originAt, row_of}
+use Rattle.load_blocks.specs.Sounds.{Sound, origin_at, row_of}
 use Rattle.text_name.specs.Names.{unselected}
 
 -- A READING'S TABLE over a tape: the tape's bytes, its pieces, which of them is cut at a place and with what kind,
@@ -25,7 +25,7 @@ pub record Table : Type 1 where
 
 -- a sound of a piece of the tape, and its origin
 pub data OfPiece (T : Table) (d : Sound) : Origin → Type 0 where
-  of : {at : ℕ} {piece : T.Piece} → T.Cut at piece → Memᴰ d (T.sounds piece) → OfPiece T d (originAt (T.kind at) at)
+  of : {at : ℕ} {piece : T.Piece} → T.Cut at piece → Memᴰ d (T.sounds piece) → OfPiece T d (origin_at (T.kind at) at)
 
 -- a name that a piece of the tape brings
 pub record Brought (T : Table) (p : Pending) : Type 0 where
@@ -51,7 +51,7 @@ pub data GivenName (T : Table) : ℕ → ℕ → ℕ → ℕ → Type 0 where
 -- a row over tone rows of the table, of which P holds
 pub record RowOver (P : List Tone → Block → Type 0) (all : List Tone) (r : Block) : Type 0 where
   pub inside : r.tone + r.tones ≤ length all
-  pub has : P (tonesIn all r) r
+  pub has : P (tones_in all r) r
 
 -- WHAT IS ASKED OF P: every row at its birth has it, and a name, a copy (a name that is none), 22's pause and the naming pass keep it
 abbrev pub Births : Table → (List Tone → Block → Type 0) → Type 0

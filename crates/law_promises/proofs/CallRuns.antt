@@ -9,95 +9,95 @@ use mathlib.Core.Logic.Iff
 use mathlib.Core.Logic.{◌↔◌, ◌⊎◌, inl, inr, ⊎_elim}
 use mathlib.Core.List.{List, ◌∷◌}
 use lib.ListN.{length}
-use Rattle.law_base.proofs.Numbers.{lt-or-ge}
-use Rattle.refusals.specs.Refusals.{noPosition, noRoom, badRow}
+use Rattle.law_base.proofs.Numbers.{lt_or_ge}
+use Rattle.refusals.specs.Refusals.{no_position, no_room, bad_row}
 use Rattle.law_pulses.specs.Play.{calls, sum, Positive, Demanded}
 use Rattle.load_blocks.specs.Does.{lent_of}
 use Rattle.load_tape.specs.declared.Format.{Format}
 use Rattle.load_tape.specs.declared.Loaded.TheVariants as loaded
-use Rattle.load_tape.specs.Load.{loadNamed, Leaves}
+use Rattle.load_tape.specs.Load.{load_named, Leaves}
 use Rattle.play_entries.specs.Places.{Tape}
-use Rattle.play_entries.specs.Mounted.{tapeOf}
+use Rattle.play_entries.specs.Mounted.{tape_of}
 use Rattle.play_walk.specs.declared.Position.{Position}
-use Rattle.play_walk.specs.Heads.{ahead, toldReached}
+use Rattle.play_walk.specs.Heads.{ahead, told_reached}
 use Rattle.play_deck.specs.declared.Check.{Check}
 use Rattle.play_deck.specs.declared.Check.TheVariants.{Fine, NotValid, NotFormed}
-use Rattle.play_deck.specs.Deck.{judged, validAt, playMeasured}
-use Rattle.play_deck.specs.Calls.{positionIn}
-use Rattle.host_run.specs.Rows.{answerRow}
-use Rattle.host_run.specs.Runs.{checkNo, roomNo, runNo, runTable, answersOf, tallied}
+use Rattle.play_deck.specs.Deck.{judged, valid_at, play_measured}
+use Rattle.play_deck.specs.Calls.{position_in}
+use Rattle.host_run.specs.Rows.{answer_row}
+use Rattle.host_run.specs.Runs.{check_no, room_no, run_no, run_table, answers_of, tallied}
 use Rattle.host_run.proofs.Told.{run-calls}
 use Rattle.law_every_load.specs.Sizes.{Bytes}
 use Rattle.law_promises.specs.Numbers.{Unformed, Invalid}
-use Rattle.law_promises.proofs.Positions.{judged-9, judged-11}
-use Rattle.law_promises.proofs.Playing.{loaded-demand-3}
+use Rattle.law_promises.proofs.Positions.{judged_9, judged_11}
+use Rattle.law_promises.proofs.Playing.{loaded_demand_3}
 
 module _ (w : Tape) (q : Position) (ns table : List ℕ) where
   -- fewer words than the calls' rows have
   abbrev Short : Type 0
-  Short = length table < length ns * answerRow.width
+  Short = length table < length ns * answer_row.width
 
-  room-ways : (roomNo ns table ≡ 0) ⊎ ((roomNo ns table ≡ noRoom) × Short)
-  unfolding roomNo
-  room-ways =
-      let n = length ns * answerRow.width in
-      ⊎_elim (λ h. inr (rw (lt-ltb (length table) n h), h)) (λ h. inl (rw (le-ltb (length table) n h))) (lt-or-ge (length table) n)
+  room_ways : (room_no ns table ≡ 0) ⊎ ((room_no ns table ≡ no_room) × Short)
+  unfolding room_no
+  room_ways =
+      let n = length ns * answer_row.width in
+      ⊎_elim (λ h. inr (rw (lt-ltb (length table) n h), h)) (λ h. inl (rw (le-ltb (length table) n h))) (lt_or_ge (length table) n)
 
-  run-9 : (c : Check) → (checkNo c (roomNo ns table) ≡ noPosition) ↔ (c ≡ NotValid)
-  unfolding checkNo
-  run-9 Fine = (
-    λ e. ⊎_elim (λ z. absurd (omega (arith, e, z))) (λ z. absurd (omega (arith, e, z.0))) room-ways,
+  run_9 : (c : Check) → (check_no c (room_no ns table) ≡ no_position) ↔ (c ≡ NotValid)
+  unfolding check_no
+  run_9 Fine = (
+    λ e. ⊎_elim (λ z. absurd (omega (arith, e, z))) (λ z. absurd (omega (arith, e, z.0))) room_ways,
     λ e. let z : ◌≡◌ {A = ℕ} 0 1 = cc in absurd (omega arith),
   )
-  run-9 NotValid = (λ e. refl, λ e. refl)
-  run-9 NotFormed = (λ e. absurd (omega arith), λ e. let z : ◌≡◌ {A = ℕ} 0 1 = cc in absurd (omega arith))
+  run_9 NotValid = (λ e. refl, λ e. refl)
+  run_9 NotFormed = (λ e. absurd (omega arith), λ e. let z : ◌≡◌ {A = ℕ} 0 1 = cc in absurd (omega arith))
 
-  run-11 : (c : Check) → (checkNo c (roomNo ns table) ≡ badRow) ↔ (c ≡ NotFormed)
-  unfolding checkNo
-  run-11 Fine = (
-    λ e. ⊎_elim (λ z. absurd (omega (arith, e, z))) (λ z. absurd (omega (arith, e, z.0))) room-ways,
+  run_11 : (c : Check) → (check_no c (room_no ns table) ≡ bad_row) ↔ (c ≡ NotFormed)
+  unfolding check_no
+  run_11 Fine = (
+    λ e. ⊎_elim (λ z. absurd (omega (arith, e, z))) (λ z. absurd (omega (arith, e, z.0))) room_ways,
     λ e. let z : ◌≡◌ {A = ℕ} 0 1 = cc in absurd (omega arith),
   )
-  run-11 NotValid = (λ e. absurd (omega arith), λ e. let z : ◌≡◌ {A = ℕ} 0 1 = cc in absurd (omega arith))
-  run-11 NotFormed = (λ e. refl, λ e. refl)
+  run_11 NotValid = (λ e. absurd (omega arith), λ e. let z : ◌≡◌ {A = ℕ} 0 1 = cc in absurd (omega arith))
+  run_11 NotFormed = (λ e. refl, λ e. refl)
 
-  run-10 : (c : Check) → (checkNo c (roomNo ns table) ≡ noRoom) ↔ ((c ≡ Fine) × Short)
-  unfolding checkNo roomNo
-  run-10 Fine = (
-    λ e. ⊎_elim (λ z. absurd (omega (arith, e, z))) (λ z. (refl, z.1)) room-ways,
-    λ h. rw (lt-ltb (length table) (length ns * answerRow.width) h.1),
+  run_10 : (c : Check) → (check_no c (room_no ns table) ≡ no_room) ↔ ((c ≡ Fine) × Short)
+  unfolding check_no room_no
+  run_10 Fine = (
+    λ e. ⊎_elim (λ z. absurd (omega (arith, e, z))) (λ z. (refl, z.1)) room_ways,
+    λ h. rw (lt-ltb (length table) (length ns * answer_row.width) h.1),
   )
-  run-10 NotValid = (λ e. absurd (omega arith), λ h. let e = h.0 in let z : ◌≡◌ {A = ℕ} 0 1 = cc in absurd (omega arith))
-  run-10 NotFormed = (λ e. absurd (omega arith), λ h. let e = h.0 in let z : ◌≡◌ {A = ℕ} 0 1 = cc in absurd (omega arith))
+  run_10 NotValid = (λ e. absurd (omega arith), λ h. let e = h.0 in let z : ◌≡◌ {A = ℕ} 0 1 = cc in absurd (omega arith))
+  run_10 NotFormed = (λ e. absurd (omega arith), λ h. let e = h.0 in let z : ◌≡◌ {A = ℕ} 0 1 = cc in absurd (omega arith))
 
-  pub given-9-run : (runNo w q ns table ≡ noPosition) ↔ Invalid w q
-  unfolding runNo
-  given-9-run = Iff.trans (run-9 (judged w q)) (judged-9 w q)
+  pub given_9_run : (run_no w q ns table ≡ no_position) ↔ Invalid w q
+  unfolding run_no
+  given_9_run = Iff.trans (run_9 (judged w q)) (judged_9 w q)
 
-  pub given-11-run : (runNo w q ns table ≡ badRow) ↔ Unformed w q.block
-  unfolding runNo
-  given-11-run = Iff.trans (run-11 (judged w q)) (judged-11 w q)
+  pub given_11_run : (run_no w q ns table ≡ bad_row) ↔ Unformed w q.block
+  unfolding run_no
+  given_11_run = Iff.trans (run_11 (judged w q)) (judged_11 w q)
 
-  pub given-10-run : (runNo w q ns table ≡ noRoom) ↔ ((judged w q ≡ Fine) × Short)
-  unfolding runNo
-  given-10-run = run-10 (judged w q)
+  pub given_10_run : (run_no w q ns table ≡ no_room) ↔ ((judged w q ≡ Fine) × Short)
+  unfolding run_no
+  given_10_run = run_10 (judged w q)
 
   -- a refused run writes nothing
-  pub run-stays : (measured : Bool) → 0 < runNo w q ns table → runTable measured w q ns table ≡ table
-  unfolding runTable
-  run-stays measured h = rw (ne_eqb (runNo w q ns table) 0 (λ z. omega (arith, h, z)))
+  pub run-stays : (measured : Bool) → 0 < run_no w q ns table → run_table measured w q ns table ≡ table
+  unfolding run_table
+  run-stays measured h = rw (ne_eqb (run_no w q ns table) 0 (λ z. omega (arith, h, z)))
 
 -- tables of B and N words, the tape s, the model; the load's answer is a tape of `count` blocks, and the tables at exit are bt and tt
 module _ (B N : ℕ) (s : List ℕ) (model : ℕ) {f : Format} {count k : ℕ} {bt tt : List ℕ} (b : Bytes s)
-    (l : Leaves B N (loadNamed (lent_of B N) s model) (loaded.Tape f count k) bt tt) where
+    (l : Leaves B N (load_named (lent_of B N) s model) (loaded.Tape f count k) bt tt) where
   abbrev w : Tape
-  w = tapeOf s tt bt count
+  w = tape_of s tt bt count
 
   -- DEMAND 3 OF A RUN: its answers, tallied, are what the list says
-  pub loaded-run : (q : Position) (n : ℕ) (ms : List ℕ) → validAt w q ≡ true → 0 < n → Positive ms
-      → (tallied (playMeasured w q n) (answersOf (playMeasured w) (positionIn q (playMeasured w q n)) ms)
-      ≡ toldReached w w (calls (ahead w q) n ms))
+  pub loaded_run : (q : Position) (n : ℕ) (ms : List ℕ) → valid_at w q ≡ true → 0 < n → Positive ms
+      → (tallied (play_measured w q n) (answers_of (play_measured w) (position_in q (play_measured w q n)) ms)
+      ≡ told_reached w w (calls (ahead w q) n ms))
       × Demanded (ahead w q) (n + sum ms) (calls (ahead w q) n ms)
-  loaded-run q n ms v p h =
-      let d = loaded-demand-3 B N s model b l q n ms v p h in
+  loaded_run q n ms v p h =
+      let d = loaded_demand_3 B N s model b l q n ms v p h in
       (run-calls w q n ms ∙ d.0, d.1)

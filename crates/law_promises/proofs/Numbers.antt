@@ -6,163 +6,163 @@ use mathlib.Core.Logic.Iff
 use mathlib.Core.Logic.{◌↔◌, inl, inr, ⊎_elim}
 use mathlib.Core.List.{List}
 use lib.ListN.{length}
-use Rattle.refusals.specs.Refusals.{badModel, tapeLong, tapeBad, generalised, tonesFull, blocksFull, lastBits}
+use Rattle.refusals.specs.Refusals.{bad_model, tape_long, tape_bad, generalised, tones_full, blocks_full, last_bits}
 use Rattle.rows.specs.Table.{zeros}
 use Rattle.load_state.specs.Parser.{Parsed, empty}
 use Rattle.load_blocks.specs.Adds.{Lent}
-use Rattle.load_source.specs.Source.{done, refused, readTzx, readTap, foldFrom, tzxSee, Load, tzx, tapped, bothErr, no}
+use Rattle.load_source.specs.Source.{done, refused, read_tzx, read_tap, fold_from, tzx_see, Load, tzx, tapped, both_err, no}
 use Rattle.load_tape.specs.declared.Loaded.{Loaded}
-use Rattle.load_tape.specs.Load.{answer_of, refusalNo, blockTable, toneTable, Leaves}
+use Rattle.load_tape.specs.Load.{answer_of, refusal_no, block_table, tone_table, Leaves}
 use Rattle.law_every_load.proofs.Room.{Within}
-use Rattle.law_promises.specs.Numbers.{Admitted, loadNo, Errs, Comes, ByTzx, ByTap, Due, OverlongAt}
+use Rattle.law_promises.specs.Numbers.{Admitted, load_no, Errs, Comes, ByTzx, ByTap, Due, OverlongAt}
 use Rattle.law_promises.specs.Four.{Four}
 use Rattle.law_promises.specs.Needs.{NeedsPiece, NeedsBlock, Lacking}
-use Rattle.law_promises.proofs.Runs.{comes-under, run-due}
-use Rattle.law_promises.proofs.Loads.{LoadRefused, model-no, size-no, both-no, tzx-no, tap-no, refused-when, tzx-piece, tzx-last}
-use Rattle.law_promises.proofs.Dues.{tzx-bounded, tzx-within, panics-due, piece-due, tap-bounded, tap-within, block-due, end-due}
-use Rattle.law_promises.proofs.Four.{four-exactly}
+use Rattle.law_promises.proofs.Runs.{comes_under, run_due}
+use Rattle.law_promises.proofs.Loads.{LoadRefused, model_no, size_no, both-no, tzx-no, tap_no, refused_when, tzx_piece, tzx_last}
+use Rattle.law_promises.proofs.Dues.{tzx_bounded, tzx-within, panics_due, piece_due, tap_bounded, tap_within, block_due, end_due}
+use Rattle.law_promises.proofs.Four.{four_exactly}
 
 module _ (lent : Lent) (s : List ℕ) (model : ℕ) where
   -- 1: model is not 0 (48K), 1 (128K), 2 (Plus3)
-  pub given-1 : (loadNo lent s model ≡ badModel) ↔ (3 ≤ model)
-  given-1 = (λ e. of ((refused-when lent s model badModel (omega arith)).0 e), λ h. (refused-when lent s model badModel (omega arith)).1 (model-no h refl))
+  pub given_1 : (load_no lent s model ≡ bad_model) ↔ (3 ≤ model)
+  given_1 = (λ e. of ((refused_when lent s model bad_model (omega arith)).0 e), λ h. (refused_when lent s model bad_model (omega arith)).1 (model_no h refl))
     where
-      of : LoadRefused lent s model badModel → 3 ≤ model
-      of (model-no h q) = h
-      of (size-no h l q) = absurd (omega arith)
+      of : LoadRefused lent s model bad_model → 3 ≤ model
+      of (model_no h q) = h
+      of (size_no h l q) = absurd (omega arith)
       of (both-no a x y q) = absurd (omega arith)
       of (tzx-no a x b) = absurd (omega (arith, b.low))
-      of (tap-no a x y b) = absurd (omega (arith, b.low))
+      of (tap_no a x y b) = absurd (omega (arith, b.low))
 
   -- 2: tape over 1,048,576 bytes; 1 is checked first
-  pub given-2 : (loadNo lent s model ≡ tapeLong) ↔ ((model < 3) × (1048576 < length s))
-  given-2 = (λ e. of ((refused-when lent s model tapeLong (omega arith)).0 e), λ h. (refused-when lent s model tapeLong (omega arith)).1 (size-no h.0 h.1 refl))
+  pub given_2 : (load_no lent s model ≡ tape_long) ↔ ((model < 3) × (1048576 < length s))
+  given_2 = (λ e. of ((refused_when lent s model tape_long (omega arith)).0 e), λ h. (refused_when lent s model tape_long (omega arith)).1 (size_no h.0 h.1 refl))
     where
-      of : LoadRefused lent s model tapeLong → (model < 3) × (1048576 < length s)
-      of (model-no h q) = absurd (omega arith)
-      of (size-no h l q) = (h, l)
+      of : LoadRefused lent s model tape_long → (model < 3) × (1048576 < length s)
+      of (model_no h q) = absurd (omega arith)
+      of (size_no h l q) = (h, l)
       of (both-no a x y q) = absurd (omega arith)
       of (tzx-no a x b) = absurd (omega (arith, b.low))
-      of (tap-no a x y b) = absurd (omega (arith, b.low))
+      of (tap_no a x y b) = absurd (omega (arith, b.low))
 
   -- 3: TZX and TAP reading both err
-  pub given-3 : (loadNo lent s model ≡ tapeBad)
-      ↔ (Admitted 1048576 s model × (Errs (readTzx lent s model) × Errs (readTap lent s)))
-  given-3 = (
-    λ e. of ((refused-when lent s model tapeBad (omega arith)).0 e),
-    λ h. (refused-when lent s model tapeBad (omega arith)).1 (both-no h.0 h.1.0 h.1.1 refl),
+  pub given_3 : (load_no lent s model ≡ tape_bad)
+      ↔ (Admitted 1048576 s model × (Errs (read_tzx lent s model) × Errs (read_tap lent s)))
+  given_3 = (
+    λ e. of ((refused_when lent s model tape_bad (omega arith)).0 e),
+    λ h. (refused_when lent s model tape_bad (omega arith)).1 (both-no h.0 h.1.0 h.1.1 refl),
   )
     where
-      of : LoadRefused lent s model tapeBad → Admitted 1048576 s model × (Errs (readTzx lent s model) × Errs (readTap lent s))
-      of (model-no h q) = absurd (omega arith)
-      of (size-no h l q) = absurd (omega arith)
+      of : LoadRefused lent s model tape_bad → Admitted 1048576 s model × (Errs (read_tzx lent s model) × Errs (read_tap lent s))
+      of (model_no h q) = absurd (omega arith)
+      of (size_no h l q) = absurd (omega arith)
       of (both-no a x y q) = (a, (x, y))
       of (tzx-no a x b) = absurd (omega (arith, b.low))
-      of (tap-no a x y b) = absurd (omega (arith, b.low))
+      of (tap_no a x y b) = absurd (omega (arith, b.low))
 
   within-empty : Within lent empty
   unfolding empty
   within-empty = record { blocks = omega arith; tones = omega arith }
 
   -- a number of the TZX's pieces, of the whole TZX, and of the TAP: where the reading comes to
-  tzx-comes : (k : ℕ) → k ≤ blocksFull → {P : ℕ → Parsed → Type 0}
-      → ((at : ℕ) (t : Parsed) → Within lent t → Due (tzxSee lent s model) (refused k) at t ↔ P at t)
-      → (readTzx lent s model ≡ refused k) ↔ ByTzx lent s model P
-  tzx-comes k l p =
-      let x = tzx-piece lent s model k l in
-      let y = run-due (tzx-bounded lent s model) (length s) 10 empty (refused k) (omega arith) in (
-        λ e. let z = x.0 e in (z.0, comes-under (tzx-within lent s model) (λ at t w. (p at t w).0) within-empty (y.0 z.1)),
-        λ c. x.1 (c.0, y.1 (comes-under (tzx-within lent s model) (λ at t w. (p at t w).1) within-empty c.1)),
+  tzx_comes : (k : ℕ) → k ≤ blocks_full → {P : ℕ → Parsed → Type 0}
+      → ((at : ℕ) (t : Parsed) → Within lent t → Due (tzx_see lent s model) (refused k) at t ↔ P at t)
+      → (read_tzx lent s model ≡ refused k) ↔ ByTzx lent s model P
+  tzx_comes k l p =
+      let x = tzx_piece lent s model k l in
+      let y = run_due (tzx_bounded lent s model) (length s) 10 empty (refused k) (omega arith) in (
+        λ e. let z = x.0 e in (z.0, comes_under (tzx-within lent s model) (λ at t w. (p at t w).0) within-empty (y.0 z.1)),
+        λ c. x.1 (c.0, y.1 (comes_under (tzx-within lent s model) (λ at t w. (p at t w).1) within-empty c.1)),
       )
 
-  tzx-ends : (readTzx lent s model ≡ refused lastBits) ↔ ByTzx lent s model (OverlongAt lent s model)
+  tzx-ends : (read_tzx lent s model ≡ refused last_bits) ↔ ByTzx lent s model (OverlongAt lent s model)
   tzx-ends =
-      let x = tzx-last lent s model in
-      let w = end-due lent s model 10 empty in (
+      let x = tzx_last lent s model in
+      let w = end_due lent s model 10 empty in (
         λ e. let z = x.0 e in (z.0, w.0 (z.1.0, z.1.2, (run z.1.0).0 z.1.1)),
         λ c. let z = w.1 c.1 in x.1 (c.0, (z.0, (run z.0).1 z.2, z.1)),
       )
     where
       run : (u : Parsed)
-          → (foldFrom (tzxSee lent s model) (length s) 10 empty ≡ done u)
-          ↔ Comes (tzxSee lent s model) (Due (tzxSee lent s model) (done u)) 10 empty
-      run u = run-due (tzx-bounded lent s model) (length s) 10 empty (done u) (omega arith)
+          → (fold_from (tzx_see lent s model) (length s) 10 empty ≡ done u)
+          ↔ Comes (tzx_see lent s model) (Due (tzx_see lent s model) (done u)) 10 empty
+      run u = run_due (tzx_bounded lent s model) (length s) 10 empty (done u) (omega arith)
 
-  tap-comes : (k : ℕ) → tonesFull ≤ k → (readTap lent s ≡ refused k) ↔ ByTap lent s (NeedsBlock lent s k)
-  unfolding readTap
-  tap-comes k l =
-      let y = run-due (tap-bounded lent s) (length s) 0 empty (refused k) (omega arith) in (
-        λ e. comes-under (tap-within lent s) (λ at t w. (block-due lent s k l at t w).0) within-empty (y.0 e),
-        λ c. y.1 (comes-under (tap-within lent s) (λ at t w. (block-due lent s k l at t w).1) within-empty c),
+  tap_comes : (k : ℕ) → tones_full ≤ k → (read_tap lent s ≡ refused k) ↔ ByTap lent s (NeedsBlock lent s k)
+  unfolding read_tap
+  tap_comes k l =
+      let y = run_due (tap_bounded lent s) (length s) 0 empty (refused k) (omega arith) in (
+        λ e. comes_under (tap_within lent s) (λ at t w. (block_due lent s k l at t w).0) within-empty (y.0 e),
+        λ c. y.1 (comes_under (tap_within lent s) (λ at t w. (block_due lent s k l at t w).1) within-empty c),
       )
 
   -- 4: a generalised piece on which the Rust panics
-  pub given-4 : (loadNo lent s model ≡ generalised)
+  pub given_4 : (load_no lent s model ≡ generalised)
       ↔ (Admitted 1048576 s model × ByTzx lent s model (λ at t. Four s at))
-  given-4 = (
-    λ e. of ((refused-when lent s model generalised (omega arith)).0 e),
-    λ h. (refused-when lent s model generalised (omega arith)).1 (tzx-no h.0 (comes.1 h.1) (record { low = omega arith; high = omega arith })),
+  given_4 = (
+    λ e. of ((refused_when lent s model generalised (omega arith)).0 e),
+    λ h. (refused_when lent s model generalised (omega arith)).1 (tzx-no h.0 (comes.1 h.1) (record { low = omega arith; high = omega arith })),
   )
     where
-      comes : (readTzx lent s model ≡ refused generalised) ↔ ByTzx lent s model (λ at t. Four s at)
-      comes = tzx-comes generalised (omega arith) (λ at t w. Iff.trans (panics-due lent s model at t) (four-exactly s at t))
+      comes : (read_tzx lent s model ≡ refused generalised) ↔ ByTzx lent s model (λ at t. Four s at)
+      comes = tzx_comes generalised (omega arith) (λ at t w. Iff.trans (panics_due lent s model at t) (four_exactly s at t))
 
       of : LoadRefused lent s model generalised → Admitted 1048576 s model × ByTzx lent s model (λ at t. Four s at)
-      of (model-no h q) = absurd (omega arith)
-      of (size-no h l q) = absurd (omega arith)
+      of (model_no h q) = absurd (omega arith)
+      of (size_no h l q) = absurd (omega arith)
       of (both-no a x y q) = absurd (omega arith)
       of (tzx-no a x b) = (a, comes.0 x)
-      of (tap-no a x y b) = absurd (omega (arith, b.low))
+      of (tap_no a x y b) = absurd (omega (arith, b.low))
 
   -- 5, 6: by the TZX's pieces, or, where TZX errs, by the TAP's blocks
-  lacking : (k : ℕ) → tonesFull ≤ k → k ≤ blocksFull
-      → (loadNo lent s model ≡ k) ↔ (Admitted 1048576 s model × Lacking lent s model k)
+  lacking : (k : ℕ) → tones_full ≤ k → k ≤ blocks_full
+      → (load_no lent s model ≡ k) ↔ (Admitted 1048576 s model × Lacking lent s model k)
   lacking k l m = (
-    λ e. of ((refused-when lent s model k (omega arith)).0 e),
+    λ e. of ((refused_when lent s model k (omega arith)).0 e),
     λ h. ⊎_elim
-        (λ x. (refused-when lent s model k (omega arith)).1 (tzx-no h.0 (comes.1 x) (record { low = omega arith; high = omega arith })))
-        (λ x. (refused-when lent s model k (omega arith)).1 (tap-no h.0 x.0 ((tap-comes k l).1 x.1) (record { low = l; high = m })))
+        (λ x. (refused_when lent s model k (omega arith)).1 (tzx-no h.0 (comes.1 x) (record { low = omega arith; high = omega arith })))
+        (λ x. (refused_when lent s model k (omega arith)).1 (tap_no h.0 x.0 ((tap_comes k l).1 x.1) (record { low = l; high = m })))
         h.1,
   )
     where
-      comes : (readTzx lent s model ≡ refused k) ↔ ByTzx lent s model (NeedsPiece lent s model k)
-      comes = tzx-comes k m (piece-due lent s model k l)
+      comes : (read_tzx lent s model ≡ refused k) ↔ ByTzx lent s model (NeedsPiece lent s model k)
+      comes = tzx_comes k m (piece_due lent s model k l)
 
       of : LoadRefused lent s model k → Admitted 1048576 s model × Lacking lent s model k
-      of (model-no h q) = absurd (omega arith)
-      of (size-no h o q) = absurd (omega arith)
+      of (model_no h q) = absurd (omega arith)
+      of (size_no h o q) = absurd (omega arith)
       of (both-no a x y q) = absurd (omega arith)
       of (tzx-no a x b) = (a, inl (comes.0 x))
-      of (tap-no a x y b) = (a, inr (x, (tap-comes k l).0 y))
+      of (tap_no a x y b) = (a, inr (x, (tap_comes k l).0 y))
 
   -- 5: a block needs more tone rows than remain
-  pub given-5 : (loadNo lent s model ≡ tonesFull) ↔ (Admitted 1048576 s model × Lacking lent s model tonesFull)
-  given-5 = lacking tonesFull (omega arith) (omega arith)
+  pub given_5 : (load_no lent s model ≡ tones_full) ↔ (Admitted 1048576 s model × Lacking lent s model tones_full)
+  given_5 = lacking tones_full (omega arith) (omega arith)
 
   -- 6: more block rows than remain
-  pub given-6 : (loadNo lent s model ≡ blocksFull) ↔ (Admitted 1048576 s model × Lacking lent s model blocksFull)
-  given-6 = lacking blocksFull (omega arith) (omega arith)
+  pub given_6 : (load_no lent s model ≡ blocks_full) ↔ (Admitted 1048576 s model × Lacking lent s model blocks_full)
+  given_6 = lacking blocks_full (omega arith) (omega arith)
 
   -- 7: TZX was read whole, but a block with data has last bits above 8
-  pub given-7 : (loadNo lent s model ≡ lastBits)
+  pub given_7 : (load_no lent s model ≡ last_bits)
       ↔ (Admitted 1048576 s model × ByTzx lent s model (OverlongAt lent s model))
-  given-7 = (
-    λ e. of ((refused-when lent s model lastBits (omega arith)).0 e),
-    λ h. (refused-when lent s model lastBits (omega arith)).1 (tzx-no h.0 (tzx-ends.1 h.1) (record { low = omega arith; high = omega arith })),
+  given_7 = (
+    λ e. of ((refused_when lent s model last_bits (omega arith)).0 e),
+    λ h. (refused_when lent s model last_bits (omega arith)).1 (tzx-no h.0 (tzx-ends.1 h.1) (record { low = omega arith; high = omega arith })),
   )
     where
-      of : LoadRefused lent s model lastBits → Admitted 1048576 s model × ByTzx lent s model (OverlongAt lent s model)
-      of (model-no h q) = absurd (omega arith)
-      of (size-no h l q) = absurd (omega arith)
+      of : LoadRefused lent s model last_bits → Admitted 1048576 s model × ByTzx lent s model (OverlongAt lent s model)
+      of (model_no h q) = absurd (omega arith)
+      of (size_no h l q) = absurd (omega arith)
       of (both-no a x y q) = absurd (omega arith)
       of (tzx-no a x b) = (a, tzx-ends.0 x)
-      of (tap-no a x y b) = absurd (omega (arith, b.high))
+      of (tap_no a x y b) = absurd (omega (arith, b.high))
 
 -- 1 to 7 leave both tables all zero
-pub refused-blank : (B N : ℕ) (l : Load) (a : Loaded) (bt tt : List ℕ) → Leaves B N l a bt tt → 0 < refusalNo a
+pub refused_blank : (B N : ℕ) (l : Load) (a : Loaded) (bt tt : List ℕ) → Leaves B N l a bt tt → 0 < refusal_no a
     → (bt ≡ zeros B) × (tt ≡ zeros N)
-unfolding answer_of refusalNo blockTable toneTable
-refused-blank B N (tzx t) a bt tt h p = absurd (omega (arith, p, ap refusalNo h.answer))
-refused-blank B N (tapped t) a bt tt h p = absurd (omega (arith, p, ap refusalNo h.answer))
-refused-blank B N (bothErr f g) a bt tt h p = (h.blocks, h.tones)
-refused-blank B N (no k) a bt tt h p = (h.blocks, h.tones)
+unfolding answer_of refusal_no block_table tone_table
+refused_blank B N (tzx t) a bt tt h p = absurd (omega (arith, p, ap refusal_no h.answer))
+refused_blank B N (tapped t) a bt tt h p = absurd (omega (arith, p, ap refusal_no h.answer))
+refused_blank B N (both_err f g) a bt tt h p = (h.blocks, h.tones)
+refused_blank B N (no k) a bt tt h p = (h.blocks, h.tones)

@@ -7,37 +7,37 @@ use mathlib.Core.List.{List}
 use lib.Dec.{eqb}
 use Rattle.refusals.specs.Refusals.{generalised}
 use Rattle.cut_grammar.specs.declared.Heading.TheVariants.{Version}
-use Rattle.cut_grammar.specs.Cut.{headAt}
+use Rattle.cut_grammar.specs.Cut.{head_at}
 use Rattle.load_blocks.specs.Adds.{Lent}
 use Rattle.load_blocks.specs.Does.{lent_of}
 use Rattle.load_source.specs.Source.{load_of}
 use Rattle.load_tape.specs.declared.Format.TheVariants.{Tzx}
 use Rattle.load_tape.specs.declared.Loaded.TheVariants as loaded
-use Rattle.load_tape.specs.Load.{loadNamed, answer_of, Leaves}
+use Rattle.load_tape.specs.Load.{load_named, answer_of, Leaves}
 use Rattle.play_entries.specs.declared.Phase.TheVariants.{Start}
 use Rattle.play_entries.specs.declared.Duration.TheVariants.{T}
 use Rattle.play_entries.specs.Places.{list_from, left_at}
-use Rattle.play_entries.specs.Mounted.{tapeOf}
+use Rattle.play_entries.specs.Mounted.{tape_of}
 use Rattle.law_tzx.specs.Format.{lasting}
 use Rattle.law_tzx.specs.Kept.{lengths}
-use Rattle.law_tzx.specs.Tapes.{keptTape, formatTape}
-use Rattle.law_tzx.proofs.Loads.{load-keeps}
-use Rattle.law_tzx.proofs.Room.{tape-not-4}
+use Rattle.law_tzx.specs.Tapes.{kept_tape, format_tape}
+use Rattle.law_tzx.proofs.Loads.{load_keeps}
+use Rattle.law_tzx.proofs.Room.{tape_not_4}
 use Rattle.law_promises.proofs.Loads.{answers-no}
 
 module _ (B N : ℕ) (s : List ℕ) (model : ℕ) {n k : ℕ} {bt tt : List ℕ}
-    (l : Leaves B N (loadNamed (lent_of B N) s model) (loaded.Tape Tzx n k) bt tt) (e : keptTape s ≡ true) where
+    (l : Leaves B N (load_named (lent_of B N) s model) (loaded.Tape Tzx n k) bt tt) (e : kept_tape s ≡ true) where
   -- the tape's list
-  pub demand-2-tzx : lasting (lengths (list_from (tapeOf s tt bt n) 0)) ≡ lasting (formatTape (eqb model 0) s)
-  demand-2-tzx = load-keeps B N s model l e
+  pub demand_2_tzx : lasting (lengths (list_from (tape_of s tt bt n) 0)) ≡ lasting (format_tape (eqb model 0) s)
+  demand_2_tzx = load_keeps B N s model l e
 
   -- demand 3's list, from the start of block 0
-  pub left-tzx : lasting (lengths (left_at (tapeOf s tt bt n) 0 Start (T 0))) ≡ lasting (formatTape (eqb model 0) s)
+  pub left_tzx : lasting (lengths (left_at (tape_of s tt bt n) 0 Start (T 0))) ≡ lasting (format_tape (eqb model 0) s)
   unfolding left_at
-  left-tzx = demand-2-tzx
+  left_tzx = demand_2_tzx
 
 -- 4 is not given
-pub tzx-not-4 : (lent : Lent) (s : List ℕ) (model : ℕ) {major minor : ℕ} → headAt s ≡ Version major minor → keptTape s ≡ true
-    → answer_of (loadNamed lent s model) ≡ loaded.Refused generalised → ⊥
-unfolding loadNamed
-tzx-not-4 lent s model h e q = tape-not-4 lent s model h e ((answers-no s generalised (load_of lent s model)).0 q)
+pub tzx_not_4 : (lent : Lent) (s : List ℕ) (model : ℕ) {major minor : ℕ} → head_at s ≡ Version major minor → kept_tape s ≡ true
+    → answer_of (load_named lent s model) ≡ loaded.Refused generalised → ⊥
+unfolding load_named
+tzx_not_4 lent s model h e q = tape_not_4 lent s model h e ((answers-no s generalised (load_of lent s model)).0 q)

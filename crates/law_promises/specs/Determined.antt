@@ -9,7 +9,7 @@ use denote.Triple.Clauses.{AtExit}
 use Rattle.play_entries.specs.Places.{Tape}
 use Rattle.play_walk.specs.declared.Reached.{Reached}
 use Rattle.play_deck.specs.declared.Head.{Head}
-use Rattle.play_deck.specs.Deck.{playMounted}
+use Rattle.play_deck.specs.Deck.{play_mounted}
 
 -- `written` picks what is lent to be written, as it is at exit
 abbrev pub Determined : {W : Type 0} (n : ℕ) (ps : List (ParamKind n)) (r : ResultKind n) → Out n ps r
@@ -27,4 +27,4 @@ Answered n ps r Post = (κs : Lfts n) (a : Dens κs ps) (z z' : (res_t r κs).De
 -- `play_head` is lent its head: its `ensures` are these two equations, the answer, and the head at exit;
 -- there is no `Post` of a function that a struct is lent to
 abbrev pub HeadAnswered : Tape → Head → ℕ → Reached → Head → Type 0
-HeadAnswered w h n r h' = (r ≡ (playMounted w h n).answer) × (h' ≡ (playMounted w h n).head)
+HeadAnswered w h n r h' = (r ≡ (play_mounted w h n).answer) × (h' ≡ (play_mounted w h n).head)

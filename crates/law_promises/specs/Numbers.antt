@@ -4,20 +4,20 @@ use Rattle.law_pulses.specs.Play.{Entry, time, Finite}
 use Rattle.law_pulses.specs.Source.{dropped}
 use Rattle.rows.specs.declared.Block.{Block}
 use Rattle.cut_grammar.specs.declared.Heading.TheVariants.{Version}
-use Rattle.cut_grammar.specs.Cut.{headAt}
+use Rattle.cut_grammar.specs.Cut.{head_at}
 use Rattle.load_state.specs.declared.Halt.{Halt}
 use Rattle.load_state.specs.declared.Halt.TheVariants.{Length}
 use Rattle.load_state.specs.Parser.{Parsed, Out, on, no, empty}
 use Rattle.load_blocks.specs.Adds.{Lent}
 use Rattle.load_source.specs.declared.Failure.{Failure}
-use Rattle.load_source.specs.Source.{See, theEnd, bad, refuses, thing, Verdict, done, failed, refused, halted, tzxSee, tapSee}
-use Rattle.load_tape.specs.Load.{loadNamed, answer_of, refusalNo}
+use Rattle.load_source.specs.Source.{See, the_end, bad, refuses, thing, Verdict, done, failed, refused, halted, tzx_see, tap_see}
+use Rattle.load_tape.specs.Load.{load_named, answer_of, refusal_no}
 use Rattle.play_entries.specs.Entries.{Label}
-use Rattle.play_entries.specs.Places.{Tape, blockIn, list_from}
-use Rattle.play_entries.specs.Mounted.{overfull, wellRow}
+use Rattle.play_entries.specs.Places.{Tape, block_in, list_from}
+use Rattle.play_entries.specs.Mounted.{overfull, well_row}
 use Rattle.play_walk.specs.declared.Position.{Position}
 use Rattle.play_walk.specs.Heads.{ahead}
-use Rattle.play_deck.specs.Deck.{validAt}
+use Rattle.play_deck.specs.Deck.{valid_at}
 
 -- neither 1 nor 2: the model is 0, 1 or 2, and the tape is not over `most` bytes
 pub record Admitted (most : ℕ) (s : List ℕ) (model : ℕ) : Type 0 where
@@ -25,8 +25,8 @@ pub record Admitted (most : ℕ) (s : List ℕ) (model : ℕ) : Type 0 where
   pub short : length s ≤ most
 
 -- the number of a load, 0 for none
-abbrev pub loadNo : Lent → List ℕ → ℕ → ℕ
-loadNo lent s model = refusalNo (answer_of (loadNamed lent s model))
+abbrev pub load_no : Lent → List ℕ → ℕ → ℕ
+load_no lent s model = refusal_no (answer_of (load_named lent s model))
 
 -- a reading errs
 abbrev pub Errs : Verdict → Type 0
@@ -34,7 +34,7 @@ Errs r = (f : Failure) × (r ≡ failed f)
 
 -- the first 10 bytes are a TZX's; version ignored
 abbrev pub Headed : List ℕ → Type 0
-Headed s = (major : ℕ) × (minor : ℕ) × (headAt s ≡ Version major minor)
+Headed s = (major : ℕ) × (minor : ℕ) × (head_at s ≡ Version major minor)
 
 -- A READING COMES to a place and a tape read so far of which P holds:
 -- it stands there, or what stands here is done and from past it the reading comes there
@@ -45,7 +45,7 @@ pub data Comes (see : ℕ → See) (P : ℕ → Parsed → Type 0) : ℕ → Par
 
 -- a reading's answer is due at a place: the end; an error or a refusal, by what stands there or by what it does
 pub data Due (see : ℕ → See) : Verdict → ℕ → Parsed → Type 0 where
-  ends : {at : ℕ} {t : Parsed} → see at ≡ theEnd → Due see (done t) at t
+  ends : {at : ℕ} {t : Parsed} → see at ≡ the_end → Due see (done t) at t
   errs : {at : ℕ} {t : Parsed} {f : Failure} → see at ≡ bad f → Due see (failed f) at t
   stands : {at k : ℕ} {t : Parsed} → see at ≡ refuses k → Due see (refused k) at t
   answers : {at next : ℕ} {k : Halt} {does : Parsed → Out} {t : Parsed} → see at ≡ thing next does → does t ≡ no k
@@ -53,10 +53,10 @@ pub data Due (see : ℕ → See) : Verdict → ℕ → Parsed → Type 0 where
 
 -- a TZX is read from 10 on, a TAP from 0 on, both with nothing read so far
 abbrev pub ByTzx : Lent → List ℕ → ℕ → (ℕ → Parsed → Type 0) → Type 0
-ByTzx lent s model P = Headed s × Comes (tzxSee lent s model) P 10 empty
+ByTzx lent s model P = Headed s × Comes (tzx_see lent s model) P 10 empty
 
 abbrev pub ByTap : Lent → List ℕ → (ℕ → Parsed → Type 0) → Type 0
-ByTap lent s P = Comes (tapSee lent s) P 0 empty
+ByTap lent s P = Comes (tap_see lent s) P 0 empty
 
 -- 3: what stands here errs: a short read, or a 2A of another length than 0
 pub data Bad (see : ℕ → See) (at : ℕ) (t : Parsed) : Type 0 where
@@ -70,13 +70,13 @@ pub data Overlong : List Block → Type 0 where
 
 -- .. where TZX was read whole
 pub record OverlongAt (lent : Lent) (s : List ℕ) (model at : ℕ) (t : Parsed) : Type 0 where
-  pub whole : tzxSee lent s model at ≡ theEnd
+  pub whole : tzx_see lent s model at ≡ the_end
   pub bits : Overlong t.blocks
 
 -- from block b back to a selectable block, or 0: a row on the way is not well formed
 pub data BadBack (w : Tape) : ℕ → Type 0 where
-  this : {b : ℕ} → wellRow w b ≡ false → BadBack w b
-  back : {b : ℕ} → wellRow w (suc b) ≡ true → eqb (blockIn w (suc b)).selectable 1 ≡ false → BadBack w b → BadBack w (suc b)
+  this : {b : ℕ} → well_row w b ≡ false → BadBack w b
+  back : {b : ℕ} → well_row w (suc b) ≡ true → eqb (block_in w (suc b)).selectable 1 ≡ false → BadBack w b → BadBack w (suc b)
 
 -- 8: block number not below the count; 11 for the count comes first
 abbrev pub PastCount : Tape → ℕ → Type 0
@@ -84,27 +84,27 @@ PastCount w i = (overfull w ≡ false) × (w.count ≤ i)
 
 -- 11: the count exceeds capacity, or the row of block i, below the count, is not well formed
 abbrev pub Unformed : Tape → ℕ → Type 0
-Unformed w i = (overfull w ≡ true) ⊎ ((i < w.count) × (wellRow w i ≡ false))
+Unformed w i = (overfull w ≡ true) ⊎ ((i < w.count) × (well_row w i ≡ false))
 
 -- neither 8 nor 11
 pub record Asked (w : Tape) (i : ℕ) : Type 0 where
   pub few : overfull w ≡ false
   pub there : i < w.count
-  pub well : wellRow w i ≡ true
+  pub well : well_row w i ≡ true
 
 -- 9: position not valid on this tape; 11 for the count and 11 for its row, if it has one, come first
 pub record Invalid (w : Tape) (q : Position) : Type 0 where
   pub few : overfull w ≡ false
-  pub well : q.block < w.count → wellRow w q.block ≡ true
-  pub bad : validAt w q ≡ false
+  pub well : q.block < w.count → well_row w q.block ≡ true
+  pub bad : valid_at w q ≡ false
 
 -- 11 BY A WALK from a position, which reaches row k: a row below the count, at or behind the position's block, that is not well formed,
 -- behind rows that are. What is left to play from the position are the entries `before` block k's start, then the tape's list from block k
 -- on. Each of `before` ends: no stop stands there. And T-states are left behind them: what the walk spends is more than they last
 pub record Reaches (w : Tape) (q : Position) (spends : List (Entry Label) → ℕ) (k : ℕ) : Type 0 where
   pub there : (q.block ≤ k) × (k < w.count)
-  pub well : (i : ℕ) → q.block ≤ i → i < k → wellRow w i ≡ true
-  pub bad : wellRow w k ≡ false
+  pub well : (i : ℕ) → q.block ≤ i → i < k → well_row w i ≡ true
+  pub bad : well_row w k ≡ false
   pub before : List (Entry Label)
   pub split : ahead w q ≡ before ++ list_from w k
   pub finite : Finite before
@@ -114,8 +114,8 @@ pub record Reaches (w : Tape) (q : Position) (spends : List (Entry Label) → �
 abbrev pub called : ℕ → List (Entry Label) → ℕ
 called n es = n
 
-abbrev pub andDropped : ℕ → List (Entry Label) → ℕ
-andDropped n es = n + dropped es n
+abbrev pub and_dropped : ℕ → List (Entry Label) → ℕ
+and_dropped n es = n + dropped es n
 
 abbrev pub enough : List (Entry Label) → ℕ
 enough es = time es + 1
@@ -123,9 +123,9 @@ enough es = time es + 1
 -- 11 of a player: the count exceeds capacity; or the position's row is not well formed; or the position is valid, and the walk from it
 -- reaches a bad row
 abbrev pub Unplayable : Tape → Position → (List (Entry Label) → ℕ) → Type 0
-Unplayable w q spends = Unformed w q.block ⊎ ((validAt w q ≡ true) × ((k : ℕ) × Reaches w q spends k))
+Unplayable w q spends = Unformed w q.block ⊎ ((valid_at w q ≡ true) × ((k : ℕ) × Reaches w q spends k))
 
 -- things move forward, and at the size all is over: so as many turns as there are bytes are enough
 pub record Bounded (size : ℕ) (see : ℕ → See) : Type 0 where
-  pub stops : (p : ℕ) → size ≤ p → see p ≡ theEnd
+  pub stops : (p : ℕ) → size ≤ p → see p ≡ the_end
   pub moves : (at next : ℕ) (does : Parsed → Out) → see at ≡ thing next does → at < next

@@ -2,8 +2,8 @@
 use Rattle.std.specs.Prelude.{ℕ, ◌+◌, ◌≤◌, ◌<◌, ◌≡◌, false, List, ◌∷◌, ◌++◌, length, get_or}
 use Rattle.cut_fields.specs.Field.{number_at}
 use Rattle.cut_grammar.specs.Kinds.{kind_of}
-use Rattle.cut_grammar.specs.Cut.{signature, startsAt}
-use Rattle.cut_grammar.specs.Trace.{Field, fieldIn, trace, headTrace, tapTrace, FirstShort}
+use Rattle.cut_grammar.specs.Cut.{signature, starts_at}
+use Rattle.cut_grammar.specs.Trace.{Field, field_in, trace, head_trace, tap_trace, FirstShort}
 use Rattle.load_state.specs.Parser.{Parsed}
 use Rattle.load_blocks.specs.Adds.{Lent}
 use Rattle.load_source.specs.declared.Failure.{Failure}
@@ -24,13 +24,13 @@ pub data PieceMet (s : List ℕ) : Failure → ℕ → Type 0 where
 
 -- THE TZX ATTEMPT: fewer than ten bytes; ten, the first eight of them not the signature; or what the reading comes to
 pub data TzxMet (lent : Lent) (s : List ℕ) (model : ℕ) : Failure → Type 0 where
-  head-short : {p w : ℕ} → FirstShort (headTrace s) (fieldIn s p w) → TzxMet lent s model (Short p w)
-  head-other : 10 ≤ length s → startsAt s 0 signature ≡ false → TzxMet lent s model BadSignature
+  head_short : {p w : ℕ} → FirstShort (head_trace s) (field_in s p w) → TzxMet lent s model (Short p w)
+  head_other : 10 ≤ length s → starts_at s 0 signature ≡ false → TzxMet lent s model BadSignature
   at_piece : {f : Failure} → ByTzx lent s model (λ at t. PieceMet s f at) → TzxMet lent s model f
 
 -- at a block of a TAP: its data, as many bytes as its length says
 pub data BlockMet (s : List ℕ) : Failure → ℕ → Type 0 where
-  data-short : {at p w : ℕ} → at + 1 < length s → p ≡ at + 2 → w ≡ number_at s at 2 → FirstShort (tapTrace s at) (fieldIn s p w)
+  data_short : {at p w : ℕ} → at + 1 < length s → p ≡ at + 2 → w ≡ number_at s at 2 → FirstShort (tap_trace s at) (field_in s p w)
       → BlockMet s (Short p w) at
 
 -- THE TAP ATTEMPT
@@ -38,11 +38,11 @@ abbrev pub TapMet : Lent → List ℕ → Failure → Type 0
 TapMet lent s f = ByTap lent s (λ at t. BlockMet s f at)
 
 -- THE FIELDS OF AN ATTEMPT in reading order: of each thing that it passes, then of what stands where it comes to
-unfoldable pub attemptTrace : (ℕ → List Field) → {see : ℕ → See} {P : ℕ → Parsed → Type 0} {at : ℕ} {t : Parsed} → Comes see P at t
+unfoldable pub attempt_trace : (ℕ → List Field) → {see : ℕ → See} {P : ℕ → Parsed → Type 0} {at : ℕ} {t : Parsed} → Comes see P at t
     → List Field
-attemptTrace fields (here {at = at} m) = fields at
-attemptTrace fields (past {at = at} e d c) = fields at ++ attemptTrace fields c
+attempt_trace fields (here {at = at} m) = fields at
+attempt_trace fields (past {at = at} e d c) = fields at ++ attempt_trace fields c
 
 -- a piece's: its kind byte, and what that names
-abbrev pub pieceTrace : List ℕ → ℕ → List Field
-pieceTrace s at = fieldIn s at 1 ∷ trace (kind_of full (get_or s at 0)) s (at + 1)
+abbrev pub piece_trace : List ℕ → ℕ → List Field
+piece_trace s at = field_in s at 1 ∷ trace (kind_of full (get_or s at 0)) s (at + 1)

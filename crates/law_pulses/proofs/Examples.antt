@@ -6,12 +6,12 @@ use mathlib.Core.List.{List, [], ◌∷◌, map}
 use Prim.Native.Nat.{ℕ, ◌%◌}
 use native.Mathlib.Omega.{arith}
 use lib.Dec.{eqb}
-use Rattle.law_pulses.specs.Play.{Entry, pulse, endless, low, high, standing, stopped, ended, made, rest, over, statusHere, status}
-use Rattle.law_pulses.specs.Play.{answer, countedOn, calls, time}
+use Rattle.law_pulses.specs.Play.{Entry, pulse, endless, low, high, standing, stopped, ended, made, rest, over, status_here, status}
+use Rattle.law_pulses.specs.Play.{answer, counted_on, calls, time}
 use Rattle.law_pulses.specs.Runs.{run}
-use Rattle.law_pulses.specs.Sounding.{ends_at, soundingTime}
-use Rattle.law_pulses.specs.Source.{after, turn, turns, sourced, reached, sumDropped, source, dropped, sources, withDropped, heard}
-use Rattle.law_pulses.specs.Source.{lastingEntries, Agrees}
+use Rattle.law_pulses.specs.Sounding.{ends_at, sounding_time}
+use Rattle.law_pulses.specs.Source.{after, turn, turns, sourced, reached, sum_dropped, source, dropped, sources, with_dropped, heard}
+use Rattle.law_pulses.specs.Source.{lasting_entries, Agrees}
 
 -- a sole 12 of 100 and 4: its start, two cycles, no pause
 abbrev halves : List (Entry ℕ)
@@ -20,62 +20,62 @@ halves = pulse 3 low 100 ∷ pulse 4 high 100 ∷ pulse 5 low 0 ∷ []
 abbrev sole : List (Entry ℕ)
 sole = pulse 0 low 0 ∷ pulse 1 low 100 ∷ pulse 2 high 100 ∷ halves
 
-sum-400 : time sole ≡ 400
+sum_400 : time sole ≡ 400
 unfolding time
-sum-400 = refl
+sum_400 = refl
 
 -- 99 leaves both players in the first half with 1 left
-first-99 : answer sole 99 ≡ made (pulse 1 low 1 ∷ pulse 2 high 100 ∷ halves) standing 1
-unfolding answer rest over status statusHere
-first-99 = refl
+first_99 : answer sole 99 ≡ made (pulse 1 low 1 ∷ pulse 2 high 100 ∷ halves) standing 1
+unfolding answer rest over status status_here
+first_99 = refl
 
-source-99 : source sole 99 ≡ record { place = pulse 1 low 1 ∷ pulse 2 high 100 ∷ halves; done = false }
+source_99 : source sole 99 ≡ record { place = pulse 1 low 1 ∷ pulse 2 high 100 ∷ halves; done = false }
 unfolding sourced reached turns turn after
-source-99 = refl
+source_99 = refl
 
 -- 100 leaves the measured one at the high half, full, the source's ended, having dropped all four
-first-100 : answer sole 100 ≡ made (pulse 2 high 100 ∷ halves) standing 2
-unfolding answer rest over status statusHere
-first-100 = refl
+first_100 : answer sole 100 ≡ made (pulse 2 high 100 ∷ halves) standing 2
+unfolding answer rest over status status_here
+first_100 = refl
 
-source-100 : source sole 100 ≡ record { place = []; done = true }
+source_100 : source sole 100 ≡ record { place = []; done = true }
 unfolding sourced reached turns turn after
-source-100 = refl
+source_100 = refl
 
-dropped-100 : dropped sole 100 ≡ 400
-unfolding sourced sumDropped turns turn after
-dropped-100 = refl
+dropped_100 : dropped sole 100 ≡ 400
+unfolding sourced sum_dropped turns turn after
+dropped_100 = refl
 
 -- so at 100, which is not below the durations, the two do not agree
-apart-100 : Agrees (source sole 100) (heard (answer sole 100)) → ⊥
-unfolding sourced reached turns turn after heard answer rest over status statusHere
-apart-100 g =
+apart_100 : Agrees (source sole 100) (heard (answer sole 100)) → ⊥
+unfolding sourced reached turns turn after heard answer rest over status status_here
+apart_100 g =
     let e : true ≡ false = g.ends in
     let z : ◌≡◌ {A = ℕ} 0 1 = cc in
     omega arith
 
 -- the sum spends the last half and leaves the pause of no length; one more ends, all entries passed
-at-400 : answer sole 400 ≡ made (pulse 5 low 0 ∷ []) standing 5
-unfolding answer rest over status statusHere
-at-400 = refl
+at_400 : answer sole 400 ≡ made (pulse 5 low 0 ∷ []) standing 5
+unfolding answer rest over status status_here
+at_400 = refl
 
-above-401 : answer sole 401 ≡ made [] ended 6
-unfolding answer rest over status statusHere
-above-401 = refl
+above_401 : answer sole 401 ≡ made [] ended 6
+unfolding answer rest over status status_here
+above_401 = refl
 
 -- cut into 99, 1 and 301
-cut-401 : calls sole 99 (1 ∷ 301 ∷ []) ≡ made [] ended 6
-unfolding calls countedOn answer rest over status statusHere
-cut-401 = refl
+cut_401 : calls sole 99 (1 ∷ 301 ∷ []) ≡ made [] ended 6
+unfolding calls counted_on answer rest over status status_here
+cut_401 = refl
 
 -- exactly spent after the tape's last is not yet ended; the next call is, and passes none
-spent-last : answer {A = ℕ} (pulse 0 low 7 ∷ []) 7 ≡ made [] standing 1
-unfolding answer rest over status statusHere
-spent-last = refl
+spent_last : answer {A = ℕ} (pulse 0 low 7 ∷ []) 7 ≡ made [] standing 1
+unfolding answer rest over status status_here
+spent_last = refl
 
-next-ends : answer {A = ℕ} [] 1 ≡ made [] ended 0
-unfolding answer rest over status statusHere
-next-ends = refl
+next_ends : answer {A = ℕ} [] 1 ≡ made [] ended 0
+unfolding answer rest over status status_here
+next_ends = refl
 
 -- a stop behind entries of no length: 5 stands before them, 6 stops, 0 at the stop tells that it is one
 abbrev stop : List (Entry ℕ)
@@ -83,21 +83,21 @@ stop = endless 3 low ∷ pulse 4 low 9 ∷ []
 
 before-stop : answer (pulse 0 high 5 ∷ pulse 1 low 0 ∷ pulse 2 low 0 ∷ stop) 5
     ≡ made (pulse 1 low 0 ∷ pulse 2 low 0 ∷ stop) standing 1
-unfolding answer rest over status statusHere
+unfolding answer rest over status status_here
 before-stop = refl
 
-at-stop : answer (pulse 0 high 5 ∷ pulse 1 low 0 ∷ pulse 2 low 0 ∷ stop) 6 ≡ made stop stopped 3
-unfolding answer rest over status statusHere
-at-stop = refl
+at_stop : answer (pulse 0 high 5 ∷ pulse 1 low 0 ∷ pulse 2 low 0 ∷ stop) 6 ≡ made stop stopped 3
+unfolding answer rest over status status_here
+at_stop = refl
 
-none-at-stop : answer stop 0 ≡ made stop stopped 0
-unfolding answer rest over status statusHere
-none-at-stop = refl
+none_at_stop : answer stop 0 ≡ made stop stopped 0
+unfolding answer rest over status status_here
+none_at_stop = refl
 
 -- heads that differ by an entry of no length agree
-agree-none : Agrees (record { place = pulse 2 low 0 ∷ stop; done = false }) (record { place = stop; done = false })
-unfolding lastingEntries
-agree-none = record { ends = refl; left = refl; heads = inl (record { gone = pulse 2 low 0 ∷ []; none = refl; split = refl }) }
+agree_none : Agrees (record { place = pulse 2 low 0 ∷ stop; done = false }) (record { place = stop; done = false })
+unfolding lasting_entries
+agree_none = record { ends = refl; left = refl; heads = inl (record { gone = pulse 2 low 0 ∷ []; none = refl; split = refl }) }
 
 -- two pauses, the source's calls of 1, 3,499 and 7,000: with none left it stands at the next start; the last call drops the second pause
 abbrev pauses : List (Entry ℕ)
@@ -107,12 +107,12 @@ none_left : sources pauses 1 (3499 ∷ []) ≡ record { place = pulse 2 low 0 �
 unfolding sources sourced reached turns turn after
 none_left = refl
 
-drops-last : sources pauses 1 (3499 ∷ 7000 ∷ []) ≡ record { place = []; done = true }
+drops_last : sources pauses 1 (3499 ∷ 7000 ∷ []) ≡ record { place = []; done = true }
 unfolding sources sourced reached turns turn after
-drops-last = refl
+drops_last = refl
 
-charged : withDropped pauses (1 ∷ 3499 ∷ 7000 ∷ []) ≡ 1 ∷ 3499 ∷ 14000 ∷ []
-unfolding withDropped sourced reached sumDropped turns turn after
+charged : with_dropped pauses (1 ∷ 3499 ∷ 7000 ∷ []) ≡ 1 ∷ 3499 ∷ 14000 ∷ []
+unfolding with_dropped sourced reached sum_dropped turns turn after
 charged = refl
 
 -- the time up to the last entry that sounds, where odd labels are taken: the pauses before it count, what is behind it doesn't; nor does
@@ -126,9 +126,9 @@ soundings =
     ([], 0) ∷
     []
 
-sounding-said : map (λ e. soundingTime (λ a. eqb (a % 2) 1) e.0) soundings ≡ map (λ e. e.1) soundings
-unfolding soundingTime ends_at
-sounding-said = refl
+sounding_said : map (λ e. sounding_time (λ a. eqb (a % 2) 1) e.0) soundings ≡ map (λ e. e.1) soundings
+unfolding sounding_time ends_at
+sounding_said = refl
 
 -- items of two pulses; and of one, its level flipping
 abbrev cycle : ℕ → List (Entry ℕ)

@@ -3,27 +3,27 @@ use mathlib.Core.Path.{◌≡◌, refl, ap, ◌∙◌}
 use mathlib.Core.List.{List, [], ◌∷◌, ◌++◌}
 use Prim.Native.Nat.{ℕ, ◌+◌, ◌-◌, ◌<◌}
 use native.Mathlib.Omega.{arith}
-use Rattle.law_pulses.specs.Play.{Entry, pulse, endless, rest, over, time, comesTo, Finite}
-use Rattle.law_pulses.proofs.Steps.{rest-nil, rest-zero, rest-here, rest-past, rest-ways}
+use Rattle.law_pulses.specs.Play.{Entry, pulse, endless, rest, over, time, comes_to, Finite}
+use Rattle.law_pulses.proofs.Steps.{rest-nil, rest-zero, rest-here, rest-past, rest_ways}
 
 module _ {A : Type 0} where
-  pub time-append : (xs ys : List (Entry A)) → Finite xs → time (xs ++ ys) ≡ time xs + time ys
+  pub time_append : (xs ys : List (Entry A)) → Finite xs → time (xs ++ ys) ≡ time xs + time ys
   unfolding time Finite
-  time-append [] ys f = omega arith
-  time-append (endless a v ∷ xs) ys f = absurd f
-  time-append (pulse a v t ∷ xs) ys f = omega (arith, time-append xs ys f)
+  time_append [] ys f = omega arith
+  time_append (endless a v ∷ xs) ys f = absurd f
+  time_append (pulse a v t ∷ xs) ys f = omega (arith, time_append xs ys f)
 
-  pub finite-append : (xs ys : List (Entry A)) → Finite xs → Finite ys → Finite (xs ++ ys)
+  pub finite_append : (xs ys : List (Entry A)) → Finite xs → Finite ys → Finite (xs ++ ys)
   unfolding Finite
-  finite-append [] ys f g = g
-  finite-append (endless a v ∷ xs) ys f g = absurd f
-  finite-append (pulse a v t ∷ xs) ys f g = finite-append xs ys f g
+  finite_append [] ys f g = g
+  finite_append (endless a v ∷ xs) ys f g = absurd f
+  finite_append (pulse a v t ∷ xs) ys f g = finite_append xs ys f g
 
-  pub comes-append : (xs ys : List (Entry A)) → Finite xs → comesTo (xs ++ ys) ≡ comesTo ys
-  unfolding comesTo Finite
-  comes-append [] ys f = refl
-  comes-append (endless a v ∷ xs) ys f = absurd f
-  comes-append (pulse a v t ∷ xs) ys f = comes-append xs ys f
+  pub comes_append : (xs ys : List (Entry A)) → Finite xs → comes_to (xs ++ ys) ≡ comes_to ys
+  unfolding comes_to Finite
+  comes_append [] ys f = refl
+  comes_append (endless a v ∷ xs) ys f = absurd f
+  comes_append (pulse a v t ∷ xs) ys f = comes_append xs ys f
 
   pub rest-after : (xs ys : List (Entry A)) (n : ℕ) → Finite xs → time xs < n → rest (xs ++ ys) n ≡ rest ys (n - time xs)
   unfolding time Finite

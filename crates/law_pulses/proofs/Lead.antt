@@ -15,20 +15,20 @@ pub record Leads {A : Type 0} (es : List (Entry A)) (n j : ℕ) (fs : List (Entr
   pub counts : j + length es ≡ i + length fs
 
 module _ {A : Type 0} where
-  pub lead-here : (es : List (Entry A)) (n j : ℕ) → Leads es n j es n j
-  lead-here es n j = record { rests = refl; overs = refl; counts = refl }
+  pub lead_here : (es : List (Entry A)) (n j : ℕ) → Leads es n j es n j
+  lead_here es n j = record { rests = refl; overs = refl; counts = refl }
 
-  pub lead-on : {es fs gs : List (Entry A)} {n j m i l h : ℕ} → Leads es n j fs m i → Leads fs m i gs l h → Leads es n j gs l h
-  lead-on a b = record { rests = a.rests ∙ b.rests; overs = a.overs ∙ b.overs; counts = a.counts ∙ b.counts }
+  pub lead_on : {es fs gs : List (Entry A)} {n j m i l h : ℕ} → Leads es n j fs m i → Leads fs m i gs l h → Leads es n j gs l h
+  lead_on a b = record { rests = a.rests ∙ b.rests; overs = a.overs ∙ b.overs; counts = a.counts ∙ b.counts }
 
   -- the count and the T-states by equal numbers
-  pub lead-as : {es fs : List (Entry A)} {n j m i : ℕ} (m' i' : ℕ) → m ≡ m' → i ≡ i' → Leads es n j fs m i
+  pub lead_as : {es fs : List (Entry A)} {n j m i : ℕ} (m' i' : ℕ) → m ≡ m' → i ≡ i' → Leads es n j fs m i
       → Leads es n j fs m' i'
-  lead-as {fs = fs} m' i' p q a =
+  lead_as {fs = fs} m' i' p q a =
       record { rests = a.rests ∙ ap (rest fs) p; overs = a.overs ∙ ap (over fs) p; counts = omega (arith, a.counts) }
 
-  pub lead-by : {es fs gs : List (Entry A)} {n j m i : ℕ} → fs ≡ gs → Leads es n j fs m i → Leads es n j gs m i
-  lead-by {m = m} {i = i} p a =
+  pub lead_by : {es fs gs : List (Entry A)} {n j m i : ℕ} → fs ≡ gs → Leads es n j fs m i → Leads es n j gs m i
+  lead_by {m = m} {i = i} p a =
       record {
         rests = a.rests ∙ ap (λ (r : List (Entry A)). rest r m) p;
         overs = a.overs ∙ ap (λ (r : List (Entry A)). over r m) p;
@@ -36,12 +36,12 @@ module _ {A : Type 0} where
       }
 
   -- an entry that is spent whole
-  pub lead-pulse : (a : A) (v : Level) (t : ℕ) (es : List (Entry A)) (n j : ℕ) → 0 < n → t ≤ n
+  pub lead_pulse : (a : A) (v : Level) (t : ℕ) (es : List (Entry A)) (n j : ℕ) → 0 < n → t ≤ n
       → Leads (pulse a v t ∷ es) n j es (n - t) (j + 1)
-  lead-pulse a v t es n j p h = record { rests = rest-past a v t es n p h; overs = over-pulse a v t es n; counts = omega arith }
+  lead_pulse a v t es n j p h = record { rests = rest-past a v t es n p h; overs = over-pulse a v t es n; counts = omega arith }
 
   -- a run of entries, jumped over
-  pub lead-run : (xs ys : List (Entry A)) (n j : ℕ) → Finite xs → time xs < n
+  pub lead_run : (xs ys : List (Entry A)) (n j : ℕ) → Finite xs → time xs < n
       → Leads (xs ++ ys) n j ys (n - time xs) (j + length xs)
-  lead-run xs ys n j f h =
+  lead_run xs ys n j f h =
       record { rests = rest-after xs ys n f h; overs = over-after xs ys n f; counts = omega (arith, length-append xs ys) }

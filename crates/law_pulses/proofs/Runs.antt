@@ -7,26 +7,26 @@ use native.Mathlib.Omega.{arith}
 use lib.ListN.{length, length-append}
 use Rattle.law_pulses.specs.Play.{Entry, time, Finite}
 use Rattle.law_pulses.specs.Runs.{run}
-use Rattle.law_pulses.proofs.Joined.{time-append, finite-append}
+use Rattle.law_pulses.proofs.Joined.{time_append, finite_append}
 
 module _ {A : Type 0} (item : ℕ → List (Entry A)) where
-  pub run-split : (p k m : ℕ) → run item p (k + m) ≡ run item p k ++ run item (p + k) m
+  pub run_split : (p k m : ℕ) → run item p (k + m) ≡ run item p k ++ run item (p + k) m
   unfolding run
-  run-split p zero m =
+  run_split p zero m =
       let z : zero + m ≡ m = omega arith in
       let q : p ≡ p + 0 = omega arith in
       ap₂ (run item) q z
-  run-split p (suc k) m =
+  run_split p (suc k) m =
       let z : suc k + m ≡ suc (k + m) = omega arith in
       let q : p + 1 + k ≡ p + suc k = omega arith in
       ap (run item p) z
-      ∙ ap (λ (r : List (Entry A)). item p ++ r) (run-split (p + 1) k m ∙ ap (λ (x : ℕ). run item (p + 1) k ++ run item x m) q)
+      ∙ ap (λ (r : List (Entry A)). item p ++ r) (run_split (p + 1) k m ∙ ap (λ (x : ℕ). run item (p + 1) k ++ run item x m) q)
       ∙ sym (append_assoc (item p) (run item (p + 1) k) (run item (p + suc k) m))
 
   -- of n items, those from p on: item p and those after it, or none
-  pub run-next : (p n : ℕ) → p < n → run item p (n - p) ≡ item p ++ run item (p + 1) (n - (p + 1))
+  pub run_next : (p n : ℕ) → p < n → run item p (n - p) ≡ item p ++ run item (p + 1) (n - (p + 1))
   unfolding run
-  run-next p n h = let e : n - p ≡ suc (n - (p + 1)) = omega arith in ap (run item p) e
+  run_next p n h = let e : n - p ≡ suc (n - (p + 1)) = omega arith in ap (run item p) e
 
   pub run_none : (p n : ℕ) → n ≤ p → run item p (n - p) ≡ []
   unfolding run
@@ -46,10 +46,10 @@ module _ {A : Type 0} (item : ℕ → List (Entry A)) where
       )
 
   module _ (finite : (i : ℕ) → Finite (item i)) where
-    pub run-finite : (p m : ℕ) → Finite (run item p m)
+    pub run_finite : (p m : ℕ) → Finite (run item p m)
     unfolding run Finite
-    run-finite p zero = tt
-    run-finite p (suc m) = finite-append (item p) (run item (p + 1) m) (finite p) (run-finite (p + 1) m)
+    run_finite p zero = tt
+    run_finite p (suc m) = finite_append (item p) (run item (p + 1) m) (finite p) (run_finite (p + 1) m)
 
     -- items of c T-states each: the time by one product
     pub run-time : (c p m : ℕ) → ((i : ℕ) → p ≤ i → i < p + m → time (item i) ≡ c) → time (run item p m) ≡ m * c
@@ -58,19 +58,19 @@ module _ {A : Type 0} (item : ℕ → List (Entry A)) where
     run-time c p (suc m) h =
         omega (
           arith,
-          time-append (item p) (run item (p + 1) m) (finite p),
+          time_append (item p) (run item (p + 1) m) (finite p),
           h p (omega arith) (omega arith),
           run-time c (p + 1) m (λ i l g. h i (omega arith) (omega arith)),
           suc-mul m c,
         )
 
     -- one item more
-    pub run-time-next : (m : ℕ) → time (run item 0 (m + 1)) ≡ time (run item 0 m) + time (item m)
+    pub run_time_next : (m : ℕ) → time (run item 0 (m + 1)) ≡ time (run item 0 m) + time (item m)
     unfolding run
-    run-time-next m =
+    run_time_next m =
         let z : 0 + m ≡ m = omega arith in
-        ap time (run-split 0 m 1)
-        ∙ time-append (run item 0 m) (item (0 + m) ++ []) (run-finite 0 m)
+        ap time (run_split 0 m 1)
+        ∙ time_append (run item 0 m) (item (0 + m) ++ []) (run_finite 0 m)
         ∙ ap (λ (r : List (Entry A)). time (run item 0 m) + time r) (append-nil (item (0 + m)) ∙ ap item z)
 
     -- items of at most c T-states each
@@ -80,7 +80,7 @@ module _ {A : Type 0} (item : ℕ → List (Entry A)) where
     run-time-most c p (suc m) h =
         omega (
           arith,
-          time-append (item p) (run item (p + 1) m) (finite p),
+          time_append (item p) (run item (p + 1) m) (finite p),
           h p (omega arith) (omega arith),
           run-time-most c (p + 1) m (λ i l g. h i (omega arith) (omega arith)),
           suc-mul m c,

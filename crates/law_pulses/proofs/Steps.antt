@@ -7,7 +7,7 @@ use native.Mathlib.Nat.{eq-zero-or-pos, sub-zero, zero-add, zero-sub}
 use native.Mathlib.Omega.{arith}
 use lib.ListN.{length}
 use borrow.Author.Tests.{lt-ltb, le-ltb, ne_eqb}
-use Rattle.law_base.proofs.Numbers.{lt-or-ge}
+use Rattle.law_base.proofs.Numbers.{lt_or_ge}
 use Rattle.law_pulses.specs.Play.{Level, Entry, pulse, endless, rest, over, time}
 
 module _ {A : Type 0} where
@@ -37,15 +37,15 @@ module _ {A : Type 0} where
   rest-past a v t es n p h = rw (ne_eqb n 0 (omega arith), le-ltb n t h)
 
   -- what holds of the three ways on from a pulse holds of rest
-  pub rest-ways : (P : List (Entry A) → Type 0) (a : A) (v : Level) (t : ℕ) (es : List (Entry A)) (n : ℕ)
+  pub rest_ways : (P : List (Entry A) → Type 0) (a : A) (v : Level) (t : ℕ) (es : List (Entry A)) (n : ℕ)
       → (n ≡ 0 → P (pulse a v t ∷ es))
       → (n < t → P (pulse a v (t - n) ∷ es))
       → (0 < n → t ≤ n → P (rest es (n - t)))
       → P (rest (pulse a v t ∷ es) n)
-  rest-ways P a v t es n none here past =
+  rest_ways P a v t es n none here past =
       ⊎_elim
       (λ z. subst P (sym (ap (rest (pulse a v t ∷ es)) z ∙ rest-zero _)) (none z))
-      (λ p. ⊎_elim (λ l. rw (rest-here a v t es n l) (here l)) (λ g. rw (rest-past a v t es n p g) (past p g)) (lt-or-ge n t))
+      (λ p. ⊎_elim (λ l. rw (rest-here a v t es n l) (here l)) (λ g. rw (rest-past a v t es n p g) (past p g)) (lt_or_ge n t))
       (eq-zero-or-pos n)
 
   pub over-pulse : (a : A) (v : Level) (t : ℕ) (es : List (Entry A)) (n : ℕ) → over (pulse a v t ∷ es) n ≡ over es (n - t)
@@ -67,7 +67,7 @@ module _ {A : Type 0} where
       ⊎_elim
       (λ l. rest-past a v t es n (omega arith) (omega arith) ∙ over-rest es (n - t) h)
       (λ g. let z : over es (n - t) ≡ 0 = ap (over es) (omega arith) ∙ over_zero es in absurd (omega arith))
-      (lt-or-ge t n)
+      (lt_or_ge t n)
 
   pub time-pulse : (a : A) (v : Level) (t : ℕ) (es : List (Entry A)) → time (pulse a v t ∷ es) ≡ t + time es
   unfolding time
@@ -77,31 +77,31 @@ module _ {A : Type 0} where
   length_rest [] n = rw rest-nil (omega arith)
   length_rest (endless a v ∷ es) n = rw rest-stop (omega arith)
   length_rest (pulse a v t ∷ es) n =
-      rest-ways (λ r. length r ≤ suc (length es)) a v t es n
+      rest_ways (λ r. length r ≤ suc (length es)) a v t es n
       (λ z. omega arith) (λ l. omega arith) (λ p g. omega (arith, length_rest es (n - t)))
 
   -- THE CUT: m T-states and then n are m + n T-states
-  pub rest-cut : (es : List (Entry A)) (m n : ℕ) → rest es (m + n) ≡ rest (rest es m) n
-  rest-cut [] m n = simp rest-nil
-  rest-cut (endless a v ∷ es) m n = simp rest-stop
-  rest-cut (pulse a v t ∷ es) m n =
-      rest-ways (λ r. rest (pulse a v t ∷ es) (m + n) ≡ rest r n) a v t es m
+  pub rest_cut : (es : List (Entry A)) (m n : ℕ) → rest es (m + n) ≡ rest (rest es m) n
+  rest_cut [] m n = simp rest-nil
+  rest_cut (endless a v ∷ es) m n = simp rest-stop
+  rest_cut (pulse a v t ∷ es) m n =
+      rest_ways (λ r. rest (pulse a v t ∷ es) (m + n) ≡ rest r n) a v t es m
       (λ z. ap (rest (pulse a v t ∷ es)) (omega arith))
-      (λ l. rest-ways (λ r. rest (pulse a v t ∷ es) (m + n) ≡ r) a v (t - m) es n
+      (λ l. rest_ways (λ r. rest (pulse a v t ∷ es) (m + n) ≡ r) a v (t - m) es n
       (λ z. rest-here a v t es (m + n) (omega arith) ∙ ap (λ (k : ℕ). pulse a v k ∷ es) (omega arith))
       (λ k. rest-here a v t es (m + n) (omega arith) ∙ ap (λ (k : ℕ). pulse a v k ∷ es) (omega arith))
       (λ p g. rest-past a v t es (m + n) (omega arith) (omega arith) ∙ ap (rest es) (omega arith)))
-      (λ p g. rest-past a v t es (m + n) (omega arith) (omega arith) ∙ ap (rest es) (omega arith) ∙ rest-cut es (m - t) n)
+      (λ p g. rest-past a v t es (m + n) (omega arith) (omega arith) ∙ ap (rest es) (omega arith) ∙ rest_cut es (m - t) n)
 
-  pub over-cut : (es : List (Entry A)) (m n : ℕ) → over es (m + n) ≡ over es m + over (rest es m) n
+  pub over_cut : (es : List (Entry A)) (m n : ℕ) → over es (m + n) ≡ over es m + over (rest es m) n
   unfolding over
-  over-cut [] m n = rw rest-nil
-  over-cut (endless a v ∷ es) m n = rw rest-stop
-  over-cut (pulse a v t ∷ es) m n =
-      rest-ways (λ r. over es (m + n - t) ≡ over es (m - t) + over r n) a v t es m
+  over_cut [] m n = rw rest-nil
+  over_cut (endless a v ∷ es) m n = rw rest-stop
+  over_cut (pulse a v t ∷ es) m n =
+      rest_ways (λ r. over es (m + n - t) ≡ over es (m - t) + over r n) a v t es m
       (λ z. rw (z, zero-add, zero-sub, over_zero, zero-add))
       (λ l.
       let e : over es (m + n - t) ≡ over es (n - (t - m)) = ap (over es) (omega arith) in
       let z : over es (m - t) ≡ 0 = ap (over es) (omega arith) ∙ over_zero es in
       e ∙ sym (zero-add _) ∙ ap (λ (k : ℕ). k + over es (n - (t - m))) (sym z))
-      (λ p g. ap (over es) (omega arith) ∙ over-cut es (m - t) n)
+      (λ p g. ap (over es) (omega arith) ∙ over_cut es (m - t) n)

@@ -42,14 +42,14 @@ module _ {A : Type 0} where
   over (pulse a v t ∷ es) n = over es (n - t)
 
   -- stopped exactly at an endless entry
-  unfoldable pub statusHere : List (Entry A) → Status
-  statusHere [] = standing
-  statusHere (endless a v ∷ es) = stopped
-  statusHere (pulse a v t ∷ es) = standing
+  unfoldable pub status_here : List (Entry A) → Status
+  status_here [] = standing
+  status_here (endless a v ∷ es) = stopped
+  status_here (pulse a v t ∷ es) = standing
 
   -- ended where T-states found no entry
   unfoldable pub status : List (Entry A) → ℕ → Status
-  status rs u = ltb 0 u ⇒ ended ∣ statusHere rs
+  status rs u = ltb 0 u ⇒ ended ∣ status_here rs
 
   abbrev pub made : List (Entry A) → Status → ℕ → Answer A
   made p s k = record { place = p; tells = s; passed = k }
@@ -58,13 +58,13 @@ module _ {A : Type 0} where
   unfoldable pub answer : List (Entry A) → ℕ → Answer A
   answer es n = made (rest es n) (status (rest es n) (over es n)) (length es - length (rest es n))
 
-  unfoldable pub countedOn : ℕ → Answer A → Answer A
-  countedOn k r = made r.place r.tells (k + r.passed)
+  unfoldable pub counted_on : ℕ → Answer A → Answer A
+  counted_on k r = made r.place r.tells (k + r.passed)
 
   -- a call of n and the calls after it: the last one's place and status, and the entries passed in all
   unfoldable pub calls : List (Entry A) → ℕ → List ℕ → Answer A
   calls es n [] = answer es n
-  calls es n (m ∷ ms) = countedOn (answer es n).passed (calls (answer es n).place m ms)
+  calls es n (m ∷ ms) = counted_on (answer es n).passed (calls (answer es n).place m ms)
 
   -- the listed time left: up to the first endless entry, or the end
   unfoldable pub time : List (Entry A) → ℕ
@@ -79,10 +79,10 @@ module _ {A : Type 0} where
   final (pulse a v t ∷ es) = final es
 
   -- what a list comes to: stopped at its first endless entry, or ended
-  unfoldable pub comesTo : List (Entry A) → Status
-  comesTo [] = ended
-  comesTo (endless a v ∷ es) = stopped
-  comesTo (pulse a v t ∷ es) = comesTo es
+  unfoldable pub comes_to : List (Entry A) → Status
+  comes_to [] = ended
+  comes_to (endless a v ∷ es) = stopped
+  comes_to (pulse a v t ∷ es) = comes_to es
 
   -- no entry is endless
   unfoldable pub Finite : List (Entry A) → Type 0
@@ -128,14 +128,14 @@ pub record AtSum {A : Type 0} (es rs : List (Entry A)) : Type 0 where
 -- DEMAND 3: r is what playing N T-states of es, at least 1, has to come to
 pub record Demanded {A : Type 0} (es : List (Entry A)) (N : ℕ) (r : Answer A) : Type 0 where
   -- up to the sum the head stands where the list says, and time gone and listed time left are what was listed
-  pub where-said : N ≤ time es → Spent es N r.place
+  pub where_said : N ≤ time es → Spent es N r.place
   pub kept : N ≤ time es → N + time r.place ≡ time es
   -- below the sum, neither stopped nor ended
   pub below : N < time es → r.tells ≡ standing
   -- at the sum, at whatever follows the last pulse with length, and it tells what that is
-  pub at_sum : N ≡ time es → AtSum es r.place × (r.tells ≡ statusHere r.place)
-  -- above, stopped or ended; whatever N is above it, so it stays so (`stays-so` in proofs/Demand)
-  pub above : time es < N → (r.place ≡ final es) × (r.tells ≡ comesTo es)
+  pub at_sum : N ≡ time es → AtSum es r.place × (r.tells ≡ status_here r.place)
+  -- above, stopped or ended; whatever N is above it, so it stays so (`stays_so` in proofs/Demand)
+  pub above : time es < N → (r.place ≡ final es) × (r.tells ≡ comes_to es)
   -- entries passed and entries left are those there were
   pub counts : r.passed + length r.place ≡ length es
 

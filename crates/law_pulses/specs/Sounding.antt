@@ -10,10 +10,10 @@ ends_at takes t r = ltb 0 r ⇒ t + r ∣ (takes && ltb 0 t) ⇒ t ∣ 0
 
 module _ {A : Type 0} (p : A → Bool) where
   -- THE TIME UP TO THE END OF THE LAST ENTRY THAT SOUNDS, before the first endless entry or the end; 0 if none does
-  unfoldable pub soundingTime : List (Entry A) → ℕ
-  soundingTime [] = 0
-  soundingTime (endless a v ∷ es) = 0
-  soundingTime (pulse a v t ∷ es) = ends_at (p a) t (soundingTime es)
+  unfoldable pub sounding_time : List (Entry A) → ℕ
+  sounding_time [] = 0
+  sounding_time (endless a v ∷ es) = 0
+  sounding_time (pulse a v t ∷ es) = ends_at (p a) t (sounding_time es)
 
   -- no entry sounds before the first endless entry or the end
   unfoldable pub Silent : List (Entry A) → Type 0

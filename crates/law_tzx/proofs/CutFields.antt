@@ -8,15 +8,15 @@ use mathlib.Core.Logic.{⊎_elim}
 use lib.ListN.{length, get_or}
 use lib.Dec.{leb}
 use Rattle.law_base.specs.Rules.{◌⇒◌, ◌∣◌}
-use Rattle.law_base.proofs.Numbers.{lt-or-ge}
+use Rattle.law_base.proofs.Numbers.{lt_or_ge}
 use Rattle.cut_fields.specs.declared.Cursor.{Cursor}
 use Rattle.cut_fields.specs.declared.Cursor.TheVariants.{At}
 use Rattle.cut_fields.specs.declared.Cursor.TheVariants as cursor
-use Rattle.cut_fields.specs.Field.{leAt, number_at, field_at, place_of}
-use Rattle.cut_fields.proofs.Runs.{field-there, field-short}
+use Rattle.cut_fields.specs.Field.{le_at, number_at, field_at, place_of}
+use Rattle.cut_fields.proofs.Runs.{field_there, field-short}
 use Rattle.cut_grammar.specs.declared.Piece.{Piece}
 use Rattle.cut_grammar.specs.declared.Body.TheVariants as body
-use Rattle.cut_grammar.specs.Grammar.{whole_at, fittingAt}
+use Rattle.cut_grammar.specs.Grammar.{whole_at, fitting_at}
 use Rattle.cut_grammar.specs.Steps.{head19}
 
 -- a field that was there
@@ -29,28 +29,28 @@ short-stays : (s : List ℕ) (p v w : ℕ) {q : ℕ} → (field_at s (cursor.Sho
 unfolding field_at
 short-stays s p v w e = let z : ◌≡◌ {A = ℕ} 0 1 = cc in omega arith
 
-field-stood : (s : List ℕ) (c : Cursor) (w : ℕ) {q : ℕ} → (field_at s c w).cursor ≡ At q → Field s c w q
+field_stood : (s : List ℕ) (c : Cursor) (w : ℕ) {q : ℕ} → (field_at s c w).cursor ≡ At q → Field s c w q
 unfolding place_of
-field-stood s (At p) w {q} e =
+field_stood s (At p) w {q} e =
     ⊎_elim
     (λ (t : length s < p + w). let z = sym (ap (λ r. r.cursor) (field-short s w p t)) ∙ e in absurd (stuck z))
     (λ (t : p + w ≤ length s).
-    let z : At (p + w) ≡ At q = sym (ap (λ r. r.cursor) (field-there s w p t)) ∙ e in
-    record { began = refl; moved = cc; told = ap (λ r. r.value) (field-there s w p t) })
-    (lt-or-ge (length s) (p + w))
+    let z : At (p + w) ≡ At q = sym (ap (λ r. r.cursor) (field_there s w p t)) ∙ e in
+    record { began = refl; moved = cc; told = ap (λ r. r.value) (field_there s w p t) })
+    (lt_or_ge (length s) (p + w))
   where
     stuck : {a b : ℕ} → cursor.Short a b ≡ At q → ⊥
     stuck i = let z : ◌≡◌ {A = ℕ} 0 1 = cc in omega arith
-field-stood s (cursor.Short p v) w e = absurd (short-stays s p v w e)
+field_stood s (cursor.Short p v) w e = absurd (short-stays s p v w e)
 
 -- where a 19 has its length, and where its tables begin
 pub record Headed (s : List ℕ) (p q : ℕ) : Type 0 where
   pub length : (field_at s (At p) 4).cursor ≡ At (p + 4)
   pub tables : q ≡ p + 18
 
-pub head-placed : (s : List ℕ) (p : ℕ) {q : ℕ} → (head19 s (At p)).cursor ≡ At q → Headed s p q
+pub head_placed : (s : List ℕ) (p : ℕ) {q : ℕ} → (head19 s (At p)).cursor ≡ At q → Headed s p q
 unfolding head19 place_of
-head-placed s p {q} e =
+head_placed s p {q} e =
     let length = field_at s (At p) 4 in
     let pause = field_at s length.cursor 2 in
     let totp = field_at s pause.cursor 4 in
@@ -58,14 +58,14 @@ head-placed s p {q} e =
     let asp = field_at s npp.cursor 1 in
     let totd = field_at s asp.cursor 4 in
     let npd = field_at s totd.cursor 1 in
-    let f8 = field-stood s npd.cursor 1 e in
-    let f7 = field-stood s totd.cursor 1 f8.began in
-    let f6 = field-stood s asp.cursor 4 f7.began in
-    let f5 = field-stood s npp.cursor 1 f6.began in
-    let f4 = field-stood s totp.cursor 1 f5.began in
-    let f3 = field-stood s pause.cursor 4 f4.began in
-    let f2 = field-stood s length.cursor 2 f3.began in
-    let f1 = field-stood s (At p) 4 f2.began in
+    let f8 = field_stood s npd.cursor 1 e in
+    let f7 = field_stood s totd.cursor 1 f8.began in
+    let f6 = field_stood s asp.cursor 4 f7.began in
+    let f5 = field_stood s npp.cursor 1 f6.began in
+    let f4 = field_stood s totp.cursor 1 f5.began in
+    let f3 = field_stood s pause.cursor 4 f4.began in
+    let f2 = field_stood s length.cursor 2 f3.began in
+    let f1 = field_stood s (At p) 4 f2.began in
     let m1 : place_of length.cursor ≡ p + 4 = f1.moved in
     let m2 = f2.moved in
     let m3 = f3.moved in
@@ -80,26 +80,26 @@ head-placed s p {q} e =
 pub record FittedPiece (x y : Piece) (bits : ℕ) (c d : Cursor) (next : ℕ) : Type 0 where
   pub same : x ≡ y
   pub stood : d ≡ At next
-  pub any : (z : Piece) → fittingAt bits c (whole_at z d) ≡ body.Whole z next
+  pub any : (z : Piece) → fitting_at bits c (whole_at z d) ≡ body.Whole z next
 
-whole-fitted : (x : Piece) (d : Cursor) {y : Piece} {next : ℕ} → whole_at x d ≡ body.Whole y next → (x ≡ y) × (d ≡ At next)
+whole_fitted : (x : Piece) (d : Cursor) {y : Piece} {next : ℕ} → whole_at x d ≡ body.Whole y next → (x ≡ y) × (d ≡ At next)
 unfolding whole_at
-whole-fitted x (At q) {next = next} e = let i : q ≡ next = cc in (cc, ap At i)
-whole-fitted x (cursor.Short q w) e = absurd (let z : ◌≡◌ {A = ℕ} 0 1 = cc in omega arith)
+whole_fitted x (At q) {next = next} e = let i : q ≡ next = cc in (cc, ap At i)
+whole_fitted x (cursor.Short q w) e = absurd (let z : ◌≡◌ {A = ℕ} 0 1 = cc in omega arith)
 
-whole-any : (z : Piece) {d : Cursor} {next : ℕ} → d ≡ At next → whole_at z d ≡ body.Whole z next
+whole_any : (z : Piece) {d : Cursor} {next : ℕ} → d ≡ At next → whole_at z d ≡ body.Whole z next
 unfolding whole_at
-whole-any z e = ap (whole_at z) e
+whole_any z e = ap (whole_at z) e
 
-pub fitted : (x y : Piece) (bits : ℕ) (c d : Cursor) (next : ℕ) → fittingAt bits c (whole_at x d) ≡ body.Whole y next
+pub fitted : (x y : Piece) (bits : ℕ) (c d : Cursor) (next : ℕ) → fitting_at bits c (whole_at x d) ≡ body.Whole y next
     → FittedPiece x y bits c d next
-unfolding fittingAt
+unfolding fitting_at
 fitted x y bits (At p) d next e = by_cases (leb bits 4294967295) refl e
   where
     by_cases : (t : Bool) → leb bits 4294967295 ≡ t → (t ⇒ whole_at x d ∣ body.Overflow p) ≡ body.Whole y next
         → FittedPiece x y bits (At p) d next
-    by_cases true b q = let r = whole-fitted x d q in record { same = r.0; stood = r.1; any = λ z. rw b (whole-any z r.1) }
+    by_cases true b q = let r = whole_fitted x d q in record { same = r.0; stood = r.1; any = λ z. rw b (whole_any z r.1) }
     by_cases false b q = absurd (let z : ◌≡◌ {A = ℕ} 0 1 = cc in omega arith)
 fitted x y bits (cursor.Short p w) d next e =
-    let r = whole-fitted x d e in
-    record { same = r.0; stood = r.1; any = λ z. whole-any z r.1 }
+    let r = whole_fitted x d e in
+    record { same = r.0; stood = r.1; any = λ z. whole_any z r.1 }

@@ -13,8 +13,8 @@ use Rattle.law_base.proofs.Tests.{first, second, other}
 use Rattle.cut_fields.specs.declared.Cursor.{Cursor}
 use Rattle.cut_fields.specs.declared.Cursor.TheVariants.{At}
 use Rattle.cut_fields.specs.Field.{place_of}
-use Rattle.cut_fields.specs.Run.{eachAt, groupsAt}
-use Rattle.cut_fields.proofs.Runs.{each-stood, groups-stood}
+use Rattle.cut_fields.specs.Run.{each_at, groups_at}
+use Rattle.cut_fields.proofs.Runs.{each_stood, groups_stood}
 use Rattle.cut_grammar.specs.declared.GeneralHead.{GeneralHead}
 use Rattle.cut_grammar.specs.declared.GeneralizedData.{GeneralizedData}
 use Rattle.cut_grammar.specs.declared.Piece.{Piece}
@@ -22,48 +22,48 @@ use Rattle.cut_grammar.specs.declared.Piece.TheVariants.{Generalized}
 use Rattle.cut_grammar.specs.declared.Body.{Body}
 use Rattle.cut_grammar.specs.declared.Body.TheVariants as body
 use Rattle.cut_grammar.specs.declared.Taken.TheVariants as taken
-use Rattle.cut_grammar.specs.Grammar.{Layout, passAt, whole_at, fittingAt, readAt, bits_of, orFull, heldIf}
+use Rattle.cut_grammar.specs.Grammar.{Layout, pass_at, whole_at, fitting_at, read_at, bits_of, or_full, held_if}
 use Rattle.cut_grammar.specs.Kinds.{stream19, kind19, kinds, kind_of}
-use Rattle.cut_grammar.specs.Cut.{takenAs, cut_at}
+use Rattle.cut_grammar.specs.Cut.{taken_as, cut_at}
 use Rattle.cut_grammar.specs.Steps.{head19}
-use Rattle.cut_grammar.proofs.Cutting.{cut-there, cut_inside, cut-forward}
+use Rattle.cut_grammar.proofs.Cutting.{cut_there, cut_inside, cut_forward}
 use Rattle.cut_grammar.proofs.Others.{unnamed}
-use Rattle.cut_grammar.proofs.Places.{cut-places}
+use Rattle.cut_grammar.proofs.Places.{cut_places}
 use Rattle.load_state.specs.Parser.{Parsed}
 use Rattle.load_state.specs.Kept.{Sure}
 use Rattle.load_blocks.specs.declared.Origin.{Origin}
 use Rattle.load_blocks.specs.Adds.{Lent}
 use Rattle.load_source.specs.Source.{act}
-use Rattle.law_tzx.specs.Format.{Said, unsaid, saidPulses, pauseMs, each, pilotSymbol, repetitions, pilotPulses, dataNumber}
-use Rattle.law_tzx.specs.Format.{symbolPulses, every, symbolsSaid, format19, format_of, formatFull}
-use Rattle.law_tzx.specs.Cut.{layout19, layout_of, formatCut}
-use Rattle.law_tzx.specs.Kept.{keptPilot, keptData, lengthRight, kept19, kept, Keeps, Tables, FormatCut, KeptAt}
+use Rattle.law_tzx.specs.Format.{Said, unsaid, said_pulses, pause_ms, each, pilot_symbol, repetitions, pilot_pulses, data_number}
+use Rattle.law_tzx.specs.Format.{symbol_pulses, every, symbols_said, format19, format_of, format_full}
+use Rattle.law_tzx.specs.Cut.{layout19, layout_of, format_cut}
+use Rattle.law_tzx.specs.Kept.{kept_pilot, kept_data, length_right, kept19, kept, Keeps, Tables, FormatCut, KeptAt}
 use Rattle.law_tzx.proofs.Waves.{differ}
 use Rattle.law_tzx.proofs.Symbols.{not_so}
 use Rattle.law_tzx.proofs.Keeps.{keeps}
-use Rattle.law_tzx.proofs.CutFields.{head-placed, fitted}
+use Rattle.law_tzx.proofs.CutFields.{head_placed, fitted}
 use Rattle.law_tzx.proofs.Within.{within-length}
 
 -- 19 from its tables on
 module _ (s : List ℕ) (h : GeneralHead) (asd : ℕ) where
-  abbrev bitsIn : ℕ
-  bitsIn = bits_of (asd - 1)
+  abbrev bits_in : ℕ
+  bits_in = bits_of (asd - 1)
 
-  abbrev sizeIn : ℕ
-  sizeIn = (bitsIn * h.totd + 7) / 8
+  abbrev size_in : ℕ
+  size_in = (bits_in * h.totd + 7) / 8
 
   -- the cursor at the entries, at the data's symbols and at its bytes, with so many pilot symbols
   abbrev entries_at : ℕ → Cursor
-  entries_at n = groupsAt s h.cursor n 1 h.npp 2
+  entries_at n = groups_at s h.cursor n 1 h.npp 2
 
-  abbrev symbolsAt : ℕ → Cursor
-  symbolsAt n = groupsAt s (entries_at n) h.totp 1 1 2
+  abbrev symbols_at : ℕ → Cursor
+  symbols_at n = groups_at s (entries_at n) h.totp 1 1 2
 
   abbrev bytes_at : ℕ → Cursor
-  bytes_at n = groupsAt s (symbolsAt n) (heldIf h.totd asd) 1 h.npd 2
+  bytes_at n = groups_at s (symbols_at n) (held_if h.totd asd) 1 h.npd 2
 
-  abbrev generalWith : ℕ → ℕ → GeneralizedData
-  generalWith asp n =
+  abbrev general_with : ℕ → ℕ → GeneralizedData
+  general_with asp n =
       record {
         length = h.length;
         pause = h.pause;
@@ -77,103 +77,103 @@ module _ (s : List ℕ) (h : GeneralHead) (asd : ℕ) where
         npd = h.npd;
         asd0 = h.asd;
         asd = asd;
-        nb = bitsIn;
-        symbols = place_of (symbolsAt n);
+        nb = bits_in;
+        symbols = place_of (symbols_at n);
         from = place_of (bytes_at n);
-        size = sizeIn;
+        size = size_in;
       }
 
-  unfoldable bodyWith : ℕ → ℕ → Body
-  bodyWith asp n =
-      fittingAt (bitsIn * h.totd) (bytes_at n) (whole_at (Generalized (generalWith asp n)) (eachAt s (bytes_at n) sizeIn 1))
+  unfoldable body_with : ℕ → ℕ → Body
+  body_with asp n =
+      fitting_at (bits_in * h.totd) (bytes_at n) (whole_at (Generalized (general_with asp n)) (each_at s (bytes_at n) size_in 1))
 
   -- where it is whole, the tables begin at a place, and the last of them ends with the piece
   record Placed (n next : ℕ) : Type 0 where
     began : h.cursor ≡ At (place_of h.cursor)
     onward : place_of h.cursor ≤ next
-    ended : next ≡ place_of (bytes_at n) + sizeIn
+    ended : next ≡ place_of (bytes_at n) + size_in
 
-  placed : (asp n : ℕ) {next : ℕ} {piece : Piece} → bodyWith asp n ≡ body.Whole piece next → Placed n next
-  unfolding bodyWith
+  placed : (asp n : ℕ) {next : ℕ} {piece : Piece} → body_with asp n ≡ body.Whole piece next → Placed n next
+  unfolding body_with
   placed asp n {next} {piece} e =
-      let f = fitted (Generalized (generalWith asp n)) piece (bitsIn * h.totd) (bytes_at n) (eachAt s (bytes_at n) sizeIn 1) next e in
-      let d5 = each-stood s sizeIn 1 (bytes_at n) f.stood in
-      let d4 = groups-stood s (heldIf h.totd asd) 1 h.npd 2 (symbolsAt n) d5.began in
-      let d3 = groups-stood s h.totp 1 1 2 (entries_at n) d4.began in
-      let d2 = groups-stood s n 1 h.npp 2 h.cursor d3.began in
+      let f = fitted (Generalized (general_with asp n)) piece (bits_in * h.totd) (bytes_at n) (each_at s (bytes_at n) size_in 1) next e in
+      let d5 = each_stood s size_in 1 (bytes_at n) f.stood in
+      let d4 = groups_stood s (held_if h.totd asd) 1 h.npd 2 (symbols_at n) d5.began in
+      let d3 = groups_stood s h.totp 1 1 2 (entries_at n) d4.began in
+      let d2 = groups_stood s n 1 h.npp 2 h.cursor d3.began in
       let m5 = d5.moved in
       let m4 = d4.moved in
       let m3 = d3.moved in
       let m2 = d2.moved in
       record { began = d2.began; onward = omega arith; ended = omega arith }
 
-  is-piece : (asp n : ℕ) {next : ℕ} {piece : Piece} → bodyWith asp n ≡ body.Whole piece next
-      → Generalized (generalWith asp n) ≡ piece
-  unfolding bodyWith
-  is-piece asp n {next} {piece} e =
-      (fitted (Generalized (generalWith asp n)) piece (bitsIn * h.totd) (bytes_at n) (eachAt s (bytes_at n) sizeIn 1) next e).same
+  is_piece : (asp n : ℕ) {next : ℕ} {piece : Piece} → body_with asp n ≡ body.Whole piece next
+      → Generalized (general_with asp n) ≡ piece
+  unfolding body_with
+  is_piece asp n {next} {piece} e =
+      (fitted (Generalized (general_with asp n)) piece (bits_in * h.totd) (bytes_at n) (each_at s (bytes_at n) size_in 1) next e).same
 
-  any-asp : (asp n b : ℕ) {next : ℕ} {piece : Piece} → bodyWith asp n ≡ body.Whole piece next
-      → bodyWith b n ≡ body.Whole (Generalized (generalWith b n)) next
-  unfolding bodyWith
-  any-asp asp n b {next} {piece} e =
-      (fitted (Generalized (generalWith asp n)) piece (bitsIn * h.totd) (bytes_at n) (eachAt s (bytes_at n) sizeIn 1) next e
-      ).any (Generalized (generalWith b n))
+  any_asp : (asp n b : ℕ) {next : ℕ} {piece : Piece} → body_with asp n ≡ body.Whole piece next
+      → body_with b n ≡ body.Whole (Generalized (general_with b n)) next
+  unfolding body_with
+  any_asp asp n b {next} {piece} e =
+      (fitted (Generalized (general_with asp n)) piece (bits_in * h.totd) (bytes_at n) (each_at s (bytes_at n) size_in 1) next e
+      ).any (Generalized (general_with b n))
 
 -- a 19 is its head and its tables
-general-body : (full : ℕ) (s : List ℕ) (c : Cursor)
+general_body : (full : ℕ) (s : List ℕ) (c : Cursor)
     → (let h = head19 s c in
-    readAt (kind19 full) s c
-    ≡ bodyWith s h (orFull full h.asd) (orFull full h.asp) (heldIf h.totp (orFull full h.asp)))
-unfolding readAt kind19 stream19 passAt head19 bodyWith
-general-body full s c = refl
+    read_at (kind19 full) s c
+    ≡ body_with s h (or_full full h.asd) (or_full full h.asp) (held_if h.totp (or_full full h.asp)))
+unfolding read_at kind19 stream19 pass_at head19 body_with
+general_body full s c = refl
 
 -- an alphabet's size that isn't 0 means the same to both
-full-same : (a : ℕ) → eqb a 0 ≡ false → orFull 255 a ≡ orFull formatFull a
-unfolding orFull
+full-same : (a : ℕ) → eqb a 0 ≡ false → or_full 255 a ≡ or_full format_full a
+unfolding or_full
 full-same a e = rw e
 
-full-none : (a : ℕ) → orFull 255 a ≡ 2 → eqb a 0 ≡ false
-unfolding orFull
+full-none : (a : ℕ) → or_full 255 a ≡ 2 → eqb a 0 ≡ false
+unfolding or_full
 full-none a e = by_cases (eqb a 0) refl e
   where
     by_cases : (b : Bool) → eqb a 0 ≡ b → (b ⇒ 255 ∣ a) ≡ 2 → eqb a 0 ≡ false
     by_cases true q z = absurd (omega arith)
     by_cases false q z = q
 
-held_none : (totp asp : ℕ) → totp ≡ 0 → heldIf totp asp ≡ 0
-unfolding heldIf
+held_none : (totp asp : ℕ) → totp ≡ 0 → held_if totp asp ≡ 0
+unfolding held_if
 held_none totp asp e = rw e
 
-kept-asd : (s : List ℕ) (g : GeneralizedData) → kept19 s g ≡ true → g.asd ≡ 2
-unfolding kept19 keptData
-kept-asd s g e =
-    let c = second (ltb 0 g.totd) _ (second (keptPilot s g) _ (second (lengthRight g) _ e)) in
+kept_asd : (s : List ℕ) (g : GeneralizedData) → kept19 s g ≡ true → g.asd ≡ 2
+unfolding kept19 kept_data
+kept_asd s g e =
+    let c = second (ltb 0 g.totd) _ (second (kept_pilot s g) _ (second (length_right g) _ e)) in
     eqb-true g.asd 2 (first (eqb g.asd 2) _ c)
 
-kept-asp : (s : List ℕ) (g : GeneralizedData) → kept19 s g ≡ true → eqb g.totp 0 ≡ false → eqb g.asp0 0 ≡ false
-unfolding kept19 keptPilot
-kept-asp s g e q =
-    let c = other (eqb g.totp 0) _ (first _ (keptData s g) (second (lengthRight g) _ e)) q in
+kept_asp : (s : List ℕ) (g : GeneralizedData) → kept19 s g ≡ true → eqb g.totp 0 ≡ false → eqb g.asp0 0 ≡ false
+unfolding kept19 kept_pilot
+kept_asp s g e q =
+    let c = other (eqb g.totp 0) _ (first _ (kept_data s g) (second (length_right g) _ e)) q in
     not_so (eqb g.asp0 0) (first (not (eqb g.asp0 0)) _ c)
 
 kept-length : (s : List ℕ) (g : GeneralizedData) → kept19 s g ≡ true → g.length ≡ 14 + (g.from + g.size - g.pilot)
 unfolding kept19
-kept-length s g e = let l = eqb-true g.length _ (first _ (keptPilot s g && keptData s g) e) in omega arith
+kept-length s g e = let l = eqb-true g.length _ (first _ (kept_pilot s g && kept_data s g) e) in omega arith
 
 none_said : (f : ℕ → Bool) (n : ℕ) → n ≡ 0 → every f 0 n ≡ true
 unfolding every
 none_said f n e = ap (every f 0) e
 
 -- without a pilot part its alphabet's size tells nothing
-asp-unsaid : (s : List ℕ) (h : GeneralHead) (asd a b n : ℕ) → h.totp ≡ 0
-    → format19 s (generalWith s h asd b n) ≡ format19 s (generalWith s h asd a n)
-unfolding format19 symbolsSaid pilotPulses pilotSymbol repetitions symbolPulses dataNumber
-asp-unsaid s h asd a b n e =
-    let g = generalWith s h asd a n in
-    ap (λ (t : Bool). (t && every (λ i. ltb (dataNumber s g i) asd) 0 h.totd) ⇒
-    saidPulses (each (pilotPulses s g) 0 h.totp ++ each (symbolPulses s g) 0 h.totd) (pauseMs h.pause) ∣ unsaid)
-    (none_said (λ i. ltb (pilotSymbol s g i) b) h.totp e ∙ sym (none_said (λ i. ltb (pilotSymbol s g i) a) h.totp e))
+asp_unsaid : (s : List ℕ) (h : GeneralHead) (asd a b n : ℕ) → h.totp ≡ 0
+    → format19 s (general_with s h asd b n) ≡ format19 s (general_with s h asd a n)
+unfolding format19 symbols_said pilot_pulses pilot_symbol repetitions symbol_pulses data_number
+asp_unsaid s h asd a b n e =
+    let g = general_with s h asd a n in
+    ap (λ (t : Bool). (t && every (λ i. ltb (data_number s g i) asd) 0 h.totd) ⇒
+    said_pulses (each (pilot_pulses s g) 0 h.totp ++ each (symbol_pulses s g) 0 h.totd) (pause_ms h.pause) ∣ unsaid)
+    (none_said (λ i. ltb (pilot_symbol s g i) b) h.totp e ∙ sym (none_said (λ i. ltb (pilot_symbol s g i) a) h.totp e))
 
 -- what the format cuts there
 pub record Same (s : List ℕ) (b : Body) (piece : Piece) (next : ℕ) : Type 0 where
@@ -182,133 +182,133 @@ pub record Same (s : List ℕ) (b : Body) (piece : Piece) (next : ℕ) : Type 0 
   pub said : (on48 : Bool) → format_of on48 s other ≡ format_of on48 s piece
 
 module _ (s : List ℕ) (p : ℕ) {piece : Piece} {next : ℕ} (inside : next ≤ length s)
-    (e : readAt (kind19 255) s (At p) ≡ body.Whole piece next) (k : kept s piece ≡ true) where
+    (e : read_at (kind19 255) s (At p) ≡ body.Whole piece next) (k : kept s piece ≡ true) where
   abbrev h : GeneralHead
   h = head19 s (At p)
 
-  abbrev heldBy : ℕ → ℕ
-  heldBy formatFull = heldIf h.totp (orFull formatFull h.asp)
+  abbrev held_by : ℕ → ℕ
+  held_by format_full = held_if h.totp (or_full format_full h.asp)
 
   abbrev asp255 : ℕ
-  asp255 = orFull 255 h.asp
+  asp255 = or_full 255 h.asp
 
   abbrev asd255 : ℕ
-  asd255 = orFull 255 h.asd
+  asd255 = or_full 255 h.asd
 
   -- the source reading's body, and its piece
-  read255 : bodyWith s h asd255 asp255 (heldBy 255) ≡ body.Whole piece next
-  read255 = sym (general-body 255 s (At p)) ∙ e
+  read255 : body_with s h asd255 asp255 (held_by 255) ≡ body.Whole piece next
+  read255 = sym (general_body 255 s (At p)) ∙ e
 
-  piece255 : Generalized (generalWith s h asd255 asp255 (heldBy 255)) ≡ piece
-  piece255 = is-piece s h asd255 asp255 (heldBy 255) read255
+  piece255 : Generalized (general_with s h asd255 asp255 (held_by 255)) ≡ piece
+  piece255 = is_piece s h asd255 asp255 (held_by 255) read255
 
-  kept255 : kept19 s (generalWith s h asd255 asp255 (heldBy 255)) ≡ true
+  kept255 : kept19 s (general_with s h asd255 asp255 (held_by 255)) ≡ true
   unfolding kept
   kept255 = ap (kept s) piece255 ∙ k
 
   -- the data's alphabet is of two symbols
-  asd-same : asd255 ≡ orFull formatFull h.asd
-  asd-same = full-same h.asd (full-none h.asd (kept-asd s (generalWith s h asd255 asp255 (heldBy 255)) kept255))
+  asd_same : asd255 ≡ or_full format_full h.asd
+  asd_same = full-same h.asd (full-none h.asd (kept_asd s (general_with s h asd255 asp255 (held_by 255)) kept255))
 
-  read256 : readAt (kind19 formatFull) s (At p) ≡ bodyWith s h asd255 (orFull formatFull h.asp) (heldBy formatFull)
+  read256 : read_at (kind19 format_full) s (At p) ≡ body_with s h asd255 (or_full format_full h.asp) (held_by format_full)
   read256 =
-      general-body formatFull s (At p) ∙ ap (λ (x : ℕ). bodyWith s h x (orFull formatFull h.asp) (heldBy formatFull)) (sym asd-same)
+      general_body format_full s (At p) ∙ ap (λ (x : ℕ). body_with s h x (or_full format_full h.asp) (held_by format_full)) (sym asd_same)
 
   abbrev asp256 : ℕ
-  asp256 = orFull formatFull h.asp
+  asp256 = or_full format_full h.asp
 
   -- with another size of a pilot alphabet that nothing uses
-  whole256 : bodyWith s h asd255 asp256 (heldBy 255) ≡ body.Whole (Generalized (generalWith s h asd255 asp256 (heldBy 255))) next
-  whole256 = any-asp s h asd255 asp255 (heldBy 255) asp256 read255
+  whole256 : body_with s h asd255 asp256 (held_by 255) ≡ body.Whole (Generalized (general_with s h asd255 asp256 (held_by 255))) next
+  whole256 = any_asp s h asd255 asp255 (held_by 255) asp256 read255
 
   said256 : h.totp ≡ 0 → (on48 : Bool)
-      → format_of on48 s (Generalized (generalWith s h asd255 asp256 (heldBy 255))) ≡ format_of on48 s piece
+      → format_of on48 s (Generalized (general_with s h asd255 asp256 (held_by 255))) ≡ format_of on48 s piece
   unfolding format_of
-  said256 t on48 = asp-unsaid s h asd255 asp255 asp256 (heldBy 255) t ∙ ap (format_of on48 s) piece255
+  said256 t on48 = asp_unsaid s h asd255 asp255 asp256 (held_by 255) t ∙ ap (format_of on48 s) piece255
 
-  general-same : Same s (readAt (kind19 formatFull) s (At p)) piece next
-  general-same = by-asp (eqb h.asp 0) refl
+  general_same : Same s (read_at (kind19 format_full) s (At p)) piece next
+  general_same = by_asp (eqb h.asp 0) refl
     where
-      by-totp : (b : Bool) → eqb h.totp 0 ≡ b → eqb h.asp 0 ≡ true → Same s (readAt (kind19 formatFull) s (At p)) piece next
-      by-totp true q z =
+      by_totp : (b : Bool) → eqb h.totp 0 ≡ b → eqb h.asp 0 ≡ true → Same s (read_at (kind19 format_full) s (At p)) piece next
+      by_totp true q z =
           let t : h.totp ≡ 0 = eqb-true h.totp 0 q in
-          let n : heldBy formatFull ≡ heldBy 255 = held_none h.totp asp256 t ∙ sym (held_none h.totp asp255 t) in
+          let n : held_by format_full ≡ held_by 255 = held_none h.totp asp256 t ∙ sym (held_none h.totp asp255 t) in
           record {
-            other = Generalized (generalWith s h asd255 asp256 (heldBy 255));
-            whole = read256 ∙ ap (bodyWith s h asd255 asp256) n ∙ whole256;
+            other = Generalized (general_with s h asd255 asp256 (held_by 255));
+            whole = read256 ∙ ap (body_with s h asd255 asp256) n ∙ whole256;
             said = said256 t;
           }
-      by-totp false q z = absurd (differ (sym z ∙ kept-asp s (generalWith s h asd255 asp255 (heldBy 255)) kept255 q))
+      by_totp false q z = absurd (differ (sym z ∙ kept_asp s (general_with s h asd255 asp255 (held_by 255)) kept255 q))
 
-      by-asp : (b : Bool) → eqb h.asp 0 ≡ b → Same s (readAt (kind19 formatFull) s (At p)) piece next
-      by-asp true z = by-totp (eqb h.totp 0) refl z
-      by-asp false z =
-          let a : asp255 ≡ orFull formatFull h.asp = full-same h.asp z in
+      by_asp : (b : Bool) → eqb h.asp 0 ≡ b → Same s (read_at (kind19 format_full) s (At p)) piece next
+      by_asp true z = by_totp (eqb h.totp 0) refl z
+      by_asp false z =
+          let a : asp255 ≡ or_full format_full h.asp = full-same h.asp z in
           record {
             other = piece;
-            whole = read256 ∙ ap (λ (x : ℕ). bodyWith s h asd255 x (heldIf h.totp x)) (sym a) ∙ read255;
+            whole = read256 ∙ ap (λ (x : ℕ). body_with s h asd255 x (held_if h.totp x)) (sym a) ∙ read255;
             said = λ on48. refl;
           }
 
   -- the piece ends where its length says
   ends_there : p + 4 + h.length ≡ next
   ends_there =
-      let d = placed s h asd255 asp255 (heldBy 255) read255 in
-      let t = (head-placed s p d.began).tables in
-      let l : h.length ≡ 14 + (place_of (bytes_at s h asd255 (heldBy 255)) + sizeIn s h asd255 - place_of h.cursor) =
-      kept-length s (generalWith s h asd255 asp255 (heldBy 255)) kept255 in
+      let d = placed s h asd255 asp255 (held_by 255) read255 in
+      let t = (head_placed s p d.began).tables in
+      let l : h.length ≡ 14 + (place_of (bytes_at s h asd255 (held_by 255)) + size_in s h asd255 - place_of h.cursor) =
+      kept-length s (general_with s h asd255 asp255 (held_by 255)) kept255 in
       let o = d.onward in
       let n = d.ended in
       omega arith
 
-  length-same : Same s (readAt layout19 s (At p)) piece next
+  length-same : Same s (read_at layout19 s (At p)) piece next
   length-same =
-      let g = general-same in
-      let d = placed s h asd255 asp255 (heldBy 255) read255 in
-      let f = (head-placed s p d.began).length in
+      let g = general_same in
+      let d = placed s h asd255 asp255 (held_by 255) read255 in
+      let f = (head_placed s p d.began).length in
       record { other = g.other; whole = within-length s p inside f ends_there g.whole; said = g.said }
 
 -- of all kinds, 19 alone has an alphabet
-kinds-same : (kind : ℕ) → eqb kind 0x19 ≡ false → kind_of 255 kind ≡ kind_of formatFull kind
+kinds-same : (kind : ℕ) → eqb kind 0x19 ≡ false → kind_of 255 kind ≡ kind_of format_full kind
 unfolding kind_of kinds
 kinds-same kind e = rw e
 
-kinds-general : (full kind : ℕ) → kind ≡ 0x19 → kind_of full kind ≡ kind19 full
+kinds_general : (full kind : ℕ) → kind ≡ 0x19 → kind_of full kind ≡ kind19 full
 unfolding kind_of kinds
-kinds-general full kind e = rw e
+kinds_general full kind e = rw e
 
 body_same : (s : List ℕ) (kind p : ℕ) {piece : Piece} {next : ℕ} → next ≤ length s
-    → readAt (kind_of 255 kind) s (At p) ≡ body.Whole piece next → kept s piece ≡ true
-    → Same s (readAt (layout_of kind) s (At p)) piece next
+    → read_at (kind_of 255 kind) s (At p) ≡ body.Whole piece next → kept s piece ≡ true
+    → Same s (read_at (layout_of kind) s (At p)) piece next
 body_same s kind p {piece} {next} i e k = by_cases (eqb kind 0x19) refl
   where
-    by_cases : (b : Bool) → eqb kind 0x19 ≡ b → Same s (readAt (b ⇒ layout19 ∣ kind_of formatFull kind) s (At p)) piece next
+    by_cases : (b : Bool) → eqb kind 0x19 ≡ b → Same s (read_at (b ⇒ layout19 ∣ kind_of format_full kind) s (At p)) piece next
     by_cases true q =
         let g = eqb-true kind 0x19 q in
-        length-same s p i (ap (λ (l : Layout). readAt l s (At p)) (sym (kinds-general 255 kind g)) ∙ e) k
+        length-same s p i (ap (λ (l : Layout). read_at l s (At p)) (sym (kinds_general 255 kind g)) ∙ e) k
     by_cases false q =
-        record { other = piece; whole = ap (λ (l : Layout). readAt l s (At p)) (sym (kinds-same kind q)) ∙ e; said = λ on48. refl }
+        record { other = piece; whole = ap (λ (l : Layout). read_at l s (At p)) (sym (kinds-same kind q)) ∙ e; said = λ on48. refl }
 
-format-there : (s : List ℕ) (at : ℕ) → at < length s
-    → formatCut s at ≡ takenAs (get_or s at 0) at (readAt (layout_of (get_or s at 0)) s (At (at + 1)))
-format-there s at h = rw (lt-leb (length s) at h)
+format_there : (s : List ℕ) (at : ℕ) → at < length s
+    → format_cut s at ≡ taken_as (get_or s at 0) at (read_at (layout_of (get_or s at 0)) s (At (at + 1)))
+format_there s at h = rw (lt-leb (length s) at h)
 
 -- THE FORMAT'S OWN CUT of a kept piece
-pub kept-cut : (s : List ℕ) (at : ℕ) {k a next : ℕ} {piece : Piece} → cut_at s at 255 ≡ taken.Whole k a next piece
+pub kept_cut : (s : List ℕ) (at : ℕ) {k a next : ℕ} {piece : Piece} → cut_at s at 255 ≡ taken.Whole k a next piece
     → kept s piece ≡ true → FormatCut s at next piece
-unfolding takenAs
-kept-cut s at e kept =
+unfolding taken_as
+kept_cut s at e kept =
     let h = cut_inside s at 255 e in
-    let i = (cut-forward s at 255 e).1 in
-    let r = body_same s (get_or s at 0) (at + 1) i (unnamed (get_or s at 0) at _ (sym (cut-there s at 255 h) ∙ e)) kept in
-    record { other = r.other; cut = format-there s at h ∙ ap (takenAs (get_or s at 0) at) r.whole; said = r.said }
+    let i = (cut_forward s at 255 e).1 in
+    let r = body_same s (get_or s at 0) (at + 1) i (unnamed (get_or s at 0) at _ (sym (cut_there s at 255 h) ∙ e)) kept in
+    record { other = r.other; cut = format_there s at h ∙ ap (taken_as (get_or s at 0) at) r.whole; said = r.said }
 
 -- KEEPS, for a piece of a tape
 pub cut_keeps : (lent : Lent) (origin : Origin) (s : List ℕ) (model at : ℕ) (t : Parsed) {k a next : ℕ} {piece : Piece}
     → cut_at s at 255 ≡ taken.Whole k a next piece → kept s piece ≡ true → KeptAt lent origin s model at next piece t
 cut_keeps lent origin s model at t {k} {a} {next} {piece} cut e =
-    let c = kept-cut s at cut e in
-    let tables : Tables s piece = λ g q. (cut-places s at 255 (cut ∙ ap (λ (x : Piece). taken.Whole k a next x) q)).places in
+    let c = kept_cut s at cut e in
+    let tables : Tables s piece = λ g q. (cut_places s at 255 (cut ∙ ap (λ (x : Piece). taken.Whole k a next x) q)).places in
     record {
       other = c.other;
       cut = c.cut;

@@ -5,41 +5,41 @@ use mathlib.Core.Bool.{Bool, false}
 use mathlib.Core.List.{List, [], ◌∷◌, ◌++◌, map}
 use lib.ListN.{length, replicate}
 use Rattle.refusals.specs.Refusals.{generalised}
-use Rattle.cut_fields.specs.Field.{leAt, number_at, field_at, place_of}
-use Rattle.cut_fields.specs.Run.{times, eachAt, groupsAt}
+use Rattle.cut_fields.specs.Field.{le_at, number_at, field_at, place_of}
+use Rattle.cut_fields.specs.Run.{times, each_at, groups_at}
 use Rattle.law_pulses.specs.Runs.{run}
-use Rattle.rows.specs.Table.{tableOver}
-use Rattle.play_entries.specs.Entries.{entry_of, cyclesOf, isSingle, startLevel, cycleLevel, bitLevel, edged, pauseLevel, toneOf, tonesOf}
-use Rattle.play_entries.specs.Entries.{bits_at, half_of, byte_of, data_of, pauseOf, soundOf, entriesOf}
-use Rattle.cut_grammar.specs.Grammar.{countedAt, passAt, textsAt, whole_at, sealed, enclosed, fittingAt, readAt, binaryDigits}
-use Rattle.cut_grammar.specs.Grammar.{orFull, heldIf}
+use Rattle.rows.specs.Table.{table_over}
+use Rattle.play_entries.specs.Entries.{entry_of, cycles_of, is_single, start_level, cycle_level, bit_level, edged, pause_level, tone_of, tones_of}
+use Rattle.play_entries.specs.Entries.{bits_at, half_of, byte_of, data_of, pause_of, sound_of, entries_of}
+use Rattle.cut_grammar.specs.Grammar.{counted_at, pass_at, texts_at, whole_at, sealed, enclosed, fitting_at, read_at, binary_digits}
+use Rattle.cut_grammar.specs.Grammar.{or_full, held_if}
 use Rattle.cut_grammar.specs.Kinds.{kind10, kind11, kind12, kind13, kind14, stream19, kind19, kind20, kind21, kind22, kind24, kind25}
-use Rattle.cut_grammar.specs.Kinds.{kind2A, kind30, kind31, info32, kind32, kind33, kind35, kind5A, kinds, kind_of}
-use Rattle.cut_grammar.specs.Cut.{takenAs, cut_at}
-use Rattle.load_general.specs.General.{symbol_at, before, rows_from, cycles, entrySymbol, entryRepeat, entryRow, pilotOf, equalHalves}
-use Rattle.load_general.specs.General.{ordinary, usedBits, symbolNumber, singleRow, pairRow, singlesOf, pairsOf, dataPart, withPilot}
-use Rattle.load_general.specs.General.{withData, generalOf}
-use Rattle.load_state.specs.Parser.{on, empty, ◌⟫◌, addTones, addBlock, pend, openLoop, endGroup, lastPaused, paused, closeLoop, closed}
-use Rattle.load_state.specs.Parser.{copies, copyRows}
-use Rattle.load_blocks.specs.Sounds.{row_of, addSound, addSounds}
-use Rattle.load_blocks.specs.Blocks.{standardHeader, standardCycles, standardTones, turboTones, pureTones, pureToneTones, pulseAt}
-use Rattle.load_blocks.specs.Blocks.{standardSound, turboSound, pairSounds, pureSound, pauseSound}
-use Rattle.load_blocks.specs.Adds.{addRows}
-use Rattle.load_blocks.specs.Deeds.{generalDeed, stop48Deed, does}
+use Rattle.cut_grammar.specs.Kinds.{kind_2a, kind30, kind31, info32, kind32, kind33, kind35, kind_5a, kinds, kind_of}
+use Rattle.cut_grammar.specs.Cut.{taken_as, cut_at}
+use Rattle.load_general.specs.General.{symbol_at, before, rows_from, cycles, entry_symbol, entry_repeat, entry_row, pilot_of, equal_halves}
+use Rattle.load_general.specs.General.{ordinary, used_bits, symbol_number, single_row, pair_row, singles_of, pairs_of, data_part, with_pilot}
+use Rattle.load_general.specs.General.{with_data, general_of}
+use Rattle.load_state.specs.Parser.{on, empty, ◌⟫◌, add_tones, add_block, pend, open_loop, end_group, last_paused, paused, close_loop, closed}
+use Rattle.load_state.specs.Parser.{copies, copy_rows}
+use Rattle.load_blocks.specs.Sounds.{row_of, add_sound, add_sounds}
+use Rattle.load_blocks.specs.Blocks.{standard_header, standard_cycles, standard_tones, turbo_tones, pure_tones, pure_tone_tones, pulse_at}
+use Rattle.load_blocks.specs.Blocks.{standard_sound, turbo_sound, pair_sounds, pure_sound, pause_sound}
+use Rattle.load_blocks.specs.Adds.{add_rows}
+use Rattle.load_blocks.specs.Deeds.{general_deed, stop48_deed, does}
 use Rattle.load_source.specs.Meaning.{deed_of}
-use Rattle.load_source.specs.Source.{act, halted, read_on, seeing, foldFrom, tzxOf, tzxSee}
+use Rattle.load_source.specs.Source.{act, halted, read_on, seeing, fold_from, tzx_of, tzx_see}
 use Rattle.load_source.specs.Source as source
-use Rattle.law_tzx.specs.Format.{PulseLength, lasts, forever, formatFull, each, bitPulses, bitsIn, bytePulses, dataPulses, bitsSaid}
-use Rattle.law_tzx.specs.Format.{pilotCount, format10, format11, format12, format13, format14, waveFrom, symbolPulse, waveOf}
-use Rattle.law_tzx.specs.Format.{pilotSymbol, repetitions, pilotPulses, bit_at, groupAt, dataNumber, symbolPulses, every}
-use Rattle.law_tzx.specs.Format.{symbolsSaid, format19, format20, format2A, format_of, lengthsOf, lasting}
-use Rattle.law_tzx.specs.Kept.{evenCount, kept11, kept12, kept13, firstPulse, secondPulse, wholeWave, keptTimes, keptEntry}
-use Rattle.law_tzx.specs.Kept.{keptPilot, keptSymbol, keptPairs, keptData, kept19, kept, length_of, entriesFrom}
+use Rattle.law_tzx.specs.Format.{PulseLength, lasts, forever, format_full, each, bit_pulses, bits_in, byte_pulses, data_pulses, bits_said}
+use Rattle.law_tzx.specs.Format.{pilot_count, format10, format11, format12, format13, format14, wave_from, symbol_pulse, wave_of}
+use Rattle.law_tzx.specs.Format.{pilot_symbol, repetitions, pilot_pulses, bit_at, group_at, data_number, symbol_pulses, every}
+use Rattle.law_tzx.specs.Format.{symbols_said, format19, format20, format_2a, format_of, lengths_of, lasting}
+use Rattle.law_tzx.specs.Kept.{even_count, kept11, kept12, kept13, first_pulse, second_pulse, whole_wave, kept_times, kept_entry}
+use Rattle.law_tzx.specs.Kept.{kept_pilot, kept_symbol, kept_pairs, kept_data, kept19, kept, length_of, entries_from}
 use Rattle.law_tzx.specs.Format.{again}
-use Rattle.law_tzx.specs.Cut.{formatCut}
-use Rattle.law_tzx.specs.Heard.{HeardOn, plays, refused, errs, nothing, most, heardIn, playedBy, formatOn, sourceOn}
-use Rattle.law_tzx.specs.Heard.{keptOn, formatAt}
-use Rattle.law_tzx.specs.Heard.{sourceHeard, kept_at, sameLength, sameLengths, sameHeard}
+use Rattle.law_tzx.specs.Cut.{format_cut}
+use Rattle.law_tzx.specs.Heard.{HeardOn, plays, refused, errs, nothing, most, heard_in, played_by, format_on, source_on}
+use Rattle.law_tzx.specs.Heard.{kept_on, format_at}
+use Rattle.law_tzx.specs.Heard.{source_heard, kept_at, same_length, same_lengths, same_heard}
 use Rattle.law_tzx.proofs.Examples.{Example, row}
 
 unfoldable pub ways : List Example
@@ -178,62 +178,62 @@ ways =
     0x00 ∷ 0x00 ∷ 0x00 ∷ 0x03 ∷ 0x02 ∷ 0x00 ∷ 0x01 ∷ 0x00 ∷ 0x02 ∷ 0x00 ∷ 0x03 ∷ 0x00 ∷ 0x00 ∷ 0x04 ∷ 0x00 ∷
     0x05 ∷ 0x00 ∷ 0x06 ∷ 0x00 ∷ 0x80 ∷ []) false (plays (lasts 4 ∷ lasts 5 ∷ lasts 6 ∷ [])) (plays (forever ∷ [])) ∷ []
 
-pub ways-said : map (λ e. formatAt e.tape) ways ≡ map (λ e. e.format) ways
-unfolding leAt number_at field_at place_of times eachAt groupsAt run tableOver entry_of cyclesOf isSingle startLevel cycleLevel bitLevel edged
-    pauseLevel toneOf tonesOf bits_at half_of byte_of data_of pauseOf soundOf entriesOf countedAt passAt textsAt whole_at sealed enclosed
-    fittingAt readAt binaryDigits orFull heldIf kind10 kind11 kind12 kind13 kind14 stream19 kind19 kind20 kind21 kind22 kind24 kind25 kind2A
-    kind30 kind31 info32 kind32 kind33 kind35 kind5A kinds kind_of takenAs cut_at symbol_at before rows_from cycles entrySymbol entryRepeat
-    entryRow pilotOf equalHalves ordinary usedBits symbolNumber singleRow pairRow singlesOf pairsOf dataPart withPilot withData generalOf
-    empty ◌⟫◌ addTones addBlock pend openLoop standardHeader standardCycles standardTones turboTones pureTones pureToneTones pulseAt
-    addRows row_of standardSound turboSound pairSounds pureSound pauseSound addSound addSounds generalDeed stop48Deed does deed_of act halted
-    each bitPulses bitsIn bytePulses dataPulses bitsSaid pilotCount format10 format11 format12 format13 format14 waveFrom symbolPulse waveOf
-    pilotSymbol repetitions pilotPulses bit_at groupAt dataNumber symbolPulses every symbolsSaid format19 format20 format2A format_of
-    lengthsOf lasting evenCount kept11 kept12 kept13 firstPulse secondPulse wholeWave keptTimes keptEntry keptPilot keptSymbol keptPairs
-    keptData kept19 kept length_of entriesFrom heardIn playedBy formatOn sourceOn keptOn sameLength sameLengths sameHeard ways
-ways-said = refl
+pub ways_said : map (λ e. format_at e.tape) ways ≡ map (λ e. e.format) ways
+unfolding le_at number_at field_at place_of times each_at groups_at run table_over entry_of cycles_of is_single start_level cycle_level bit_level edged
+    pause_level tone_of tones_of bits_at half_of byte_of data_of pause_of sound_of entries_of counted_at pass_at texts_at whole_at sealed enclosed
+    fitting_at read_at binary_digits or_full held_if kind10 kind11 kind12 kind13 kind14 stream19 kind19 kind20 kind21 kind22 kind24 kind25 kind_2a
+    kind30 kind31 info32 kind32 kind33 kind35 kind_5a kinds kind_of taken_as cut_at symbol_at before rows_from cycles entry_symbol entry_repeat
+    entry_row pilot_of equal_halves ordinary used_bits symbol_number single_row pair_row singles_of pairs_of data_part with_pilot with_data general_of
+    empty ◌⟫◌ add_tones add_block pend open_loop standard_header standard_cycles standard_tones turbo_tones pure_tones pure_tone_tones pulse_at
+    add_rows row_of standard_sound turbo_sound pair_sounds pure_sound pause_sound add_sound add_sounds general_deed stop48_deed does deed_of act halted
+    each bit_pulses bits_in byte_pulses data_pulses bits_said pilot_count format10 format11 format12 format13 format14 wave_from symbol_pulse wave_of
+    pilot_symbol repetitions pilot_pulses bit_at group_at data_number symbol_pulses every symbols_said format19 format20 format_2a format_of
+    lengths_of lasting even_count kept11 kept12 kept13 first_pulse second_pulse whole_wave kept_times kept_entry kept_pilot kept_symbol kept_pairs
+    kept_data kept19 kept length_of entries_from heard_in played_by format_on source_on kept_on same_length same_lengths same_heard ways
+ways_said = refl
 
-pub ways-played : map (λ e. sourceHeard e.tape) ways ≡ map (λ e. e.source) ways
-unfolding leAt number_at field_at place_of times eachAt groupsAt run tableOver entry_of cyclesOf isSingle startLevel cycleLevel bitLevel edged
-    pauseLevel toneOf tonesOf bits_at half_of byte_of data_of pauseOf soundOf entriesOf countedAt passAt textsAt whole_at sealed enclosed
-    fittingAt readAt binaryDigits orFull heldIf kind10 kind11 kind12 kind13 kind14 stream19 kind19 kind20 kind21 kind22 kind24 kind25 kind2A
-    kind30 kind31 info32 kind32 kind33 kind35 kind5A kinds kind_of takenAs cut_at symbol_at before rows_from cycles entrySymbol entryRepeat
-    entryRow pilotOf equalHalves ordinary usedBits symbolNumber singleRow pairRow singlesOf pairsOf dataPart withPilot withData generalOf
-    empty ◌⟫◌ addTones addBlock pend openLoop standardHeader standardCycles standardTones turboTones pureTones pureToneTones pulseAt
-    addRows row_of standardSound turboSound pairSounds pureSound pauseSound addSound addSounds generalDeed stop48Deed does deed_of act halted
-    each bitPulses bitsIn bytePulses dataPulses bitsSaid pilotCount format10 format11 format12 format13 format14 waveFrom symbolPulse waveOf
-    pilotSymbol repetitions pilotPulses bit_at groupAt dataNumber symbolPulses every symbolsSaid format19 format20 format2A format_of
-    lengthsOf lasting evenCount kept11 kept12 kept13 firstPulse secondPulse wholeWave keptTimes keptEntry keptPilot keptSymbol keptPairs
-    keptData kept19 kept length_of entriesFrom heardIn playedBy formatOn sourceOn keptOn sameLength sameLengths sameHeard ways
-ways-played = refl
+pub ways_played : map (λ e. source_heard e.tape) ways ≡ map (λ e. e.source) ways
+unfolding le_at number_at field_at place_of times each_at groups_at run table_over entry_of cycles_of is_single start_level cycle_level bit_level edged
+    pause_level tone_of tones_of bits_at half_of byte_of data_of pause_of sound_of entries_of counted_at pass_at texts_at whole_at sealed enclosed
+    fitting_at read_at binary_digits or_full held_if kind10 kind11 kind12 kind13 kind14 stream19 kind19 kind20 kind21 kind22 kind24 kind25 kind_2a
+    kind30 kind31 info32 kind32 kind33 kind35 kind_5a kinds kind_of taken_as cut_at symbol_at before rows_from cycles entry_symbol entry_repeat
+    entry_row pilot_of equal_halves ordinary used_bits symbol_number single_row pair_row singles_of pairs_of data_part with_pilot with_data general_of
+    empty ◌⟫◌ add_tones add_block pend open_loop standard_header standard_cycles standard_tones turbo_tones pure_tones pure_tone_tones pulse_at
+    add_rows row_of standard_sound turbo_sound pair_sounds pure_sound pause_sound add_sound add_sounds general_deed stop48_deed does deed_of act halted
+    each bit_pulses bits_in byte_pulses data_pulses bits_said pilot_count format10 format11 format12 format13 format14 wave_from symbol_pulse wave_of
+    pilot_symbol repetitions pilot_pulses bit_at group_at data_number symbol_pulses every symbols_said format19 format20 format_2a format_of
+    lengths_of lasting even_count kept11 kept12 kept13 first_pulse second_pulse whole_wave kept_times kept_entry kept_pilot kept_symbol kept_pairs
+    kept_data kept19 kept length_of entries_from heard_in played_by format_on source_on kept_on same_length same_lengths same_heard ways
+ways_played = refl
 
-pub ways-kept : map (λ e. kept_at e.tape) ways ≡ map (λ e. e.kept) ways
-unfolding leAt number_at field_at place_of times eachAt groupsAt run tableOver entry_of cyclesOf isSingle startLevel cycleLevel bitLevel edged
-    pauseLevel toneOf tonesOf bits_at half_of byte_of data_of pauseOf soundOf entriesOf countedAt passAt textsAt whole_at sealed enclosed
-    fittingAt readAt binaryDigits orFull heldIf kind10 kind11 kind12 kind13 kind14 stream19 kind19 kind20 kind21 kind22 kind24 kind25 kind2A
-    kind30 kind31 info32 kind32 kind33 kind35 kind5A kinds kind_of takenAs cut_at symbol_at before rows_from cycles entrySymbol entryRepeat
-    entryRow pilotOf equalHalves ordinary usedBits symbolNumber singleRow pairRow singlesOf pairsOf dataPart withPilot withData generalOf
-    empty ◌⟫◌ addTones addBlock pend openLoop standardHeader standardCycles standardTones turboTones pureTones pureToneTones pulseAt
-    addRows row_of standardSound turboSound pairSounds pureSound pauseSound addSound addSounds generalDeed stop48Deed does deed_of act halted
-    each bitPulses bitsIn bytePulses dataPulses bitsSaid pilotCount format10 format11 format12 format13 format14 waveFrom symbolPulse waveOf
-    pilotSymbol repetitions pilotPulses bit_at groupAt dataNumber symbolPulses every symbolsSaid format19 format20 format2A format_of
-    lengthsOf lasting evenCount kept11 kept12 kept13 firstPulse secondPulse wholeWave keptTimes keptEntry keptPilot keptSymbol keptPairs
-    keptData kept19 kept length_of entriesFrom heardIn playedBy formatOn sourceOn keptOn sameLength sameLengths sameHeard ways
-ways-kept = refl
+pub ways_kept : map (λ e. kept_at e.tape) ways ≡ map (λ e. e.kept) ways
+unfolding le_at number_at field_at place_of times each_at groups_at run table_over entry_of cycles_of is_single start_level cycle_level bit_level edged
+    pause_level tone_of tones_of bits_at half_of byte_of data_of pause_of sound_of entries_of counted_at pass_at texts_at whole_at sealed enclosed
+    fitting_at read_at binary_digits or_full held_if kind10 kind11 kind12 kind13 kind14 stream19 kind19 kind20 kind21 kind22 kind24 kind25 kind_2a
+    kind30 kind31 info32 kind32 kind33 kind35 kind_5a kinds kind_of taken_as cut_at symbol_at before rows_from cycles entry_symbol entry_repeat
+    entry_row pilot_of equal_halves ordinary used_bits symbol_number single_row pair_row singles_of pairs_of data_part with_pilot with_data general_of
+    empty ◌⟫◌ add_tones add_block pend open_loop standard_header standard_cycles standard_tones turbo_tones pure_tones pure_tone_tones pulse_at
+    add_rows row_of standard_sound turbo_sound pair_sounds pure_sound pause_sound add_sound add_sounds general_deed stop48_deed does deed_of act halted
+    each bit_pulses bits_in byte_pulses data_pulses bits_said pilot_count format10 format11 format12 format13 format14 wave_from symbol_pulse wave_of
+    pilot_symbol repetitions pilot_pulses bit_at group_at data_number symbol_pulses every symbols_said format19 format20 format_2a format_of
+    lengths_of lasting even_count kept11 kept12 kept13 first_pulse second_pulse whole_wave kept_times kept_entry kept_pilot kept_symbol kept_pairs
+    kept_data kept19 kept length_of entries_from heard_in played_by format_on source_on kept_on same_length same_lengths same_heard ways
+ways_kept = refl
 
 -- the readings of each way differ
-pub ways-differ : map (λ e. sameHeard (formatAt e.tape) (sourceHeard e.tape)) ways ≡ map (λ e. false) ways
-unfolding leAt number_at field_at place_of times eachAt groupsAt run tableOver entry_of cyclesOf isSingle startLevel cycleLevel bitLevel edged
-    pauseLevel toneOf tonesOf bits_at half_of byte_of data_of pauseOf soundOf entriesOf countedAt passAt textsAt whole_at sealed enclosed
-    fittingAt readAt binaryDigits orFull heldIf kind10 kind11 kind12 kind13 kind14 stream19 kind19 kind20 kind21 kind22 kind24 kind25 kind2A
-    kind30 kind31 info32 kind32 kind33 kind35 kind5A kinds kind_of takenAs cut_at symbol_at before rows_from cycles entrySymbol entryRepeat
-    entryRow pilotOf equalHalves ordinary usedBits symbolNumber singleRow pairRow singlesOf pairsOf dataPart withPilot withData generalOf
-    empty ◌⟫◌ addTones addBlock pend openLoop standardHeader standardCycles standardTones turboTones pureTones pureToneTones pulseAt
-    addRows row_of standardSound turboSound pairSounds pureSound pauseSound addSound addSounds generalDeed stop48Deed does deed_of act halted
-    each bitPulses bitsIn bytePulses dataPulses bitsSaid pilotCount format10 format11 format12 format13 format14 waveFrom symbolPulse waveOf
-    pilotSymbol repetitions pilotPulses bit_at groupAt dataNumber symbolPulses every symbolsSaid format19 format20 format2A format_of
-    lengthsOf lasting evenCount kept11 kept12 kept13 firstPulse secondPulse wholeWave keptTimes keptEntry keptPilot keptSymbol keptPairs
-    keptData kept19 kept length_of entriesFrom heardIn playedBy formatOn sourceOn keptOn sameLength sameLengths sameHeard ways
-ways-differ = refl
+pub ways_differ : map (λ e. same_heard (format_at e.tape) (source_heard e.tape)) ways ≡ map (λ e. false) ways
+unfolding le_at number_at field_at place_of times each_at groups_at run table_over entry_of cycles_of is_single start_level cycle_level bit_level edged
+    pause_level tone_of tones_of bits_at half_of byte_of data_of pause_of sound_of entries_of counted_at pass_at texts_at whole_at sealed enclosed
+    fitting_at read_at binary_digits or_full held_if kind10 kind11 kind12 kind13 kind14 stream19 kind19 kind20 kind21 kind22 kind24 kind25 kind_2a
+    kind30 kind31 info32 kind32 kind33 kind35 kind_5a kinds kind_of taken_as cut_at symbol_at before rows_from cycles entry_symbol entry_repeat
+    entry_row pilot_of equal_halves ordinary used_bits symbol_number single_row pair_row singles_of pairs_of data_part with_pilot with_data general_of
+    empty ◌⟫◌ add_tones add_block pend open_loop standard_header standard_cycles standard_tones turbo_tones pure_tones pure_tone_tones pulse_at
+    add_rows row_of standard_sound turbo_sound pair_sounds pure_sound pause_sound add_sound add_sounds general_deed stop48_deed does deed_of act halted
+    each bit_pulses bits_in byte_pulses data_pulses bits_said pilot_count format10 format11 format12 format13 format14 wave_from symbol_pulse wave_of
+    pilot_symbol repetitions pilot_pulses bit_at group_at data_number symbol_pulses every symbols_said format19 format20 format_2a format_of
+    lengths_of lasting even_count kept11 kept12 kept13 first_pulse second_pulse whole_wave kept_times kept_entry kept_pilot kept_symbol kept_pairs
+    kept_data kept19 kept length_of entries_from heard_in played_by format_on source_on kept_on same_length same_lengths same_heard ways
+ways_differ = refl
 
 -- not kept, and yet the same lengths, by chance: a pulse too many in the pilot and one dropped from the data;
 -- symbols of two bits, all of them 0
@@ -247,19 +247,19 @@ chances =
     0x00 ∷ 0x03 ∷ 0x00 ∷ 0x03 ∷ 0x00 ∷ 0x00 ∷ []) false (plays (lasts 1 ∷ lasts 1 ∷ []))
     (plays (lasts 1 ∷ lasts 1 ∷ [])) ∷ []
 
-pub chances-same : map (λ e. row e.tape (kept_at e.tape) (formatAt e.tape) (sourceHeard e.tape)) chances ≡ chances
-unfolding leAt number_at field_at place_of times eachAt groupsAt run tableOver entry_of cyclesOf isSingle startLevel cycleLevel bitLevel edged
-    pauseLevel toneOf tonesOf bits_at half_of byte_of data_of pauseOf soundOf entriesOf countedAt passAt textsAt whole_at sealed enclosed
-    fittingAt readAt binaryDigits orFull heldIf kind10 kind11 kind12 kind13 kind14 stream19 kind19 kind20 kind21 kind22 kind24 kind25 kind2A
-    kind30 kind31 info32 kind32 kind33 kind35 kind5A kinds kind_of takenAs cut_at symbol_at before rows_from cycles entrySymbol entryRepeat
-    entryRow pilotOf equalHalves ordinary usedBits symbolNumber singleRow pairRow singlesOf pairsOf dataPart withPilot withData generalOf
-    empty ◌⟫◌ addTones addBlock pend openLoop standardHeader standardCycles standardTones turboTones pureTones pureToneTones pulseAt
-    addRows row_of standardSound turboSound pairSounds pureSound pauseSound addSound addSounds generalDeed stop48Deed does deed_of act halted
-    each bitPulses bitsIn bytePulses dataPulses bitsSaid pilotCount format10 format11 format12 format13 format14 waveFrom symbolPulse waveOf
-    pilotSymbol repetitions pilotPulses bit_at groupAt dataNumber symbolPulses every symbolsSaid format19 format20 format2A format_of
-    lengthsOf lasting evenCount kept11 kept12 kept13 firstPulse secondPulse wholeWave keptTimes keptEntry keptPilot keptSymbol keptPairs
-    keptData kept19 kept length_of entriesFrom heardIn playedBy formatOn sourceOn keptOn sameLength sameLengths sameHeard chances
-chances-same = refl
+pub chances_same : map (λ e. row e.tape (kept_at e.tape) (format_at e.tape) (source_heard e.tape)) chances ≡ chances
+unfolding le_at number_at field_at place_of times each_at groups_at run table_over entry_of cycles_of is_single start_level cycle_level bit_level edged
+    pause_level tone_of tones_of bits_at half_of byte_of data_of pause_of sound_of entries_of counted_at pass_at texts_at whole_at sealed enclosed
+    fitting_at read_at binary_digits or_full held_if kind10 kind11 kind12 kind13 kind14 stream19 kind19 kind20 kind21 kind22 kind24 kind25 kind_2a
+    kind30 kind31 info32 kind32 kind33 kind35 kind_5a kinds kind_of taken_as cut_at symbol_at before rows_from cycles entry_symbol entry_repeat
+    entry_row pilot_of equal_halves ordinary used_bits symbol_number single_row pair_row singles_of pairs_of data_part with_pilot with_data general_of
+    empty ◌⟫◌ add_tones add_block pend open_loop standard_header standard_cycles standard_tones turbo_tones pure_tones pure_tone_tones pulse_at
+    add_rows row_of standard_sound turbo_sound pair_sounds pure_sound pause_sound add_sound add_sounds general_deed stop48_deed does deed_of act halted
+    each bit_pulses bits_in byte_pulses data_pulses bits_said pilot_count format10 format11 format12 format13 format14 wave_from symbol_pulse wave_of
+    pilot_symbol repetitions pilot_pulses bit_at group_at data_number symbol_pulses every symbols_said format19 format20 format_2a format_of
+    lengths_of lasting even_count kept11 kept12 kept13 first_pulse second_pulse whole_wave kept_times kept_entry kept_pilot kept_symbol kept_pairs
+    kept_data kept19 kept length_of entries_from heard_in played_by format_on source_on kept_on same_length same_lengths same_heard chances
+chances_same = refl
 
 -- so many lengths
 unfoldable pub count_of : HeardOn → ℕ
@@ -288,20 +288,20 @@ longer =
     0x00 ∷ 0x00 ∷ 0x00 ∷ 0x01 ∷ 0x02 ∷
     (replicate 768 2 ++ 0x00 ∷ 0x02 ∷ 0x00 ∷ 0x00 ∷ 0x65 ∷ 0x00 ∷ 0x00 ∷ 0x66 ∷ 0x00 ∷ 0x40 ∷ [])) false 4 516 ∷ []
 
-pub longer-counted :
-    map (λ e. counts e.tape (kept_at e.tape) (count_of (formatAt e.tape)) (count_of (sourceHeard e.tape))) longer ≡ longer
-unfolding leAt number_at field_at place_of times eachAt groupsAt run tableOver entry_of cyclesOf isSingle startLevel cycleLevel bitLevel edged
-    pauseLevel toneOf tonesOf bits_at half_of byte_of data_of pauseOf soundOf entriesOf countedAt passAt textsAt whole_at sealed enclosed
-    fittingAt readAt binaryDigits orFull heldIf kind10 kind11 kind12 kind13 kind14 stream19 kind19 kind20 kind21 kind22 kind24 kind25 kind2A
-    kind30 kind31 info32 kind32 kind33 kind35 kind5A kinds kind_of takenAs cut_at symbol_at before rows_from cycles entrySymbol entryRepeat
-    entryRow pilotOf equalHalves ordinary usedBits symbolNumber singleRow pairRow singlesOf pairsOf dataPart withPilot withData generalOf
-    empty ◌⟫◌ addTones addBlock pend openLoop standardHeader standardCycles standardTones turboTones pureTones pureToneTones pulseAt
-    addRows row_of standardSound turboSound pairSounds pureSound pauseSound addSound addSounds generalDeed stop48Deed does deed_of act halted
-    each bitPulses bitsIn bytePulses dataPulses bitsSaid pilotCount format10 format11 format12 format13 format14 waveFrom symbolPulse waveOf
-    pilotSymbol repetitions pilotPulses bit_at groupAt dataNumber symbolPulses every symbolsSaid format19 format20 format2A format_of
-    lengthsOf lasting evenCount kept11 kept12 kept13 firstPulse secondPulse wholeWave keptTimes keptEntry keptPilot keptSymbol keptPairs
-    keptData kept19 kept length_of entriesFrom heardIn playedBy formatOn sourceOn keptOn sameLength sameLengths sameHeard longer count_of
-longer-counted = refl
+pub longer_counted :
+    map (λ e. counts e.tape (kept_at e.tape) (count_of (format_at e.tape)) (count_of (source_heard e.tape))) longer ≡ longer
+unfolding le_at number_at field_at place_of times each_at groups_at run table_over entry_of cycles_of is_single start_level cycle_level bit_level edged
+    pause_level tone_of tones_of bits_at half_of byte_of data_of pause_of sound_of entries_of counted_at pass_at texts_at whole_at sealed enclosed
+    fitting_at read_at binary_digits or_full held_if kind10 kind11 kind12 kind13 kind14 stream19 kind19 kind20 kind21 kind22 kind24 kind25 kind_2a
+    kind30 kind31 info32 kind32 kind33 kind35 kind_5a kinds kind_of taken_as cut_at symbol_at before rows_from cycles entry_symbol entry_repeat
+    entry_row pilot_of equal_halves ordinary used_bits symbol_number single_row pair_row singles_of pairs_of data_part with_pilot with_data general_of
+    empty ◌⟫◌ add_tones add_block pend open_loop standard_header standard_cycles standard_tones turbo_tones pure_tones pure_tone_tones pulse_at
+    add_rows row_of standard_sound turbo_sound pair_sounds pure_sound pause_sound add_sound add_sounds general_deed stop48_deed does deed_of act halted
+    each bit_pulses bits_in byte_pulses data_pulses bits_said pilot_count format10 format11 format12 format13 format14 wave_from symbol_pulse wave_of
+    pilot_symbol repetitions pilot_pulses bit_at group_at data_number symbol_pulses every symbols_said format19 format20 format_2a format_of
+    lengths_of lasting even_count kept11 kept12 kept13 first_pulse second_pulse whole_wave kept_times kept_entry kept_pilot kept_symbol kept_pairs
+    kept_data kept19 kept length_of entries_from heard_in played_by format_on source_on kept_on same_length same_lengths same_heard longer count_of
+longer_counted = refl
 
 -- WHAT IS NO MATTER OF ONE PIECE: a tape of pieces, the places of those that the format plays, in its order,
 -- and what the source reading plays
@@ -314,20 +314,20 @@ pub record Order : Type 0 where
 abbrev order : List ℕ → List ℕ → List PulseLength → List PulseLength → Order
 order tape places format source = record { tape = tape; places = places; format = format; source = source }
 
-unfoldable pub lengthsIn : HeardOn → List PulseLength
-lengthsIn (plays ls) = ls
-lengthsIn (refused k) = []
-lengthsIn errs = []
-lengthsIn nothing = []
+unfoldable pub lengths_in : HeardOn → List PulseLength
+lengths_in (plays ls) = ls
+lengths_in (refused k) = []
+lengths_in errs = []
+lengths_in nothing = []
 
-unfoldable pub inOrder : List ℕ → List ℕ → List PulseLength
-inOrder s [] = []
-inOrder s (p ∷ ps) = lengthsIn (formatOn s (formatCut s p)) ++ inOrder s ps
+unfoldable pub in_order : List ℕ → List ℕ → List PulseLength
+in_order s [] = []
+in_order s (p ∷ ps) = lengths_in (format_on s (format_cut s p)) ++ in_order s ps
 
-unfoldable pub wholeRead : List ℕ → source.Verdict → List PulseLength
-wholeRead s (source.done t) = lengthsIn (playedBy s (on t))
-wholeRead s (source.failed f) = []
-wholeRead s (source.refused k) = []
+unfoldable pub whole_read : List ℕ → source.Verdict → List PulseLength
+whole_read s (source.done t) = lengths_in (played_by s (on t))
+whole_read s (source.failed f) = []
+whole_read s (source.refused k) = []
 
 unfoldable pub orders : List Order
 orders =
@@ -356,37 +356,37 @@ orders =
     order (0x34 ∷ 0x20 ∷ 0x01 ∷ 0x00 ∷ 0x00 ∷ 0x00 ∷ 0x00 ∷ 0x00 ∷ 0x00 ∷ []) [] [] (lasts 3500 ∷ []) ∷
     order (0x40 ∷ 0x00 ∷ 0x03 ∷ 0x00 ∷ 0x00 ∷ 0x20 ∷ 0x01 ∷ 0x00 ∷ []) [] [] (lasts 3500 ∷ []) ∷ []
 
-pub orders-said : map (λ e. inOrder e.tape e.places) orders ≡ map (λ e. e.format) orders
-unfolding leAt number_at field_at place_of times eachAt groupsAt run tableOver entry_of cyclesOf isSingle startLevel cycleLevel bitLevel edged
-    pauseLevel toneOf tonesOf bits_at half_of byte_of data_of pauseOf soundOf entriesOf countedAt passAt textsAt whole_at sealed enclosed
-    fittingAt readAt binaryDigits orFull heldIf kind10 kind11 kind12 kind13 kind14 stream19 kind19 kind20 kind21 kind22 kind24 kind25 kind2A
-    kind30 kind31 info32 kind32 kind33 kind35 kind5A kinds kind_of takenAs cut_at symbol_at before rows_from cycles entrySymbol entryRepeat
-    entryRow pilotOf equalHalves ordinary usedBits symbolNumber singleRow pairRow singlesOf pairsOf dataPart withPilot withData generalOf
-    empty ◌⟫◌ addTones addBlock pend openLoop standardHeader standardCycles standardTones turboTones pureTones pureToneTones pulseAt
-    addRows row_of standardSound turboSound pairSounds pureSound pauseSound addSound addSounds generalDeed stop48Deed does deed_of act halted
-    each bitPulses bitsIn bytePulses dataPulses bitsSaid pilotCount format10 format11 format12 format13 format14 waveFrom symbolPulse waveOf
-    pilotSymbol repetitions pilotPulses bit_at groupAt dataNumber symbolPulses every symbolsSaid format19 format20 format2A format_of
-    lengthsOf lasting evenCount kept11 kept12 kept13 firstPulse secondPulse wholeWave keptTimes keptEntry keptPilot keptSymbol keptPairs
-    keptData kept19 kept length_of entriesFrom heardIn playedBy formatOn sourceOn keptOn sameLength sameLengths sameHeard endGroup lastPaused
-    paused orders inOrder lengthsIn
-orders-said = refl
+pub orders_said : map (λ e. in_order e.tape e.places) orders ≡ map (λ e. e.format) orders
+unfolding le_at number_at field_at place_of times each_at groups_at run table_over entry_of cycles_of is_single start_level cycle_level bit_level edged
+    pause_level tone_of tones_of bits_at half_of byte_of data_of pause_of sound_of entries_of counted_at pass_at texts_at whole_at sealed enclosed
+    fitting_at read_at binary_digits or_full held_if kind10 kind11 kind12 kind13 kind14 stream19 kind19 kind20 kind21 kind22 kind24 kind25 kind_2a
+    kind30 kind31 info32 kind32 kind33 kind35 kind_5a kinds kind_of taken_as cut_at symbol_at before rows_from cycles entry_symbol entry_repeat
+    entry_row pilot_of equal_halves ordinary used_bits symbol_number single_row pair_row singles_of pairs_of data_part with_pilot with_data general_of
+    empty ◌⟫◌ add_tones add_block pend open_loop standard_header standard_cycles standard_tones turbo_tones pure_tones pure_tone_tones pulse_at
+    add_rows row_of standard_sound turbo_sound pair_sounds pure_sound pause_sound add_sound add_sounds general_deed stop48_deed does deed_of act halted
+    each bit_pulses bits_in byte_pulses data_pulses bits_said pilot_count format10 format11 format12 format13 format14 wave_from symbol_pulse wave_of
+    pilot_symbol repetitions pilot_pulses bit_at group_at data_number symbol_pulses every symbols_said format19 format20 format_2a format_of
+    lengths_of lasting even_count kept11 kept12 kept13 first_pulse second_pulse whole_wave kept_times kept_entry kept_pilot kept_symbol kept_pairs
+    kept_data kept19 kept length_of entries_from heard_in played_by format_on source_on kept_on same_length same_lengths same_heard end_group last_paused
+    paused orders in_order lengths_in
+orders_said = refl
 
-pub orders-played : map (λ e. wholeRead e.tape (foldFrom (tzxSee most e.tape 0) (length e.tape) 0 empty)) orders
+pub orders_played : map (λ e. whole_read e.tape (fold_from (tzx_see most e.tape 0) (length e.tape) 0 empty)) orders
     ≡ map (λ e. e.source) orders
-unfolding leAt number_at field_at place_of times eachAt groupsAt run tableOver entry_of cyclesOf isSingle startLevel cycleLevel bitLevel edged
-    pauseLevel toneOf tonesOf bits_at half_of byte_of data_of pauseOf soundOf entriesOf countedAt passAt textsAt whole_at sealed enclosed
-    fittingAt readAt binaryDigits orFull heldIf kind10 kind11 kind12 kind13 kind14 stream19 kind19 kind20 kind21 kind22 kind24 kind25 kind2A
-    kind30 kind31 info32 kind32 kind33 kind35 kind5A kinds kind_of takenAs cut_at symbol_at before rows_from cycles entrySymbol entryRepeat
-    entryRow pilotOf equalHalves ordinary usedBits symbolNumber singleRow pairRow singlesOf pairsOf dataPart withPilot withData generalOf
-    empty ◌⟫◌ addTones addBlock pend openLoop standardHeader standardCycles standardTones turboTones pureTones pureToneTones pulseAt
-    addRows row_of standardSound turboSound pairSounds pureSound pauseSound addSound addSounds generalDeed stop48Deed does deed_of act halted
-    each bitPulses bitsIn bytePulses dataPulses bitsSaid pilotCount format10 format11 format12 format13 format14 waveFrom symbolPulse waveOf
-    pilotSymbol repetitions pilotPulses bit_at groupAt dataNumber symbolPulses every symbolsSaid format19 format20 format2A format_of
-    lengthsOf lasting evenCount kept11 kept12 kept13 firstPulse secondPulse wholeWave keptTimes keptEntry keptPilot keptSymbol keptPairs
-    keptData kept19 kept length_of entriesFrom heardIn playedBy formatOn sourceOn keptOn sameLength sameLengths sameHeard endGroup lastPaused
-    paused closeLoop closed copies copyRows read_on seeing foldFrom tzxOf tzxSee orders wholeRead lengthsIn
-orders-played = refl
+unfolding le_at number_at field_at place_of times each_at groups_at run table_over entry_of cycles_of is_single start_level cycle_level bit_level edged
+    pause_level tone_of tones_of bits_at half_of byte_of data_of pause_of sound_of entries_of counted_at pass_at texts_at whole_at sealed enclosed
+    fitting_at read_at binary_digits or_full held_if kind10 kind11 kind12 kind13 kind14 stream19 kind19 kind20 kind21 kind22 kind24 kind25 kind_2a
+    kind30 kind31 info32 kind32 kind33 kind35 kind_5a kinds kind_of taken_as cut_at symbol_at before rows_from cycles entry_symbol entry_repeat
+    entry_row pilot_of equal_halves ordinary used_bits symbol_number single_row pair_row singles_of pairs_of data_part with_pilot with_data general_of
+    empty ◌⟫◌ add_tones add_block pend open_loop standard_header standard_cycles standard_tones turbo_tones pure_tones pure_tone_tones pulse_at
+    add_rows row_of standard_sound turbo_sound pair_sounds pure_sound pause_sound add_sound add_sounds general_deed stop48_deed does deed_of act halted
+    each bit_pulses bits_in byte_pulses data_pulses bits_said pilot_count format10 format11 format12 format13 format14 wave_from symbol_pulse wave_of
+    pilot_symbol repetitions pilot_pulses bit_at group_at data_number symbol_pulses every symbols_said format19 format20 format_2a format_of
+    lengths_of lasting even_count kept11 kept12 kept13 first_pulse second_pulse whole_wave kept_times kept_entry kept_pilot kept_symbol kept_pairs
+    kept_data kept19 kept length_of entries_from heard_in played_by format_on source_on kept_on same_length same_lengths same_heard end_group last_paused
+    paused close_loop closed copies copy_rows read_on seeing fold_from tzx_of tzx_see orders whole_read lengths_in
+orders_played = refl
 
-pub orders-differ : map (λ e. sameLengths e.format e.source) orders ≡ map (λ e. false) orders
-unfolding orders sameLengths sameLength
-orders-differ = refl
+pub orders_differ : map (λ e. same_lengths e.format e.source) orders ≡ map (λ e. false) orders
+unfolding orders same_lengths same_length
+orders_differ = refl

@@ -3,37 +3,37 @@ use Prim.Native.Nat.{ℕ}
 use mathlib.Core.Path.{◌≡◌, refl}
 use mathlib.Core.Bool.{Bool, true, false}
 use mathlib.Core.List.{List, [], ◌∷◌, ◌++◌, map}
-use Rattle.cut_fields.specs.Field.{leAt, number_at, field_at, place_of}
-use Rattle.cut_fields.specs.Run.{times, eachAt, groupsAt}
+use Rattle.cut_fields.specs.Field.{le_at, number_at, field_at, place_of}
+use Rattle.cut_fields.specs.Run.{times, each_at, groups_at}
 use Rattle.law_pulses.specs.Runs.{run}
-use Rattle.rows.specs.Table.{tableOver}
-use Rattle.play_entries.specs.Entries.{entry_of, cyclesOf, isSingle, startLevel, cycleLevel, bitLevel, edged, pauseLevel, toneOf, tonesOf}
-use Rattle.play_entries.specs.Entries.{bits_at, half_of, byte_of, data_of, pauseOf, soundOf, entriesOf}
-use Rattle.cut_grammar.specs.Grammar.{countedAt, passAt, textsAt, whole_at, sealed, enclosed, fittingAt, readAt, binaryDigits}
-use Rattle.cut_grammar.specs.Grammar.{orFull, heldIf}
+use Rattle.rows.specs.Table.{table_over}
+use Rattle.play_entries.specs.Entries.{entry_of, cycles_of, is_single, start_level, cycle_level, bit_level, edged, pause_level, tone_of, tones_of}
+use Rattle.play_entries.specs.Entries.{bits_at, half_of, byte_of, data_of, pause_of, sound_of, entries_of}
+use Rattle.cut_grammar.specs.Grammar.{counted_at, pass_at, texts_at, whole_at, sealed, enclosed, fitting_at, read_at, binary_digits}
+use Rattle.cut_grammar.specs.Grammar.{or_full, held_if}
 use Rattle.cut_grammar.specs.Kinds.{kind10, kind11, kind12, kind13, kind14, stream19, kind19, kind20, kind21, kind22, kind24, kind25}
-use Rattle.cut_grammar.specs.Kinds.{kind2A, kind30, kind31, info32, kind32, kind33, kind35, kind5A, kinds, kind_of}
-use Rattle.cut_grammar.specs.Cut.{signature, takenAs, cut_at}
-use Rattle.load_general.specs.General.{symbol_at, before, rows_from, cycles, entrySymbol, entryRepeat, entryRow, pilotOf, equalHalves}
-use Rattle.load_general.specs.General.{ordinary, usedBits, symbolNumber, singleRow, pairRow, singlesOf, pairsOf, dataPart, withPilot}
-use Rattle.load_general.specs.General.{withData, generalOf}
-use Rattle.load_state.specs.Parser.{empty, ◌⟫◌, addTones, addBlock, pend, openLoop}
-use Rattle.load_blocks.specs.Sounds.{row_of, addSound, addSounds}
-use Rattle.load_blocks.specs.Blocks.{turboTones, pureTones, pureToneTones, pulseAt, standardSound, turboSound, pairSounds}
-use Rattle.load_blocks.specs.Blocks.{pureSound, pauseSound}
-use Rattle.load_blocks.specs.Adds.{addRows}
-use Rattle.load_blocks.specs.Deeds.{generalDeed, stop48Deed, does}
+use Rattle.cut_grammar.specs.Kinds.{kind_2a, kind30, kind31, info32, kind32, kind33, kind35, kind_5a, kinds, kind_of}
+use Rattle.cut_grammar.specs.Cut.{signature, taken_as, cut_at}
+use Rattle.load_general.specs.General.{symbol_at, before, rows_from, cycles, entry_symbol, entry_repeat, entry_row, pilot_of, equal_halves}
+use Rattle.load_general.specs.General.{ordinary, used_bits, symbol_number, single_row, pair_row, singles_of, pairs_of, data_part, with_pilot}
+use Rattle.load_general.specs.General.{with_data, general_of}
+use Rattle.load_state.specs.Parser.{empty, ◌⟫◌, add_tones, add_block, pend, open_loop}
+use Rattle.load_blocks.specs.Sounds.{row_of, add_sound, add_sounds}
+use Rattle.load_blocks.specs.Blocks.{turbo_tones, pure_tones, pure_tone_tones, pulse_at, standard_sound, turbo_sound, pair_sounds}
+use Rattle.load_blocks.specs.Blocks.{pure_sound, pause_sound}
+use Rattle.load_blocks.specs.Adds.{add_rows}
+use Rattle.load_blocks.specs.Deeds.{general_deed, stop48_deed, does}
 use Rattle.load_source.specs.Meaning.{deed_of}
 use Rattle.load_source.specs.Source.{act, halted}
-use Rattle.law_tzx.specs.Format.{lasts, forever, each, bitPulses, bitsIn, bytePulses, dataPulses, bitsSaid, format11, format12}
-use Rattle.law_tzx.specs.Format.{format13, format14, waveFrom, symbolPulse, waveOf, pilotSymbol, repetitions, pilotPulses, bit_at}
-use Rattle.law_tzx.specs.Format.{groupAt, dataNumber, symbolPulses, every, symbolsSaid, format19, format20, format2A, format_of}
-use Rattle.law_tzx.specs.Format.{lengthsOf, lasting}
-use Rattle.law_tzx.specs.Kept.{evenCount, kept11, kept12, kept13, firstPulse, secondPulse, wholeWave, keptTimes, keptEntry}
-use Rattle.law_tzx.specs.Kept.{keptPilot, keptSymbol, keptPairs, keptData, kept19, kept, length_of, entriesFrom}
-use Rattle.law_tzx.specs.Heard.{HeardOn, plays, heardIn, playedBy, formatOn, sourceOn, keptOn, formatAt, sourceHeard, kept_at}
-use Rattle.law_tzx.specs.Heard.{sameLength, sameLengths, sameHeard}
-use Rattle.law_tzx.specs.Tapes.{noneOpen, keptThen, keptFrom, said_of, saidThen, formatFrom}
+use Rattle.law_tzx.specs.Format.{lasts, forever, each, bit_pulses, bits_in, byte_pulses, data_pulses, bits_said, format11, format12}
+use Rattle.law_tzx.specs.Format.{format13, format14, wave_from, symbol_pulse, wave_of, pilot_symbol, repetitions, pilot_pulses, bit_at}
+use Rattle.law_tzx.specs.Format.{group_at, data_number, symbol_pulses, every, symbols_said, format19, format20, format_2a, format_of}
+use Rattle.law_tzx.specs.Format.{lengths_of, lasting}
+use Rattle.law_tzx.specs.Kept.{even_count, kept11, kept12, kept13, first_pulse, second_pulse, whole_wave, kept_times, kept_entry}
+use Rattle.law_tzx.specs.Kept.{kept_pilot, kept_symbol, kept_pairs, kept_data, kept19, kept, length_of, entries_from}
+use Rattle.law_tzx.specs.Heard.{HeardOn, plays, heard_in, played_by, format_on, source_on, kept_on, format_at, source_heard, kept_at}
+use Rattle.law_tzx.specs.Heard.{same_length, same_lengths, same_heard}
+use Rattle.law_tzx.specs.Tapes.{none_open, kept_then, kept_from, said_of, said_then, format_from}
 
 pub record Example : Type 0 where
   pub tape : List ℕ
@@ -102,79 +102,79 @@ kepts =
     row (0x24 ∷ 0x02 ∷ 0x00 ∷ []) true (plays []) (plays []) ∷
     row (0x30 ∷ 0x01 ∷ 0x41 ∷ []) true (plays []) (plays []) ∷ []
 
-pub kepts-said : map (λ e. formatAt e.tape) kepts ≡ map (λ e. e.format) kepts
-unfolding leAt number_at field_at place_of times eachAt groupsAt run tableOver entry_of cyclesOf isSingle startLevel cycleLevel bitLevel edged
-    pauseLevel toneOf tonesOf bits_at half_of byte_of data_of pauseOf soundOf entriesOf countedAt passAt textsAt whole_at sealed enclosed
-    fittingAt readAt binaryDigits orFull heldIf kind10 kind11 kind12 kind13 kind14 stream19 kind19 kind20 kind21 kind22 kind24 kind25 kind2A
-    kind30 kind31 info32 kind32 kind33 kind35 kind5A kinds kind_of takenAs cut_at symbol_at before rows_from cycles entrySymbol entryRepeat
-    entryRow pilotOf equalHalves ordinary usedBits symbolNumber singleRow pairRow singlesOf pairsOf dataPart withPilot withData generalOf
-    empty ◌⟫◌ addTones addBlock pend openLoop turboTones pureTones pureToneTones pulseAt addRows row_of standardSound turboSound pairSounds
-    pureSound pauseSound addSound addSounds generalDeed stop48Deed does deed_of act halted each bitPulses bitsIn bytePulses dataPulses
-    bitsSaid format11 format12 format13 format14 waveFrom symbolPulse waveOf pilotSymbol repetitions pilotPulses bit_at groupAt dataNumber
-    symbolPulses every symbolsSaid format19 format20 format2A format_of lengthsOf lasting evenCount kept11 kept12 kept13 firstPulse
-    secondPulse wholeWave keptTimes keptEntry keptPilot keptSymbol keptPairs keptData kept19 kept length_of entriesFrom heardIn playedBy
-    formatOn sourceOn keptOn sameLength sameLengths sameHeard kepts
-kepts-said = refl
+pub kepts_said : map (λ e. format_at e.tape) kepts ≡ map (λ e. e.format) kepts
+unfolding le_at number_at field_at place_of times each_at groups_at run table_over entry_of cycles_of is_single start_level cycle_level bit_level edged
+    pause_level tone_of tones_of bits_at half_of byte_of data_of pause_of sound_of entries_of counted_at pass_at texts_at whole_at sealed enclosed
+    fitting_at read_at binary_digits or_full held_if kind10 kind11 kind12 kind13 kind14 stream19 kind19 kind20 kind21 kind22 kind24 kind25 kind_2a
+    kind30 kind31 info32 kind32 kind33 kind35 kind_5a kinds kind_of taken_as cut_at symbol_at before rows_from cycles entry_symbol entry_repeat
+    entry_row pilot_of equal_halves ordinary used_bits symbol_number single_row pair_row singles_of pairs_of data_part with_pilot with_data general_of
+    empty ◌⟫◌ add_tones add_block pend open_loop turbo_tones pure_tones pure_tone_tones pulse_at add_rows row_of standard_sound turbo_sound pair_sounds
+    pure_sound pause_sound add_sound add_sounds general_deed stop48_deed does deed_of act halted each bit_pulses bits_in byte_pulses data_pulses
+    bits_said format11 format12 format13 format14 wave_from symbol_pulse wave_of pilot_symbol repetitions pilot_pulses bit_at group_at data_number
+    symbol_pulses every symbols_said format19 format20 format_2a format_of lengths_of lasting even_count kept11 kept12 kept13 first_pulse
+    second_pulse whole_wave kept_times kept_entry kept_pilot kept_symbol kept_pairs kept_data kept19 kept length_of entries_from heard_in played_by
+    format_on source_on kept_on same_length same_lengths same_heard kepts
+kepts_said = refl
 
-pub kepts-played : map (λ e. sourceHeard e.tape) kepts ≡ map (λ e. e.source) kepts
-unfolding leAt number_at field_at place_of times eachAt groupsAt run tableOver entry_of cyclesOf isSingle startLevel cycleLevel bitLevel edged
-    pauseLevel toneOf tonesOf bits_at half_of byte_of data_of pauseOf soundOf entriesOf countedAt passAt textsAt whole_at sealed enclosed
-    fittingAt readAt binaryDigits orFull heldIf kind10 kind11 kind12 kind13 kind14 stream19 kind19 kind20 kind21 kind22 kind24 kind25 kind2A
-    kind30 kind31 info32 kind32 kind33 kind35 kind5A kinds kind_of takenAs cut_at symbol_at before rows_from cycles entrySymbol entryRepeat
-    entryRow pilotOf equalHalves ordinary usedBits symbolNumber singleRow pairRow singlesOf pairsOf dataPart withPilot withData generalOf
-    empty ◌⟫◌ addTones addBlock pend openLoop turboTones pureTones pureToneTones pulseAt addRows row_of standardSound turboSound pairSounds
-    pureSound pauseSound addSound addSounds generalDeed stop48Deed does deed_of act halted each bitPulses bitsIn bytePulses dataPulses
-    bitsSaid format11 format12 format13 format14 waveFrom symbolPulse waveOf pilotSymbol repetitions pilotPulses bit_at groupAt dataNumber
-    symbolPulses every symbolsSaid format19 format20 format2A format_of lengthsOf lasting evenCount kept11 kept12 kept13 firstPulse
-    secondPulse wholeWave keptTimes keptEntry keptPilot keptSymbol keptPairs keptData kept19 kept length_of entriesFrom heardIn playedBy
-    formatOn sourceOn keptOn sameLength sameLengths sameHeard kepts
-kepts-played = refl
+pub kepts_played : map (λ e. source_heard e.tape) kepts ≡ map (λ e. e.source) kepts
+unfolding le_at number_at field_at place_of times each_at groups_at run table_over entry_of cycles_of is_single start_level cycle_level bit_level edged
+    pause_level tone_of tones_of bits_at half_of byte_of data_of pause_of sound_of entries_of counted_at pass_at texts_at whole_at sealed enclosed
+    fitting_at read_at binary_digits or_full held_if kind10 kind11 kind12 kind13 kind14 stream19 kind19 kind20 kind21 kind22 kind24 kind25 kind_2a
+    kind30 kind31 info32 kind32 kind33 kind35 kind_5a kinds kind_of taken_as cut_at symbol_at before rows_from cycles entry_symbol entry_repeat
+    entry_row pilot_of equal_halves ordinary used_bits symbol_number single_row pair_row singles_of pairs_of data_part with_pilot with_data general_of
+    empty ◌⟫◌ add_tones add_block pend open_loop turbo_tones pure_tones pure_tone_tones pulse_at add_rows row_of standard_sound turbo_sound pair_sounds
+    pure_sound pause_sound add_sound add_sounds general_deed stop48_deed does deed_of act halted each bit_pulses bits_in byte_pulses data_pulses
+    bits_said format11 format12 format13 format14 wave_from symbol_pulse wave_of pilot_symbol repetitions pilot_pulses bit_at group_at data_number
+    symbol_pulses every symbols_said format19 format20 format_2a format_of lengths_of lasting even_count kept11 kept12 kept13 first_pulse
+    second_pulse whole_wave kept_times kept_entry kept_pilot kept_symbol kept_pairs kept_data kept19 kept length_of entries_from heard_in played_by
+    format_on source_on kept_on same_length same_lengths same_heard kepts
+kepts_played = refl
 
-pub kepts-kept : map (λ e. kept_at e.tape) kepts ≡ map (λ e. e.kept) kepts
-unfolding leAt number_at field_at place_of times eachAt groupsAt run tableOver entry_of cyclesOf isSingle startLevel cycleLevel bitLevel edged
-    pauseLevel toneOf tonesOf bits_at half_of byte_of data_of pauseOf soundOf entriesOf countedAt passAt textsAt whole_at sealed enclosed
-    fittingAt readAt binaryDigits orFull heldIf kind10 kind11 kind12 kind13 kind14 stream19 kind19 kind20 kind21 kind22 kind24 kind25 kind2A
-    kind30 kind31 info32 kind32 kind33 kind35 kind5A kinds kind_of takenAs cut_at symbol_at before rows_from cycles entrySymbol entryRepeat
-    entryRow pilotOf equalHalves ordinary usedBits symbolNumber singleRow pairRow singlesOf pairsOf dataPart withPilot withData generalOf
-    empty ◌⟫◌ addTones addBlock pend openLoop turboTones pureTones pureToneTones pulseAt addRows row_of standardSound turboSound pairSounds
-    pureSound pauseSound addSound addSounds generalDeed stop48Deed does deed_of act halted each bitPulses bitsIn bytePulses dataPulses
-    bitsSaid format11 format12 format13 format14 waveFrom symbolPulse waveOf pilotSymbol repetitions pilotPulses bit_at groupAt dataNumber
-    symbolPulses every symbolsSaid format19 format20 format2A format_of lengthsOf lasting evenCount kept11 kept12 kept13 firstPulse
-    secondPulse wholeWave keptTimes keptEntry keptPilot keptSymbol keptPairs keptData kept19 kept length_of entriesFrom heardIn playedBy
-    formatOn sourceOn keptOn sameLength sameLengths sameHeard kepts
-kepts-kept = refl
+pub kepts_kept : map (λ e. kept_at e.tape) kepts ≡ map (λ e. e.kept) kepts
+unfolding le_at number_at field_at place_of times each_at groups_at run table_over entry_of cycles_of is_single start_level cycle_level bit_level edged
+    pause_level tone_of tones_of bits_at half_of byte_of data_of pause_of sound_of entries_of counted_at pass_at texts_at whole_at sealed enclosed
+    fitting_at read_at binary_digits or_full held_if kind10 kind11 kind12 kind13 kind14 stream19 kind19 kind20 kind21 kind22 kind24 kind25 kind_2a
+    kind30 kind31 info32 kind32 kind33 kind35 kind_5a kinds kind_of taken_as cut_at symbol_at before rows_from cycles entry_symbol entry_repeat
+    entry_row pilot_of equal_halves ordinary used_bits symbol_number single_row pair_row singles_of pairs_of data_part with_pilot with_data general_of
+    empty ◌⟫◌ add_tones add_block pend open_loop turbo_tones pure_tones pure_tone_tones pulse_at add_rows row_of standard_sound turbo_sound pair_sounds
+    pure_sound pause_sound add_sound add_sounds general_deed stop48_deed does deed_of act halted each bit_pulses bits_in byte_pulses data_pulses
+    bits_said format11 format12 format13 format14 wave_from symbol_pulse wave_of pilot_symbol repetitions pilot_pulses bit_at group_at data_number
+    symbol_pulses every symbols_said format19 format20 format_2a format_of lengths_of lasting even_count kept11 kept12 kept13 first_pulse
+    second_pulse whole_wave kept_times kept_entry kept_pilot kept_symbol kept_pairs kept_data kept19 kept length_of entries_from heard_in played_by
+    format_on source_on kept_on same_length same_lengths same_heard kepts
+kepts_kept = refl
 
 -- a whole tape: a tone, a pause, a stop on 48K; every piece is kept, and they are played one after the other
 abbrev whole : List ℕ
 whole = signature ++ 0x01 ∷ 0x14 ∷ 0x12 ∷ 0x64 ∷ 0x00 ∷ 0x04 ∷ 0x00 ∷ 0x20 ∷ 0x01 ∷ 0x00 ∷ 0x2A ∷ 0x00 ∷ 0x00 ∷
     0x00 ∷ 0x00 ∷ []
 
-pub whole-kept : keptFrom whole 23 10 noneOpen ≡ true
-unfolding leAt number_at field_at place_of times eachAt groupsAt run tableOver entry_of cyclesOf isSingle startLevel cycleLevel bitLevel edged
-    pauseLevel toneOf tonesOf bits_at half_of byte_of data_of pauseOf soundOf entriesOf countedAt passAt textsAt whole_at sealed enclosed
-    fittingAt readAt binaryDigits orFull heldIf kind10 kind11 kind12 kind13 kind14 stream19 kind19 kind20 kind21 kind22 kind24 kind25 kind2A
-    kind30 kind31 info32 kind32 kind33 kind35 kind5A kinds kind_of takenAs cut_at symbol_at before rows_from cycles entrySymbol entryRepeat
-    entryRow pilotOf equalHalves ordinary usedBits symbolNumber singleRow pairRow singlesOf pairsOf dataPart withPilot withData generalOf
-    empty ◌⟫◌ addTones addBlock pend openLoop turboTones pureTones pureToneTones pulseAt addRows row_of standardSound turboSound pairSounds
-    pureSound pauseSound addSound addSounds generalDeed stop48Deed does deed_of act halted each bitPulses bitsIn bytePulses dataPulses
-    bitsSaid format11 format12 format13 format14 waveFrom symbolPulse waveOf pilotSymbol repetitions pilotPulses bit_at groupAt dataNumber
-    symbolPulses every symbolsSaid format19 format20 format2A format_of lengthsOf lasting evenCount kept11 kept12 kept13 firstPulse
-    secondPulse wholeWave keptTimes keptEntry keptPilot keptSymbol keptPairs keptData kept19 kept length_of entriesFrom heardIn playedBy
-    formatOn sourceOn keptOn sameLength sameLengths sameHeard keptThen keptFrom
+pub whole-kept : kept_from whole 23 10 none_open ≡ true
+unfolding le_at number_at field_at place_of times each_at groups_at run table_over entry_of cycles_of is_single start_level cycle_level bit_level edged
+    pause_level tone_of tones_of bits_at half_of byte_of data_of pause_of sound_of entries_of counted_at pass_at texts_at whole_at sealed enclosed
+    fitting_at read_at binary_digits or_full held_if kind10 kind11 kind12 kind13 kind14 stream19 kind19 kind20 kind21 kind22 kind24 kind25 kind_2a
+    kind30 kind31 info32 kind32 kind33 kind35 kind_5a kinds kind_of taken_as cut_at symbol_at before rows_from cycles entry_symbol entry_repeat
+    entry_row pilot_of equal_halves ordinary used_bits symbol_number single_row pair_row singles_of pairs_of data_part with_pilot with_data general_of
+    empty ◌⟫◌ add_tones add_block pend open_loop turbo_tones pure_tones pure_tone_tones pulse_at add_rows row_of standard_sound turbo_sound pair_sounds
+    pure_sound pause_sound add_sound add_sounds general_deed stop48_deed does deed_of act halted each bit_pulses bits_in byte_pulses data_pulses
+    bits_said format11 format12 format13 format14 wave_from symbol_pulse wave_of pilot_symbol repetitions pilot_pulses bit_at group_at data_number
+    symbol_pulses every symbols_said format19 format20 format_2a format_of lengths_of lasting even_count kept11 kept12 kept13 first_pulse
+    second_pulse whole_wave kept_times kept_entry kept_pilot kept_symbol kept_pairs kept_data kept19 kept length_of entries_from heard_in played_by
+    format_on source_on kept_on same_length same_lengths same_heard kept_then kept_from
 whole-kept = refl
 
-pub whole-said : map (λ on48. lasting (formatFrom on48 whole 23 10)) (true ∷ false ∷ [])
+pub whole_said : map (λ on48. lasting (format_from on48 whole 23 10)) (true ∷ false ∷ [])
     ≡ (lasts 100 ∷ lasts 100 ∷ lasts 100 ∷ lasts 100 ∷ lasts 3500 ∷ forever ∷ []) ∷
     (lasts 100 ∷ lasts 100 ∷ lasts 100 ∷ lasts 100 ∷ lasts 3500 ∷ []) ∷ []
-unfolding leAt number_at field_at place_of times eachAt groupsAt run tableOver entry_of cyclesOf isSingle startLevel cycleLevel bitLevel edged
-    pauseLevel toneOf tonesOf bits_at half_of byte_of data_of pauseOf soundOf entriesOf countedAt passAt textsAt whole_at sealed enclosed
-    fittingAt readAt binaryDigits orFull heldIf kind10 kind11 kind12 kind13 kind14 stream19 kind19 kind20 kind21 kind22 kind24 kind25 kind2A
-    kind30 kind31 info32 kind32 kind33 kind35 kind5A kinds kind_of takenAs cut_at symbol_at before rows_from cycles entrySymbol entryRepeat
-    entryRow pilotOf equalHalves ordinary usedBits symbolNumber singleRow pairRow singlesOf pairsOf dataPart withPilot withData generalOf
-    empty ◌⟫◌ addTones addBlock pend openLoop turboTones pureTones pureToneTones pulseAt addRows row_of standardSound turboSound pairSounds
-    pureSound pauseSound addSound addSounds generalDeed stop48Deed does deed_of act halted each bitPulses bitsIn bytePulses dataPulses
-    bitsSaid format11 format12 format13 format14 waveFrom symbolPulse waveOf pilotSymbol repetitions pilotPulses bit_at groupAt dataNumber
-    symbolPulses every symbolsSaid format19 format20 format2A format_of lengthsOf lasting evenCount kept11 kept12 kept13 firstPulse
-    secondPulse wholeWave keptTimes keptEntry keptPilot keptSymbol keptPairs keptData kept19 kept length_of entriesFrom heardIn playedBy
-    formatOn sourceOn keptOn sameLength sameLengths sameHeard said_of saidThen formatFrom
-whole-said = refl
+unfolding le_at number_at field_at place_of times each_at groups_at run table_over entry_of cycles_of is_single start_level cycle_level bit_level edged
+    pause_level tone_of tones_of bits_at half_of byte_of data_of pause_of sound_of entries_of counted_at pass_at texts_at whole_at sealed enclosed
+    fitting_at read_at binary_digits or_full held_if kind10 kind11 kind12 kind13 kind14 stream19 kind19 kind20 kind21 kind22 kind24 kind25 kind_2a
+    kind30 kind31 info32 kind32 kind33 kind35 kind_5a kinds kind_of taken_as cut_at symbol_at before rows_from cycles entry_symbol entry_repeat
+    entry_row pilot_of equal_halves ordinary used_bits symbol_number single_row pair_row singles_of pairs_of data_part with_pilot with_data general_of
+    empty ◌⟫◌ add_tones add_block pend open_loop turbo_tones pure_tones pure_tone_tones pulse_at add_rows row_of standard_sound turbo_sound pair_sounds
+    pure_sound pause_sound add_sound add_sounds general_deed stop48_deed does deed_of act halted each bit_pulses bits_in byte_pulses data_pulses
+    bits_said format11 format12 format13 format14 wave_from symbol_pulse wave_of pilot_symbol repetitions pilot_pulses bit_at group_at data_number
+    symbol_pulses every symbols_said format19 format20 format_2a format_of lengths_of lasting even_count kept11 kept12 kept13 first_pulse
+    second_pulse whole_wave kept_times kept_entry kept_pilot kept_symbol kept_pairs kept_data kept19 kept length_of entries_from heard_in played_by
+    format_on source_on kept_on same_length same_lengths same_heard said_of said_then format_from
+whole_said = refl

@@ -8,21 +8,21 @@ use lib.Dec.{ltb, eqb}
 use borrow.Author.Tests.{ltb-true, eqb-true, eqb-false, ne_eqb}
 use Rattle.law_base.specs.Rules.{◌⇒◌, ◌∣◌}
 use Rattle.law_base.proofs.Tests.{first, second}
-use Rattle.cut_fields.specs.Field.{leAt}
+use Rattle.cut_fields.specs.Field.{le_at}
 use Rattle.rows.specs.declared.Tone.{Tone}
 use Rattle.load_general.specs.declared.Row.{Row}
 use Rattle.load_general.specs.declared.Row.TheVariants.{Gives}
-use Rattle.load_general.specs.General.{symbol_at, plainTone, Part, tones, before, rows_from, cycles}
-use Rattle.law_tzx.specs.Format.{PulseLength, each, again, waveFrom, symbolPulse, waveOf, every, lasting}
-use Rattle.law_tzx.specs.Kept.{evenCount, firstPulse, secondPulse, wholeWave, keptTimes}
-use Rattle.law_tzx.proofs.Lengths.{long, long-append, waveIn, wavesOf}
-use Rattle.law_tzx.proofs.Waves.{each_none, even-of, pilot-same, zeros-none}
+use Rattle.load_general.specs.General.{symbol_at, plain_tone, Part, tones, before, rows_from, cycles}
+use Rattle.law_tzx.specs.Format.{PulseLength, each, again, wave_from, symbol_pulse, wave_of, every, lasting}
+use Rattle.law_tzx.specs.Kept.{even_count, first_pulse, second_pulse, whole_wave, kept_times}
+use Rattle.law_tzx.proofs.Lengths.{long, long_append, wave_in, waves_of}
+use Rattle.law_tzx.proofs.Waves.{each_none, even_of, pilot_same, zeros-none}
 
 -- a test of every item
-pub every-at : (f : ℕ → Bool) (p n i : ℕ) → every f p n ≡ true → p ≤ i → i < p + n → f i ≡ true
+pub every_at : (f : ℕ → Bool) (p n i : ℕ) → every f p n ≡ true → p ≤ i → i < p + n → f i ≡ true
 unfolding every
-every-at f p zero i e l k = absurd (omega arith)
-every-at f p (suc n) i e l k = by_cases (eqb i p) refl (every-at f (p + 1) n i (second (f p) (every f (p + 1) n) e))
+every_at f p zero i e l k = absurd (omega arith)
+every_at f p (suc n) i e l k = by_cases (eqb i p) refl (every_at f (p + 1) n i (second (f p) (every f (p + 1) n) e))
   where
     by_cases : (b : Bool) → eqb i p ≡ b → (p + 1 ≤ i → i < p + 1 + n → f i ≡ true) → f i ≡ true
     by_cases true q later = ap f (eqb-true i p q) ∙ first (f p) (every f (p + 1) n) e
@@ -37,27 +37,27 @@ every_of f p (suc n) h = rw (h p (omega arith) (omega arith)) (every_of f (p + 1
 pub record Waves (row : Row) (w : List ℕ) : Type 0 where
   pub tone : Tone
   pub given : row ≡ Gives tone
-  pub heard : long (waveIn tone) ≡ long w
+  pub heard : long (wave_in tone) ≡ long w
 
 -- a part that is tones of this wave
 pub record Parts (part : Part) (w : List ℕ) : Type 0 where
   pub rows : List Tone
   pub given : part ≡ tones rows
-  pub heard : long (wavesOf rows) ≡ long w
+  pub heard : long (waves_of rows) ≡ long w
 
 -- ROWS ONE AFTER THE OTHER
-pub rows-wave : (row : ℕ → Row) (f : ℕ → List ℕ) (p n : ℕ) → ((i : ℕ) → p ≤ i → i < p + n → Waves (row i) (f i))
+pub rows_wave : (row : ℕ → Row) (f : ℕ → List ℕ) (p n : ℕ) → ((i : ℕ) → p ≤ i → i < p + n → Waves (row i) (f i))
     → Parts (rows_from row p n) (each f p n)
-unfolding rows_from before each wavesOf
-rows-wave row f p zero h = record { rows = []; given = refl; heard = refl }
-rows-wave row f p (suc n) h =
+unfolding rows_from before each waves_of
+rows_wave row f p zero h = record { rows = []; given = refl; heard = refl }
+rows_wave row f p (suc n) h =
     let x = h p (omega arith) (omega arith) in
-    let y = rows-wave row f (p + 1) n (λ i l k. h i (omega arith) (omega arith)) in
+    let y = rows_wave row f (p + 1) n (λ i l k. h i (omega arith) (omega arith)) in
     record {
       rows = x.tone ∷ y.rows;
       given = ap₂ before x.given y.given;
-      heard = long-append (waveIn x.tone) (wavesOf y.rows) ∙ ap₂ (λ (a b : List PulseLength). a ++ b) x.heard y.heard
-          ∙ sym (long-append (f p) (each f (p + 1) n));
+      heard = long_append (wave_in x.tone) (waves_of y.rows) ∙ ap₂ (λ (a b : List PulseLength). a ++ b) x.heard y.heard
+          ∙ sym (long_append (f p) (each f (p + 1) n));
     }
 
 -- the wave of a symbol of up to two pulses
@@ -65,31 +65,31 @@ abbrev pub two : ℕ → ℕ → List ℕ
 two a b = eqb a 0 ⇒ [] ∣ a ∷ (eqb b 0 ⇒ [] ∣ b ∷ [])
 
 -- the source reading's symbol is the format's
-pub first-same : (s : List ℕ) (place n i : ℕ) → (symbol_at s place n i).first ≡ firstPulse s place n i
-unfolding symbol_at firstPulse symbolPulse
+pub first-same : (s : List ℕ) (place n i : ℕ) → (symbol_at s place n i).first ≡ first_pulse s place n i
+unfolding symbol_at first_pulse symbol_pulse
 first-same s place n i =
     let e : place + i * (1 + n * 2) + 1 ≡ place + i * (1 + n * 2) + 1 + 0 = omega arith in
-    ap (λ (k : ℕ). leAt s k 2) e
+    ap (λ (k : ℕ). le_at s k 2) e
 
-pub second-same : (s : List ℕ) (place n i : ℕ) → (symbol_at s place n i).second ≡ secondPulse s place n i
-unfolding symbol_at secondPulse symbolPulse
-second-same s place n i = refl
+pub second_same : (s : List ℕ) (place n i : ℕ) → (symbol_at s place n i).second ≡ second_pulse s place n i
+unfolding symbol_at second_pulse symbol_pulse
+second_same s place n i = refl
 
-pub wave-one : (s : List ℕ) (place i : ℕ) → waveOf s place 1 i ≡ two (firstPulse s place 1 i) (secondPulse s place 1 i)
-unfolding waveOf waveFrom firstPulse secondPulse
-wave-one s place i = refl
+pub wave_one : (s : List ℕ) (place i : ℕ) → wave_of s place 1 i ≡ two (first_pulse s place 1 i) (second_pulse s place 1 i)
+unfolding wave_of wave_from first_pulse second_pulse
+wave_one s place i = refl
 
-pub wave-two : (s : List ℕ) (place i : ℕ) → waveOf s place 2 i ≡ two (firstPulse s place 2 i) (secondPulse s place 2 i)
-unfolding waveOf waveFrom firstPulse secondPulse
-wave-two s place i = refl
+pub wave_two : (s : List ℕ) (place i : ℕ) → wave_of s place 2 i ≡ two (first_pulse s place 2 i) (second_pulse s place 2 i)
+unfolding wave_of wave_from first_pulse second_pulse
+wave_two s place i = refl
 
 -- two pulses, the second not behind a first of 0
-pub two-same : (a b : ℕ) → wholeWave a b ≡ true → long (a ∷ b ∷ []) ≡ long (two a b)
-unfolding wholeWave lasting
-two-same zero zero e = refl
-two-same zero (suc b) e = let z : suc b ≡ 0 = eqb-true (suc b) 0 e in absurd (omega arith)
-two-same (suc a) zero e = rw (ne_eqb (suc a) 0 (omega arith))
-two-same (suc a) (suc b) e = rw (ne_eqb (suc a) 0 (omega arith), ne_eqb (suc b) 0 (omega arith))
+pub two_same : (a b : ℕ) → whole_wave a b ≡ true → long (a ∷ b ∷ []) ≡ long (two a b)
+unfolding whole_wave lasting
+two_same zero zero e = refl
+two_same zero (suc b) e = let z : suc b ≡ 0 = eqb-true (suc b) 0 e in absurd (omega arith)
+two_same (suc a) zero e = rw (ne_eqb (suc a) 0 (omega arith))
+two_same (suc a) (suc b) e = rw (ne_eqb (suc a) 0 (omega arith), ne_eqb (suc b) 0 (omega arith))
 
 pub not_so : (b : Bool) → not b ≡ true → b ≡ false
 not_so true e = sym e
@@ -101,25 +101,25 @@ unfolding lasting
 again-silent n = each_none (λ i. []) 0 n (λ i. refl)
 
 -- an entry of these pulses, n times
-pub times-wave : (a b n : ℕ) → keptTimes a b n ≡ true → Waves (cycles (record { first = a; second = b }) n) (again n (two a b))
-unfolding keptTimes cycles
-times-wave zero zero n e =
+pub times_wave : (a b n : ℕ) → kept_times a b n ≡ true → Waves (cycles (record { first = a; second = b }) n) (again n (two a b))
+unfolding kept_times cycles
+times_wave zero zero n e =
     let q = not_so (eqb n 65535) e in
-    record { tone = plainTone ((n + 1) / 2) 0 0; given = rw q; heard = zeros-none (max 1 ((n + 1) / 2)) ∙ sym (again-silent n) }
-times-wave zero (suc b) n e =
+    record { tone = plain_tone ((n + 1) / 2) 0 0; given = rw q; heard = zeros-none (max 1 ((n + 1) / 2)) ∙ sym (again-silent n) }
+times_wave zero (suc b) n e =
     let z : suc b ≡ 0 = eqb-true (suc b) 0 (first (eqb (suc b) 0) (not (eqb n 65535)) e) in
     absurd (omega arith)
-times-wave (suc a) zero n e =
+times_wave (suc a) zero n e =
     let z : eqb (suc a) 0 ≡ false = ne_eqb (suc a) 0 (omega arith) in
-    let c : evenCount n ≡ true = rw z at e in
-    let h = even-of n c in
+    let c : even_count n ≡ true = rw z at e in
+    let h = even_of n c in
     let q : eqb n 65535 ≡ false =
     ne_eqb n 65535 (λ k. let z : 65535 % 2 ≡ 0 = ap (λ (x : ℕ). x % 2) (sym k) ∙ h.even in absurd (omega arith)) in
-    record { tone = plainTone ((n + 1) / 2) (suc a) (suc a); given = rw q; heard = pilot-same (suc a) n (rw (z, c)) ∙ rw z }
-times-wave (suc a) (suc b) n e =
+    record { tone = plain_tone ((n + 1) / 2) (suc a) (suc a); given = rw q; heard = pilot_same (suc a) n (rw (z, c)) ∙ rw z }
+times_wave (suc a) (suc b) n e =
     let z : eqb (suc a) 0 ≡ false = ne_eqb (suc a) 0 (omega arith) in
     let y : eqb (suc b) 0 ≡ false = ne_eqb (suc b) 0 (omega arith) in
     let c : ltb 0 n ≡ true = rw (z, y) at e in
     let h : 0 < n = ltb-true 0 n c in
     let m : max 1 n ≡ n = omega arith in
-    record { tone = plainTone n (suc a) (suc b); given = rw y; heard = rw (z, y, m) }
+    record { tone = plain_tone n (suc a) (suc b); given = rw y; heard = rw (z, y, m) }

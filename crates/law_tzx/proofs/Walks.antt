@@ -4,30 +4,30 @@ use mathlib.Core.Path.{◌≡◌, refl}
 use mathlib.Core.Bool.{Bool, true, false}
 use mathlib.Core.List.{List, [], ◌∷◌, map}
 use lib.ListN.{length}
-use Rattle.cut_fields.specs.Field.{leAt, number_at, field_at, place_of}
-use Rattle.cut_fields.specs.Run.{times, eachAt, groupsAt}
+use Rattle.cut_fields.specs.Field.{le_at, number_at, field_at, place_of}
+use Rattle.cut_fields.specs.Run.{times, each_at, groups_at}
 use Rattle.law_pulses.specs.Runs.{run}
-use Rattle.rows.specs.Table.{tableOver}
-use Rattle.play_entries.specs.Entries.{entry_of, cyclesOf, isSingle, startLevel, cycleLevel, bitLevel, edged, pauseLevel, toneOf, tonesOf}
-use Rattle.play_entries.specs.Entries.{bits_at, half_of, byte_of, data_of, pauseOf, soundOf, entriesOf}
-use Rattle.cut_grammar.specs.Grammar.{countedAt, passAt, whole_at, sealed, enclosed, fittingAt, readAt, binaryDigits, orFull, heldIf}
+use Rattle.rows.specs.Table.{table_over}
+use Rattle.play_entries.specs.Entries.{entry_of, cycles_of, is_single, start_level, cycle_level, bit_level, edged, pause_level, tone_of, tones_of}
+use Rattle.play_entries.specs.Entries.{bits_at, half_of, byte_of, data_of, pause_of, sound_of, entries_of}
+use Rattle.cut_grammar.specs.Grammar.{counted_at, pass_at, whole_at, sealed, enclosed, fitting_at, read_at, binary_digits, or_full, held_if}
 use Rattle.cut_grammar.specs.Kinds.{stream19, kind19, kind20, kind21, kind24, kind25, kinds, kind_of}
-use Rattle.cut_grammar.specs.Cut.{takenAs, cut_at}
-use Rattle.load_general.specs.General.{symbol_at, before, rows_from, pilotOf, equalHalves, ordinary, symbolNumber, pairRow}
-use Rattle.load_general.specs.General.{pairsOf, dataPart, withPilot, withData, generalOf}
-use Rattle.load_state.specs.Parser.{empty, ◌⟫◌, addTones, addBlock}
-use Rattle.load_blocks.specs.Sounds.{row_of, addSound, addSounds}
-use Rattle.load_blocks.specs.Blocks.{pauseSound}
-use Rattle.load_blocks.specs.Adds.{addRows}
-use Rattle.load_blocks.specs.Deeds.{generalDeed, does}
+use Rattle.cut_grammar.specs.Cut.{taken_as, cut_at}
+use Rattle.load_general.specs.General.{symbol_at, before, rows_from, pilot_of, equal_halves, ordinary, symbol_number, pair_row}
+use Rattle.load_general.specs.General.{pairs_of, data_part, with_pilot, with_data, general_of}
+use Rattle.load_state.specs.Parser.{empty, ◌⟫◌, add_tones, add_block}
+use Rattle.load_blocks.specs.Sounds.{row_of, add_sound, add_sounds}
+use Rattle.load_blocks.specs.Blocks.{pause_sound}
+use Rattle.load_blocks.specs.Adds.{add_rows}
+use Rattle.load_blocks.specs.Deeds.{general_deed, does}
 use Rattle.load_source.specs.Meaning.{deed_of}
-use Rattle.load_source.specs.Source.{act, read_on, seeing, foldFrom, tzxOf, tzxSee}
-use Rattle.law_tzx.specs.Format.{PulseLength, lasts, each, waveFrom, symbolPulse, waveOf, pilotSymbol, bit_at, groupAt, dataNumber}
-use Rattle.law_tzx.specs.Format.{symbolPulses, every, symbolsSaid, format19, format20, format_of, lengthsOf, lasting}
-use Rattle.law_tzx.specs.Kept.{firstPulse, keptPilot, keptPairs, keptData, kept19, kept, length_of, entriesFrom}
-use Rattle.law_tzx.specs.Heard.{most, playedBy}
-use Rattle.law_tzx.specs.Tapes.{noneOpen, keptThen, keptFrom, said_of, saidThen, formatFrom}
-use Rattle.law_tzx.proofs.Differ.{lengthsIn, wholeRead}
+use Rattle.load_source.specs.Source.{act, read_on, seeing, fold_from, tzx_of, tzx_see}
+use Rattle.law_tzx.specs.Format.{PulseLength, lasts, each, wave_from, symbol_pulse, wave_of, pilot_symbol, bit_at, group_at, data_number}
+use Rattle.law_tzx.specs.Format.{symbol_pulses, every, symbols_said, format19, format20, format_of, lengths_of, lasting}
+use Rattle.law_tzx.specs.Kept.{first_pulse, kept_pilot, kept_pairs, kept_data, kept19, kept, length_of, entries_from}
+use Rattle.law_tzx.specs.Heard.{most, played_by}
+use Rattle.law_tzx.specs.Tapes.{none_open, kept_then, kept_from, said_of, said_then, format_from}
+use Rattle.law_tzx.proofs.Differ.{lengths_in, whole_read}
 
 -- a tape, whether every piece is kept, what the format plays of it, and what the source reading does
 pub record Walk : Type 0 where
@@ -41,8 +41,8 @@ walk tape kept format source = record { tape = tape; kept = kept; format = forma
 
 abbrev pub walked : List ℕ → Walk
 walked s =
-    walk s (keptFrom s (length s) 0 noneOpen) (lasting (formatFrom true s (length s) 0))
-    (wholeRead s (foldFrom (tzxSee most s 0) (length s) 0 empty))
+    walk s (kept_from s (length s) 0 none_open) (lasting (format_from true s (length s) 0))
+    (whole_read s (fold_from (tzx_see most s 0) (length s) 0 empty))
 
 -- a 19 of this length, which is to be 21, and a pause
 abbrev pub lengthy : ℕ → List ℕ
@@ -61,24 +61,24 @@ walks =
     -- the length leaves out the last byte: not said, or unused
     walk (lengthy 20) false [] (lasts 2 ∷ lasts 1 ∷ lasts 2 ∷ lasts 1 ∷ lasts 3500 ∷ []) ∷ []
 
-pub walks-walked : map (λ e. walked e.tape) walks ≡ walks
-unfolding leAt number_at field_at place_of times eachAt groupsAt run tableOver entry_of cyclesOf isSingle startLevel cycleLevel bitLevel edged
-    pauseLevel toneOf tonesOf bits_at half_of byte_of data_of pauseOf soundOf entriesOf countedAt passAt whole_at sealed enclosed fittingAt
-    readAt binaryDigits orFull heldIf stream19 kind19 kind20 kinds kind_of takenAs cut_at symbol_at before rows_from pilotOf equalHalves
+pub walks_walked : map (λ e. walked e.tape) walks ≡ walks
+unfolding le_at number_at field_at place_of times each_at groups_at run table_over entry_of cycles_of is_single start_level cycle_level bit_level edged
+    pause_level tone_of tones_of bits_at half_of byte_of data_of pause_of sound_of entries_of counted_at pass_at whole_at sealed enclosed fitting_at
+    read_at binary_digits or_full held_if stream19 kind19 kind20 kinds kind_of taken_as cut_at symbol_at before rows_from pilot_of equal_halves
     ordinary
-    symbolNumber pairRow pairsOf dataPart withPilot withData generalOf empty ◌⟫◌ addTones addBlock row_of addSound addSounds pauseSound
-    addRows generalDeed does deed_of act read_on seeing foldFrom tzxOf tzxSee each waveFrom symbolPulse waveOf pilotSymbol bit_at groupAt
-    dataNumber symbolPulses every symbolsSaid format19 format20 format_of lengthsOf lasting firstPulse keptPilot keptPairs keptData
-    kept19 kept length_of entriesFrom playedBy keptThen keptFrom said_of saidThen formatFrom lengthsIn wholeRead walks
-walks-walked = refl
+    symbol_number pair_row pairs_of data_part with_pilot with_data general_of empty ◌⟫◌ add_tones add_block row_of add_sound add_sounds pause_sound
+    add_rows general_deed does deed_of act read_on seeing fold_from tzx_of tzx_see each wave_from symbol_pulse wave_of pilot_symbol bit_at group_at
+    data_number symbol_pulses every symbols_said format19 format20 format_of lengths_of lasting first_pulse kept_pilot kept_pairs kept_data
+    kept19 kept length_of entries_from played_by kept_then kept_from said_of said_then format_from lengths_in whole_read walks
+walks_walked = refl
 
 -- no tape of kept pieces: a group in a group, a loop in a loop, a loop without its end, a loop of one; and one with a group alone
 pub opens_kept :
-    map (λ s. keptFrom s (length s) 0 noneOpen)
+    map (λ s. kept_from s (length s) 0 none_open)
     ((0x21 ∷ 0x00 ∷ 0x20 ∷ 0x01 ∷ 0x00 ∷ 0x21 ∷ 0x00 ∷ []) ∷ (0x24 ∷ 0x02 ∷ 0x00 ∷ 0x24 ∷ 0x02 ∷ 0x00 ∷ []) ∷
     (0x24 ∷ 0x02 ∷ 0x00 ∷ []) ∷
     (0x24 ∷ 0x01 ∷ 0x00 ∷ 0x25 ∷ []) ∷ (0x21 ∷ 0x00 ∷ 0x20 ∷ 0x01 ∷ 0x00 ∷ []) ∷ [])
     ≡ false ∷ false ∷ false ∷ false ∷ true ∷ []
-unfolding leAt number_at field_at place_of countedAt passAt whole_at readAt kind20 kind21 kind24 kind25 kinds kind_of takenAs cut_at kept
-    keptThen keptFrom
+unfolding le_at number_at field_at place_of counted_at pass_at whole_at read_at kind20 kind21 kind24 kind25 kinds kind_of taken_as cut_at kept
+    kept_then kept_from
 opens_kept = refl

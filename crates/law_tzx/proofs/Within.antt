@@ -6,16 +6,16 @@ use mathlib.Core.List.{List}
 use lib.ListN.{length, take}
 use Rattle.cut_fields.specs.declared.Cursor.TheVariants.{At}
 use Rattle.cut_fields.specs.Field.{field_at}
-use Rattle.cut_fields.proofs.Runs.{field-there}
+use Rattle.cut_fields.proofs.Runs.{field_there}
 use Rattle.cut_grammar.specs.declared.Piece.{Piece}
 use Rattle.cut_grammar.specs.declared.Body.{Body}
 use Rattle.cut_grammar.specs.declared.Body.TheVariants.{Whole}
-use Rattle.cut_grammar.specs.Grammar.{Layout, within, sealed, enclosed, readAt}
+use Rattle.cut_grammar.specs.Grammar.{Layout, within, sealed, enclosed, read_at}
 use Rattle.cut_grammar.specs.Kinds.{body19, kind19}
 use Rattle.cut_grammar.specs.Steps.{head19}
 use Rattle.cut_grammar.specs.Ends.{Ends, ends, none, short, wide, Own}
 use Rattle.cut_grammar.proofs.Layouts.{own}
-use Rattle.law_tzx.specs.Format.{formatFull}
+use Rattle.law_tzx.specs.Format.{format_full}
 use Rattle.law_tzx.specs.Cut.{layout19}
 
 -- a piece that ends at a place ends at no other
@@ -33,20 +33,20 @@ own_same (Own.beyond b) e h = let a = ends_at b e in absurd (omega arith)
 
 -- a body that takes in all of its layout, and no more
 within_same : (inner : Layout) (s : List ℕ) (q n : ℕ) {piece : Piece} → q + n ≤ length s
-    → readAt inner s (At q) ≡ Whole piece (q + n)
-    → readAt (within n inner) s (At q) ≡ Whole piece (q + n)
-unfolding readAt enclosed sealed
+    → read_at inner s (At q) ≡ Whole piece (q + n)
+    → read_at (within n inner) s (At q) ≡ Whole piece (q + n)
+unfolding read_at enclosed sealed
 within_same inner s q n {piece} i e =
-    rw (field-there s n q i) (ap (sealed (q + n)) (own_same (own inner s (q + n) q (omega arith)) e (omega arith)))
+    rw (field_there s n q i) (ap (sealed (q + n)) (own_same (own inner s (q + n) q (omega arith)) e (omega arith)))
 
 pub within-length : (s : List ℕ) (p : ℕ) {next : ℕ} {piece : Piece} → next ≤ length s
     → (field_at s (At p) 4).cursor ≡ At (p + 4)
-    → p + 4 + (head19 s (At p)).length ≡ next → readAt (kind19 formatFull) s (At p) ≡ Whole piece next
-    → readAt layout19 s (At p) ≡ Whole piece next
-unfolding readAt kind19 head19
+    → p + 4 + (head19 s (At p)).length ≡ next → read_at (kind19 format_full) s (At p) ≡ Whole piece next
+    → read_at layout19 s (At p) ≡ Whole piece next
+unfolding read_at kind19 head19
 within-length s p {next} {piece} i f n e =
     let l = (field_at s (At p) 4).value in
-    let q : readAt (body19 formatFull l) s (At (p + 4)) ≡ Whole piece (p + 4 + l) =
-    ap (readAt (body19 formatFull l) s) (sym f) ∙ e ∙ ap (Whole piece) (sym n) in
-    ap (readAt (within l (body19 formatFull l)) s) f ∙ within_same (body19 formatFull l) s (p + 4) l (omega arith) q
+    let q : read_at (body19 format_full l) s (At (p + 4)) ≡ Whole piece (p + 4 + l) =
+    ap (read_at (body19 format_full l) s) (sym f) ∙ e ∙ ap (Whole piece) (sym n) in
+    ap (read_at (within l (body19 format_full l)) s) f ∙ within_same (body19 format_full l) s (p + 4) l (omega arith) q
     ∙ ap (Whole piece) n

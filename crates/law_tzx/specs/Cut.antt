@@ -5,20 +5,20 @@ use Rattle.law_base.specs.Rules.{◌⇒◌, ◌∣◌}
 use Rattle.cut_fields.specs.declared.Cursor.TheVariants.{At}
 use Rattle.cut_grammar.specs.declared.Taken.{Taken}
 use Rattle.cut_grammar.specs.declared.Taken.TheVariants as taken
-use Rattle.cut_grammar.specs.Grammar.{Layout, number, within, readAt}
+use Rattle.cut_grammar.specs.Grammar.{Layout, number, within, read_at}
 use Rattle.cut_grammar.specs.Kinds.{body19, kind_of}
-use Rattle.cut_grammar.specs.Cut.{takenAs}
-use Rattle.law_tzx.specs.Format.{formatFull}
+use Rattle.cut_grammar.specs.Cut.{taken_as}
+use Rattle.law_tzx.specs.Format.{format_full}
 
 -- 19: length 4 (of what follows): its parts see no byte past that, and the piece ends there
 abbrev pub layout19 : Layout
-layout19 = number 4 λ length. within length (body19 formatFull length)
+layout19 = number 4 λ length. within length (body19 format_full length)
 
 -- the row of a kind
 abbrev pub layout_of : ℕ → Layout
-layout_of kind = eqb kind 0x19 ⇒ layout19 ∣ kind_of formatFull kind
+layout_of kind = eqb kind 0x19 ⇒ layout19 ∣ kind_of format_full kind
 
-abbrev pub formatCut : List ℕ → ℕ → Taken
-formatCut s at =
+abbrev pub format_cut : List ℕ → ℕ → Taken
+format_cut s at =
     leb (length s) at ⇒ taken.End
-    ∣ takenAs (get_or s at 0) at (readAt (layout_of (get_or s at 0)) s (At (at + 1)))
+    ∣ taken_as (get_or s at 0) at (read_at (layout_of (get_or s at 0)) s (At (at + 1)))

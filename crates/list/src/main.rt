@@ -1,8 +1,8 @@
 // Lists the tape on standard input: `4`, `1` or `3`, then up to 65,535 bytes; prints the listing, or `refused n`.
 ghost use Rattle.std.specs.Prelude.{◌≡◌, ◌≤◌, length, take};
 ghost use Rattle.io.specs.Counts.{IsPrefixLen};
-ghost use Rattle.listing.specs.Printed.{printedOf};
-ghost use Rattle.list.specs.Heard.{listingHeard};
+ghost use Rattle.listing.specs.Printed.{printed_of};
+ghost use Rattle.list.specs.Heard.{listing_heard};
 
 use listing::{say, say_refused};
 use prog_model::model_of;
@@ -12,7 +12,7 @@ use refusals::BAD_MODEL;
 fn answer(input: &[u8], out: &mut [u8]) -> usize
     requires { 300000 ≤ length out.old }
     ensures prefix_len { IsPrefixLen result out.new }
-    ensures out_after { take result out.new ≡ printedOf (listingHeard input.now) }
+    ensures out_after { take result out.new ≡ printed_of (listing_heard input.now) }
 {
     if input.len() == 0 {
         return say_refused(out, BAD_MODEL);

@@ -3,40 +3,40 @@ use Prim.Native.Nat.{ℕ}
 use mathlib.Core.Path.{◌≡◌, refl}
 use mathlib.Core.List.{List, [], ◌∷◌, ◌++◌, map}
 use lib.Count.{ones}
-use Rattle.refusals.specs.Refusals.{badModel, tapeBad, generalised, lastBits}
-use Rattle.cut_fields.specs.Field.{leAt, number_at, field_at, place_of}
-use Rattle.cut_fields.specs.Run.{times, eachAt, groupsAt}
-use Rattle.rows.specs.Table.{tableOver}
-use Rattle.rows.specs.Well.{wellTone, wellNumbers}
-use Rattle.cut_grammar.specs.Grammar.{countedAt, passAt, textsAt, whole_at, sealed, enclosed, fittingAt, readAt, binaryDigits}
-use Rattle.cut_grammar.specs.Grammar.{orFull, heldIf}
+use Rattle.refusals.specs.Refusals.{bad_model, tape_bad, generalised, last_bits}
+use Rattle.cut_fields.specs.Field.{le_at, number_at, field_at, place_of}
+use Rattle.cut_fields.specs.Run.{times, each_at, groups_at}
+use Rattle.rows.specs.Table.{table_over}
+use Rattle.rows.specs.Well.{well_tone, well_numbers}
+use Rattle.cut_grammar.specs.Grammar.{counted_at, pass_at, texts_at, whole_at, sealed, enclosed, fitting_at, read_at, binary_digits}
+use Rattle.cut_grammar.specs.Grammar.{or_full, held_if}
 use Rattle.cut_grammar.specs.Kinds.{kind10, kind11, kind12, kind13, kind14, stream19, kind19, kind20, kind21, kind22, kind24, kind25}
-use Rattle.cut_grammar.specs.Kinds.{kind2A, kind30, kind31, info32, kind32, kind33, kind35, kind5A, kinds, kind_of}
-use Rattle.cut_grammar.specs.Cut.{signature, startsAt, headAt, takenAs, cut_at, tapBlock, tapAt}
-use Rattle.load_general.specs.General.{pilotOf, dataPart, withPilot, withData, generalOf}
-use Rattle.load_state.specs.Parser.{empty, ◌⟫◌, addTones, addBlock, pend, endGroup, openLoop, copyRows, copies, closed, closeLoop}
-use Rattle.load_state.specs.Parser.{paused, lastPaused}
-use Rattle.load_blocks.specs.Sounds.{row_of, addSound, addSounds}
-use Rattle.load_blocks.specs.Blocks.{standardHeader, standardCycles, standardTones, standardPause, turboTones, pureTones, pureToneTones}
-use Rattle.load_blocks.specs.Blocks.{pulseAt, standardSound, turboSound, pairSounds, pureSound, pauseSound}
-use Rattle.load_blocks.specs.Adds.{addRows}
-use Rattle.load_blocks.specs.Deeds.{generalDeed, stop48Deed, does}
+use Rattle.cut_grammar.specs.Kinds.{kind_2a, kind30, kind31, info32, kind32, kind33, kind35, kind_5a, kinds, kind_of}
+use Rattle.cut_grammar.specs.Cut.{signature, starts_at, head_at, taken_as, cut_at, tap_block, tap_at}
+use Rattle.load_general.specs.General.{pilot_of, data_part, with_pilot, with_data, general_of}
+use Rattle.load_state.specs.Parser.{empty, ◌⟫◌, add_tones, add_block, pend, end_group, open_loop, copy_rows, copies, closed, close_loop}
+use Rattle.load_state.specs.Parser.{paused, last_paused}
+use Rattle.load_blocks.specs.Sounds.{row_of, add_sound, add_sounds}
+use Rattle.load_blocks.specs.Blocks.{standard_header, standard_cycles, standard_tones, standard_pause, turbo_tones, pure_tones, pure_tone_tones}
+use Rattle.load_blocks.specs.Blocks.{pulse_at, standard_sound, turbo_sound, pair_sounds, pure_sound, pause_sound}
+use Rattle.load_blocks.specs.Adds.{add_rows}
+use Rattle.load_blocks.specs.Deeds.{general_deed, stop48_deed, does}
 use Rattle.load_source.specs.Meaning.{deed_of}
-use Rattle.load_source.specs.Source.{act, read_on, seeing, foldFrom, halted, tooManyBits, bitsJudged, tzxOf, tzxSee, headed, readTzx, tapOf}
-use Rattle.load_source.specs.Source.{tapSee, readTap, orTap, or_else, load_of}
-use Rattle.text_out.specs.Out.{ascii, decimal, digits, latin1, eachByte}
+use Rattle.load_source.specs.Source.{act, read_on, seeing, fold_from, halted, too_many_bits, bits_judged, tzx_of, tzx_see, headed, read_tzx, tap_of}
+use Rattle.load_source.specs.Source.{tap_see, read_tap, or_tap, or_else, load_of}
+use Rattle.text_out.specs.Out.{ascii, decimal, digits, latin1, each_byte}
 use Rattle.text_codes.specs.Encoding.{table, encoded}
-use Rattle.text_name.specs.Headers.{typeName, headerName}
-use Rattle.text_name.specs.Names.{isHeader, sizeShown, sizeName, guessed, name_of, unselected, nameOne, nameAll}
-use Rattle.play_entries.specs.Entries.{cyclesOf, isSingle}
-use Rattle.play_entries.specs.Counted.{onesFrom}
-use Rattle.play_entries.specs.Figures.{toneFigure, tonesFigure, bitsFigure, dataFigure, soundIn}
-use Rattle.play_entries.specs.Stored.{rowLasts, rowsLoading}
-use Rattle.load_tape.specs.Load.{namedTape, namedLoad, loadNamed, blockTable, toneTable}
+use Rattle.text_name.specs.Headers.{type_name, header_name}
+use Rattle.text_name.specs.Names.{is_header, size_shown, size_name, guessed, name_of, unselected, name_one, name_all}
+use Rattle.play_entries.specs.Entries.{cycles_of, is_single}
+use Rattle.play_entries.specs.Counted.{ones_from}
+use Rattle.play_entries.specs.Figures.{tone_figure, tones_figure, bits_figure, data_figure, sound_in}
+use Rattle.play_entries.specs.Stored.{row_lasts, rows_loading}
+use Rattle.load_tape.specs.Load.{named_tape, named_load, load_named, block_table, tone_table}
 use Rattle.text_listing.specs.Shown.{shown}
-use Rattle.text_listing.specs.Lines.{timeText, markText, rowTextBy, rowsTextBy}
-use Rattle.text_listing.specs.Page.{modelText, formatText, countText, loadingText, restText, listingText}
-use Rattle.listing.specs.Listing.{loadedOf, Listing, text, refused, mounted, listedBy, listingOf, listingBy}
+use Rattle.text_listing.specs.Lines.{time_text, mark_text, row_text_by, rows_text_by}
+use Rattle.text_listing.specs.Page.{model_text, format_text, count_text, loading_text, rest_text, listing_text}
+use Rattle.listing.specs.Listing.{loaded_of, Listing, text, refused, mounted, listed_by, listing_of, listing_by}
 
 -- a TZX of these pieces
 abbrev pieces : List ℕ → List ℕ
@@ -83,14 +83,14 @@ readings =
     -- no such model
     lists 3
     (pieces (0x12 ∷ 0x64 ∷ 0x00 ∷ 0x04 ∷ 0x00 ∷ 0x20 ∷ 0x01 ∷ 0x00 ∷ 0x2A ∷ 0x00 ∷ 0x00 ∷ 0x00 ∷ 0x00 ∷ []))
-    (refused badModel) ∷
+    (refused bad_model) ∷
     -- empty or one byte: TAP, no blocks
     lists 0 [] (text (ascii "model 48K format TAP blocks 0\ntime 0\n")) ∷
     lists 2 (0x13 ∷ []) (text (ascii "model Plus3 format TAP blocks 0\ntime 0\n")) ∷
     -- `00 00`: one block, 4,032 cycles; `01 00 FF`: 1,612 cycles, pause 7,000,000; `02 00 FF`: refused 3
     lists 0 (0x00 ∷ 0x00 ∷ []) (text (ascii "model 48K format TAP blocks 1\n0 * 0 20984154 0 bytes\ntime 17484154\n")) ∷
     lists 0 (0x01 ∷ 0x00 ∷ 0xFF ∷ []) (text (ascii "model 48K format TAP blocks 1\n0 * 1 14018394 1 bytes\ntime 7018394\n")) ∷
-    lists 0 (0x02 ∷ 0x00 ∷ 0xFF ∷ []) (refused tapeBad) ∷
+    lists 0 (0x02 ∷ 0x00 ∷ 0xFF ∷ []) (refused tape_bad) ∷
     -- 12 with length 100: count 1, count 0
     lists 0 (pieces (0x12 ∷ 0x64 ∷ 0x00 ∷ 0x01 ∷ 0x00 ∷ []))
     (text (ascii "model 48K format TZX blocks 1\n0 - 0 300 0 bytes\ntime 300\n")) ∷
@@ -105,7 +105,7 @@ readings =
     lists 0 (pieces (0x14 ∷ 0x0A ∷ 0x00 ∷ 0x14 ∷ 0x00 ∷ 0x08 ∷ 0x00 ∷ 0x00 ∷ 0x01 ∷ 0x00 ∷ 0x00 ∷ 0x80 ∷ []))
     (text (ascii "model 48K format TZX blocks 1\n0 * 1 180 1 bytes\ntime 180\n")) ∷
     lists 0 (pieces (0x14 ∷ 0x0A ∷ 0x00 ∷ 0x14 ∷ 0x00 ∷ 0x09 ∷ 0x00 ∷ 0x00 ∷ 0x01 ∷ 0x00 ∷ 0x00 ∷ 0x80 ∷ []))
-    (refused lastBits) ∷
+    (refused last_bits) ∷
     -- a given name of code points 31, 32, 126 to 128, 159, 160 and 255, and an empty one
     -- (`? ~???`, A0 and `ÿ`, in UTF-8)
     lists 0
@@ -146,15 +146,15 @@ readings =
     0x00 ∷ 0x00 ∷ 0x00 ∷ 0x00 ∷ 0x00 ∷ 0x00 ∷ [])) (refused generalised) ∷
     []
 
-pub listings-said : map (λ (e : ListReading). listingOf e.tape e.model) readings ≡ map (λ (e : ListReading). e.gives) readings
-unfolding leAt number_at field_at place_of times eachAt groupsAt countedAt passAt textsAt whole_at sealed enclosed fittingAt readAt binaryDigits
-    orFull heldIf kind10 kind11 kind12 kind13 kind14 stream19 kind19 kind20 kind21 kind22 kind24 kind25 kind2A kind30 kind31 info32 kind32
-    kind33 kind35 kind5A kinds kind_of startsAt headAt takenAs cut_at tapBlock tapAt pilotOf dataPart withPilot withData generalOf empty ◌⟫◌
-    addTones addBlock pend endGroup openLoop copyRows copies closed closeLoop paused lastPaused standardHeader standardCycles standardTones
-    standardPause turboTones pureTones pureToneTones pulseAt addRows row_of standardSound turboSound pairSounds pureSound pauseSound addSound
-    addSounds generalDeed stop48Deed does deed_of act read_on seeing foldFrom halted tooManyBits bitsJudged tzxOf tzxSee headed readTzx tapOf
-    tapSee readTap orTap or_else load_of decimal digits latin1 eachByte table encoded isHeader typeName headerName sizeShown sizeName guessed
-    name_of unselected nameOne nameAll namedTape namedLoad loadNamed blockTable toneTable tableOver cyclesOf isSingle wellTone wellNumbers
-    onesFrom ones toneFigure tonesFigure bitsFigure dataFigure soundIn rowLasts rowsLoading shown timeText markText rowTextBy rowsTextBy
-    modelText formatText countText loadingText restText listingText loadedOf mounted listedBy listingBy
-listings-said = refl
+pub listings_said : map (λ (e : ListReading). listing_of e.tape e.model) readings ≡ map (λ (e : ListReading). e.gives) readings
+unfolding le_at number_at field_at place_of times each_at groups_at counted_at pass_at texts_at whole_at sealed enclosed fitting_at read_at binary_digits
+    or_full held_if kind10 kind11 kind12 kind13 kind14 stream19 kind19 kind20 kind21 kind22 kind24 kind25 kind_2a kind30 kind31 info32 kind32
+    kind33 kind35 kind_5a kinds kind_of starts_at head_at taken_as cut_at tap_block tap_at pilot_of data_part with_pilot with_data general_of empty ◌⟫◌
+    add_tones add_block pend end_group open_loop copy_rows copies closed close_loop paused last_paused standard_header standard_cycles standard_tones
+    standard_pause turbo_tones pure_tones pure_tone_tones pulse_at add_rows row_of standard_sound turbo_sound pair_sounds pure_sound pause_sound add_sound
+    add_sounds general_deed stop48_deed does deed_of act read_on seeing fold_from halted too_many_bits bits_judged tzx_of tzx_see headed read_tzx tap_of
+    tap_see read_tap or_tap or_else load_of decimal digits latin1 each_byte table encoded is_header type_name header_name size_shown size_name guessed
+    name_of unselected name_one name_all named_tape named_load load_named block_table tone_table table_over cycles_of is_single well_tone well_numbers
+    ones_from ones tone_figure tones_figure bits_figure data_figure sound_in row_lasts rows_loading shown time_text mark_text row_text_by rows_text_by
+    model_text format_text count_text loading_text rest_text listing_text loaded_of mounted listed_by listing_by
+listings_said = refl

@@ -1,11 +1,11 @@
 -- What a program prints of a listing (rule 110): its text, or `refused n` and a line feed. Definitions alone; assumes nothing.
 use Rattle.std.specs.Prelude.{ℕ, ◌≤◌, ◌≡◌, List, ◌++◌, length, take, drop}
-use Rattle.text_out.specs.Out.{refusedLine}
+use Rattle.text_out.specs.Out.{refused_line}
 use Rattle.listing.specs.Listing.{Listing, text, refused}
 
-unfoldable pub printedOf : Listing → List ℕ
-printedOf (text t) = t
-printedOf (refused k) = refusedLine k
+unfoldable pub printed_of : Listing → List ℕ
+printed_of (text t) = t
+printed_of (refused k) = refused_line k
 
 -- the first r bytes of `out` are the text
 pub record Says (t : List ℕ) (r : ℕ) (out : List ℕ) : Type 0 where

@@ -1,11 +1,11 @@
 // The listing: a loaded tape as text, and the function that our catalogue host calls.
 ghost use Rattle.std.specs.Prelude.{◌≡◌, List, ℕ, ◌<◌, ◌≤◌, length};
-ghost use Rattle.play_entries.specs.Mounted.{tapeOf};
-ghost use Rattle.text_out.specs.Out.{refusedLine};
+ghost use Rattle.play_entries.specs.Mounted.{tape_of};
+ghost use Rattle.text_out.specs.Out.{refused_line};
 ghost use Rattle.text_listing.specs.Inner.{Ready};
-ghost use Rattle.text_listing.specs.Page.{listingText};
-ghost use Rattle.listing.specs.Printed.{printedOf, Says};
-ghost use Rattle.listing.specs.Listing.{text, listingOf, answerTo, bytesAfter};
+ghost use Rattle.text_listing.specs.Page.{listing_text};
+ghost use Rattle.listing.specs.Printed.{printed_of, Says};
+ghost use Rattle.listing.specs.Listing.{text, listing_of, answer_to, bytes_after};
 
 use load_tape::{Format, Loaded};
 use refusals::{BAD_MODEL, NO_ROOM, TAPE_BAD, TAPE_LONG};
@@ -17,9 +17,9 @@ use text_out::{put, put_all, put_decimal};
 fn enough(len: usize, model: u32, format: Format, tape: &[u8], blocks: &[u64], n: u64) -> usize
     requires { Ready tape.now blocks.now n }
     ensures by_index { (tones : List ℕ)
-        → length (listingText model format (tapeOf tape.now tones blocks.now n)) ≤ result }
+        → length (listing_text model format (tape_of tape.now tones blocks.now n)) ≤ result }
     ensures by_index_2 { (tones : List ℕ) → len < result
-        → result ≡ length (listingText model format (tapeOf tape.now tones blocks.now n)) }
+        → result ≡ length (listing_text model format (tape_of tape.now tones blocks.now n)) }
 {
     let most = 77 + 576 * n as usize;
     if most <= len {
@@ -33,10 +33,10 @@ fn enough(len: usize, model: u32, format: Format, tape: &[u8], blocks: &[u64], n
 fn tell(out: &mut [u8], model: u32, format: Format, tape: &[u8], blocks: &[u64], n: u64) -> u32
     requires { Ready tape.now blocks.now n }
     ensures by_index { (tones : List ℕ) → result
-        ≡ answerTo (text (listingText model format (tapeOf tape.now tones blocks.now n)))
+        ≡ answer_to (text (listing_text model format (tape_of tape.now tones blocks.now n)))
         out.old }
     ensures by_index_2 { (tones : List ℕ) → out.new
-        ≡ bytesAfter (text (listingText model format (tapeOf tape.now tones blocks.now n)))
+        ≡ bytes_after (text (listing_text model format (tape_of tape.now tones blocks.now n)))
         out.old }
 {
     let k = enough(out.len(), model, format, tape, blocks, n);
@@ -49,8 +49,8 @@ fn tell(out: &mut [u8], model: u32, format: Format, tape: &[u8], blocks: &[u64],
 // The listing of a tape's bytes for a model; the text's length, or the refusal's number.
 #[unsafe(no_mangle)]
 pub extern "C" fn glyvrask_listing(tape: &[u8], model: u32, out: &mut [u8]) -> u32
-    ensures value { result ≡ answerTo (listingOf tape.now model) out.old }
-    ensures out_after { out.new ≡ bytesAfter (listingOf tape.now model) out.old }
+    ensures value { result ≡ answer_to (listing_of tape.now model) out.old }
+    ensures out_after { out.new ≡ bytes_after (listing_of tape.now model) out.old }
 {
     if 3 <= model {
         return BAD_MODEL;
@@ -74,7 +74,7 @@ pub extern "C" fn glyvrask_listing(tape: &[u8], model: u32, out: &mut [u8]) -> u
 // `refused n` and a line feed; our programs call it, and lend 32 bytes.
 pub fn say_refused(out: &mut [u8], k: u32) -> usize
     requires { 32 ≤ length out.old }
-    ensures { Says (refusedLine k) result out.new }
+    ensures { Says (refused_line k) result out.new }
 {
     let a = put_all(out, 0, b"refused ");
     let b = put_decimal(out, a, k as u64);
@@ -84,7 +84,7 @@ pub fn say_refused(out: &mut [u8], k: u32) -> usize
 // What a program prints of a tape; our programs call it, and lend 300,000 bytes: no text is longer.
 pub fn say(tape: &[u8], model: u32, out: &mut [u8]) -> usize
     requires { 300000 ≤ length out.old }
-    ensures { Says (printedOf (listingOf tape.now model)) result out.new }
+    ensures { Says (printed_of (listing_of tape.now model)) result out.new }
 {
     let n = glyvrask_listing(tape, model, out);
     if n < 32 {

@@ -2,7 +2,7 @@
 use Rattle.std.specs.Prelude.{ℕ, List}
 use Rattle.rows.specs.declared.Block.{Block}
 use Rattle.rows.specs.declared.Tone.{Tone}
-use Rattle.load_state.specs.Parser.{Parsed, Out, ◌⟫◌, addTones, addBlock}
+use Rattle.load_state.specs.Parser.{Parsed, Out, ◌⟫◌, add_tones, add_block}
 
 -- how many rows are lent
 pub record Lent : Type 0 where
@@ -10,5 +10,5 @@ pub record Lent : Type 0 where
   pub tones : ℕ
 
 -- a block that needs these tone rows: 5, then 6
-unfoldable pub addRows : Lent → List Tone → Block → Parsed → Out
-addRows lent ts r t = addTones lent.tones ts t ⟫ addBlock lent.blocks r
+unfoldable pub add_rows : Lent → List Tone → Block → Parsed → Out
+add_rows lent ts r t = add_tones lent.tones ts t ⟫ add_block lent.blocks r

@@ -1,9 +1,9 @@
 // A block's row at its birth, and what adding one does: of any reading. The source reading's standard block.
 // The reading and the crates of the other blocks alone call it.
 ghost use Rattle.std.specs.Prelude.{◌≡◌, List, [], ◌∷◌, ℕ};
-ghost use Rattle.load_blocks.specs.Adds.{addRows};
-ghost use Rattle.load_blocks.specs.Sounds.{noBits, endsAfter, endsInStop, rowFor, addSound};
-ghost use Rattle.load_blocks.specs.Blocks.{dataSound, standardHeader, standardCycles, standardPause, standardSound};
+ghost use Rattle.load_blocks.specs.Adds.{add_rows};
+ghost use Rattle.load_blocks.specs.Sounds.{no_bits, ends_after, ends_in_stop, row_for, add_sound};
+ghost use Rattle.load_blocks.specs.Blocks.{data_sound, standard_header, standard_cycles, standard_pause, standard_sound};
 ghost use Rattle.load_blocks.specs.Does.{Does};
 
 use load_state::{State, Step, add_block, add_tone};
@@ -38,7 +38,7 @@ pub struct Ending {
 
 // A block's row at birth, over so many tone rows from `tone` on: the one place where a row's words are written.
 fn row(origin: Origin, tone: u64, tones: u64, bits: Bits, ending: Ending, selectable: u64) -> Block
-    ensures { result ≡ rowFor origin tone tones bits ending selectable }
+    ensures { result ≡ row_for origin tone tones bits ending selectable }
 {
     Block {
         tone,
@@ -63,7 +63,7 @@ fn row(origin: Origin, tone: u64, tones: u64, bits: Bits, ending: Ending, select
 
 // No data.
 pub fn no_bits() -> Bits
-    ensures { result ≡ noBits }
+    ensures { result ≡ no_bits }
 {
     Bits {
         start: 0,
@@ -76,7 +76,7 @@ pub fn no_bits() -> Bits
 
 // A block with data, or of a 19: selectable.
 pub fn data_row(origin: Origin, tone: u64, tones: u64, bits: Bits, pause: u64) -> Block
-    ensures { result ≡ rowFor origin tone tones bits (endsAfter pause) 1 }
+    ensures { result ≡ row_for origin tone tones bits (ends_after pause) 1 }
 {
     let ending = Ending {
         pause,
@@ -88,7 +88,7 @@ pub fn data_row(origin: Origin, tone: u64, tones: u64, bits: Bits, pause: u64) -
 
 // A block of tones or of a pause alone: not selectable.
 pub fn bare_row(origin: Origin, tone: u64, tones: u64, pause: u64) -> Block
-    ensures { result ≡ rowFor origin tone tones noBits (endsAfter pause) 0 }
+    ensures { result ≡ row_for origin tone tones no_bits (ends_after pause) 0 }
 {
     let ending = Ending {
         pause,
@@ -100,7 +100,7 @@ pub fn bare_row(origin: Origin, tone: u64, tones: u64, pause: u64) -> Block
 
 // A stop block, named `stop`.
 pub fn stop_row(origin: Origin, tone: u64) -> Block
-    ensures { result ≡ rowFor origin tone 0 noBits endsInStop 1 }
+    ensures { result ≡ row_for origin tone 0 no_bits ends_in_stop 1 }
 {
     let ending = Ending {
         pause: 0,
@@ -112,7 +112,7 @@ pub fn stop_row(origin: Origin, tone: u64) -> Block
 
 // One tone row and a block.
 pub fn one_tone(s: State, blocks: &mut [u64], tones: &mut [u64], a: Tone, r: Block) -> Step
-    ensures { Does (λ lent. addRows lent (a ∷ []) r) s result blocks.old tones.old blocks.new
+    ensures { Does (λ lent. add_rows lent (a ∷ []) r) s result blocks.old tones.old blocks.new
         tones.new }
 {
     match add_tone(s, tones, a) {
@@ -130,7 +130,7 @@ pub fn two_tones(
     b: Tone,
     r: Block,
 ) -> Step
-    ensures { Does (λ lent. addRows lent (a ∷ b ∷ []) r) s result blocks.old tones.old blocks.new
+    ensures { Does (λ lent. add_rows lent (a ∷ b ∷ []) r) s result blocks.old tones.old blocks.new
         tones.new }
 {
     match add_tone(s, tones, a) {
@@ -151,7 +151,7 @@ pub fn data_block(
     bits: Bits,
     pause: u64,
 ) -> Step
-    ensures { Does (λ lent. addSound lent tape.now origin (dataSound (pilot ∷ sync ∷ []) bits pause)) s result
+    ensures { Does (λ lent. add_sound lent tape.now origin (data_sound (pilot ∷ sync ∷ []) bits pause)) s result
         blocks.old tones.old blocks.new tones.new }
 {
     let r = data_row(origin, s.tones, 2, bits, pause);
@@ -161,7 +161,7 @@ pub fn data_block(
 
 // Whether a standard block is a header.
 pub fn is_header(tape: &[u8], start: u64, size: u32) -> bool
-    ensures { result ≡ standardHeader tape.now start size }
+    ensures { result ≡ standard_header tape.now start size }
 {
     if size == 0 {
         return true;
@@ -175,7 +175,7 @@ pub fn is_header(tape: &[u8], start: u64, size: u32) -> bool
 
 // The pilot cycles of a standard block.
 fn standard_cycles(header: bool) -> u64
-    ensures { result ≡ standardCycles header }
+    ensures { result ≡ standard_cycles header }
 {
     if header { 4032 } else { 1612 }
 }
@@ -192,7 +192,7 @@ pub fn standard_data_block(
     size: u32,
     pause: u64,
 ) -> Step
-    ensures { Does (λ lent. addSound lent tape.now origin (standardSound header start size pause)) s result
+    ensures { Does (λ lent. add_sound lent tape.now origin (standard_sound header start size pause)) s result
         blocks.old tones.old blocks.new tones.new }
 {
     let pilot = Tone {
@@ -219,14 +219,14 @@ pub fn standard_data_block(
 
 // A block without tone rows.
 pub fn no_tone(s: State, blocks: &mut [u64], r: Block) -> Step
-    ensures { (tt : List ℕ) → Does (λ lent. addRows lent [] r) s result blocks.old tt blocks.new tt }
+    ensures { (tt : List ℕ) → Does (λ lent. add_rows lent [] r) s result blocks.old tt blocks.new tt }
 {
     add_block(s, blocks, r)
 }
 
 // The pause of a standard block in a TAP.
 pub fn standard_pause(header: bool) -> u64
-    ensures { result ≡ standardPause header }
+    ensures { result ≡ standard_pause header }
 {
     if header { 3500000 } else { 7000000 }
 }

@@ -8,12 +8,12 @@ use Rattle.cut_grammar.specs.declared.GeneralizedData.{GeneralizedData}
 use Rattle.cut_grammar.specs.declared.Piece.TheVariants.{Generalized}
 use Rattle.cut_grammar.specs.declared.Taken.TheVariants.{Whole}
 use Rattle.cut_grammar.specs.Cut.{cut_at}
-use Rattle.cut_grammar.proofs.Places.{cut-places}
+use Rattle.cut_grammar.proofs.Places.{cut_places}
 use Rattle.load_general.specs.Held.{Held}
 
-pub cut-held : (s : List ℕ) (at : ℕ) {k a next : ℕ} {g : GeneralizedData} → ((i : ℕ) → get_or s i 0 < 256)
+pub cut_held : (s : List ℕ) (at : ℕ) {k a next : ℕ} {g : GeneralizedData} → ((i : ℕ) → get_or s i 0 < 256)
     → cut_at s at 255 ≡ Whole k a next (Generalized g) → Held s g
-cut-held s at b e =
-    let f = cut-places s at 255 e in
+cut_held s at b e =
+    let f = cut_places s at 255 e in
     let z = f.sizes b 255 (le_refl 255) (le_refl 255) in
     record { places = f.places; asp = z.0; asd = z.1 }

@@ -8,24 +8,24 @@ use native.Mathlib.Nat.{suc-mul, mul_comm, mul_assoc, mul-le-mul_right, mul-lt-m
 use lib.ListN.{length, get_or, set}
 use lib.Seq.{get_or-set_same, get_or-set_other}
 use borrow.Author.Tests.{ne_eqb}
-use Rattle.law_base.proofs.Numbers.{lt-or-ge}
+use Rattle.law_base.proofs.Numbers.{lt_or_ge}
 use Rattle.cut_grammar.specs.declared.GeneralizedData.{GeneralizedData}
-use Rattle.cut_grammar.specs.Grammar.{heldIf}
+use Rattle.cut_grammar.specs.Grammar.{held_if}
 use Rattle.cut_grammar.specs.Places.{Places}
 use Rattle.load_general.specs.General.{Symbol, symbol_at}
-use Rattle.load_general.specs.Held.{Kept, symbolWords, symbol_of}
+use Rattle.load_general.specs.Held.{Kept, symbol_words, symbol_of}
 
 -- an alphabet in use is there
-held : (uses size : ℕ) → 0 < uses → heldIf uses size ≡ size
-unfolding heldIf
+held : (uses size : ℕ) → 0 < uses → held_if uses size ≡ size
+unfolding held_if
 held uses size h = rw (ne_eqb uses 0 (λ e. omega arith))
 
-pub pilot-inside : (s : List ℕ) (g : GeneralizedData) → Places s g → 0 < g.totp → g.pilot + g.asp * (1 + g.npp * 2) ≤ length s
-pilot-inside s g p h = omega (arith, rw (held g.totp g.asp h) at p.entries, p.symbols, p.from, p.inside)
+pub pilot_inside : (s : List ℕ) (g : GeneralizedData) → Places s g → 0 < g.totp → g.pilot + g.asp * (1 + g.npp * 2) ≤ length s
+pilot_inside s g p h = omega (arith, rw (held g.totp g.asp h) at p.entries, p.symbols, p.from, p.inside)
 
-pub data-inside : (s : List ℕ) (g : GeneralizedData) → Places s g → 0 < g.totd
+pub data_inside : (s : List ℕ) (g : GeneralizedData) → Places s g → 0 < g.totd
     → g.symbols + g.asd * (1 + g.npd * 2) ≤ length s
-data-inside s g p h = omega (arith, rw (held g.totd g.asd h) at p.from, p.inside)
+data_inside s g p h = omega (arith, rw (held g.totd g.asd h) at p.from, p.inside)
 
 -- thing i of n
 pub below : (i n w : ℕ) → i < n → i * w + w ≤ n * w
@@ -33,32 +33,32 @@ below i n w h = omega (arith, mul-le-mul_right w h, suc-mul i w)
 
 -- one symbol more
 pub kept_more : (s : List ℕ) (place pulses i : ℕ) (a : List (List ℕ)) (row : List ℕ) → Kept s place pulses i a → i < length a
-    → row ≡ symbolWords (symbol_at s place pulses i) → Kept s place pulses (i + 1) (set a i row)
+    → row ≡ symbol_words (symbol_at s place pulses i) → Kept s place pulses (i + 1) (set a i row)
 kept_more s place pulses i a row k h e j l =
     ⊎_elim
     (λ (b : j < i). get_or-set_other a i j row [] (λ q. omega arith) ∙ k j b)
     (λ (b : i ≤ j). let q : j ≡ i = omega arith in rw q (get_or-set_same a i row [] h ∙ e))
-    (lt-or-ge j i)
+    (lt_or_ge j i)
 
 -- the bit of a symbol is among those of the data bytes
-pub single-bit : (i n t : ℕ) → i < t → 0 < n → i * n < n * t
-single-bit i n t h k = rw (mul_comm n t) (mul-lt-mul_of_pos_right h k)
+pub single_bit : (i n t : ℕ) → i < t → 0 < n → i * n < n * t
+single_bit i n t h k = rw (mul_comm n t) (mul-lt-mul_of_pos_right h k)
 
-pub pair-bit : (i n t : ℕ) → i < t / 2 → 0 < n → 2 * i * n < n * t
-pair-bit i n t h k = let l : 2 * i < t = omega arith in single-bit (2 * i) n t l k
+pub pair_bit : (i n t : ℕ) → i < t / 2 → 0 < n → 2 * i * n < n * t
+pair_bit i n t h k = let l : 2 * i < t = omega arith in single_bit (2 * i) n t l k
 
 -- the bit of a pair is even
-pub pair-even : (i n : ℕ) → 2 * i * n % 8 + 1 ≤ 7
-pair-even i n = rw (mul_assoc 2 i n) (omega arith)
+pub pair_even : (i n : ℕ) → 2 * i * n % 8 + 1 ≤ 7
+pair_even i n = rw (mul_assoc 2 i n) (omega arith)
 
 -- two symbols of two pulses are there
-pub two-inside : (s : List ℕ) (g : GeneralizedData) → Places s g → 0 < g.totd → g.asd ≡ 2 → g.npd ≡ 2
+pub two_inside : (s : List ℕ) (g : GeneralizedData) → Places s g → 0 < g.totd → g.asd ≡ 2 → g.npd ≡ 2
     → g.symbols + 10 ≤ length s
-two-inside s g p h a n = rw (a, n) at (data-inside s g p h)
+two_inside s g p h a n = rw (a, n) at (data_inside s g p h)
 
 -- a symbol as the code keeps it, and back again
-pub symbol-back : {w : List ℕ} {y : Symbol} → w ≡ symbolWords y → symbol_of w ≡ y
-unfolding symbol_of symbolWords
+pub symbol-back : {w : List ℕ} {y : Symbol} → w ≡ symbol_words y → symbol_of w ≡ y
+unfolding symbol_of symbol_words
 symbol-back e = rw e
 
 -- what an array that holds an alphabet has at a symbol's number

@@ -1,7 +1,7 @@
 -- What a generalised piece (19) gives in the source reading: rules 71 to 78, 81 and 82. Assumes nothing.
 use Rattle.std.specs.Prelude.{ℕ, zero, suc, ◌+◌, ◌*◌, ◌-◌, ◌/◌, ◌%◌, ◌^◌, Bool, ◌&&◌, ◌||◌, List, [], ◌∷◌, ◌++◌, get_or, leb, ltb, eqb}
 use Rattle.law_base.specs.Rules.{◌⇒◌, ◌∣◌}
-use Rattle.cut_fields.specs.Field.{leAt}
+use Rattle.cut_fields.specs.Field.{le_at}
 use Rattle.rows.specs.declared.Tone.{Tone}
 use Rattle.cut_grammar.specs.declared.GeneralizedData.{GeneralizedData}
 use Rattle.load_general.specs.declared.Row.{Row}
@@ -16,10 +16,10 @@ pub record Symbol : Type 0 where
 unfoldable pub symbol_at : List ℕ → ℕ → ℕ → ℕ → Symbol
 symbol_at s place n i =
     let at = place + i * (1 + n * 2) + 1 in
-    record { first = leAt s at 2; second = ltb 1 n ⇒ leAt s (at + 2) 2 ∣ 0 }
+    record { first = le_at s at 2; second = ltb 1 n ⇒ le_at s (at + 2) 2 ∣ 0 }
 
-abbrev pub plainTone : ℕ → ℕ → ℕ → Tone
-plainTone num len1 len2 = record { num = num; len1 = len1; len2 = len2; wave = 0 }
+abbrev pub plain_tone : ℕ → ℕ → ℕ → Tone
+plain_tone num len1 len2 = record { num = num; len1 = len1; len2 = len2; wave = 0 }
 
 -- one part's answer: the piece is refused, it is a stop block, or the part is these tones
 pub data Part : Type 0 where
@@ -42,79 +42,79 @@ rows_from row i (suc n) = before (row i) (rows_from row (i + 1) n)
 -- one pulse, or second pulse 0, gives (repeat + 1)/2 cycles, refused with repeat 65,535; two give repeat cycles
 unfoldable pub cycles : Symbol → ℕ → Row
 cycles y repeat =
-    eqb y.second 0 ⇒ (eqb repeat 65535 ⇒ Refused ∣ Gives (plainTone ((repeat + 1) / 2) y.first y.first))
-    ∣ Gives (plainTone repeat y.first y.second)
+    eqb y.second 0 ⇒ (eqb repeat 65535 ⇒ Refused ∣ Gives (plain_tone ((repeat + 1) / 2) y.first y.first))
+    ∣ Gives (plain_tone repeat y.first y.second)
 
 -- pilot entry i: a symbol's number and its repetitions
-unfoldable pub entrySymbol : List ℕ → GeneralizedData → ℕ → ℕ
-entrySymbol s g i = get_or s (g.entries + i * 3) 0
+unfoldable pub entry_symbol : List ℕ → GeneralizedData → ℕ → ℕ
+entry_symbol s g i = get_or s (g.entries + i * 3) 0
 
-unfoldable pub entryRepeat : List ℕ → GeneralizedData → ℕ → ℕ
-entryRepeat s g i = leAt s (g.entries + i * 3 + 1) 2
+unfoldable pub entry_repeat : List ℕ → GeneralizedData → ℕ → ℕ
+entry_repeat s g i = le_at s (g.entries + i * 3 + 1) 2
 
 -- refused with a symbol not below asp
-unfoldable pub entryRow : List ℕ → GeneralizedData → ℕ → Row
-entryRow s g i =
-    leb g.asp (entrySymbol s g i) ⇒ Refused
-    ∣ cycles (symbol_at s g.pilot g.npp (entrySymbol s g i)) (entryRepeat s g i)
+unfoldable pub entry_row : List ℕ → GeneralizedData → ℕ → Row
+entry_row s g i =
+    leb g.asp (entry_symbol s g i) ⇒ Refused
+    ∣ cycles (symbol_at s g.pilot g.npp (entry_symbol s g i)) (entry_repeat s g i)
 
 -- the pilot part: npp 0 or above 2 at the first entry makes the piece a stop block
-unfoldable pub pilotOf : List ℕ → GeneralizedData → Part
-pilotOf s g =
+unfoldable pub pilot_of : List ℕ → GeneralizedData → Part
+pilot_of s g =
     eqb g.totp 0 ⇒ tones []
-    ∣ (eqb g.npp 1 || eqb g.npp 2) ⇒ rows_from (entryRow s g) 0 g.totp
-    ∣ leb g.asp (entrySymbol s g 0) ⇒ refused
+    ∣ (eqb g.npp 1 || eqb g.npp 2) ⇒ rows_from (entry_row s g) 0 g.totp
+    ∣ leb g.asp (entry_symbol s g 0) ⇒ refused
     ∣ stops
 
 -- data: asd 2, npd 2 and equal halves in both symbols give an ordinary data block
-unfoldable pub equalHalves : Symbol → Bool
-equalHalves y = eqb y.first y.second
+unfoldable pub equal_halves : Symbol → Bool
+equal_halves y = eqb y.first y.second
 
 unfoldable pub ordinary : List ℕ → GeneralizedData → Bool
 ordinary s g =
-    eqb g.asd 2 && (eqb g.npd 2 && (equalHalves (symbol_at s g.symbols 2 0) && equalHalves (symbol_at s g.symbols 2 1)))
+    eqb g.asd 2 && (eqb g.npd 2 && (equal_halves (symbol_at s g.symbols 2 0) && equal_halves (symbol_at s g.symbols 2 1)))
 
 -- last bits totd mod 8 or 8
-unfoldable pub usedBits : ℕ → ℕ
-usedBits totd = eqb (totd % 8) 0 ⇒ 8 ∣ totd % 8
+unfoldable pub used_bits : ℕ → ℕ
+used_bits totd = eqb (totd % 8) 0 ⇒ 8 ∣ totd % 8
 
 -- the symbol number at a bit of the data bytes: the byte shifted right by 7 - r, r the bit's place in its byte, less `more`, cut to nb bits
-unfoldable pub symbolNumber : List ℕ → GeneralizedData → ℕ → ℕ → ℕ
-symbolNumber s g bit more = get_or s (g.from + bit / 8) 0 / 2 ^ (7 - bit % 8 - more) % 2 ^ g.nb
+unfoldable pub symbol_number : List ℕ → GeneralizedData → ℕ → ℕ → ℕ
+symbol_number s g bit more = get_or s (g.from + bit / 8) 0 / 2 ^ (7 - bit % 8 - more) % 2 ^ g.nb
 
-abbrev pub dataSymbol : List ℕ → GeneralizedData → ℕ → Symbol
-dataSymbol s g b = symbol_at s g.symbols g.npd b
+abbrev pub data_symbol : List ℕ → GeneralizedData → ℕ → Symbol
+data_symbol s g b = symbol_at s g.symbols g.npd b
 
 -- npd 2: one tone for each symbol; refused with a used symbol not below asd
-unfoldable pub singleRow : List ℕ → GeneralizedData → ℕ → Row
-singleRow s g i =
-    let b = symbolNumber s g (i * g.nb) 0 in
+unfoldable pub single_row : List ℕ → GeneralizedData → ℕ → Row
+single_row s g i =
+    let b = symbol_number s g (i * g.nb) 0 in
     leb g.asd b ⇒ Refused
-    ∣ Gives (plainTone 1 (dataSymbol s g b).first (dataSymbol s g b).second)
+    ∣ Gives (plain_tone 1 (data_symbol s g b).first (data_symbol s g b).second)
 
 -- npd 1: one tone for each pair, the second symbol shifted by one less at the first one's bit
-unfoldable pub pairRow : List ℕ → GeneralizedData → ℕ → Row
-pairRow s g i =
-    let b = symbolNumber s g (2 * i * g.nb) 0 in
-    let d = symbolNumber s g (2 * i * g.nb) 1 in
+unfoldable pub pair_row : List ℕ → GeneralizedData → ℕ → Row
+pair_row s g i =
+    let b = symbol_number s g (2 * i * g.nb) 0 in
+    let d = symbol_number s g (2 * i * g.nb) 1 in
     leb g.asd b ⇒ Refused
     ∣ leb g.asd d ⇒ Refused
-    ∣ Gives (plainTone 1 (dataSymbol s g b).first (dataSymbol s g d).first)
+    ∣ Gives (plain_tone 1 (data_symbol s g b).first (data_symbol s g d).first)
 
 -- nb 0 is refused with npd 2, and with npd 1 and totd above 1; an odd last symbol is dropped
-unfoldable pub singlesOf : List ℕ → GeneralizedData → Part
-singlesOf s g = eqb g.nb 0 ⇒ refused ∣ rows_from (singleRow s g) 0 g.totd
+unfoldable pub singles_of : List ℕ → GeneralizedData → Part
+singles_of s g = eqb g.nb 0 ⇒ refused ∣ rows_from (single_row s g) 0 g.totd
 
-unfoldable pub pairsOf : List ℕ → GeneralizedData → Part
-pairsOf s g = (eqb g.nb 0 && ltb 1 g.totd) ⇒ refused ∣ rows_from (pairRow s g) 0 (g.totd / 2)
+unfoldable pub pairs_of : List ℕ → GeneralizedData → Part
+pairs_of s g = (eqb g.nb 0 && ltb 1 g.totd) ⇒ refused ∣ rows_from (pair_row s g) 0 (g.totd / 2)
 
 -- the data part where it is no ordinary block: refused for totd 0 and nb 8; npd above 2 or 0, a stop block
-unfoldable pub dataPart : List ℕ → GeneralizedData → Part
-dataPart s g =
+unfoldable pub data_part : List ℕ → GeneralizedData → Part
+data_part s g =
     eqb g.totd 0 ⇒ refused
     ∣ leb 8 g.nb ⇒ refused
-    ∣ eqb g.npd 2 ⇒ singlesOf s g
-    ∣ eqb g.npd 1 ⇒ pairsOf s g
+    ∣ eqb g.npd 2 ⇒ singles_of s g
+    ∣ eqb g.npd 1 ⇒ pairs_of s g
     ∣ stops
 
 -- what the piece gives: refusal 4; a stop block; or a block of these tones, with the data bytes as its data or without data
@@ -124,18 +124,18 @@ pub data Given : Type 0 where
   plain : List Tone → ℕ → ℕ → ℕ → Given
   toned : List Tone → Given
 
-unfoldable pub withData : List Tone → Part → Given
-withData ps refused = refused4
-withData ps stops = stop
-withData ps (tones ts) = toned (ps ++ ts)
+unfoldable pub with_data : List Tone → Part → Given
+with_data ps refused = refused4
+with_data ps stops = stop
+with_data ps (tones ts) = toned (ps ++ ts)
 
-unfoldable pub withPilot : List ℕ → GeneralizedData → Part → Given
-withPilot s g refused = refused4
-withPilot s g stops = stop
-withPilot s g (tones ps) =
+unfoldable pub with_pilot : List ℕ → GeneralizedData → Part → Given
+with_pilot s g refused = refused4
+with_pilot s g stops = stop
+with_pilot s g (tones ps) =
     (ltb 0 g.totd && ordinary s g)
-    ⇒ plain ps (symbol_at s g.symbols 2 0).first (symbol_at s g.symbols 2 1).first (usedBits g.totd)
-    ∣ withData ps (dataPart s g)
+    ⇒ plain ps (symbol_at s g.symbols 2 0).first (symbol_at s g.symbols 2 1).first (used_bits g.totd)
+    ∣ with_data ps (data_part s g)
 
-unfoldable pub generalOf : List ℕ → GeneralizedData → Given
-generalOf s g = withPilot s g (pilotOf s g)
+unfoldable pub general_of : List ℕ → GeneralizedData → Given
+general_of s g = with_pilot s g (pilot_of s g)

@@ -11,12 +11,12 @@ pub record Held (s : List ℕ) (g : GeneralizedData) : Type 0 where
   pub asd : g.asd ≤ 255
 
 -- a symbol as the code keeps it
-unfoldable pub symbolWords : Symbol → List ℕ
-symbolWords y = y.first ∷ y.second ∷ []
+unfoldable pub symbol_words : Symbol → List ℕ
+symbol_words y = y.first ∷ y.second ∷ []
 
 unfoldable pub symbol_of : List ℕ → Symbol
 symbol_of w = record { first = get_or w 0 0; second = get_or w 1 0 }
 
 -- an array that holds the n symbols of an alphabet
 abbrev pub Kept : List ℕ → ℕ → ℕ → ℕ → List (List ℕ) → Type 0
-Kept s place pulses n a = (i : ℕ) → i < n → get_or a i [] ≡ symbolWords (symbol_at s place pulses i)
+Kept s place pulses n a = (i : ℕ) → i < n → get_or a i [] ≡ symbol_words (symbol_at s place pulses i)

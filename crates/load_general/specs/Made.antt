@@ -1,8 +1,8 @@
 -- The answers of the code: a part's, and the piece's with the tone table that it leaves. Assumes nothing.
 use Rattle.std.specs.Prelude.{ℕ, ◌-◌, ◌≡◌, Bool, true, false, List, [], length, leb}
 use Rattle.law_base.specs.Rules.{◌⇒◌, ◌∣◌}
-use Rattle.rows.specs.Table.{put, put_all, capacityOf}
-use Rattle.rows.specs.Rows.{tone, toneMost}
+use Rattle.rows.specs.Table.{put, put_all, capacity_of}
+use Rattle.rows.specs.Rows.{tone, tone_most}
 use Rattle.rows.specs.declared.Tone.{Tone}
 use Rattle.load_general.specs.declared.Row.{Row}
 use Rattle.load_general.specs.declared.Row.TheVariants.{Refused, Gives}
@@ -13,30 +13,30 @@ use Rattle.load_general.specs.declared.Made.TheVariants as made
 use Rattle.load_general.specs.General.{Part, refused, stops, tones, Given, refused4, stop, plain, toned}
 
 -- a part: its tones are told by their number
-unfoldable pub judgedOf : Part → Judged
-judgedOf refused = judged.Refused
-judgedOf stops = judged.Stop
-judgedOf (tones ts) = judged.Rows (length ts)
+unfoldable pub judged_of : Part → Judged
+judged_of refused = judged.Refused
+judged_of stops = judged.Stop
+judged_of (tones ts) = judged.Rows (length ts)
 
 -- whether a part is tones, and which
-unfoldable pub isTones : Part → Bool
-isTones refused = false
-isTones stops = false
-isTones (tones ts) = true
+unfoldable pub is_tones : Part → Bool
+is_tones refused = false
+is_tones stops = false
+is_tones (tones ts) = true
 
-unfoldable pub partTones : Part → List Tone
-partTones refused = []
-partTones stops = []
-partTones (tones ts) = ts
+unfoldable pub part_tones : Part → List Tone
+part_tones refused = []
+part_tones stops = []
+part_tones (tones ts) = ts
 
 -- a row is a tone or refused; a tone is put at row i
-unfoldable pub isGiven : Row → Bool
-isGiven Refused = false
-isGiven (Gives t) = true
+unfoldable pub is_given : Row → Bool
+is_given Refused = false
+is_given (Gives t) = true
 
-unfoldable pub putGiven : List ℕ → ℕ → Row → List ℕ
-putGiven table i Refused = table
-putGiven table i (Gives t) = put tone table i t
+unfoldable pub put_given : List ℕ → ℕ → Row → List ℕ
+put_given table i Refused = table
+put_given table i (Gives t) = put tone table i t
 
 -- the piece, where `room` rows remain: refusal 4 and a stop need none, and more rows than remain are Full
 unfoldable pub made_of : ℕ → Given → Made
@@ -54,5 +54,5 @@ leaves room t used (toned ts) = leb (length ts) room ⇒ put_all tone t used ts 
 
 -- the answer r, and the tone table t that has become t'
 pub record MadeDone (given : Given) (used : ℕ) (t t' : List ℕ) (r : Made) : Type 0 where
-  pub answer : r ≡ made_of (capacityOf tone toneMost t - used) given
-  pub table : t' ≡ leaves (capacityOf tone toneMost t - used) t used given
+  pub answer : r ≡ made_of (capacity_of tone tone_most t - used) given
+  pub table : t' ≡ leaves (capacity_of tone tone_most t - used) t used given

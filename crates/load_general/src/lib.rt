@@ -1,10 +1,10 @@
 // Generalised data (19) in the source reading: what a cut piece gives, and the reading of its symbols and of the numbers in its data.
 ghost use Rattle.std.specs.Prelude.{◌≡◌, ℕ, ◌+◌, ◌*◌, ◌-◌, ◌/◌, ◌%◌, ◌^◌, ◌≤◌, ◌<◌, length, get_or};
-ghost use Rattle.cut_fields.specs.Field.{leAt};
+ghost use Rattle.cut_fields.specs.Field.{le_at};
 ghost use Rattle.load_general.specs.declared.Row.{Row};
-ghost use Rattle.load_general.specs.General.{symbol_at, rows_from, symbolNumber};
-ghost use Rattle.load_general.specs.Made.{judgedOf, isTones};
-ghost use Rattle.load_general.specs.Held.{Held, Kept, symbolWords};
+ghost use Rattle.load_general.specs.General.{symbol_at, rows_from, symbol_number};
+ghost use Rattle.load_general.specs.Made.{judged_of, is_tones};
+ghost use Rattle.load_general.specs.Held.{Held, Kept, symbol_words};
 
 use cut_fields::low_first;
 use cut_grammar::GeneralizedData;
@@ -56,7 +56,7 @@ pub fn byte_at(tape: &[u8], at: u64) -> u32
 // The pulse at a place.
 fn pulse(tape: &[u8], at: u64) -> u16
     requires { at + 2 ≤ length tape.now }
-    ensures { result ≡ leAt tape.now at 2 }
+    ensures { result ≡ le_at tape.now at 2 }
 {
     low_first(tape, at, 2) as u16
 }
@@ -65,7 +65,7 @@ fn pulse(tape: &[u8], at: u64) -> u16
 // its callers know it to lie in the tape.
 pub fn symbol(tape: &[u8], place: u64, n: u32, i: u32) -> [u16; 2]
     requires { (0 < n) × (place + i * (1 + n * 2) + (1 + n * 2) ≤ length tape.now) }
-    ensures { result ≡ symbolWords (symbol_at tape.now place n i) }
+    ensures { result ≡ symbol_words (symbol_at tape.now place n i) }
 {
     let at = place + i as u64 * (1 + n as u64 * 2) + 1;
     let first = pulse(tape, at);
@@ -111,7 +111,7 @@ fn shift(bit: u32, more: u32) -> u32
 // its callers know the piece to be one of this tape, and the bits to lie in it.
 pub fn number_at(tape: &[u8], g: GeneralizedData, bit: u32, more: u32) -> u32
     requires { Held tape.now g × (g.nb < 8) × (bit < g.nb * g.totd) × (bit % 8 + more ≤ 7) }
-    ensures { result ≡ symbolNumber tape.now g bit more }
+    ensures { result ≡ symbol_number tape.now g bit more }
 {
     let byte = byte_at(tape, g.from + bit as u64 / 8);
     (byte >> shift(bit, more)) & (power(g.nb) - 1)
@@ -126,7 +126,7 @@ pub fn pairs_of(n: u32) -> u32
 
 // What n rows of any sort come to, where `given` says whether all are given.
 pub fn part_of(given: bool, n: u32) -> Judged
-    ensures { (row : ℕ → Row) → given ≡ isTones (rows_from row 0 n) → result ≡ judgedOf (rows_from row 0 n) }
+    ensures { (row : ℕ → Row) → given ≡ is_tones (rows_from row 0 n) → result ≡ judged_of (rows_from row 0 n) }
 {
     if given {
         Judged::Rows(n)

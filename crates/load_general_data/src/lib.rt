@@ -1,7 +1,7 @@
 // The data part of a generalised piece (19): which symbols are given, and what the part comes to.
 ghost use Rattle.std.specs.Prelude.{◌≡◌, ◌&&◌, ◌/◌, ◌^◌, ◌<◌, leb, ltb, eqb};
-ghost use Rattle.load_general.specs.General.{singleRow, pairRow, rows_from, singlesOf, pairsOf, dataPart};
-ghost use Rattle.load_general.specs.Made.{judgedOf, isGiven, isTones};
+ghost use Rattle.load_general.specs.General.{single_row, pair_row, rows_from, singles_of, pairs_of, data_part};
+ghost use Rattle.load_general.specs.Made.{judged_of, is_given, is_tones};
 ghost use Rattle.load_general.specs.Held.{Held};
 
 use cut_grammar::GeneralizedData;
@@ -18,7 +18,7 @@ fn every_number(g: GeneralizedData) -> bool
 // Whether data symbol i is given.
 fn single_given(tape: &[u8], g: GeneralizedData, i: u32) -> bool
     requires { Held tape.now g × (0 < g.nb) × (g.nb < 8) × (i < g.totd) }
-    ensures { result ≡ isGiven (singleRow tape.now g i) }
+    ensures { result ≡ is_given (single_row tape.now g i) }
 {
     number_at(tape, g, i * g.nb, 0) < g.asd
 }
@@ -26,7 +26,7 @@ fn single_given(tape: &[u8], g: GeneralizedData, i: u32) -> bool
 // Whether all data symbols are given.
 fn singles_given(tape: &[u8], g: GeneralizedData) -> bool
     requires { Held tape.now g × (0 < g.nb) × (g.nb < 8) }
-    ensures { result ≡ isTones (rows_from (singleRow tape.now g) 0 g.totd) }
+    ensures { result ≡ is_tones (rows_from (single_row tape.now g) 0 g.totd) }
 {
     if every_number(g) {
         return true;
@@ -44,7 +44,7 @@ fn singles_given(tape: &[u8], g: GeneralizedData) -> bool
 // Whether pair i of data symbols is given.
 fn pair_given(tape: &[u8], g: GeneralizedData, i: u32) -> bool
     requires { Held tape.now g × (0 < g.nb) × (g.nb < 8) × (i < g.totd / 2) }
-    ensures { result ≡ isGiven (pairRow tape.now g i) }
+    ensures { result ≡ is_given (pair_row tape.now g i) }
 {
     let bit = 2 * i * g.nb;
     number_at(tape, g, bit, 0) < g.asd && number_at(tape, g, bit, 1) < g.asd
@@ -53,7 +53,7 @@ fn pair_given(tape: &[u8], g: GeneralizedData, i: u32) -> bool
 // Whether all pairs of data symbols are given.
 fn pairs_given(tape: &[u8], g: GeneralizedData) -> bool
     requires { Held tape.now g × (1 < g.totd → 0 < g.nb) × (g.nb < 8) }
-    ensures { result ≡ isTones (rows_from (pairRow tape.now g) 0 (g.totd / 2)) }
+    ensures { result ≡ is_tones (rows_from (pair_row tape.now g) 0 (g.totd / 2)) }
 {
     if every_number(g) {
         return true;
@@ -79,7 +79,7 @@ fn no_bits(g: GeneralizedData) -> bool
 // What the data part comes to where its symbols have two pulses.
 fn singles_part(tape: &[u8], g: GeneralizedData) -> Judged
     requires { Held tape.now g × (0 < g.totd) × (g.npd ≡ 2) × (g.nb < 8) }
-    ensures { result ≡ judgedOf (singlesOf tape.now g) }
+    ensures { result ≡ judged_of (singles_of tape.now g) }
 {
     if g.nb == 0 {
         Judged::Refused
@@ -91,7 +91,7 @@ fn singles_part(tape: &[u8], g: GeneralizedData) -> Judged
 // What the data part comes to where its symbols have one pulse.
 fn pairs_part(tape: &[u8], g: GeneralizedData) -> Judged
     requires { Held tape.now g × (0 < g.totd) × (g.npd ≡ 1) × (g.nb < 8) }
-    ensures { result ≡ judgedOf (pairsOf tape.now g) }
+    ensures { result ≡ judged_of (pairs_of tape.now g) }
 {
     if no_bits(g) {
         Judged::Refused
@@ -103,7 +103,7 @@ fn pairs_part(tape: &[u8], g: GeneralizedData) -> Judged
 // What the data part comes to where it is no ordinary data block; its callers know the piece to be one of this tape.
 pub fn data_part(tape: &[u8], g: GeneralizedData) -> Judged
     requires { Held tape.now g }
-    ensures { result ≡ judgedOf (dataPart tape.now g) }
+    ensures { result ≡ judged_of (data_part tape.now g) }
 {
     if g.totd == 0 {
         return Judged::Refused;

@@ -1,8 +1,8 @@
 // The pilot part of a generalised piece (19): the row of each entry, and what the part comes to.
 ghost use Rattle.std.specs.Prelude.{◌≡◌, ◌||◌, ◌≤◌, ◌<◌, eqb};
 ghost use Rattle.load_general.specs.declared.Row.TheVariants.{Gives};
-ghost use Rattle.load_general.specs.General.{plainTone, cycles, entryRow, rows_from, pilotOf};
-ghost use Rattle.load_general.specs.Made.{judgedOf, isGiven, isTones};
+ghost use Rattle.load_general.specs.General.{plain_tone, cycles, entry_row, rows_from, pilot_of};
+ghost use Rattle.load_general.specs.Made.{judged_of, is_given, is_tones};
 ghost use Rattle.load_general.specs.Held.{Held, Kept, symbol_of};
 
 use cut_fields::low_first;
@@ -12,7 +12,7 @@ use rows::Tone;
 
 // A row of cycles.
 fn gives(num: u32, len1: u16, len2: u16) -> Row
-    ensures { result ≡ Gives (plainTone num len1 len2) }
+    ensures { result ≡ Gives (plain_tone num len1 len2) }
 {
     Row::Gives(Tone {
         num: num as u64,
@@ -39,7 +39,7 @@ fn cycles(y: [u16; 2], repeat: u32) -> Row
 // Pilot entry i, which its callers know to be one of this tape, as they know the alphabet to be its own.
 pub fn entry_row(tape: &[u8], a: &[[u16; 2]; SYMBOLS], g: GeneralizedData, i: u32) -> Row
     requires { Held tape.now g × Kept tape.now g.pilot g.npp g.asp a.now × (i < g.totp) }
-    ensures { result ≡ entryRow tape.now g i }
+    ensures { result ≡ entry_row tape.now g i }
 {
     let at = g.entries + i as u64 * 3;
     let n = byte_at(tape, at);
@@ -51,7 +51,7 @@ pub fn entry_row(tape: &[u8], a: &[[u16; 2]; SYMBOLS], g: GeneralizedData, i: u3
 
 // Whether a row is one.
 fn is_given(r: Row) -> bool
-    ensures { result ≡ isGiven r }
+    ensures { result ≡ is_given r }
 {
     match r {
         Row::Refused => false,
@@ -62,7 +62,7 @@ fn is_given(r: Row) -> bool
 // Whether all pilot entries are given.
 fn entries_given(tape: &[u8], g: GeneralizedData) -> bool
     requires { Held tape.now g × (0 < g.totp) × (0 < g.npp) }
-    ensures { result ≡ isTones (rows_from (entryRow tape.now g) 0 g.totp) }
+    ensures { result ≡ is_tones (rows_from (entry_row tape.now g) 0 g.totp) }
 {
     let a = alphabet(tape, g.pilot, g.asp, g.npp);
     let mut i = 0;
@@ -85,7 +85,7 @@ fn one_or_two(n: u32) -> bool
 // What the pilot part comes to; its callers know the piece to be one of this tape.
 pub fn pilot_part(tape: &[u8], g: GeneralizedData) -> Judged
     requires { Held tape.now g }
-    ensures { result ≡ judgedOf (pilotOf tape.now g) }
+    ensures { result ≡ judged_of (pilot_of tape.now g) }
 {
     if g.totp == 0 {
         return Judged::Rows(0);

@@ -1,13 +1,13 @@
 // What a generalised piece (19) comes to, its rows put in the tone table.
 ghost use Rattle.std.specs.Prelude.{◌≡◌, true, ◌&&◌, ◌-◌, ◌/◌, ◌≤◌, ◌<◌, length, leb, ltb};
-ghost use Rattle.rows.specs.Table.{put_all, capacityOf};
-ghost use Rattle.rows.specs.Rows.{tone, toneMost};
+ghost use Rattle.rows.specs.Table.{put_all, capacity_of};
+ghost use Rattle.rows.specs.Rows.{tone, tone_most};
 ghost use Rattle.load_general.specs.declared.Row.TheVariants.{Gives};
 ghost use Rattle.load_general.specs.declared.Judged.TheVariants.{Rows};
 ghost use Rattle.load_general.specs.declared.Made.TheVariants.{Data};
-ghost use Rattle.load_general.specs.General.{plainTone, entryRow, singleRow, pairRow, rows_from, pilotOf, equalHalves, ordinary, usedBits};
-ghost use Rattle.load_general.specs.General.{dataPart, withData, withPilot, generalOf};
-ghost use Rattle.load_general.specs.Made.{judgedOf, isGiven, putGiven, isTones, partTones, MadeDone};
+ghost use Rattle.load_general.specs.General.{plain_tone, entry_row, single_row, pair_row, rows_from, pilot_of, equal_halves, ordinary, used_bits};
+ghost use Rattle.load_general.specs.General.{data_part, with_data, with_pilot, general_of};
+ghost use Rattle.load_general.specs.Made.{judged_of, is_given, put_given, is_tones, part_tones, MadeDone};
 ghost use Rattle.load_general.specs.Held.{Held, Kept, symbol_of};
 
 use cut_grammar::GeneralizedData;
@@ -18,7 +18,7 @@ use rows::{Tone, put_tone, tone_capacity};
 
 // Whether both halves of a symbol are equal.
 fn equal_halves(y: [u16; 2]) -> bool
-    ensures { result ≡ equalHalves (symbol_of y) }
+    ensures { result ≡ equal_halves (symbol_of y) }
 {
     y[0] == y[1]
 }
@@ -45,8 +45,8 @@ fn ordinary(tape: &[u8], g: GeneralizedData) -> bool
 
 // The row in the tone table, where it is one.
 fn put_row(tones: &mut [u64], i: usize, r: Row)
-    requires { i < capacityOf tone toneMost tones.old }
-    ensures { tones.new ≡ putGiven tones.old i r }
+    requires { i < capacity_of tone tone_most tones.old }
+    ensures { tones.new ≡ put_given tones.old i r }
 {
     match r {
         Row::Refused => {}
@@ -56,10 +56,10 @@ fn put_row(tones: &mut [u64], i: usize, r: Row)
 
 // The pilot entries, all of which are given and fit, from row `used` on.
 fn put_entries(tape: &[u8], g: GeneralizedData, tones: &mut [u64], used: usize)
-    requires { Held tape.now g × (0 < g.totp) × (0 < g.npp) × (isTones (rows_from (entryRow tape.now g) 0 g.totp) ≡ true)
-        × (g.totp ≤ capacityOf tone toneMost tones.old - used) }
+    requires { Held tape.now g × (0 < g.totp) × (0 < g.npp) × (is_tones (rows_from (entry_row tape.now g) 0 g.totp) ≡ true)
+        × (g.totp ≤ capacity_of tone tone_most tones.old - used) }
     ensures { tones.new
-        ≡ put_all tone tones.old used (partTones (rows_from (entryRow tape.now g) 0 g.totp)) }
+        ≡ put_all tone tones.old used (part_tones (rows_from (entry_row tape.now g) 0 g.totp)) }
 {
     let a = alphabet(tape, g.pilot, g.asp, g.npp);
     let mut i = 0;
@@ -71,7 +71,7 @@ fn put_entries(tape: &[u8], g: GeneralizedData, tones: &mut [u64], used: usize)
 
 // One cycle.
 fn one_cycle(len1: u16, len2: u16) -> Tone
-    ensures { result ≡ plainTone 1 len1 len2 }
+    ensures { result ≡ plain_tone 1 len1 len2 }
 {
     Tone {
         num: 1,
@@ -84,8 +84,8 @@ fn one_cycle(len1: u16, len2: u16) -> Tone
 // Data symbol i, which is given.
 fn single_tone(tape: &[u8], a: &[[u16; 2]; SYMBOLS], g: GeneralizedData, i: u32) -> Tone
     requires { Held tape.now g × Kept tape.now g.symbols g.npd g.asd a.now × (0 < g.nb) × (g.nb < 8)
-        × (i < g.totd) × (isGiven (singleRow tape.now g i) ≡ true) }
-    ensures { singleRow tape.now g i ≡ Gives result }
+        × (i < g.totd) × (is_given (single_row tape.now g i) ≡ true) }
+    ensures { single_row tape.now g i ≡ Gives result }
 {
     let b = number_at(tape, g, i * g.nb, 0);
     let y = a[b as usize];
@@ -95,8 +95,8 @@ fn single_tone(tape: &[u8], a: &[[u16; 2]; SYMBOLS], g: GeneralizedData, i: u32)
 // Pair i of data symbols, one pulse each, which is given.
 fn pair_tone(tape: &[u8], a: &[[u16; 2]; SYMBOLS], g: GeneralizedData, i: u32) -> Tone
     requires { Held tape.now g × Kept tape.now g.symbols g.npd g.asd a.now × (0 < g.nb) × (g.nb < 8)
-        × (i < g.totd / 2) × (isGiven (pairRow tape.now g i) ≡ true) }
-    ensures { pairRow tape.now g i ≡ Gives result }
+        × (i < g.totd / 2) × (is_given (pair_row tape.now g i) ≡ true) }
+    ensures { pair_row tape.now g i ≡ Gives result }
 {
     let bit = 2 * i * g.nb;
     let b = number_at(tape, g, bit, 0);
@@ -109,10 +109,10 @@ fn pair_tone(tape: &[u8], a: &[[u16; 2]; SYMBOLS], g: GeneralizedData, i: u32) -
 // The data symbols, all of which are given and fit, from row `used` on.
 fn put_singles(tape: &[u8], g: GeneralizedData, tones: &mut [u64], used: usize)
     requires { Held tape.now g × (0 < g.totd) × (0 < g.npd) × (0 < g.nb) × (g.nb < 8)
-        × (isTones (rows_from (singleRow tape.now g) 0 g.totd) ≡ true)
-        × (g.totd ≤ capacityOf tone toneMost tones.old - used) }
+        × (is_tones (rows_from (single_row tape.now g) 0 g.totd) ≡ true)
+        × (g.totd ≤ capacity_of tone tone_most tones.old - used) }
     ensures { tones.new
-        ≡ put_all tone tones.old used (partTones (rows_from (singleRow tape.now g) 0 g.totd)) }
+        ≡ put_all tone tones.old used (part_tones (rows_from (single_row tape.now g) 0 g.totd)) }
 {
     let a = alphabet(tape, g.symbols, g.asd, g.npd);
     let mut i = 0;
@@ -125,10 +125,10 @@ fn put_singles(tape: &[u8], g: GeneralizedData, tones: &mut [u64], used: usize)
 // The pairs of data symbols, all of which are given and fit, from row `used` on.
 fn put_pairs(tape: &[u8], g: GeneralizedData, tones: &mut [u64], used: usize)
     requires { Held tape.now g × (0 < g.totd) × (0 < g.npd) × (1 < g.totd → 0 < g.nb) × (g.nb < 8)
-        × (isTones (rows_from (pairRow tape.now g) 0 (g.totd / 2)) ≡ true)
-        × (g.totd / 2 ≤ capacityOf tone toneMost tones.old - used) }
+        × (is_tones (rows_from (pair_row tape.now g) 0 (g.totd / 2)) ≡ true)
+        × (g.totd / 2 ≤ capacity_of tone tone_most tones.old - used) }
     ensures { tones.new
-        ≡ put_all tone tones.old used (partTones (rows_from (pairRow tape.now g) 0 (g.totd / 2))) }
+        ≡ put_all tone tones.old used (part_tones (rows_from (pair_row tape.now g) 0 (g.totd / 2))) }
 {
     let a = alphabet(tape, g.symbols, g.asd, g.npd);
     let n = pairs_of(g.totd);
@@ -141,7 +141,7 @@ fn put_pairs(tape: &[u8], g: GeneralizedData, tones: &mut [u64], used: usize)
 
 // Whether `rows` tone rows fit after the first `used`.
 fn room_for(tones: &[u64], used: usize, rows: u64) -> bool
-    ensures { result ≡ leb rows (capacityOf tone toneMost tones.now - used) }
+    ensures { result ≡ leb rows (capacity_of tone tone_most tones.now - used) }
 {
     let most = tone_capacity(tones);
     if used <= most {
@@ -153,9 +153,9 @@ fn room_for(tones: &[u64], used: usize, rows: u64) -> bool
 
 // The pilot's rows, which are tones and fit.
 fn put_pilot(tape: &[u8], g: GeneralizedData, tones: &mut [u64], used: usize)
-    requires { Held tape.now g × (isTones (pilotOf tape.now g) ≡ true)
-        × (length (partTones (pilotOf tape.now g)) ≤ capacityOf tone toneMost tones.old - used) }
-    ensures { tones.new ≡ put_all tone tones.old used (partTones (pilotOf tape.now g)) }
+    requires { Held tape.now g × (is_tones (pilot_of tape.now g) ≡ true)
+        × (length (part_tones (pilot_of tape.now g)) ≤ capacity_of tone tone_most tones.old - used) }
+    ensures { tones.new ≡ put_all tone tones.old used (part_tones (pilot_of tape.now g)) }
 {
     if 0 < g.totp {
         put_entries(tape, g, tones, used)
@@ -164,9 +164,9 @@ fn put_pilot(tape: &[u8], g: GeneralizedData, tones: &mut [u64], used: usize)
 
 // The data's rows, which are tones and fit.
 fn put_data(tape: &[u8], g: GeneralizedData, tones: &mut [u64], used: usize)
-    requires { Held tape.now g × (isTones (dataPart tape.now g) ≡ true)
-        × (length (partTones (dataPart tape.now g)) ≤ capacityOf tone toneMost tones.old - used) }
-    ensures { tones.new ≡ put_all tone tones.old used (partTones (dataPart tape.now g)) }
+    requires { Held tape.now g × (is_tones (data_part tape.now g) ≡ true)
+        × (length (part_tones (data_part tape.now g)) ≤ capacity_of tone tone_most tones.old - used) }
+    ensures { tones.new ≡ put_all tone tones.old used (part_tones (data_part tape.now g)) }
 {
     if g.npd == 2 {
         put_singles(tape, g, tones, used)
@@ -177,7 +177,7 @@ fn put_data(tape: &[u8], g: GeneralizedData, tones: &mut [u64], used: usize)
 
 // The bits of the last data byte.
 fn last_bits(totd: u32) -> u32
-    ensures { result ≡ usedBits totd }
+    ensures { result ≡ used_bits totd }
 {
     if totd % 8 == 0 { 8 } else { totd % 8 }
 }
@@ -196,9 +196,9 @@ fn data_made(rows: u32, zero: u16, one: u16, last: u32) -> Made
 
 // The data block, after a pilot of n rows.
 fn data_block(tape: &[u8], g: GeneralizedData, tones: &mut [u64], used: usize, n: u32) -> Made
-    requires { Held tape.now g × (judgedOf (pilotOf tape.now g) ≡ Rows n)
+    requires { Held tape.now g × (judged_of (pilot_of tape.now g) ≡ Rows n)
         × ((ltb 0 g.totd && ordinary tape.now g) ≡ true) }
-    ensures { MadeDone (withPilot tape.now g (pilotOf tape.now g)) used tones.old tones.new result }
+    ensures { MadeDone (with_pilot tape.now g (pilot_of tape.now g)) used tones.old tones.new result }
 {
     if room_for(tones, used, n as u64) {
         put_pilot(tape, g, tones, used);
@@ -219,8 +219,8 @@ fn tone_block(
     n: u32,
     m: u32,
 ) -> Made
-    requires { Held tape.now g × (judgedOf (pilotOf tape.now g) ≡ Rows n) × (judgedOf (dataPart tape.now g) ≡ Rows m) }
-    ensures { MadeDone (withData (partTones (pilotOf tape.now g)) (dataPart tape.now g)) used
+    requires { Held tape.now g × (judged_of (pilot_of tape.now g) ≡ Rows n) × (judged_of (data_part tape.now g) ≡ Rows m) }
+    ensures { MadeDone (with_data (part_tones (pilot_of tape.now g)) (data_part tape.now g)) used
         tones.old tones.new result }
 {
     let rows = n as u64 + m as u64;
@@ -235,8 +235,8 @@ fn tone_block(
 
 // The block, after a pilot of n rows; the data part is judged before a row is written.
 fn with_pilot(tape: &[u8], g: GeneralizedData, tones: &mut [u64], used: usize, n: u32) -> Made
-    requires { Held tape.now g × (judgedOf (pilotOf tape.now g) ≡ Rows n) }
-    ensures { MadeDone (withPilot tape.now g (pilotOf tape.now g)) used tones.old tones.new result }
+    requires { Held tape.now g × (judged_of (pilot_of tape.now g) ≡ Rows n) }
+    ensures { MadeDone (with_pilot tape.now g (pilot_of tape.now g)) used tones.old tones.new result }
 {
     if ordinary(tape, g) {
         return data_block(tape, g, tones, used, n);
@@ -252,7 +252,7 @@ fn with_pilot(tape: &[u8], g: GeneralizedData, tones: &mut [u64], used: usize, n
 // but the rows of `Data` and `Tones`. Our crates call it with what `cut_piece::cut` gave for this tape, where 0 means 255.
 pub fn general(tape: &[u8], g: GeneralizedData, tones: &mut [u64], used: usize) -> Made
     requires { Held tape.now g }
-    ensures { MadeDone (generalOf tape.now g) used tones.old tones.new result }
+    ensures { MadeDone (general_of tape.now g) used tones.old tones.new result }
 {
     match pilot_part(tape, g) {
         Judged::Refused => Made::Refused,

@@ -3,14 +3,14 @@ ghost use Rattle.std.specs.Prelude.{◌≡◌, List, ℕ, ◌≤◌, length};
 ghost use Rattle.rows.specs.Table.{table_of};
 ghost use Rattle.rows.specs.Rows.{block};
 ghost use Rattle.load_state.specs.declared.Step.TheVariants.{On};
-ghost use Rattle.load_state.specs.Parser.{Parsed, inGroup, paused, lastPaused, pend, endGroup};
-ghost use Rattle.load_state.specs.Holds.{Holds, GivesOut, blockRoom, nowPending};
+ghost use Rattle.load_state.specs.Parser.{Parsed, in_group, paused, last_paused, pend, end_group};
+ghost use Rattle.load_state.specs.Holds.{Holds, GivesOut, block_room, now_pending};
 
 use load_state::{Pending, State};
 use rows::{Block, block_at, block_capacity, put_block, with_pause};
 
 fn with_pending(s: State, pending: Pending) -> State
-    ensures { result ≡ nowPending pending s }
+    ensures { result ≡ now_pending pending s }
 {
     let body = s.body;
     State {
@@ -22,7 +22,7 @@ fn with_pending(s: State, pending: Pending) -> State
 }
 
 fn in_group(p: Pending) -> bool
-    ensures { result ≡ inGroup p }
+    ensures { result ≡ in_group p }
 {
     match p {
         Pending::Nothing => false,
@@ -58,8 +58,8 @@ fn paused(r: Block) -> Block
 
 // The last of n blocks with its pause, if any.
 fn pause_last(blocks: &mut [u64], n: u64)
-    ensures { (B : ℕ) (rs : List Block) → length blocks.old ≡ B → n ≡ length rs → length rs ≤ blockRoom B
-        → blocks.old ≡ table_of block rs B → blocks.new ≡ table_of block (lastPaused rs) B }
+    ensures { (B : ℕ) (rs : List Block) → length blocks.old ≡ B → n ≡ length rs → length rs ≤ block_room B
+        → blocks.old ≡ table_of block rs B → blocks.new ≡ table_of block (last_paused rs) B }
 {
     if n == 0 {
         return;
@@ -72,7 +72,7 @@ fn pause_last(blocks: &mut [u64], n: u64)
 
 pub fn group_end(s: State, blocks: &mut [u64]) -> State
     ensures { (B N : ℕ) (tt : List ℕ) (t : Parsed) → Holds B N s blocks.old tt t
-        → GivesOut B N (On result) blocks.new tt (endGroup t) }
+        → GivesOut B N (On result) blocks.new tt (end_group t) }
 {
     pause_last(blocks, s.blocks);
     let p = s.pending;

@@ -1,18 +1,18 @@
 // A loop's start, and its end, which appends copies of its body.
 ghost use Rattle.std.specs.Prelude.{◌≡◌, List, ℕ, ◌≤◌, length, drop};
 ghost use Rattle.std.proofs.Math.Seq.{slice};
-ghost use Rattle.rows.specs.Table.{capacityOf};
-ghost use Rattle.rows.specs.Rows.{block, blockMost};
+ghost use Rattle.rows.specs.Table.{capacity_of};
+ghost use Rattle.rows.specs.Rows.{block, block_most};
 ghost use Rattle.load_state.specs.declared.Step.TheVariants.{On};
-ghost use Rattle.load_state.specs.Parser.{Parsed, opened, openLoop, copyRows, copies, closeLoop};
-ghost use Rattle.load_state.specs.Holds.{Holds, GivesOut, blockRoom, withLoop};
+ghost use Rattle.load_state.specs.Parser.{Parsed, opened, open_loop, copy_rows, copies, close_loop};
+ghost use Rattle.load_state.specs.Holds.{Holds, GivesOut, block_room, with_loop};
 
 use load_state::{Halt, Loop, State, Step, add_block, rename};
 use refusals::BLOCKS_FULL;
 use rows::{block_at, block_capacity};
 
 fn with_body(s: State, body: Loop) -> State
-    ensures { result ≡ withLoop body s }
+    ensures { result ≡ with_loop body s }
 {
     let pending = s.pending;
     State {
@@ -34,7 +34,7 @@ fn loop_opened(b: Loop, start: u64, times: u32) -> Loop
 }
 
 pub fn loop_start(s: State, times: u32) -> State
-    ensures { (B N : ℕ) (bt tt : List ℕ) (t : Parsed) → Holds B N s bt tt t → GivesOut B N (On result) bt tt (openLoop times t) }
+    ensures { (B N : ℕ) (bt tt : List ℕ) (t : Parsed) → Holds B N s bt tt t → GivesOut B N (On result) bt tt (open_loop times t) }
 {
     let b = s.body;
     with_body(s, loop_opened(b, s.blocks, times))
@@ -42,9 +42,9 @@ pub fn loop_start(s: State, times: u32) -> State
 
 // One body more: the blocks from `start` up to `end`.
 fn copy_body(s0: State, blocks: &mut [u64], start: u64, end: u64) -> Step
-    requires { end ≤ capacityOf block blockMost blocks.old }
+    requires { end ≤ capacity_of block block_most blocks.old }
     ensures { (B N : ℕ) (tt : List ℕ) (t : Parsed) → Holds B N s0 blocks.old tt t → end ≤ length t.blocks
-        → GivesOut B N result blocks.new tt (copyRows (blockRoom B) (slice start end t.blocks) t) }
+        → GivesOut B N result blocks.new tt (copy_rows (block_room B) (slice start end t.blocks) t) }
 {
     let mut s = s0;
     let mut i = start;
@@ -60,9 +60,9 @@ fn copy_body(s0: State, blocks: &mut [u64], start: u64, end: u64) -> Step
 
 // So many bodies more; each adds a block or refuses, since `start` is below `end`.
 fn copy_bodies(s0: State, blocks: &mut [u64], start: u64, end: u64, times: u32) -> Step
-    requires { end ≤ capacityOf block blockMost blocks.old }
+    requires { end ≤ capacity_of block block_most blocks.old }
     ensures { (B N : ℕ) (tt : List ℕ) (t : Parsed) → Holds B N s0 blocks.old tt t → end ≤ length t.blocks
-        → GivesOut B N result blocks.new tt (copies (blockRoom B) times (slice start end t.blocks) t) }
+        → GivesOut B N result blocks.new tt (copies (block_room B) times (slice start end t.blocks) t) }
 {
     let mut s = s0;
     let mut left = times;
@@ -79,7 +79,7 @@ fn copy_bodies(s0: State, blocks: &mut [u64], start: u64, end: u64, times: u32) 
 // The bodies that an open loop's end appends; an empty body costs nothing, however often it is repeated.
 fn repeat(s: State, blocks: &mut [u64], start: u64, times: u32) -> Step
     ensures { (B N : ℕ) (tt : List ℕ) (t : Parsed) → Holds B N s blocks.old tt t
-        → GivesOut B N result blocks.new tt (copies (blockRoom B) times (drop start t.blocks) t) }
+        → GivesOut B N result blocks.new tt (copies (block_room B) times (drop start t.blocks) t) }
 {
     let end = s.blocks;
     if end <= start {
@@ -93,7 +93,7 @@ fn repeat(s: State, blocks: &mut [u64], start: u64, times: u32) -> Step
 
 pub fn loop_end(s: State, blocks: &mut [u64]) -> Step
     ensures { (B N : ℕ) (tt : List ℕ) (t : Parsed) → Holds B N s blocks.old tt t
-        → GivesOut B N result blocks.new tt (closeLoop (blockRoom B) t) }
+        → GivesOut B N result blocks.new tt (close_loop (block_room B) t) }
 {
     let b = s.body;
     match b {

@@ -1,14 +1,14 @@
 // The blocks of pieces that have their tones in the tape's bytes: pulses (13), generalised data (19). The reading alone calls them.
 ghost use Rattle.std.specs.Prelude.{◌≡◌, List, ℕ, ◌+◌, ◌*◌, ◌^◌, ◌≤◌, ◌<◌, length};
 ghost use Rattle.play_entries.specs.Figures.{Owns, sounding};
-ghost use Rattle.load_general.specs.General.{generalOf};
+ghost use Rattle.load_general.specs.General.{general_of};
 ghost use Rattle.load_general.specs.Held.{Held};
-ghost use Rattle.load_state.specs.Parser.{Parsed, withTones, addBlock};
-ghost use Rattle.load_state.specs.Holds.{Holds, GivesOut, blockRoom};
-ghost use Rattle.load_blocks.specs.Sounds.{ms, row_of, addSounds};
-ghost use Rattle.load_blocks.specs.Blocks.{pulseAt, pairSounds, dataSound};
-ghost use Rattle.load_blocks.specs.Deeds.{generalDeed, does};
-ghost use Rattle.load_blocks.specs.Does.{Does, withUsed};
+ghost use Rattle.load_state.specs.Parser.{Parsed, with_tones, add_block};
+ghost use Rattle.load_state.specs.Holds.{Holds, GivesOut, block_room};
+ghost use Rattle.load_blocks.specs.Sounds.{ms, row_of, add_sounds};
+ghost use Rattle.load_blocks.specs.Blocks.{pulse_at, pair_sounds, data_sound};
+ghost use Rattle.load_blocks.specs.Deeds.{general_deed, does};
+ghost use Rattle.load_blocks.specs.Does.{Does, with_used};
 
 use cut_fields::{Cursor, field};
 use cut_grammar::GeneralizedData;
@@ -24,7 +24,7 @@ use rows::{Block, Tone, with_sound};
 // Pulse i of those at `from`; its callers know it to lie in the tape.
 fn pulse_at(tape: &[u8], from: u64, i: u64) -> u64
     requires { from + i * 2 + 2 ≤ length tape.now }
-    ensures { result ≡ pulseAt tape.now from i }
+    ensures { result ≡ pulse_at tape.now from i }
 {
     let read = field(tape, Cursor::At(from + i * 2), 2);
     read.value as u64
@@ -41,7 +41,7 @@ pub fn pulse_blocks(
     n: u64,
 ) -> Step
     requires { from + n * 4 ≤ length tape.now }
-    ensures { Does (λ lent. addSounds lent tape.now origin (pairSounds tape.now from 0 n)) s0 result blocks.old
+    ensures { Does (λ lent. add_sounds lent tape.now origin (pair_sounds tape.now from 0 n)) s0 result blocks.old
         tones.old blocks.new tones.new }
 {
     let mut s = s0;
@@ -67,7 +67,7 @@ pub fn pulse_blocks(
 
 // A state with another count of tone rows.
 fn with_used(s: State, tones: u64) -> State
-    ensures { result ≡ withUsed tones s }
+    ensures { result ≡ with_used tones s }
 {
     let pending = s.pending;
     let body = s.body;
@@ -100,9 +100,9 @@ fn general_block(
 ) -> Step
     requires { s.tones + rows < 2 ^ 64 }
     ensures { (B N : ℕ) (ts : List Tone) (t : Parsed) → length ts ≡ rows → s.tones ≡ length t.tones
-        → Holds B N (withUsed (s.tones + rows) s) blocks.old tones.now (withTones ts t)
+        → Holds B N (with_used (s.tones + rows) s) blocks.old tones.now (with_tones ts t)
         → GivesOut B N result blocks.new tones.now
-        (addBlock (blockRoom B) (row_of tape.now origin (dataSound ts bits (ms pause)) s.tones) (withTones ts t)) }
+        (add_block (block_room B) (row_of tape.now origin (data_sound ts bits (ms pause)) s.tones) (with_tones ts t)) }
 {
     let r = data_row(origin, s.tones, rows, bits, pause as u64 * 3500);
     let used = with_used(s, s.tones + rows);
@@ -120,7 +120,7 @@ pub fn generalized_data_block(
 ) -> Step
     requires { Held tape.now g }
     ensures { (model : ℕ)
-        → Does (λ lent. does lent tape.now model origin (generalDeed g (generalOf tape.now g))) s result blocks.old
+        → Does (λ lent. does lent tape.now model origin (general_deed g (general_of tape.now g))) s result blocks.old
         tones.old blocks.new tones.new }
 {
     match general(tape, g, tones, s.tones as usize) {

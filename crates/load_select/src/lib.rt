@@ -3,7 +3,7 @@ ghost use Rattle.std.specs.Prelude.{◌≡◌, false, ◌*◌, ◌≤◌, length
 ghost use Rattle.law_base.specs.Rules.{◌⇒◌, ◌∣◌};
 ghost use Rattle.rows.specs.Table.{step};
 ghost use Rattle.rows.specs.Rows.{block};
-ghost use Rattle.text_name.specs.Names.{unselected, nameAll};
+ghost use Rattle.text_name.specs.Names.{unselected, name_all};
 
 use rows::{Block, with_mark};
 use text_name::is_header;
@@ -24,7 +24,7 @@ fn name_row(header: bool, prefixed: bool, r: Block) -> Block
 // The naming pass over the first n rows; our crates alone call it.
 pub fn name_blocks(tape: &[u8], blocks: &mut [u64], n: usize)
     requires { n * block.width ≤ length blocks.old }
-    ensures { blocks.new ≡ step block n (nameAll tape.now false) blocks.old }
+    ensures { blocks.new ≡ step block n (name_all tape.now false) blocks.old }
 {
     let mut prefixed = false;
     let mut i = 0;

@@ -6,43 +6,43 @@ use mathlib.Core.List.{List, [], ◌∷◌}
 use native.Mathlib.Omega.{arith}
 use lib.ListN.{length, get_or, drop}
 use lib.Dec.{ltb}
-use Rattle.refusals.specs.Refusals.{lastBits}
+use Rattle.refusals.specs.Refusals.{last_bits}
 use Rattle.law_base.specs.Rules.{◌⇒◌, ◌∣◌}
 use Rattle.rows.specs.declared.Block.{Block}
-use Rattle.rows.specs.Table.{get, table_of, capacityOf, zeros}
-use Rattle.rows.specs.Rows.{block, blockMost}
-use Rattle.rows.proofs.Tables.{get-row}
+use Rattle.rows.specs.Table.{get, table_of, capacity_of, zeros}
+use Rattle.rows.specs.Rows.{block, block_most}
+use Rattle.rows.proofs.Tables.{get_row}
 use Rattle.load_state.specs.declared.State.{State}
 use Rattle.load_state.specs.Parser.{Parsed}
 use Rattle.load_state.specs.Holds.{Holds}
 use Rattle.cut_grammar.specs.declared.Heading.{Heading}
-use Rattle.cut_grammar.specs.Cut.{headAt}
+use Rattle.cut_grammar.specs.Cut.{head_at}
 use Rattle.load_source.specs.declared.Failure.{Failure}
 use Rattle.load_source.specs.declared.Reading.{Reading}
 use Rattle.load_source.specs.declared.Reading.TheVariants.{Done, Failed, Refused}
 use Rattle.load_blocks.specs.Adds.{Lent}
-use Rattle.load_source.specs.Source.{Verdict, done, failed, refused, tooManyBits, bitsJudged, headed, readTzx}
+use Rattle.load_source.specs.Source.{Verdict, done, failed, refused, too_many_bits, bits_judged, headed, read_tzx}
 use Rattle.load_source.specs.Does.{Finds, ends, fails, refuses}
 
-bits-more : (rs : List Block) (i : ℕ) (d : Block) → i < length rs
-    → tooManyBits (drop i rs) ≡ ((ltb 0 (get_or rs i d).size && ltb 8 (get_or rs i d).last) ⇒ true ∣ tooManyBits (drop (i + 1) rs))
-unfolding tooManyBits
-bits-more [] i d h = absurd (omega arith)
-bits-more (r ∷ rs) zero d h = refl
-bits-more (r ∷ rs) (suc i) d h = let e : suc i + 1 ≡ suc (i + 1) = omega arith in rw e (bits-more rs i d (omega arith))
+bits_more : (rs : List Block) (i : ℕ) (d : Block) → i < length rs
+    → too_many_bits (drop i rs) ≡ ((ltb 0 (get_or rs i d).size && ltb 8 (get_or rs i d).last) ⇒ true ∣ too_many_bits (drop (i + 1) rs))
+unfolding too_many_bits
+bits_more [] i d h = absurd (omega arith)
+bits_more (r ∷ rs) zero d h = refl
+bits_more (r ∷ rs) (suc i) d h = let e : suc i + 1 ≡ suc (i + 1) = omega arith in rw e (bits_more rs i d (omega arith))
 
 -- one row, then the others
-pub bits-turn : (B : ℕ) (rs : List Block) (i : ℕ) {b : Bool} {bt : List ℕ} {r : Block} → bt ≡ table_of block rs B → i < length rs
+pub bits_turn : (B : ℕ) (rs : List Block) (i : ℕ) {b : Bool} {bt : List ℕ} {r : Block} → bt ≡ table_of block rs B → i < length rs
     → r ≡ get block bt i
-    → b ≡ (ltb 0 r.size && ltb 8 r.last) → tooManyBits (drop i rs) ≡ (b ⇒ true ∣ tooManyBits (drop (i + 1) rs))
-bits-turn B rs i {r = r} e h q s =
-    let g : r ≡ get_or rs i r = q ∙ ap (λ (t : List ℕ). get block t i) e ∙ get-row block rs (zeros B) i r h in
-    bits-more rs i r h
-    ∙ ap (λ (x : Block). (ltb 0 x.size && ltb 8 x.last) ⇒ true ∣ tooManyBits (drop (i + 1) rs)) (sym g)
-    ∙ ap (λ (x : Bool). x ⇒ true ∣ tooManyBits (drop (i + 1) rs)) (sym s)
+    → b ≡ (ltb 0 r.size && ltb 8 r.last) → too_many_bits (drop i rs) ≡ (b ⇒ true ∣ too_many_bits (drop (i + 1) rs))
+bits_turn B rs i {r = r} e h q s =
+    let g : r ≡ get_or rs i r = q ∙ ap (λ (t : List ℕ). get block t i) e ∙ get_row block rs (zeros B) i r h in
+    bits_more rs i r h
+    ∙ ap (λ (x : Block). (ltb 0 x.size && ltb 8 x.last) ⇒ true ∣ too_many_bits (drop (i + 1) rs)) (sym g)
+    ∙ ap (λ (x : Bool). x ⇒ true ∣ too_many_bits (drop (i + 1) rs)) (sym s)
 
-pub bits_none : (rs : List Block) (i : ℕ) → length rs ≤ i → tooManyBits (drop i rs) ≡ false
-unfolding tooManyBits
+pub bits_none : (rs : List Block) (i : ℕ) → length rs ≤ i → too_many_bits (drop i rs) ≡ false
+unfolding too_many_bits
 bits_none [] zero h = refl
 bits_none [] (suc i) h = refl
 bits_none (r ∷ rs) zero h = absurd (omega arith)
@@ -50,8 +50,8 @@ bits_none (r ∷ rs) (suc i) h = bits_none rs i (omega arith)
 
 module _ {B N : ℕ} {r : Reading} {bt tt : List ℕ} {o : Verdict} (f : Finds B N r bt tt o) where
   -- a reading that is done holds a tape
-  pub found-done : {s : State} → r ≡ Done s → (t : Parsed) × (o ≡ done t) × Holds B N s bt tt t
-  found-done = by_cases f
+  pub found_done : {s : State} → r ≡ Done s → (t : Parsed) × (o ≡ done t) × Holds B N s bt tt t
+  found_done = by_cases f
     where
       by_cases : {r : Reading} {o : Verdict} {s : State} → Finds B N r bt tt o → r ≡ Done s
           → (t : Parsed) × (o ≡ done t) × Holds B N s bt tt t
@@ -59,16 +59,16 @@ module _ {B N : ℕ} {r : Reading} {bt tt : List ℕ} {o : Verdict} (f : Finds B
       by_cases (fails) e = let z : ◌≡◌ {A = ℕ} 0 1 = cc in absurd (omega arith)
       by_cases (refuses) e = let z : ◌≡◌ {A = ℕ} 0 1 = cc in absurd (omega arith)
 
-  pub found-failed : {x : Failure} → r ≡ Failed x → o ≡ failed x
-  found-failed = by_cases f
+  pub found_failed : {x : Failure} → r ≡ Failed x → o ≡ failed x
+  found_failed = by_cases f
     where
       by_cases : {r : Reading} {o : Verdict} {x : Failure} → Finds B N r bt tt o → r ≡ Failed x → o ≡ failed x
       by_cases (ends h) e = let z : ◌≡◌ {A = ℕ} 0 1 = cc in absurd (omega arith)
       by_cases {x = x} (fails {f = y}) e = let q : y ≡ x = cc in ap failed q
       by_cases (refuses) e = let z : ◌≡◌ {A = ℕ} 0 1 = cc in absurd (omega arith)
 
-  pub found-refused : {k : ℕ} → r ≡ Refused k → o ≡ refused k
-  found-refused = by_cases f
+  pub found_refused : {k : ℕ} → r ≡ Refused k → o ≡ refused k
+  found_refused = by_cases f
     where
       by_cases : {r : Reading} {o : Verdict} {k : ℕ} → Finds B N r bt tt o → r ≡ Refused k → o ≡ refused k
       by_cases (ends h) e = let z : ◌≡◌ {A = ℕ} 0 1 = cc in absurd (omega arith)
@@ -76,32 +76,32 @@ module _ {B N : ℕ} {r : Reading} {bt tt : List ℕ} {o : Verdict} (f : Finds B
       by_cases {k = k} (refuses {k = j}) e = let q : j ≡ k = cc in ap refused q
 
   -- its rows are in the table
-  pub done-room : {s : State} → r ≡ Done s → s.blocks ≤ capacityOf block blockMost bt
-  done-room e = let h = (found-done e).2 in rw h.lenB (omega (arith, h.nb, h.roomB))
+  pub done_room : {s : State} → r ≡ Done s → s.blocks ≤ capacity_of block block_most bt
+  done_room e = let h = (found_done e).2 in rw h.len_b (omega (arith, h.nb, h.room_b))
 
   module _ {s : State} (e : r ≡ Done s) {b : Bool}
-      (k : (B : ℕ) (rs : List Block) → s.blocks ≡ length rs → bt ≡ table_of block rs B → b ≡ tooManyBits rs) where
-    pub judged-seven : b ≡ true → Finds B N (Refused lastBits) bt tt (bitsJudged o)
-    unfolding bitsJudged
-    judged-seven q =
-        let d = found-done e in
+      (k : (B : ℕ) (rs : List Block) → s.blocks ≡ length rs → bt ≡ table_of block rs B → b ≡ too_many_bits rs) where
+    pub judged_seven : b ≡ true → Finds B N (Refused last_bits) bt tt (bits_judged o)
+    unfolding bits_judged
+    judged_seven q =
+        let d = found_done e in
         rw (d.1, sym (k B d.0.blocks d.2.nb d.2.is_b) ∙ q) refuses
 
-    pub judged-done : b ≡ false → Finds B N (Done s) bt tt (bitsJudged o)
-    unfolding bitsJudged
+    pub judged-done : b ≡ false → Finds B N (Done s) bt tt (bits_judged o)
+    unfolding bits_judged
     judged-done q =
-        let d = found-done e in
+        let d = found_done e in
         rw (d.1, sym (k B d.0.blocks d.2.nb d.2.is_b) ∙ q) (ends d.2)
 
-  pub judged-failed : {x : Failure} → r ≡ Failed x → Finds B N (Failed x) bt tt (bitsJudged o)
-  unfolding bitsJudged
-  judged-failed e = rw (found-failed e) fails
+  pub judged-failed : {x : Failure} → r ≡ Failed x → Finds B N (Failed x) bt tt (bits_judged o)
+  unfolding bits_judged
+  judged-failed e = rw (found_failed e) fails
 
-  pub judged-refused : {k : ℕ} → r ≡ Refused k → Finds B N (Refused k) bt tt (bitsJudged o)
-  unfolding bitsJudged
-  judged-refused e = rw (found-refused e) refuses
+  pub judged-refused : {k : ℕ} → r ≡ Refused k → Finds B N (Refused k) bt tt (bits_judged o)
+  unfolding bits_judged
+  judged-refused e = rw (found_refused e) refuses
 
 module _ (lent : Lent) (s : List ℕ) (model : ℕ) where
-  pub tzx-headed : {x : Heading} → x ≡ headAt s → readTzx lent s model ≡ headed lent s model x
-  unfolding readTzx
+  pub tzx-headed : {x : Heading} → x ≡ head_at s → read_tzx lent s model ≡ headed lent s model x
+  unfolding read_tzx
   tzx-headed q = rw q

@@ -11,22 +11,22 @@ use Rattle.load_state.specs.declared.Step.{Step}
 use Rattle.load_state.specs.declared.Step.TheVariants.{On, No}
 use Rattle.load_state.specs.Parser.{Parsed, Out, empty}
 use Rattle.load_state.specs.Holds.{Holds, GivesOut}
-use Rattle.load_state.proofs.Laws.{went_on, was-refused}
+use Rattle.load_state.proofs.Laws.{went_on, was_refused}
 use Rattle.rows.specs.Table.{zeros}
 use Rattle.cut_grammar.specs.declared.Piece.{Piece}
-use Rattle.cut_grammar.proofs.PulsePlaces.{cut-pulses}
-use Rattle.load_general.proofs.Holding.{cut-held}
+use Rattle.cut_grammar.proofs.PulsePlaces.{cut_pulses}
+use Rattle.load_general.proofs.Holding.{cut_held}
 use Rattle.cut_grammar.specs.declared.Taken.{Taken}
 use Rattle.cut_grammar.specs.declared.Taken.TheVariants.{Whole}
 use Rattle.cut_grammar.specs.declared.TakenTap.{TakenTap}
-use Rattle.cut_grammar.specs.Cut.{cut_at, tapAt}
+use Rattle.cut_grammar.specs.Cut.{cut_at, tap_at}
 use Rattle.load_source.specs.declared.Failure.{Failure}
 use Rattle.load_source.specs.declared.Reading.{Reading}
 use Rattle.load_source.specs.declared.Reading.TheVariants.{Done, Failed, Refused}
 use Rattle.load_blocks.specs.Adds.{Lent}
-use Rattle.load_blocks.specs.Sounds.{originAt}
-use Rattle.load_source.specs.Source.{See, theEnd, bad, refuses as sees4, thing, Verdict, seeing, read_on, foldFrom, halted, full}
-use Rattle.load_source.specs.Source.{act, tzxOf, tzxSee, tapOf, tapSee}
+use Rattle.load_blocks.specs.Sounds.{origin_at}
+use Rattle.load_source.specs.Source.{See, the_end, bad, refuses as sees4, thing, Verdict, seeing, read_on, fold_from, halted, full}
+use Rattle.load_source.specs.Source.{act, tzx_of, tzx_see, tap_of, tap_see}
 use Rattle.load_source.specs.Does.{Fit, Blank, Finds, ends, fails, refuses}
 
 -- a tape that the state holds, and fuel enough for the bytes left, with which the rest gives the goal
@@ -35,27 +35,27 @@ pub record Rest (size : ℕ) (see : ℕ → See) (B N at : ℕ) (s : State) (bt 
   pub holds : Holds B N s bt tt here
   pub fuel : ℕ
   pub enough : size ≤ at + fuel
-  pub stops : (p : ℕ) → size ≤ p → see p ≡ theEnd
-  pub same : foldFrom see fuel at here ≡ goal
+  pub stops : (p : ℕ) → size ≤ p → see p ≡ the_end
+  pub same : fold_from see fuel at here ≡ goal
 
-turn : (n size : ℕ) (see : ℕ → See) (at : ℕ) (t : Parsed) → ((p : ℕ) → size ≤ p → see p ≡ theEnd) → size ≤ at + n
-    → foldFrom see n at t ≡ seeing (see at) t (foldFrom see (n - 1))
-unfolding foldFrom seeing
+turn : (n size : ℕ) (see : ℕ → See) (at : ℕ) (t : Parsed) → ((p : ℕ) → size ≤ p → see p ≡ the_end) → size ≤ at + n
+    → fold_from see n at t ≡ seeing (see at) t (fold_from see (n - 1))
+unfolding fold_from seeing
 turn zero size see at t h e = rw (h at (omega arith))
 turn (suc n) size see at t h e = let m : suc n - 1 ≡ n = omega arith in rw m
 
-pub rest-begins : {size : ℕ} {see : ℕ → See} {B N : ℕ} (at : ℕ) {s : State} {bt tt : List ℕ} {t : Parsed}
-    → ((p : ℕ) → size ≤ p → see p ≡ theEnd) → Holds B N s bt tt t → Rest size see B N at s bt tt (foldFrom see size at t)
-rest-begins {size} at {t = t} stops h = record { here = t; holds = h; fuel = size; enough = omega arith; stops = stops; same = refl }
+pub rest_begins : {size : ℕ} {see : ℕ → See} {B N : ℕ} (at : ℕ) {s : State} {bt tt : List ℕ} {t : Parsed}
+    → ((p : ℕ) → size ≤ p → see p ≡ the_end) → Holds B N s bt tt t → Rest size see B N at s bt tt (fold_from see size at t)
+rest_begins {size} at {t = t} stops h = record { here = t; holds = h; fuel = size; enough = omega arith; stops = stops; same = refl }
 
 module _ {size : ℕ} {see : ℕ → See} {B N at : ℕ} {s : State} {bt tt : List ℕ} {goal : Verdict}
     (rest : Rest size see B N at s bt tt goal) where
-  step : (x : See) → see at ≡ x → seeing x rest.here (foldFrom see (rest.fuel - 1)) ≡ goal
+  step : (x : See) → see at ≡ x → seeing x rest.here (fold_from see (rest.fuel - 1)) ≡ goal
   step x q = rw q at (sym (turn rest.fuel size see at rest.here rest.stops rest.enough) ∙ rest.same)
 
-  pub rest_over : see at ≡ theEnd → Finds B N (Done s) bt tt goal
+  pub rest_over : see at ≡ the_end → Finds B N (Done s) bt tt goal
   unfolding seeing
-  rest_over q = subst (λ (r : Verdict). Finds B N (Done s) bt tt r) (step theEnd q) (ends rest.holds)
+  rest_over q = subst (λ (r : Verdict). Finds B N (Done s) bt tt r) (step the_end q) (ends rest.holds)
 
   pub rest-bad : {f : Failure} → see at ≡ bad f → Finds B N (Failed f) bt tt goal
   unfolding seeing
@@ -69,7 +69,7 @@ module _ {size : ℕ} {see : ℕ → See} {B N at : ℕ} {s : State} {bt tt : Li
       (e : GivesOut B N x bt' tt' (does rest.here)) where
     pub rest-no : {k : Halt} {r : Reading} → x ≡ No k → Finds B N r bt' tt' (halted k) → Finds B N r bt' tt' goal
     unfolding seeing read_on
-    rest-no {k} {r} i f = subst (λ (g : Verdict). Finds B N r bt' tt' g) (rw (was-refused e i) at (step (thing next does) q)) f
+    rest-no {k} {r} i f = subst (λ (g : Verdict). Finds B N r bt' tt' g) (rw (was_refused e i) at (step (thing next does) q)) f
 
     pub rest-on : {s' : State} → x ≡ On s' → at < next → Rest size see B N next s' bt' tt' goal
     unfolding seeing read_on
@@ -85,39 +85,39 @@ module _ {size : ℕ} {see : ℕ → See} {B N at : ℕ} {s : State} {bt tt : Li
         }
 
 module _ (lent : Lent) (s : List ℕ) where
-  pub tzx-stops : (model p : ℕ) → length s ≤ p → tzxSee lent s model p ≡ theEnd
-  unfolding tzxSee cut_at tzxOf
+  pub tzx-stops : (model p : ℕ) → length s ≤ p → tzx_see lent s model p ≡ the_end
+  unfolding tzx_see cut_at tzx_of
   tzx-stops model p h = rw (le-leb (length s) p h)
 
-  pub tzx-sees : (model at : ℕ) {x : Taken} → x ≡ cut_at s at full → tzxSee lent s model at ≡ tzxOf lent s model at x
-  unfolding tzxSee
-  tzx-sees model at q = rw q
+  pub tzx_sees : (model at : ℕ) {x : Taken} → x ≡ cut_at s at full → tzx_see lent s model at ≡ tzx_of lent s model at x
+  unfolding tzx_see
+  tzx_sees model at q = rw q
 
-  pub sees-piece : (model at : ℕ) {k a next : ℕ} {piece : Piece} → Whole k a next piece ≡ cut_at s at full
-      → tzxSee lent s model at ≡ thing next (act lent s model (originAt k a) piece)
-  unfolding tzxOf
-  sees-piece model at q = tzx-sees model at q
+  pub sees_piece : (model at : ℕ) {k a next : ℕ} {piece : Piece} → Whole k a next piece ≡ cut_at s at full
+      → tzx_see lent s model at ≡ thing next (act lent s model (origin_at k a) piece)
+  unfolding tzx_of
+  sees_piece model at q = tzx_sees model at q
 
-  pub tap-stops : (p : ℕ) → length s ≤ p → tapSee lent s p ≡ theEnd
-  unfolding tapSee tapAt tapOf
-  tap-stops p h = rw (le-leb (length s) p h)
+  pub tap_stops : (p : ℕ) → length s ≤ p → tap_see lent s p ≡ the_end
+  unfolding tap_see tap_at tap_of
+  tap_stops p h = rw (le-leb (length s) p h)
 
-  pub tap-sees : (at : ℕ) {x : TakenTap} → x ≡ tapAt s at → tapSee lent s at ≡ tapOf lent s at x
-  unfolding tapSee
-  tap-sees at q = rw q
+  pub tap_sees : (at : ℕ) {x : TakenTap} → x ≡ tap_at s at → tap_see lent s at ≡ tap_of lent s at x
+  unfolding tap_see
+  tap_sees at q = rw q
 
 -- blank tables hold a tape of which nothing is read
-pub blank-holds : {s : State} {bt tt : List ℕ} → Blank bt → Blank tt
+pub blank_holds : {s : State} {bt tt : List ℕ} → Blank bt → Blank tt
     → Holds (length bt) (length tt) s (zeros (length bt)) (zeros (length tt)) empty → Holds (length bt) (length tt) s bt tt empty
-blank-holds {s} {bt} {tt} b t h =
+blank_holds {s} {bt} {tt} b t h =
     subst (λ (x : List ℕ). Holds (length bt) (length tt) s x tt empty) (sym b)
     (subst (λ (y : List ℕ). Holds (length bt) (length tt) s (zeros (length bt)) y empty) (sym t) h)
 
 -- what is cut from bytes is a piece as the code takes it
-pub cut-fit : (s : List ℕ) (at : ℕ) {k a next : ℕ} (piece : Piece) → ((i : ℕ) → get_or s i 0 < 256)
+pub cut_fit : (s : List ℕ) (at : ℕ) {k a next : ℕ} (piece : Piece) → ((i : ℕ) → get_or s i 0 < 256)
     → cut_at s at full ≡ Whole k a next piece → Fit s piece
-cut-fit s at {k} {a} {next} piece b e =
+cut_fit s at {k} {a} {next} piece b e =
     record {
-      pulses = λ count from q. cut-pulses s at full (e ∙ ap (λ (x : Piece). Whole k a next x) q);
-      general = λ g q. cut-held s at b (e ∙ ap (λ (x : Piece). Whole k a next x) q);
+      pulses = λ count from q. cut_pulses s at full (e ∙ ap (λ (x : Piece). Whole k a next x) q);
+      general = λ g q. cut_held s at b (e ∙ ap (λ (x : Piece). Whole k a next x) q);
     }

@@ -2,7 +2,7 @@
 ghost use Rattle.std.specs.Prelude.{length};
 ghost use Rattle.load_state.specs.Parser.{empty};
 ghost use Rattle.load_blocks.specs.Does.{lent_of};
-ghost use Rattle.load_source.specs.Source.{tzxSee, foldFrom};
+ghost use Rattle.load_source.specs.Source.{tzx_see, fold_from};
 ghost use Rattle.load_source.specs.Does.{Blank, Finds};
 
 use crate::{Failure, Reading, act, halted};
@@ -19,7 +19,7 @@ const FULL: u32 = 255;
 pub fn read_pieces(tape: &[u8], model: u32, blocks: &mut [u64], tones: &mut [u64]) -> Reading
     requires { Blank blocks.old × Blank tones.old }
     ensures { Finds (length blocks.old) (length tones.old) result blocks.new tones.new
-        (foldFrom (tzxSee (lent_of (length blocks.old) (length tones.old)) tape.now model)
+        (fold_from (tzx_see (lent_of (length blocks.old) (length tones.old)) tape.now model)
         (length tape.now) 10 empty) }
 {
     let mut s = new_state();

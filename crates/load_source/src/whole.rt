@@ -1,8 +1,8 @@
 // The source reading of a whole tape: a TZX, by its head, its pieces and refusal 7's test; a TAP, block by block.
 ghost use Rattle.std.specs.Prelude.{◌≡◌, ◌&&◌, List, ℕ, ◌≤◌, length, ltb};
-ghost use Rattle.rows.specs.Table.{table_of, capacityOf};
-ghost use Rattle.rows.specs.Rows.{block, blockMost};
-ghost use Rattle.load_source.specs.Source.{tooManyBits, readTzx, readTap};
+ghost use Rattle.rows.specs.Table.{table_of, capacity_of};
+ghost use Rattle.rows.specs.Rows.{block, block_most};
+ghost use Rattle.load_source.specs.Source.{too_many_bits, read_tzx, read_tap};
 ghost use Rattle.load_blocks.specs.Does.{lent_of};
 ghost use Rattle.load_source.specs.Does.{Blank, Finds};
 
@@ -28,8 +28,8 @@ fn too_many(r: Block) -> bool
 
 // Whether one of the first n blocks has.
 fn too_many_bits(blocks: &[u64], n: u64) -> bool
-    requires { n ≤ capacityOf block blockMost blocks.now }
-    ensures { (B : ℕ) (rs : List Block) → n ≡ length rs → blocks.now ≡ table_of block rs B → result ≡ tooManyBits rs }
+    requires { n ≤ capacity_of block block_most blocks.now }
+    ensures { (B : ℕ) (rs : List Block) → n ≡ length rs → blocks.now ≡ table_of block rs B → result ≡ too_many_bits rs }
 {
     let mut i = 0;
     while i < n {
@@ -45,7 +45,7 @@ fn too_many_bits(blocks: &[u64], n: u64) -> bool
 pub fn read_tzx(tape: &[u8], model: u32, blocks: &mut [u64], tones: &mut [u64]) -> Reading
     requires { Blank blocks.old × Blank tones.old }
     ensures { Finds (length blocks.old) (length tones.old) result blocks.new tones.new
-        (readTzx (lent_of (length blocks.old) (length tones.old)) tape.now model) }
+        (read_tzx (lent_of (length blocks.old) (length tones.old)) tape.now model) }
 {
     match head(tape) {
         Heading::Version { major: _, minor: _ } => {
@@ -70,7 +70,7 @@ pub fn read_tzx(tape: &[u8], model: u32, blocks: &mut [u64], tones: &mut [u64]) 
 pub fn read_tap(tape: &[u8], blocks: &mut [u64], tones: &mut [u64]) -> Reading
     requires { Blank blocks.old × Blank tones.old }
     ensures { Finds (length blocks.old) (length tones.old) result blocks.new tones.new
-        (readTap (lent_of (length blocks.old) (length tones.old)) tape.now) }
+        (read_tap (lent_of (length blocks.old) (length tones.old)) tape.now) }
 {
     let mut s = new_state();
     let mut at = 0;

@@ -2,7 +2,7 @@
 -- Assumes nothing.
 use Rattle.std.specs.Prelude.{ℕ, ◌/◌, ◌≤◌, min, ◌≡◌, List, length}
 use Rattle.rows.specs.Table.{table_of}
-use Rattle.rows.specs.Rows.{block, tone, blockMost, toneMost}
+use Rattle.rows.specs.Rows.{block, tone, block_most, tone_most}
 use Rattle.load_state.specs.declared.State.{State}
 use Rattle.load_state.specs.declared.Step.{Step}
 use Rattle.load_state.specs.declared.Step.TheVariants.{On, No}
@@ -12,18 +12,18 @@ use Rattle.load_state.specs.declared.Pending.{Pending}
 use Rattle.load_state.specs.Parser.{Parsed, Out, on, no}
 
 -- a state with another pending name, and with another loop
-abbrev pub nowPending : Pending → State → State
-nowPending p s = record { blocks = s.blocks; tones = s.tones; pending = p; body = s.body }
+abbrev pub now_pending : Pending → State → State
+now_pending p s = record { blocks = s.blocks; tones = s.tones; pending = p; body = s.body }
 
-abbrev pub withLoop : Loop → State → State
-withLoop l s = record { blocks = s.blocks; tones = s.tones; pending = s.pending; body = l }
+abbrev pub with_loop : Loop → State → State
+with_loop l s = record { blocks = s.blocks; tones = s.tones; pending = s.pending; body = l }
 
 -- the rows that so many lent words have room for
-abbrev pub blockRoom : ℕ → ℕ
-blockRoom words = min blockMost (words / block.width)
+abbrev pub block_room : ℕ → ℕ
+block_room words = min block_most (words / block.width)
 
-abbrev pub toneRoom : ℕ → ℕ
-toneRoom words = min toneMost (words / tone.width)
+abbrev pub tone_room : ℕ → ℕ
+tone_room words = min tone_most (words / tone.width)
 
 -- in tables of B and N words
 pub record Holds (B N : ℕ) (s : State) (bt tt : List ℕ) (t : Parsed) : Type 0 where
@@ -31,12 +31,12 @@ pub record Holds (B N : ℕ) (s : State) (bt tt : List ℕ) (t : Parsed) : Type 
   pub nt : s.tones ≡ length t.tones
   pub pends : s.pending ≡ t.pending
   pub loops : s.body ≡ t.body
-  pub roomB : length t.blocks ≤ blockRoom B
-  pub roomT : length t.tones ≤ toneRoom N
-  pub lenB : length bt ≡ B
-  pub lenT : length tt ≡ N
+  pub room_b : length t.blocks ≤ block_room B
+  pub room_t : length t.tones ≤ tone_room N
+  pub len_b : length bt ≡ B
+  pub len_t : length tt ≡ N
   pub is_b : bt ≡ table_of block t.blocks B
-  pub isT : tt ≡ table_of tone t.tones N
+  pub is_t : tt ≡ table_of tone t.tones N
 
 -- the code's answer is the definition's; a refusal says nothing of the tables, which the load then blanks
 pub data GivesOut (B N : ℕ) : Step → List ℕ → List ℕ → Out → Type 0 where

@@ -7,8 +7,8 @@ use Rattle.load_state.specs.declared.Pending.{Pending}
 use Rattle.load_state.specs.declared.Pending.TheVariants.{Nothing}
 use Rattle.load_state.specs.declared.Loop.{Loop}
 use Rattle.load_state.specs.declared.Halt.{Halt}
-use Rattle.load_state.specs.Parser.{Parsed, parsedOf, withBlock, withPending, withBody, Out, on, no, named, used, paused}
-use Rattle.load_state.specs.Parser.{lastPaused, nameless}
+use Rattle.load_state.specs.Parser.{Parsed, parsed_of, with_block, with_pending, with_body, Out, on, no, named, used, paused}
+use Rattle.load_state.specs.Parser.{last_paused, nameless}
 
 -- where an answer is a tape, it has the property K
 pub data Sure (K : Parsed → Type 0) : Out → Type 0 where
@@ -22,14 +22,14 @@ pub data All {A : Type 0} (P : A → Type 0) : List A → Type 0 where
 
 -- the tape read so far with other blocks
 abbrev pub with_blocks : List Block → Parsed → Parsed
-with_blocks bs t = parsedOf bs t.tones t.pending t.body
+with_blocks bs t = parsed_of bs t.tones t.pending t.body
 
 -- K of tapes is kept by a copy of a block that is there and has room, by a pending name with Q, by 22's pause and by a loop's start and end
 pub record Steps (m : ℕ) (Q : Pending → Type 0) (K : Parsed → Type 0) : Type 0 where
-  pub copying : (r : Block) (t : Parsed) → Memᴰ r t.blocks → length t.blocks < m → K t → K (withBlock (nameless r) t)
-  pub naming : (p : Pending) (t : Parsed) → Q p → K t → K (withPending p t)
-  pub pausing : (t : Parsed) → K t → K (with_blocks (lastPaused t.blocks) t)
-  pub looping : (l : Loop) (t : Parsed) → K t → K (withBody l t)
+  pub copying : (r : Block) (t : Parsed) → Memᴰ r t.blocks → length t.blocks < m → K t → K (with_block (nameless r) t)
+  pub naming : (p : Pending) (t : Parsed) → Q p → K t → K (with_pending p t)
+  pub pausing : (t : Parsed) → K t → K (with_blocks (last_paused t.blocks) t)
+  pub looping : (l : Loop) (t : Parsed) → K t → K (with_body l t)
 
 -- P of blocks is kept by every pending name with Q, by a copy and by a pause; a used name with Q has Q, and so has none
 pub record Lasting (P : Block → Type 0) (Q : Pending → Type 0) : Type 0 where
@@ -50,5 +50,5 @@ repeated zero xs = []
 repeated (suc n) xs = xs ++ repeated n xs
 
 -- a block's tone rows: the first, and how many
-abbrev pub toneRows : Block → ℕ × ℕ
-toneRows r = (r.tone, r.tones)
+abbrev pub tone_rows : Block → ℕ × ℕ
+tone_rows r = (r.tone, r.tones)

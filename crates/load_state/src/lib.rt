@@ -3,8 +3,8 @@
 // Every promise is of each tape that the state and the tables hold; code is safe for any state, so it minds the capacity by itself.
 ghost use Rattle.std.specs.Prelude.{◌≡◌, List, [], ◌∷◌, ℕ};
 ghost use Rattle.rows.specs.Table.{zeros};
-ghost use Rattle.load_state.specs.Parser.{Parsed, empty, renamed, named, used, addTones, addBlock};
-ghost use Rattle.load_state.specs.Holds.{Holds, GivesOut, blockRoom, toneRoom};
+ghost use Rattle.load_state.specs.Parser.{Parsed, empty, renamed, named, used, add_tones, add_block};
+ghost use Rattle.load_state.specs.Holds.{Holds, GivesOut, block_room, tone_room};
 
 use refusals::{BLOCKS_FULL, TONES_FULL};
 use rows::{Block, Tone, append_block, append_tone, with_mark, with_name};
@@ -94,7 +94,7 @@ fn after_use(p: Pending) -> Pending
 // One tone row more.
 pub fn add_tone(s: State, tones: &mut [u64], r: Tone) -> Step
     ensures { (B N : ℕ) (bt : List ℕ) (t : Parsed) → Holds B N s bt tones.old t
-        → GivesOut B N result bt tones.new (addTones (toneRoom N) (r ∷ []) t) }
+        → GivesOut B N result bt tones.new (add_tones (tone_room N) (r ∷ []) t) }
 {
     let n = s.tones;
     if append_tone(tones, n as usize, r) {
@@ -114,7 +114,7 @@ pub fn add_tone(s: State, tones: &mut [u64], r: Tone) -> Step
 // One block more, with the pending name.
 pub fn add_block(s: State, blocks: &mut [u64], r: Block) -> Step
     ensures { (B N : ℕ) (tt : List ℕ) (t : Parsed) → Holds B N s blocks.old tt t
-        → GivesOut B N result blocks.new tt (addBlock (blockRoom B) r t) }
+        → GivesOut B N result blocks.new tt (add_block (block_room B) r t) }
 {
     let n = s.blocks;
     let p = s.pending;

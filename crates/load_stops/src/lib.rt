@@ -1,8 +1,8 @@
 // The blocks without tones: a pause (20), a stop, a stop on the 48K (2A). The reading, and a 19 that stops, alone call them.
 ghost use Rattle.std.specs.Prelude.{List, ℕ};
-ghost use Rattle.load_blocks.specs.Sounds.{addSound};
-ghost use Rattle.load_blocks.specs.Blocks.{stopSound, pauseSound};
-ghost use Rattle.load_blocks.specs.Deeds.{does, stop48Deed};
+ghost use Rattle.load_blocks.specs.Sounds.{add_sound};
+ghost use Rattle.load_blocks.specs.Blocks.{stop_sound, pause_sound};
+ghost use Rattle.load_blocks.specs.Deeds.{does, stop48_deed};
 ghost use Rattle.load_blocks.specs.Does.{Does};
 
 use load_blocks::{Origin, bare_row, no_tone, stop_row};
@@ -11,7 +11,7 @@ use load_state::{Halt, State, Step};
 // 20
 pub fn pause_block(s: State, blocks: &mut [u64], origin: Origin, pause: u32) -> Step
     ensures { (tape tt : List ℕ)
-        → Does (λ lent. addSound lent tape origin (pauseSound pause)) s result blocks.old tt blocks.new tt }
+        → Does (λ lent. add_sound lent tape origin (pause_sound pause)) s result blocks.old tt blocks.new tt }
 {
     if pause == 0 {
         return no_tone(s, blocks, stop_row(origin, s.tones));
@@ -21,7 +21,7 @@ pub fn pause_block(s: State, blocks: &mut [u64], origin: Origin, pause: u32) -> 
 
 // A stop block.
 pub fn stop_block(s: State, blocks: &mut [u64], origin: Origin) -> Step
-    ensures { (tape tt : List ℕ) → Does (λ lent. addSound lent tape origin stopSound) s result blocks.old tt blocks.new tt }
+    ensures { (tape tt : List ℕ) → Does (λ lent. add_sound lent tape origin stop_sound) s result blocks.old tt blocks.new tt }
 {
     no_tone(s, blocks, stop_row(origin, s.tones))
 }
@@ -29,7 +29,7 @@ pub fn stop_block(s: State, blocks: &mut [u64], origin: Origin) -> Step
 // 2A of a length: an error but for 0; then a stop block on the 48K, nothing on the others.
 pub fn stop_on_48(model: u32, s: State, blocks: &mut [u64], origin: Origin, length: u32) -> Step
     ensures { (tape tt : List ℕ)
-        → Does (λ lent. does lent tape model origin (stop48Deed length)) s result blocks.old tt blocks.new tt }
+        → Does (λ lent. does lent tape model origin (stop48_deed length)) s result blocks.old tt blocks.new tt }
 {
     if length != 0 {
         return Step::No(Halt::Length {

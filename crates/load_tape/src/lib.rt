@@ -1,8 +1,8 @@
 // The public load: a tape read as TZX, and where that fails as TAP, into the lent tables; then the naming pass.
 ghost use Rattle.std.specs.Prelude.{length};
-ghost use Rattle.load_source.specs.Source.{no, bothErr, orTap, readTap, load_of};
+ghost use Rattle.load_source.specs.Source.{no, both_err, or_tap, read_tap, load_of};
 ghost use Rattle.load_blocks.specs.Does.{lent_of};
-ghost use Rattle.load_tape.specs.Load.{Leaves, loadNamed};
+ghost use Rattle.load_tape.specs.Load.{Leaves, load_named};
 
 use load_select::name_blocks;
 use load_source::{Failure, Reading, read_tap, read_tzx};
@@ -42,7 +42,7 @@ fn refuse(blocks: &mut [u64], tones: &mut [u64], k: u32) -> Loaded
 
 // So does the one that tells what both attempts met.
 fn refuse_both(blocks: &mut [u64], tones: &mut [u64], tzx: Failure, tap: Failure) -> Loaded
-    ensures { Leaves (length blocks.old) (length tones.old) (bothErr tzx tap) result blocks.new
+    ensures { Leaves (length blocks.old) (length tones.old) (both_err tzx tap) result blocks.new
         tones.new }
 {
     blank(blocks);
@@ -53,7 +53,7 @@ fn refuse_both(blocks: &mut [u64], tones: &mut [u64], tzx: Failure, tap: Failure
 // The bytes as TAP, whatever the tables held; the attempt as TZX met `tzx`.
 fn load_tap(tape: &[u8], blocks: &mut [u64], tones: &mut [u64], tzx: Failure) -> Loaded
     ensures { Leaves (length blocks.old) (length tones.old)
-        (orTap tzx (readTap (lent_of (length blocks.old) (length tones.old)) tape.now)) result blocks.new
+        (or_tap tzx (read_tap (lent_of (length blocks.old) (length tones.old)) tape.now)) result blocks.new
         tones.new }
 {
     blank(blocks);
@@ -103,7 +103,7 @@ fn read(tape: &[u8], model: u32, blocks: &mut [u64], tones: &mut [u64]) -> Loade
 // Model 0 is the 48K, 1 the 128K, 2 the Plus3.
 pub fn load(tape: &[u8], model: u32, blocks: &mut [u64], tones: &mut [u64]) -> Loaded
     ensures { Leaves (length blocks.old) (length tones.old)
-        (loadNamed (lent_of (length blocks.old) (length tones.old)) tape.now model) result blocks.new
+        (load_named (lent_of (length blocks.old) (length tones.old)) tape.now model) result blocks.new
         tones.new }
 {
     let loaded = read(tape, model, blocks, tones);

@@ -1,7 +1,7 @@
 // The blocks of pieces that have their tones in numbers: turbo data (11), a pure tone (12), pure data (14). The reading alone calls them.
 ghost use Rattle.std.specs.Prelude.{List, ℕ};
-ghost use Rattle.load_blocks.specs.Sounds.{ms, addSound};
-ghost use Rattle.load_blocks.specs.Blocks.{turboSound, pureSound, pureToneTones, toneSound};
+ghost use Rattle.load_blocks.specs.Sounds.{ms, add_sound};
+ghost use Rattle.load_blocks.specs.Blocks.{turbo_sound, pure_sound, pure_tone_tones, tone_sound};
 ghost use Rattle.load_blocks.specs.Does.{Does};
 
 use cut_grammar::TurboData;
@@ -19,7 +19,7 @@ pub fn turbo_data_block(
     origin: Origin,
     d: TurboData,
 ) -> Step
-    ensures { Does (λ lent. addSound lent tape.now origin (turboSound d)) s result blocks.old tones.old
+    ensures { Does (λ lent. add_sound lent tape.now origin (turbo_sound d)) s result blocks.old tones.old
         blocks.new tones.new }
 {
     let pilot = Tone {
@@ -55,7 +55,7 @@ pub fn pure_data_block(
     bits: Bits,
     pause: u32,
 ) -> Step
-    ensures { Does (λ lent. addSound lent tape.now origin (pureSound bits (ms pause))) s result blocks.old tones.old
+    ensures { Does (λ lent. add_sound lent tape.now origin (pure_sound bits (ms pause))) s result blocks.old tones.old
         blocks.new tones.new }
 {
     let pilot = Tone {
@@ -92,7 +92,7 @@ pub fn pure_tone_block(
     half: u32,
     count: u32,
 ) -> Step
-    ensures { (tape : List ℕ) → Does (λ lent. addSound lent tape origin (toneSound (pureToneTones half count))) s result
+    ensures { (tape : List ℕ) → Does (λ lent. add_sound lent tape origin (tone_sound (pure_tone_tones half count))) s result
         blocks.old tones.old blocks.new tones.new }
 {
     let whole = Tone {

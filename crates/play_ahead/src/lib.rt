@@ -1,12 +1,12 @@
 // What the source's play drops as it walks.
 ghost use Rattle.std.specs.Prelude.{◌≡◌, true, false, ◌+◌, ◌≤◌};
-ghost use Rattle.rows.specs.Table.{capacityOf};
-ghost use Rattle.rows.specs.Rows.{tone, toneMost};
-ghost use Rattle.rows.specs.Well.{wellBlock};
-ghost use Rattle.play_entries.specs.Places.{hasEntry};
-ghost use Rattle.play_ahead.specs.Drops.{dropOne, dropEntry, secondTime, dropOf};
-ghost use Rattle.play_entries.specs.Mounted.{tapeSize, tapeOf};
-ghost use Rattle.play_walk.specs.Heads.{Walkable, droppedFrom};
+ghost use Rattle.rows.specs.Table.{capacity_of};
+ghost use Rattle.rows.specs.Rows.{tone, tone_most};
+ghost use Rattle.rows.specs.Well.{well_block};
+ghost use Rattle.play_entries.specs.Places.{has_entry};
+ghost use Rattle.play_ahead.specs.Drops.{drop_one, drop_entry, second_time, drop_of};
+ghost use Rattle.play_entries.specs.Mounted.{tape_size, tape_of};
+ghost use Rattle.play_walk.specs.Heads.{Walkable, dropped_from};
 ghost use Rattle.play_entries.specs.declared.Phase.TheVariants.{Tones, Data};
 
 use play_entries::{Duration, Phase};
@@ -20,9 +20,9 @@ use rows::{Block, Tone, block_at};
 
 // Behind one entry of this length, if it is no longer than d; its callers know it to be there in a row whose tone rows are lent.
 fn drop_one(tones: &[u64], r: Block, f: Phase, length: Duration, d: u64) -> Step
-    requires tones_bound { r.tone + r.tones ≤ capacityOf tone toneMost tones.now }
-    requires f_value { hasEntry tones.now r f ≡ true }
-    ensures { result ≡ dropOne tones.now r f length d }
+    requires tones_bound { r.tone + r.tones ≤ capacity_of tone tone_most tones.now }
+    requires f_value { has_entry tones.now r f ≡ true }
+    ensures { result ≡ drop_one tones.now r f length d }
 {
     match length {
         Duration::T(t) => {
@@ -37,16 +37,16 @@ fn drop_one(tones: &[u64], r: Block, f: Phase, length: Duration, d: u64) -> Step
 
 // Behind one full entry, if it is no longer than d.
 fn drop_entry(tape: &[u8], tones: &[u64], r: Block, f: Phase, d: u64) -> Step
-    requires r_value { wellBlock (tapeSize tape.now) tones.now r ≡ true }
-    requires f_value { hasEntry tones.now r f ≡ true }
-    ensures { result ≡ dropEntry tape.now tones.now r f d }
+    requires r_value { well_block (tape_size tape.now) tones.now r ≡ true }
+    requires f_value { has_entry tones.now r f ≡ true }
+    ensures { result ≡ drop_entry tape.now tones.now r f d }
 {
     drop_one(tones, r, f, length_at(tape, tones, r, f), d)
 }
 
 // T-states of a repetition's second pulse, 0 where it has none.
 fn second_time(r: Block, t: Tone) -> u64
-    ensures { result ≡ secondTime r t }
+    ensures { result ≡ second_time r t }
 {
     if is_single(r, t) {
         return 0;
@@ -56,9 +56,9 @@ fn second_time(r: Block, t: Tone) -> u64
 
 // The rest of a tone row's cycles if neither half is longer than d, or this half if it isn't.
 fn drop_cycles(tape: &[u8], tones: &[u64], r: Block, i: u64, p: u64, d: u64) -> Step
-    requires r_value { wellBlock (tapeSize tape.now) tones.now r ≡ true }
-    requires false_value { hasEntry tones.now r (Tones i p false) ≡ true }
-    ensures { result ≡ dropOf tape.now tones.now r (Tones i p false) d }
+    requires r_value { well_block (tape_size tape.now) tones.now r ≡ true }
+    requires false_value { has_entry tones.now r (Tones i p false) ≡ true }
+    ensures { result ≡ drop_of tape.now tones.now r (Tones i p false) d }
 {
     let x = row_tone(tones, r, i);
     let f = Phase::Tones {
@@ -80,9 +80,9 @@ fn drop_cycles(tape: &[u8], tones: &[u64], r: Block, i: u64, p: u64, d: u64) -> 
 
 // A data byte if no half of a bit can be longer than d, or its first half if it isn't.
 fn drop_byte(tape: &[u8], tones: &[u64], r: Block, pos: u64, d: u64) -> Step
-    requires r_value { wellBlock (tapeSize tape.now) tones.now r ≡ true }
-    requires false_value { hasEntry tones.now r (Data pos 0 false) ≡ true }
-    ensures { result ≡ dropOf tape.now tones.now r (Data pos 0 false) d }
+    requires r_value { well_block (tape_size tape.now) tones.now r ≡ true }
+    requires false_value { has_entry tones.now r (Data pos 0 false) ≡ true }
+    ensures { result ≡ drop_of tape.now tones.now r (Data pos 0 false) d }
 {
     let f = Phase::Data {
         pos,
@@ -101,9 +101,9 @@ fn drop_byte(tape: &[u8], tones: &[u64], r: Block, pos: u64, d: u64) -> Step
 
 // One turn of the source's walk, from a full entry that its callers know to be there in a well-formed row.
 fn drop(tape: &[u8], tones: &[u64], r: Block, f: Phase, d: u64) -> Step
-    requires r_value { wellBlock (tapeSize tape.now) tones.now r ≡ true }
-    requires f_value { hasEntry tones.now r f ≡ true }
-    ensures { result ≡ dropOf tape.now tones.now r f d }
+    requires r_value { well_block (tape_size tape.now) tones.now r ≡ true }
+    requires f_value { has_entry tones.now r f ≡ true }
+    ensures { result ≡ drop_of tape.now tones.now r f d }
 {
     match f {
         Phase::Start => drop_entry(tape, tones, r, f, d),
@@ -144,8 +144,8 @@ pub fn ran_ahead(
     pos: Position,
     n: u64,
 ) -> u64
-    requires { Walkable (tapeOf tape.now tones.now blocks.now count) pos }
-    ensures { result ≡ droppedFrom (tapeOf tape.now tones.now blocks.now count) pos n }
+    requires { Walkable (tape_of tape.now tones.now blocks.now count) pos }
+    ensures { result ≡ dropped_from (tape_of tape.now tones.now blocks.now count) pos n }
 {
     let own = pos.left;
     let Duration::T(t) = own else {

@@ -5,45 +5,45 @@ use mathlib.Core.Path.{◌≡◌, sym, ap, ap₂, ◌∙◌}
 use mathlib.Core.Bool.{Bool, true}
 use mathlib.Core.List.{List, ◌∷◌}
 use Rattle.law_pulses.specs.Play.{Entry, Answer, answer, calls, sum, Positive}
-use Rattle.law_pulses.specs.Source.{Outcome, isEnded, sources, heard, ShortCalls, Agrees}
-use Rattle.law_pulses.proofs.Demand.{any-cut}
-use Rattle.law_pulses.proofs.Agreement.{agrees-short}
+use Rattle.law_pulses.specs.Source.{Outcome, is_ended, sources, heard, ShortCalls, Agrees}
+use Rattle.law_pulses.proofs.Demand.{any_cut}
+use Rattle.law_pulses.proofs.Agreement.{agrees_short}
 use Rattle.play_entries.specs.Entries.{Label}
 use Rattle.play_entries.specs.Places.{Tape}
 use Rattle.play_entries.specs.Mounted.{WholeTape}
 use Rattle.play_walk.specs.declared.Position.{Position}
 use Rattle.play_walk.specs.declared.Reached.{Reached}
-use Rattle.play_walk.specs.Heads.{ahead, endedIn, toldReached}
-use Rattle.play_deck.specs.Deck.{validAt}
-use Rattle.play_deck.specs.Calls.{positionIn, runCalls, runSources, outcomeIn}
+use Rattle.play_walk.specs.Heads.{ahead, ended_in, told_reached}
+use Rattle.play_deck.specs.Deck.{valid_at}
+use Rattle.play_deck.specs.Calls.{position_in, run_calls, run_sources, outcome_in}
 use Rattle.play_deck.proofs.Answers.{told-ended}
-use Rattle.play_deck.proofs.Plays.{play-place, calls-told, cut-at-will}
-use Rattle.play_deck.proofs.Sources.{sources-told, sources-place}
+use Rattle.play_deck.proofs.Plays.{play_place, calls-told, cut_at_will}
+use Rattle.play_deck.proofs.Sources.{sources-told, sources_place}
 
 abbrev outcome : List (Entry Label) → Bool → Outcome Label
 outcome es b = record { place = es; done = b }
 
-module _ (w : Tape) (whole : WholeTape w) (q : Position) (n : ℕ) (ms : List ℕ) (v : validAt w q ≡ true) (p : 0 < n)
+module _ (w : Tape) (whole : WholeTape w) (q : Position) (n : ℕ) (ms : List ℕ) (v : valid_at w q ≡ true) (p : 0 < n)
     (h : Positive ms) where
-  calls-place : ahead w (positionIn q (runCalls w q n ms)) ≡ (calls (ahead w q) n ms).place
+  calls_place : ahead w (position_in q (run_calls w q n ms)) ≡ (calls (ahead w q) n ms).place
   unfolding answer
-  calls-place =
-      ap (λ (r : Reached). ahead w (positionIn q r)) (cut-at-will w whole q n ms v p h)
-      ∙ (play-place w whole q (n + sum ms) v (omega arith)).0
-      ∙ sym (ap (λ (a : Answer Label). a.place) (any-cut (ahead w q) n ms h))
+  calls_place =
+      ap (λ (r : Reached). ahead w (position_in q r)) (cut_at_will w whole q n ms v p h)
+      ∙ (play_place w whole q (n + sum ms) v (omega arith)).0
+      ∙ sym (ap (λ (a : Answer Label). a.place) (any_cut (ahead w q) n ms h))
 
-  calls-ended : endedIn (runCalls w q n ms) ≡ isEnded (calls (ahead w q) n ms).tells
-  unfolding toldReached
-  calls-ended = ap endedIn (calls-told w whole q n ms v p h) ∙ told-ended (calls (ahead w q) n ms).tells _
+  calls-ended : ended_in (run_calls w q n ms) ≡ is_ended (calls (ahead w q) n ms).tells
+  unfolding told_reached
+  calls-ended = ap ended_in (calls-told w whole q n ms v p h) ∙ told-ended (calls (ahead w q) n ms).tells _
 
-  calls-outcome : outcomeIn w q (runCalls w q n ms) ≡ heard (calls (ahead w q) n ms)
-  unfolding outcomeIn heard
-  calls-outcome = ap₂ outcome calls-place calls-ended
+  calls_outcome : outcome_in w q (run_calls w q n ms) ≡ heard (calls (ahead w q) n ms)
+  unfolding outcome_in heard
+  calls_outcome = ap₂ outcome calls_place calls-ended
 
-  sources-outcome : outcomeIn w q (runSources w q n ms) ≡ sources (ahead w q) n ms
-  unfolding outcomeIn
-  sources-outcome = ap₂ outcome (sources-place w whole q q n ms v p h) (sources-told w whole q n ms v p h)
+  sources_outcome : outcome_in w q (run_sources w q n ms) ≡ sources (ahead w q) n ms
+  unfolding outcome_in
+  sources_outcome = ap₂ outcome (sources_place w whole q q n ms v p h) (sources-told w whole q n ms v p h)
 
   -- THE PLAYERS AGREE: calls of 1 or more, each below every finite duration but 0 behind the head, from one position
-  pub players-agree : ShortCalls (ahead w q) (n ∷ ms) → Agrees (outcomeIn w q (runSources w q n ms)) (outcomeIn w q (runCalls w q n ms))
-  players-agree s = rw (sources-outcome, calls-outcome) (agrees-short (ahead w q) n ms s)
+  pub players_agree : ShortCalls (ahead w q) (n ∷ ms) → Agrees (outcome_in w q (run_sources w q n ms)) (outcome_in w q (run_calls w q n ms))
+  players_agree s = rw (sources_outcome, calls_outcome) (agrees_short (ahead w q) n ms s)

@@ -6,32 +6,32 @@ use mathlib.Core.Path.{◌≡◌, refl, sym, ap, subst, ◌∙◌}
 use mathlib.Core.Bool.{Bool, true, false, not, ◌&&◌}
 use mathlib.Core.Logic.{⊎_elim}
 use mathlib.Core.List.{List, [], ◌∷◌}
-use Rattle.law_base.proofs.Numbers.{lt-or-ge}
+use Rattle.law_base.proofs.Numbers.{lt_or_ge}
 use Rattle.law_base.specs.Rules.{◌⇒◌, ◌∣◌}
 use Rattle.law_base.proofs.Tests.{first, second}
-use Rattle.law_pulses.specs.Play.{low, Entry, statusHere}
-use Rattle.law_pulses.proofs.Lead.{lead-here, lead-by}
-use Rattle.rows.specs.Table.{capacityOf}
-use Rattle.rows.specs.Rows.{tone, toneMost, block, blockMost}
+use Rattle.law_pulses.specs.Play.{low, Entry, status_here}
+use Rattle.law_pulses.proofs.Lead.{lead_here, lead_by}
+use Rattle.rows.specs.Table.{capacity_of}
+use Rattle.rows.specs.Rows.{tone, tone_most, block, block_most}
 use Rattle.play_entries.specs.declared.Phase.{Phase}
 use Rattle.play_entries.specs.declared.Phase.TheVariants.{Start, Tones, Data, Edge, Pause}
 use Rattle.play_entries.specs.declared.Duration.{Duration}
 use Rattle.play_entries.specs.declared.Duration.TheVariants.{T, Endless}
 use Rattle.play_entries.specs.Entries.{Label, label_at, entry_of}
-use Rattle.play_entries.specs.Places.{Tape, blockIn, hasEntry, left_at, levelIn, remains, isStart, is_none, valid, hasIn, lengthIn}
+use Rattle.play_entries.specs.Places.{Tape, block_in, has_entry, left_at, level_in, remains, is_start, is_none, valid, has_in, length_in}
 use Rattle.rows.specs.declared.Block.{Block}
-use Rattle.play_entries.proofs.Lent.{row-lent}
-use Rattle.play_entries.proofs.Follows.{list-out}
-use Rattle.play_entries.proofs.Valid.{stands-valid, below-stands}
-use Rattle.play_entries.proofs.Parts.{left-part}
+use Rattle.play_entries.proofs.Lent.{row_lent}
+use Rattle.play_entries.proofs.Follows.{list_out}
+use Rattle.play_entries.proofs.Valid.{stands-valid, below_stands}
+use Rattle.play_entries.proofs.Parts.{left_part}
 use Rattle.play_walk.specs.declared.Position.{Position}
 use Rattle.play_walk.specs.declared.Reached.TheVariants.{At, Stopped, Ended}
-use Rattle.play_entries.specs.Mounted.{wellRow, firstBad, cut_to, formed}
-use Rattle.play_walk.specs.Heads.{start_at, stand, ahead, levelHere, toldAs, walkFrom, Walkable}
-use Rattle.play_walk.proofs.Leaves.{tells-end}
+use Rattle.play_entries.specs.Mounted.{well_row, first_bad, cut_to, formed}
+use Rattle.play_walk.specs.Heads.{start_at, stand, ahead, level_here, told_as, walk_from, Walkable}
+use Rattle.play_walk.proofs.Leaves.{tells_end}
 use Rattle.play_deck.specs.declared.Check.TheVariants.{Fine, NotValid, NotFormed}
 use Rattle.play_entries.specs.Mounted.{overfull}
-use Rattle.play_deck.specs.Deck.{at_start, ruledOut, illFormed, validAt, judged, stays}
+use Rattle.play_deck.specs.Deck.{at_start, ruled_out, ill_formed, valid_at, judged, stays}
 
 -- two tests that hold together are one
 pub same_test : (a b : Bool) → (a ≡ true → b ≡ true) → (b ≡ true → a ≡ true) → a ≡ b
@@ -39,75 +39,75 @@ same_test true b f g = sym (f refl)
 same_test false true f g = g refl
 same_test false false f g = refl
 
-pub valid-below : (w : Tape) (b : ℕ) (f : Phase) (left : Duration) → b < w.count
-    → valid w b f left ≡ (hasIn w b f && remains left (lengthIn w b f))
-valid-below w b f left h =
+pub valid_below : (w : Tape) (b : ℕ) (f : Phase) (left : Duration) → b < w.count
+    → valid w b f left ≡ (has_in w b f && remains left (length_in w b f))
+valid_below w b f left h =
     same_test _ _
-    (λ e. let s = below-stands w b f left h e in rw (s.entry, s.some))
+    (λ e. let s = below_stands w b f left h e in rw (s.entry, s.some))
     (λ e.
     stands-valid w b f left
     (record {
       below = h;
-      entry = first (hasIn w b f) (remains left (lengthIn w b f)) e;
-      some = second (hasIn w b f) (remains left (lengthIn w b f)) e;
+      entry = first (has_in w b f) (remains left (length_in w b f)) e;
+      some = second (has_in w b f) (remains left (length_in w b f)) e;
     }))
 
 -- the checks, way by way
 module _ (w : Tape) (q : Position) where
-  pub judged-over : capacityOf block blockMost w.blocks < w.count → judged w q ≡ NotFormed
+  pub judged-over : capacity_of block block_most w.blocks < w.count → judged w q ≡ NotFormed
   unfolding judged
   judged-over h = rw (lt-ltb _ _ h)
 
-  module _ (fits : w.count ≤ capacityOf block blockMost w.blocks) where
-    pub judged-start : w.count ≤ q.block → at_start q ≡ true → judged w q ≡ Fine
-    unfolding judged ruledOut illFormed valid
-    judged-start h e =
+  module _ (fits : w.count ≤ capacity_of block block_most w.blocks) where
+    pub judged_start : w.count ≤ q.block → at_start q ≡ true → judged w q ≡ Fine
+    unfolding judged ruled_out ill_formed valid
+    judged_start h e =
         rw (
-          le-ltb (capacityOf block blockMost w.blocks) w.count fits,
+          le-ltb (capacity_of block block_most w.blocks) w.count fits,
           le-leb w.count q.block h,
           le-ltb q.block w.count h,
           e,
         )
 
     pub judged-past : w.count ≤ q.block → at_start q ≡ false → judged w q ≡ NotValid
-    unfolding judged ruledOut
-    judged-past h e = rw (le-ltb (capacityOf block blockMost w.blocks) w.count fits, le-leb w.count q.block h, e)
+    unfolding judged ruled_out
+    judged-past h e = rw (le-ltb (capacity_of block block_most w.blocks) w.count fits, le-leb w.count q.block h, e)
 
     module _ (h : q.block < w.count) where
-      pub judged-bad : wellRow w q.block ≡ false → judged w q ≡ NotFormed
-      unfolding judged ruledOut illFormed
+      pub judged-bad : well_row w q.block ≡ false → judged w q ≡ NotFormed
+      unfolding judged ruled_out ill_formed
       judged-bad e =
           rw (
-            le-ltb (capacityOf block blockMost w.blocks) w.count fits,
+            le-ltb (capacity_of block block_most w.blocks) w.count fits,
             lt-leb w.count q.block h,
             lt-ltb q.block w.count h,
             e,
           )
 
-      abbrev entryFine : Bool
-      entryFine = hasIn w q.block q.phase && remains q.left (lengthIn w q.block q.phase)
+      abbrev entry_fine : Bool
+      entry_fine = has_in w q.block q.phase && remains q.left (length_in w q.block q.phase)
 
-      pub judged-not : wellRow w q.block ≡ true → entryFine ≡ false → judged w q ≡ NotValid
-      unfolding judged ruledOut illFormed
+      pub judged-not : well_row w q.block ≡ true → entry_fine ≡ false → judged w q ≡ NotValid
+      unfolding judged ruled_out ill_formed
       judged-not e f =
           rw (
-            le-ltb (capacityOf block blockMost w.blocks) w.count fits,
+            le-ltb (capacity_of block block_most w.blocks) w.count fits,
             lt-leb w.count q.block h,
             lt-ltb q.block w.count h,
             e,
-            valid-below w q.block q.phase q.left h,
+            valid_below w q.block q.phase q.left h,
             f,
           )
 
-      pub judged-fine : wellRow w q.block ≡ true → entryFine ≡ true → judged w q ≡ Fine
-      unfolding judged ruledOut illFormed
-      judged-fine e f =
+      pub judged_fine : well_row w q.block ≡ true → entry_fine ≡ true → judged w q ≡ Fine
+      unfolding judged ruled_out ill_formed
+      judged_fine e f =
           rw (
-            le-ltb (capacityOf block blockMost w.blocks) w.count fits,
+            le-ltb (capacity_of block block_most w.blocks) w.count fits,
             lt-leb w.count q.block h,
             lt-ltb q.block w.count h,
             e,
-            valid-below w q.block q.phase q.left h,
+            valid_below w q.block q.phase q.left h,
             f,
           )
 
@@ -126,7 +126,7 @@ passed false false true d e = let y : ◌≡◌ {A = ℕ} 0 1 = cc in absurd (om
 passed false false false true e = record { over = refl; ruled = refl; row = refl; valid = refl }
 passed false false false false e = let y : ◌≡◌ {A = ℕ} 0 1 = cc in absurd (omega arith)
 
-start_is : (f : Phase) → isStart f ≡ true → f ≡ Start
+start_is : (f : Phase) → is_start f ≡ true → f ≡ Start
 start_is Start e = refl
 start_is (Tones i p h) e = cc
 start_is (Data pos k h) e = cc
@@ -140,56 +140,56 @@ none_is Endless e = cc
 
 -- A FINE POSITION: below the count one that a walk can begin at, otherwise a start
 module _ (w : Tape) (q : Position) (fine : judged w q ≡ Fine) where
-  tests : Passed (overfull w) (ruledOut w q) (illFormed w q) (validAt w q)
+  tests : Passed (overfull w) (ruled_out w q) (ill_formed w q) (valid_at w q)
   unfolding judged
-  tests = passed (overfull w) (ruledOut w q) (illFormed w q) (validAt w q) fine
+  tests = passed (overfull w) (ruled_out w q) (ill_formed w q) (valid_at w q) fine
 
-  pub fine-below : q.block < w.count → Walkable w q
-  unfolding illFormed
-  fine-below h =
-      let r : (true && not (wellRow w q.block)) ≡ false = rw (lt-ltb q.block w.count h) at tests.row in
-      record { lent = ltb-false _ _ tests.over; below = h; row = not-false (wellRow w q.block) r; stands = tests.valid }
+  pub fine_below : q.block < w.count → Walkable w q
+  unfolding ill_formed
+  fine_below h =
+      let r : (true && not (well_row w q.block)) ≡ false = rw (lt-ltb q.block w.count h) at tests.row in
+      record { lent = ltb-false _ _ tests.over; below = h; row = not-false (well_row w q.block) r; stands = tests.valid }
 
-  at-past : w.count ≤ q.block → at_start q ≡ true
-  unfolding ruledOut
-  at-past h = let r : (true && not (at_start q)) ≡ false = rw (le-leb w.count q.block h) at tests.ruled in not-false (at_start q) r
+  at_past : w.count ≤ q.block → at_start q ≡ true
+  unfolding ruled_out
+  at_past h = let r : (true && not (at_start q)) ≡ false = rw (le-leb w.count q.block h) at tests.ruled in not-false (at_start q) r
 
-  pub fine-start : w.count ≤ q.block → q.phase ≡ Start
-  fine-start h = start_is q.phase (first (isStart q.phase) (is_none q.left) (at-past h))
+  pub fine_start : w.count ≤ q.block → q.phase ≡ Start
+  fine_start h = start_is q.phase (first (is_start q.phase) (is_none q.left) (at_past h))
 
-  pub fine-none : w.count ≤ q.block → q.left ≡ T 0
-  fine-none h = none_is q.left (second (isStart q.phase) (is_none q.left) (at-past h))
+  pub fine_none : w.count ≤ q.block → q.left ≡ T 0
+  fine_none h = none_is q.left (second (is_start q.phase) (is_none q.left) (at_past h))
 
   past-nil : w.count ≤ q.block → (k : ℕ) → k ≤ q.block → ahead (cut_to w k) q ≡ []
   unfolding left_at
-  past-nil h k l = ap (λ (f : Phase). left_at (cut_to w k) q.block f q.left) (fine-start h) ∙ list-out (cut_to w k) q.block l
+  past-nil h k l = ap (λ (f : Phase). left_at (cut_to w k) q.block f q.left) (fine_start h) ∙ list_out (cut_to w k) q.block l
 
   -- a call of 0
-  stays_by : (es : List (Entry Label)) → ahead w q ≡ es → stays w q ≡ toldAs (statusHere es) (stand q 0 (levelHere low es))
+  stays_by : (es : List (Entry Label)) → ahead w q ≡ es → stays w q ≡ told_as (status_here es) (stand q 0 (level_here low es))
   unfolding stays
-  stays_by es e = ap (λ (x : List (Entry Label)). toldAs (statusHere x) (stand q 0 (levelHere low x))) e
+  stays_by es e = ap (λ (x : List (Entry Label)). told_as (status_here x) (stand q 0 (level_here low x))) e
 
-  pub stays_at : (t : ℕ) → q.left ≡ T t → q.block < w.count → stays w q ≡ At (stand q 0 (levelIn w q.block q.phase))
-  unfolding toldAs statusHere levelHere entry_of
+  pub stays_at : (t : ℕ) → q.left ≡ T t → q.block < w.count → stays w q ≡ At (stand q 0 (level_in w q.block q.phase))
+  unfolding told_as status_here level_here entry_of
   stays_at t e h =
-      let x = left-part w q.block h q.phase q.left tests.valid in
+      let x = left_part w q.block h q.phase q.left tests.valid in
       stays_by _
-      (x.rest ∙ ap (λ (y : Duration). entry_of (label_at q.block q.phase) (levelIn w q.block q.phase) y ∷ x.next) e)
+      (x.rest ∙ ap (λ (y : Duration). entry_of (label_at q.block q.phase) (level_in w q.block q.phase) y ∷ x.next) e)
 
   pub stays-past : w.count ≤ q.block → stays w q ≡ At (stand q 0 low)
-  unfolding toldAs statusHere levelHere
+  unfolding told_as status_here level_here
   stays-past h = stays_by [] (past-nil h w.count h)
 
-  pub stays-endless : q.left ≡ Endless → stays w q ≡ Stopped (stand q 0 (levelIn w q.block q.phase))
-  unfolding toldAs statusHere levelHere entry_of
+  pub stays-endless : q.left ≡ Endless → stays w q ≡ Stopped (stand q 0 (level_in w q.block q.phase))
+  unfolding told_as status_here level_here entry_of
   stays-endless e =
       ⊎_elim
       (λ h.
-      let x = left-part w q.block h q.phase q.left tests.valid in
+      let x = left_part w q.block h q.phase q.left tests.valid in
       stays_by _
-      (x.rest ∙ ap (λ (y : Duration). entry_of (label_at q.block q.phase) (levelIn w q.block q.phase) y ∷ x.next) e))
-      (λ h. let z = fine-none h in absurd (apart (sym z ∙ e)))
-      (lt-or-ge q.block w.count)
+      (x.rest ∙ ap (λ (y : Duration). entry_of (label_at q.block q.phase) (level_in w q.block q.phase) y ∷ x.next) e))
+      (λ h. let z = fine_none h in absurd (apart (sym z ∙ e)))
+      (lt_or_ge q.block w.count)
     where
       apart : T 0 ≡ Endless → ⊥
       apart z =
@@ -198,22 +198,22 @@ module _ (w : Tape) (q : Position) (fine : judged w q ≡ Fine) where
           absurd (omega arith)
 
   -- a start past the count: the end, at the count's start
-  pub past-ends : w.count ≤ q.block → (n : ℕ) → 0 < n → walkFrom w q n ≡ Ended (stand (start_at w.count) 0 false)
-  unfolding walkFrom formed firstBad
+  pub past-ends : w.count ≤ q.block → (n : ℕ) → 0 < n → walk_from w q n ≡ Ended (stand (start_at w.count) 0 false)
+  unfolding walk_from formed first_bad
   past-ends h n p =
       let z : w.count - q.block ≡ 0 = omega arith in
       rw z
-      (tells-end w (cut_to w w.count) n 0
-      (lead-by (past-nil h w.count h) (lead-here (ahead (cut_to w w.count) q) n 0)) p (omega arith))
+      (tells_end w (cut_to w w.count) n 0
+      (lead_by (past-nil h w.count h) (lead_here (ahead (cut_to w w.count) q) n 0)) p (omega arith))
 
 -- what the level of a position's entry asks, of the row that the code read
 abbrev Lent : Tape → Phase → Block → Type 0
-Lent w f r = (r.tone + r.tones ≤ capacityOf tone toneMost w.tones) × (hasEntry w.tones r f ≡ true)
+Lent w f r = (r.tone + r.tones ≤ capacity_of tone tone_most w.tones) × (has_entry w.tones r f ≡ true)
 
-pub may-stand : (w : Tape) (q : Position) → Walkable w q → (r : Block) → r ≡ blockIn w q.block → Lent w q.phase r
-unfolding wellRow
-may-stand w q a r e =
+pub may_stand : (w : Tape) (q : Position) → Walkable w q → (r : Block) → r ≡ block_in w q.block → Lent w q.phase r
+unfolding well_row
+may_stand w q a r e =
     subst (Lent w q.phase) (sym e) (
-      (row-lent w.bytes w.tones (blockIn w q.block) a.row).rows,
-      (below-stands w q.block q.phase q.left a.below a.stands).entry,
+      (row_lent w.bytes w.tones (block_in w q.block) a.row).rows,
+      (below_stands w q.block q.phase q.left a.below a.stands).entry,
     )

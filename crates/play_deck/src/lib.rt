@@ -1,17 +1,17 @@
 // The players of a mounted tape: the measured one and the source's.
 ghost use Rattle.std.specs.Prelude.{◌≡◌, true, ◌&&◌, eqb};
-ghost use Rattle.rows_well.specs.Words.{wellWords};
+ghost use Rattle.rows_well.specs.Words.{well_words};
 ghost use Rattle.law_pulses.specs.Play.{low};
-ghost use Rattle.play_entries.specs.Places.{Tape, hasEntry, lengthAt, levelIn, is_none, isStart, remains};
-ghost use Rattle.play_entries.specs.Mounted.{tapeSize, tapeOf};
+ghost use Rattle.play_entries.specs.Places.{Tape, has_entry, length_at, level_in, is_none, is_start, remains};
+ghost use Rattle.play_entries.specs.Mounted.{tape_size, tape_of};
 ghost use Rattle.law_base.specs.Rules.{◌⇒◌, ◌∣◌};
 ghost use Rattle.play_voice.specs.Voice.{silence, row_at, ToldSeen};
-ghost use Rattle.play_walk.specs.Heads.{walkFrom, GoesOn, Landed, Lands};
+ghost use Rattle.play_walk.specs.Heads.{walk_from, GoesOn, Landed, Lands};
 ghost use Rattle.play_deck.specs.declared.Check.TheVariants.{Fine};
-ghost use Rattle.play_deck.specs.Assay.{passes, fineIf, verdictOf, readyRow, levelThere, Assayed, Lending, Sounded};
-ghost use Rattle.play_deck.specs.Inside.{endsInside, less_by, inPlace};
-ghost use Rattle.play_deck.specs.Deck.{at_start, judged, stays, playMeasured, sourceFrom, playSource};
-ghost use Rattle.play_deck.specs.Calls.{positionIn};
+ghost use Rattle.play_deck.specs.Assay.{passes, fine_if, verdict_of, ready_row, level_there, Assayed, Lending, Sounded};
+ghost use Rattle.play_deck.specs.Inside.{ends_inside, less_by, in_place};
+ghost use Rattle.play_deck.specs.Deck.{at_start, judged, stays, play_measured, source_from, play_source};
+ghost use Rattle.play_deck.specs.Calls.{position_in};
 
 use play_ahead::ran_ahead;
 use play_entries::{Duration, Phase};
@@ -66,9 +66,9 @@ fn none_left(left: Duration) -> bool
 
 // Whether so much may be left of a block's entry; its callers know the row to be well formed but for its tone rows.
 fn has_left(tape: &[u8], tones: &[u64], r: Block, f: Phase, left: Duration) -> bool
-    requires { wellWords (tapeSize tape.now) tones.now r ≡ true }
+    requires { well_words (tape_size tape.now) tones.now r ≡ true }
     ensures { result
-        ≡ (hasEntry tones.now r f && remains left (lengthAt tape.now tones.now r f)) }
+        ≡ (has_entry tones.now r f && remains left (length_at tape.now tones.now r f)) }
 {
     if !has_entry(tones, r, f) {
         return false;
@@ -78,7 +78,7 @@ fn has_left(tape: &[u8], tones: &[u64], r: Block, f: Phase, left: Duration) -> b
 
 // Whether a row is well formed; of a document row's tone rows it doesn't tell, which are gone through later.
 fn row_ready(tape: &[u8], tones: &[u64], r: Block) -> bool
-    ensures { result ≡ readyRow (tapeSize tape.now) tones.now r }
+    ensures { result ≡ ready_row (tape_size tape.now) tones.now r }
 {
     if !words_well(size_of(tape), tones, r) {
         return false;
@@ -99,7 +99,7 @@ pub struct Finding {
 
 // A check that tells no level.
 fn silent(c: Check) -> Finding
-    ensures { result ≡ verdictOf c low silence }
+    ensures { result ≡ verdict_of c low silence }
 {
     Finding {
         check: c,
@@ -110,7 +110,7 @@ fn silent(c: Check) -> Finding
 
 // The check of a position at or past the count.
 fn check_past(pos: Position) -> Check
-    ensures { result ≡ fineIf (at_start pos) }
+    ensures { result ≡ fine_if (at_start pos) }
 {
     if at_start(pos) {
         return Check::Fine;
@@ -120,7 +120,7 @@ fn check_past(pos: Position) -> Check
 
 // The check of an entry in a well-formed row, by whether so much may be left of it.
 fn check_left(has: bool) -> Check
-    ensures { result ≡ fineIf has }
+    ensures { result ≡ fine_if has }
 {
     if has { Check::Fine } else { Check::NotValid }
 }
@@ -128,7 +128,7 @@ fn check_left(has: bool) -> Check
 // A position in block b, a document row, by one pass over its tone rows; its callers know the row to be well formed but for them.
 fn assay_document(tones: &[u64], blocks: &[u64], b: u64, f: Phase, has: bool) -> Finding
     requires lending { Lending tones.now blocks.now b }
-    requires f_value { has ≡ true → hasEntry tones.now (row_at blocks.now b) f ≡ true }
+    requires f_value { has ≡ true → has_entry tones.now (row_at blocks.now b) f ≡ true }
     ensures { Sounded tones.now blocks.now b f has result }
 {
     let h = hear(tones, block_at(blocks, b as usize), b, f);
@@ -147,7 +147,7 @@ fn assay_document(tones: &[u64], blocks: &[u64], b: u64, f: Phase, has: bool) ->
 
 // The checks of a position, in the order of rule 37, and the level there: a document row's tone rows are gone through once for both.
 pub fn assay(tape: &[u8], tones: &[u64], blocks: &[u64], count: u64, pos: Position) -> Finding
-    ensures { Assayed (tapeOf tape.now tones.now blocks.now count) pos result }
+    ensures { Assayed (tape_of tape.now tones.now blocks.now count) pos result }
 {
     if (block_capacity(blocks) as u64) < count {
         return silent(Check::NotFormed);
@@ -174,7 +174,7 @@ pub fn assay(tape: &[u8], tones: &[u64], blocks: &[u64], count: u64, pos: Positi
 
 // The checks of a position, in the order of rule 37.
 pub fn judge(tape: &[u8], tones: &[u64], blocks: &[u64], count: u64, pos: Position) -> Check
-    ensures { result ≡ judged (tapeOf tape.now tones.now blocks.now count) pos }
+    ensures { result ≡ judged (tape_of tape.now tones.now blocks.now count) pos }
 {
     let a = assay(tape, tones, blocks, count, pos);
     a.check
@@ -182,7 +182,7 @@ pub fn judge(tape: &[u8], tones: &[u64], blocks: &[u64], count: u64, pos: Positi
 
 // A call of 0 from a position of this level: nothing is altered.
 fn stay(pos: Position, level: bool) -> Reached
-    ensures { (w : Tape) → judged w pos ≡ Fine → level ≡ levelThere w pos → result ≡ stays w pos }
+    ensures { (w : Tape) → judged w pos ≡ Fine → level ≡ level_there w pos → result ≡ stays w pos }
 {
     let left = pos.left;
     let here = Stand {
@@ -198,7 +198,7 @@ fn stay(pos: Position, level: bool) -> Reached
 
 // Whether a call of n ends inside an entry of which so much is left.
 pub fn ends_inside(left: Duration, n: u64) -> bool
-    ensures { result ≡ endsInside left n }
+    ensures { result ≡ ends_inside left n }
 {
     match left {
         Duration::T(t) => n < t,
@@ -208,7 +208,7 @@ pub fn ends_inside(left: Duration, n: u64) -> bool
 
 // What is left of an entry in which a call of n ends.
 fn less(left: Duration, n: u64) -> Duration
-    requires { endsInside left n ≡ true }
+    requires { ends_inside left n ≡ true }
     ensures { result ≡ less_by left n }
 {
     match left {
@@ -219,8 +219,8 @@ fn less(left: Duration, n: u64) -> Duration
 
 // A call of n that ends inside the entry where the head stands, of this level: nothing is passed.
 fn stand_inside(pos: Position, n: u64, level: bool) -> Reached
-    requires { endsInside pos.left n ≡ true }
-    ensures { (w : Tape) → level ≡ levelIn w pos.block pos.phase → result ≡ inPlace w pos n }
+    requires { ends_inside pos.left n ≡ true }
+    ensures { (w : Tape) → level ≡ level_in w pos.block pos.phase → result ≡ in_place w pos n }
 {
     let phase = pos.phase;
     let left = pos.left;
@@ -246,11 +246,11 @@ fn measure(
     n: u64,
     a: Finding,
 ) -> Reached
-    requires assayed { Assayed (tapeOf tape.now tones.now blocks.now count) pos a }
+    requires assayed { Assayed (tape_of tape.now tones.now blocks.now count) pos a }
     requires check_value { a.check ≡ Fine }
-    ensures value { result ≡ (eqb n 0 ⇒ stays (tapeOf tape.now tones.now blocks.now count) pos
-        ∣ walkFrom (tapeOf tape.now tones.now blocks.now count) pos n) }
-    ensures lands { Lands (tapeOf tape.now tones.now blocks.now count) result }
+    ensures value { result ≡ (eqb n 0 ⇒ stays (tape_of tape.now tones.now blocks.now count) pos
+        ∣ walk_from (tape_of tape.now tones.now blocks.now count) pos n) }
+    ensures lands { Lands (tape_of tape.now tones.now blocks.now count) result }
 {
     if n == 0 {
         return stay(pos, a.level);
@@ -276,9 +276,9 @@ pub fn measured_by(
     n: u32,
     a: Finding,
 ) -> Reached
-    requires { Assayed (tapeOf tape.now tones.now blocks.now count) pos a }
-    ensures value { result ≡ playMeasured (tapeOf tape.now tones.now blocks.now count) pos n }
-    ensures lands { Lands (tapeOf tape.now tones.now blocks.now count) result }
+    requires { Assayed (tape_of tape.now tones.now blocks.now count) pos a }
+    ensures value { result ≡ play_measured (tape_of tape.now tones.now blocks.now count) pos n }
+    ensures lands { Lands (tape_of tape.now tones.now blocks.now count) result }
 {
     let c = a.check;
     match c {
@@ -297,7 +297,7 @@ pub fn play_measured(
     pos: Position,
     n: u32,
 ) -> Reached
-    ensures { result ≡ playMeasured (tapeOf tape.now tones.now blocks.now count) pos n }
+    ensures { result ≡ play_measured (tape_of tape.now tones.now blocks.now count) pos n }
 {
     let a = assay(tape, tones, blocks, count, pos);
     measured_by(tape, tones, blocks, count, pos, n, a)
@@ -313,11 +313,11 @@ fn follow(
     n: u32,
     a: Finding,
 ) -> Reached
-    requires assayed { Assayed (tapeOf tape.now tones.now blocks.now count) pos a }
+    requires assayed { Assayed (tape_of tape.now tones.now blocks.now count) pos a }
     requires check_value { a.check ≡ Fine }
-    ensures value { result ≡ (eqb n 0 ⇒ stays (tapeOf tape.now tones.now blocks.now count) pos
-        ∣ sourceFrom (tapeOf tape.now tones.now blocks.now count) pos n) }
-    ensures lands { Lands (tapeOf tape.now tones.now blocks.now count) result }
+    ensures value { result ≡ (eqb n 0 ⇒ stays (tape_of tape.now tones.now blocks.now count) pos
+        ∣ source_from (tape_of tape.now tones.now blocks.now count) pos n) }
+    ensures lands { Lands (tape_of tape.now tones.now blocks.now count) result }
 {
     if n == 0 {
         return stay(pos, a.level);
@@ -344,9 +344,9 @@ pub fn followed_by(
     n: u32,
     a: Finding,
 ) -> Reached
-    requires { Assayed (tapeOf tape.now tones.now blocks.now count) pos a }
-    ensures value { result ≡ playSource (tapeOf tape.now tones.now blocks.now count) pos n }
-    ensures lands { Lands (tapeOf tape.now tones.now blocks.now count) result }
+    requires { Assayed (tape_of tape.now tones.now blocks.now count) pos a }
+    ensures value { result ≡ play_source (tape_of tape.now tones.now blocks.now count) pos n }
+    ensures lands { Lands (tape_of tape.now tones.now blocks.now count) result }
 {
     let c = a.check;
     match c {
@@ -365,7 +365,7 @@ pub fn play(
     pos: Position,
     n: u32,
 ) -> Reached
-    ensures { result ≡ playSource (tapeOf tape.now tones.now blocks.now count) pos n }
+    ensures { result ≡ play_source (tape_of tape.now tones.now blocks.now count) pos n }
 {
     let a = assay(tape, tones, blocks, count, pos);
     followed_by(tape, tones, blocks, count, pos, n, a)
@@ -373,7 +373,7 @@ pub fn play(
 
 // Whether a phase is a block's start.
 fn is_start(f: Phase) -> bool
-    ensures { result ≡ isStart f }
+    ensures { result ≡ is_start f }
 {
     match f {
         Phase::Start => true,
@@ -393,9 +393,9 @@ fn assay_inside(
     s: Stand,
     h: Heard,
 ) -> Finding
-    requires goes_on { GoesOn (tapeOf tape.now tones.now blocks.now count) s }
+    requires goes_on { GoesOn (tape_of tape.now tones.now blocks.now count) s }
     requires told_seen { ToldSeen tones.now blocks.now h }
-    ensures { Assayed (tapeOf tape.now tones.now blocks.now count) s.position result }
+    ensures { Assayed (tape_of tape.now tones.now blocks.now count) s.position result }
 {
     let pos = s.position;
     let b = pos.block;
@@ -423,9 +423,9 @@ fn assay_stand(
     s: Stand,
     h: Heard,
 ) -> Finding
-    requires landed { Landed (tapeOf tape.now tones.now blocks.now count) s }
+    requires landed { Landed (tape_of tape.now tones.now blocks.now count) s }
     requires told_seen { ToldSeen tones.now blocks.now h }
-    ensures { Assayed (tapeOf tape.now tones.now blocks.now count) s.position result }
+    ensures { Assayed (tape_of tape.now tones.now blocks.now count) s.position result }
 {
     let pos = s.position;
     let f = pos.phase;
@@ -445,9 +445,9 @@ pub fn assay_after(
     a: Finding,
     r: Reached,
 ) -> Finding
-    requires assayed { Assayed (tapeOf tape.now tones.now blocks.now count) pos a }
-    requires lands { Lands (tapeOf tape.now tones.now blocks.now count) r }
-    ensures { Assayed (tapeOf tape.now tones.now blocks.now count) (positionIn pos r) result }
+    requires assayed { Assayed (tape_of tape.now tones.now blocks.now count) pos a }
+    requires lands { Lands (tape_of tape.now tones.now blocks.now count) r }
+    ensures { Assayed (tape_of tape.now tones.now blocks.now count) (position_in pos r) result }
 {
     let h = a.heard;
     match r {

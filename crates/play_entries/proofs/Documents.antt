@@ -5,36 +5,36 @@ use mathlib.Core.Path.{◌≡◌, refl}
 use mathlib.Core.List.{List, [], ◌∷◌, ◌++◌, map}
 use Rattle.law_pulses.specs.Play.{low, high, pulse, endless}
 use Rattle.law_pulses.specs.Runs.{run}
-use Rattle.rows.specs.Rows.{decodeBlock}
+use Rattle.rows.specs.Rows.{decode_block}
 use Rattle.play_levels.specs.declared.Line.{Line}
 use Rattle.play_levels.specs.Voiced.{Bare, lined, quiet, bare}
-use Rattle.play_levels.specs.Closed.{timesOf, turned, firstLevel, lineBefore, lineAfter}
-use Rattle.play_entries.specs.Entries.{entry_of, cyclesOf, isSingle, line_at, startLevel, cycleLevel, bitLevel, edged, pauseLevel}
-use Rattle.play_entries.specs.Entries.{toneOf, tonesOf, bits_at, half_of, byte_of, data_of, pauseOf, soundOf, entriesOf}
-use Rattle.play_entries.specs.Signals.{lineData, lineBehind}
+use Rattle.play_levels.specs.Closed.{times_of, turned, first_level, line_before, line_after}
+use Rattle.play_entries.specs.Entries.{entry_of, cycles_of, is_single, line_at, start_level, cycle_level, bit_level, edged, pause_level}
+use Rattle.play_entries.specs.Entries.{tone_of, tones_of, bits_at, half_of, byte_of, data_of, pause_of, sound_of, entries_of}
+use Rattle.play_entries.specs.Signals.{line_data, line_behind}
 
 -- a row: its tone rows, what of its words is data (start, size, zero, one, last), its pause and flag, its level and played
 pub record DocumentRow : Type 0 where
   pub tones : List ℕ
   pub rows : ℕ
-  pub data-words : List ℕ
+  pub data_words : List ℕ
   pub pause : ℕ
   pub endless : ℕ
   pub level : ℕ
   pub played : ℕ
 
-abbrev heardOf : List ℕ → DocumentRow → List Bare × Line
-heardOf tape g =
-    let r = decodeBlock
-    (0 ∷ g.rows ∷ g.data-words ++ g.pause ∷ g.endless ∷ 0 ∷ 0 ∷ 0 ∷ 0 ∷ 1 ∷ g.level ∷ g.played ∷ []) in
-    (bare (entriesOf tape g.tones 7 r), lineBehind g.tones r)
+abbrev heard_of : List ℕ → DocumentRow → List Bare × Line
+heard_of tape g =
+    let r = decode_block
+    (0 ∷ g.rows ∷ g.data_words ++ g.pause ∷ g.endless ∷ 0 ∷ 0 ∷ 0 ∷ 0 ∷ 1 ∷ g.level ∷ g.played ∷ []) in
+    (bare (entries_of tape g.tones 7 r), line_behind g.tones r)
 
 abbrev none : List ℕ
 none = 0 ∷ 0 ∷ 0 ∷ 0 ∷ 0 ∷ []
 
 abbrev tonal : List ℕ → ℕ → ℕ → ℕ → DocumentRow
 tonal tones rows level played =
-    record { tones = tones; rows = rows; data-words = none; pause = 0; endless = 0; level = level; played = played }
+    record { tones = tones; rows = rows; data_words = none; pause = 0; endless = 0; level = level; played = played }
 
 abbrev L : ℕ → Bare
 L n = pulse tt low n
@@ -50,7 +50,7 @@ cases =
     (tonal (3 ∷ 100 ∷ 0 ∷ 1 ∷ []) 1 1 0, (H 0 ∷ H 100 ∷ L 100 ∷ H 100 ∷ L 0 ∷ [], lined low high)) ∷
     -- 13 of 5 6 7, 20 of 2 ms, 13 of 7
     (tonal (1 ∷ 5 ∷ 6 ∷ 2 ∷ 1 ∷ 7 ∷ 0 ∷ 1 ∷ []) 2 0 0, (L 0 ∷ L 5 ∷ H 6 ∷ L 7 ∷ H 0 ∷ [], lined high low)) ∷ (
-      record { tones = []; rows = 0; data-words = none; pause = 7000; endless = 0; level = 1; played = 0 },
+      record { tones = []; rows = 0; data_words = none; pause = 7000; endless = 0; level = 1; played = 0 },
       (H 0 ∷ H 3500 ∷ L 3500 ∷ [], quiet),
     ) ∷
     (tonal (1 ∷ 7 ∷ 0 ∷ 1 ∷ []) 1 0 0, (L 0 ∷ L 7 ∷ H 0 ∷ [], lined high low)) ∷
@@ -59,7 +59,7 @@ cases =
       record {
         tones = 3 ∷ 9 ∷ 0 ∷ 1 ∷ 1 ∷ 4 ∷ 6 ∷ 2 ∷ [];
         rows = 2;
-        data-words = 0 ∷ 1 ∷ 10 ∷ 20 ∷ 2 ∷ [];
+        data_words = 0 ∷ 1 ∷ 10 ∷ 20 ∷ 2 ∷ [];
         pause = 3500;
         endless = 0;
         level = 0;
@@ -72,7 +72,7 @@ cases =
       record {
         tones = 0 ∷ 9 ∷ 0 ∷ 1 ∷ 1 ∷ 4 ∷ 6 ∷ 2 ∷ [];
         rows = 2;
-        data-words = 0 ∷ 1 ∷ 10 ∷ 20 ∷ 1 ∷ [];
+        data_words = 0 ∷ 1 ∷ 10 ∷ 20 ∷ 1 ∷ [];
         pause = 0;
         endless = 0;
         level = 0;
@@ -82,7 +82,7 @@ cases =
     ) ∷
     -- a stop, at high
     (
-      record { tones = []; rows = 0; data-words = none; pause = 0; endless = 1; level = 1; played = 0 },
+      record { tones = []; rows = 0; data_words = none; pause = 0; endless = 1; level = 1; played = 0 },
       (H 0 ∷ endless tt low ∷ [], quiet),
     ) ∷
     -- a 19 of 9/4 three times, flags 0 to 3, behind a pulse that was low
@@ -95,7 +95,7 @@ cases =
     (tonal (3 ∷ 9 ∷ 4 ∷ 3 ∷ []) 1 1 0, (H 0 ∷ H 0 ∷ [], lined high low)) ∷
     []
 
-heard-so : map (λ e. heardOf (0x80 ∷ []) e.0) cases ≡ map (λ e. e.1) cases
-unfolding bare entriesOf soundOf tonesOf toneOf cyclesOf isSingle line_at startLevel cycleLevel bitLevel edged pauseLevel data_of byte_of
-    bits_at half_of pauseOf entry_of run lineData lineBehind timesOf turned firstLevel lineBefore lineAfter
-heard-so = refl
+heard_so : map (λ e. heard_of (0x80 ∷ []) e.0) cases ≡ map (λ e. e.1) cases
+unfolding bare entries_of sound_of tones_of tone_of cycles_of is_single line_at start_level cycle_level bit_level edged pause_level data_of byte_of
+    bits_at half_of pause_of entry_of run line_data line_behind times_of turned first_level line_before line_after
+heard_so = refl

@@ -6,21 +6,21 @@ use mathlib.Core.Bool.{true}
 use mathlib.Core.List.{List}
 use lib.ListN.{length}
 use Rattle.rows.specs.declared.Block.{Block}
-use Rattle.rows.specs.Table.{capacityOf}
-use Rattle.rows.specs.Rows.{tone, toneMost}
-use Rattle.rows.specs.Well.{wellTones, wellNumbers, wellBlock}
-use Rattle.rows.proofs.WellLaws.{block-clauses, ranges-inside}
-use Rattle.play_entries.specs.Mounted.{tapeSize}
+use Rattle.rows.specs.Table.{capacity_of}
+use Rattle.rows.specs.Rows.{tone, tone_most}
+use Rattle.rows.specs.Well.{well_tones, well_numbers, well_block}
+use Rattle.rows.proofs.WellLaws.{block_clauses, ranges_inside}
+use Rattle.play_entries.specs.Mounted.{tape_size}
 
 pub record LentRow (tape tones : List ℕ) (r : Block) : Type 0 where
   pub bytes : r.start + r.size ≤ length tape
   pub few : r.start + r.size ≤ 1048576
-  pub rows : r.tone + r.tones ≤ capacityOf tone toneMost tones
-  pub numbers : wellNumbers r ≡ true
-  pub each : wellTones tones r.tone r.tones ≡ true
+  pub rows : r.tone + r.tones ≤ capacity_of tone tone_most tones
+  pub numbers : well_numbers r ≡ true
+  pub each : well_tones tones r.tone r.tones ≡ true
 
-pub row-lent : (tape tones : List ℕ) (r : Block) → wellBlock (tapeSize tape) tones r ≡ true → LentRow tape tones r
-row-lent tape tones r w =
-    let c = block-clauses (tapeSize tape) tones r w in
-    let x = ranges-inside (tapeSize tape) tones r c.ranges in
+pub row_lent : (tape tones : List ℕ) (r : Block) → well_block (tape_size tape) tones r ≡ true → LentRow tape tones r
+row_lent tape tones r w =
+    let c = block_clauses (tape_size tape) tones r w in
+    let x = ranges_inside (tape_size tape) tones r c.ranges in
     record { bytes = omega arith; few = omega arith; rows = x.rows; numbers = c.numbers; each = c.rows }

@@ -3,25 +3,25 @@ use Prim.Native.Nat.{ℕ}
 use mathlib.Core.Path.{◌≡◌, refl}
 use mathlib.Core.Bool.{true, false}
 use mathlib.Core.List.{List, [], ◌∷◌, ◌++◌, map}
-use Rattle.law_pulses.specs.Play.{low, high, Entry, pulse, rest, over, statusHere, status, answer, time, comesTo}
+use Rattle.law_pulses.specs.Play.{low, high, Entry, pulse, rest, over, status_here, status, answer, time, comes_to}
 use Rattle.law_pulses.specs.Source.{Outcome, heard, source, sourced, reached, turns, turn, after}
 use Rattle.law_pulses.specs.Runs.{run}
-use Rattle.law_pulses.specs.Sounding.{ends_at, soundingTime}
-use Rattle.rows.specs.Rows.{decodeBlock}
-use Rattle.rows.proofs.Samples.{rowWords}
+use Rattle.law_pulses.specs.Sounding.{ends_at, sounding_time}
+use Rattle.rows.specs.Rows.{decode_block}
+use Rattle.rows.proofs.Samples.{row_words}
 use Rattle.play_entries.specs.declared.Phase.TheVariants.{Tones, Pause}
 use Rattle.play_entries.specs.declared.Duration.{Duration}
 use Rattle.play_entries.specs.declared.Duration.TheVariants.{T}
-use Rattle.play_entries.specs.Entries.{Label, label_at, entry_of, cyclesOf, isSingle, startLevel, cycleLevel, bitLevel, edged}
-use Rattle.play_entries.specs.Entries.{pauseLevel, toneOf, tonesOf, bits_at, half_of, byte_of, data_of, pauseOf, soundOf}
-use Rattle.play_entries.specs.Entries.{entriesOf, lasts_of}
-use Rattle.play_levels.specs.Closed.{timesOf}
-use Rattle.play_entries.specs.Places.{Tape, list_from, loadTime}
-use Rattle.play_entries.specs.Mounted.{tapeOf}
+use Rattle.play_entries.specs.Entries.{Label, label_at, entry_of, cycles_of, is_single, start_level, cycle_level, bit_level, edged}
+use Rattle.play_entries.specs.Entries.{pause_level, tone_of, tones_of, bits_at, half_of, byte_of, data_of, pause_of, sound_of}
+use Rattle.play_entries.specs.Entries.{entries_of, lasts_of}
+use Rattle.play_levels.specs.Closed.{times_of}
+use Rattle.play_entries.specs.Places.{Tape, list_from, load_time}
+use Rattle.play_entries.specs.Mounted.{tape_of}
 
 -- a document row: its first tone row, how many it has, its pause
-abbrev documentRow : ℕ → ℕ → ℕ → List ℕ
-documentRow tone tones pause = rowWords (tone ∷ tones ∷ 0 ∷ 0 ∷ 0 ∷ 0 ∷ 0 ∷ pause ∷ 0 ∷ 0 ∷ 0 ∷ 0 ∷ 0 ∷ 1 ∷ [])
+abbrev document_row : ℕ → ℕ → ℕ → List ℕ
+document_row tone tones pause = row_words (tone ∷ tones ∷ 0 ∷ 0 ∷ 0 ∷ 0 ∷ 0 ∷ pause ∷ 0 ∷ 0 ∷ 0 ∷ 0 ∷ 0 ∷ 1 ∷ [])
 
 -- a reading: the tape's bytes, the tone table and the block row that it gives, and the T-states it is to have
 pub record TimeReading : Type 0 where
@@ -52,28 +52,28 @@ readings =
     (0 ∷ 2 ∷ 2 ∷ 0 ∷ 855 ∷ 1710 ∷ 8 ∷ 3500000 ∷ 0 ∷ 1 ∷ 0 ∷ 0 ∷ 0 ∷ 0 ∷ 0 ∷ 0 ∷ []) 20984154 ∷
     []
 
-pub times-said : map (λ e. lasts_of (entriesOf e.tape e.tones 0 (decodeBlock e.row))) readings ≡ map (λ e. e.lasts) readings
-unfolding lasts_of comesTo time entriesOf soundOf tonesOf toneOf cyclesOf isSingle startLevel cycleLevel bitLevel edged pauseLevel data_of
-    byte_of bits_at half_of pauseOf entry_of run
-times-said = refl
+pub times_said : map (λ e. lasts_of (entries_of e.tape e.tones 0 (decode_block e.row))) readings ≡ map (λ e. e.lasts) readings
+unfolding lasts_of comes_to time entries_of sound_of tones_of tone_of cycles_of is_single start_level cycle_level bit_level edged pause_level data_of
+    byte_of bits_at half_of pause_of entry_of run
+times_said = refl
 
 -- the loading time, of tones of 400 T: a document row's closing pause doesn't count, neither its edge nor the rest; before a tone both do;
 -- a tone of no length behind it is no end
 abbrev pub loads : List (Tape × ℕ)
 loads =
-    (tapeOf [] (2 ∷ 100 ∷ 100 ∷ 2 ∷ []) (documentRow 0 1 7000) 1, 400) ∷
-    (tapeOf [] (2 ∷ 100 ∷ 100 ∷ 2 ∷ []) (documentRow 0 1 7000 ++ documentRow 0 1 7000) 2, 7800) ∷
-    (tapeOf [] (2 ∷ 100 ∷ 100 ∷ 2 ∷ 9 ∷ 0 ∷ 0 ∷ 2 ∷ []) (documentRow 0 1 7000 ++ documentRow 1 1 7000) 2, 400) ∷
+    (tape_of [] (2 ∷ 100 ∷ 100 ∷ 2 ∷ []) (document_row 0 1 7000) 1, 400) ∷
+    (tape_of [] (2 ∷ 100 ∷ 100 ∷ 2 ∷ []) (document_row 0 1 7000 ++ document_row 0 1 7000) 2, 7800) ∷
+    (tape_of [] (2 ∷ 100 ∷ 100 ∷ 2 ∷ 9 ∷ 0 ∷ 0 ∷ 2 ∷ []) (document_row 0 1 7000 ++ document_row 1 1 7000) 2, 400) ∷
     []
 
-pub loads-said : map (λ e. loadTime e.0) loads ≡ map (λ e. e.1) loads
-unfolding soundingTime ends_at list_from entriesOf soundOf tonesOf toneOf cyclesOf timesOf isSingle startLevel cycleLevel bitLevel edged
-    pauseLevel data_of pauseOf entry_of run
-loads-said = refl
+pub loads_said : map (λ e. load_time e.0) loads ≡ map (λ e. e.1) loads
+unfolding sounding_time ends_at list_from entries_of sound_of tones_of tone_of cycles_of times_of is_single start_level cycle_level bit_level edged
+    pause_level data_of pause_of entry_of run
+loads_said = refl
 
 -- a sole 12 of 100 and 4: its list, from its start
 abbrev sole : List (Entry Label)
-sole = list_from (record { bytes = []; tones = 2 ∷ 100 ∷ 100 ∷ 0 ∷ []; blocks = rowWords (0 ∷ 1 ∷ []); count = 1 }) 0
+sole = list_from (record { bytes = []; tones = 2 ∷ 100 ∷ 100 ∷ 0 ∷ []; blocks = row_words (0 ∷ 1 ∷ []); count = 1 }) 0
 
 abbrev at : List (Entry Label) → Outcome Label
 at es = record { place = es; done = false }
@@ -92,7 +92,7 @@ places =
     (100, (at highs, record { place = []; done = true })) ∷
     []
 
-pub places-said : map (λ e. (heard (answer sole e.0), source sole e.0)) places ≡ map (λ e. e.1) places
-unfolding heard answer rest over status statusHere sourced reached turns turn after list_from entriesOf soundOf tonesOf toneOf cyclesOf
-    isSingle startLevel cycleLevel bitLevel edged pauseLevel data_of pauseOf entry_of run
-places-said = refl
+pub places_said : map (λ e. (heard (answer sole e.0), source sole e.0)) places ≡ map (λ e. e.1) places
+unfolding heard answer rest over status status_here sourced reached turns turn after list_from entries_of sound_of tones_of tone_of cycles_of
+    is_single start_level cycle_level bit_level edged pause_level data_of pause_of entry_of run
+places_said = refl

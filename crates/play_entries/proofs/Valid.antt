@@ -14,8 +14,8 @@ use Rattle.play_entries.specs.declared.Phase.{Phase}
 use Rattle.play_entries.specs.declared.Phase.TheVariants.{Start, Tones, Data, Edge, Pause}
 use Rattle.play_entries.specs.declared.Duration.{Duration}
 use Rattle.play_entries.specs.declared.Duration.TheVariants.{T, Endless}
-use Rattle.play_entries.specs.Entries.{cyclesOf, isSingle, toneAt, bits_at}
-use Rattle.play_entries.specs.Places.{Tape, hasEntry, lengthAt, remains, isStart, is_none, valid, hasIn, lengthIn}
+use Rattle.play_entries.specs.Entries.{cycles_of, is_single, tone_at, bits_at}
+use Rattle.play_entries.specs.Places.{Tape, has_entry, length_at, remains, is_start, is_none, valid, has_in, length_in}
 
 -- what may be left of t T-states
 pub remains-within : (n t : ℕ) → min 1 t ≤ n → n ≤ t → remains (T n) (T t) ≡ true
@@ -39,107 +39,107 @@ unfolding remains
 remains-full (T t) = rw (le-leb (min 1 t) t (omega arith), le-leb t t (omega arith))
 remains-full Endless = refl
 
-pub remains-less : (n u : ℕ) (d : Duration) → 0 < u → u ≤ n → remains (T n) d ≡ true → remains (T u) d ≡ true
+pub remains_less : (n u : ℕ) (d : Duration) → 0 < u → u ≤ n → remains (T n) d ≡ true → remains (T u) d ≡ true
 unfolding remains
-remains-less n u (T t) p h e = let k = within-remains n t e in remains-within u t (omega arith) (omega arith)
-remains-less n u Endless p h e = cc
+remains_less n u (T t) p h e = let k = within-remains n t e in remains-within u t (omega arith) (omega arith)
+remains_less n u Endless p h e = cc
 
 -- a block's entries of tones and of data
 module _ (tones : List ℕ) (r : Block) where
-  pub tone-entry : (i p : ℕ) (h : Bool) → hasEntry tones r (Tones i p h) ≡ true
-      → (i < r.tones) × (p < cyclesOf r (toneAt tones r i))
-  unfolding hasEntry
+  pub tone-entry : (i p : ℕ) (h : Bool) → has_entry tones r (Tones i p h) ≡ true
+      → (i < r.tones) × (p < cycles_of r (tone_at tones r i))
+  unfolding has_entry
   tone-entry i p h e =
       let a = ltb i r.tones in
-      let b = ltb p (cyclesOf r (toneAt tones r i)) in
-      let c = not (h && isSingle r (toneAt tones r i)) in
+      let b = ltb p (cycles_of r (tone_at tones r i)) in
+      let c = not (h && is_single r (tone_at tones r i)) in
       (ltb-true _ _ (first a (b && c) e), ltb-true _ _ (first b c (second a (b && c) e)))
 
   -- a second pulse is there where a repetition has two
-  pub tone-second : (i p : ℕ) → hasEntry tones r (Tones i p true) ≡ true → isSingle r (toneAt tones r i) ≡ false
-  unfolding hasEntry
-  tone-second i p e =
+  pub tone_second : (i p : ℕ) → has_entry tones r (Tones i p true) ≡ true → is_single r (tone_at tones r i) ≡ false
+  unfolding has_entry
+  tone_second i p e =
       let a = ltb i r.tones in
-      let b = ltb p (cyclesOf r (toneAt tones r i)) in
-      let c = not (isSingle r (toneAt tones r i)) in
+      let b = ltb p (cycles_of r (tone_at tones r i)) in
+      let c = not (is_single r (tone_at tones r i)) in
       not-true _ (second b c (second a (b && c) e))
 
-  pub has-tone : (i p : ℕ) → i < r.tones → p < cyclesOf r (toneAt tones r i) → hasEntry tones r (Tones i p false) ≡ true
-  unfolding hasEntry
-  has-tone i p k l = rw (lt-ltb i r.tones k, lt-ltb p (cyclesOf r (toneAt tones r i)) l)
+  pub has_tone : (i p : ℕ) → i < r.tones → p < cycles_of r (tone_at tones r i) → has_entry tones r (Tones i p false) ≡ true
+  unfolding has_entry
+  has_tone i p k l = rw (lt-ltb i r.tones k, lt-ltb p (cycles_of r (tone_at tones r i)) l)
 
-  pub has-second : (i p : ℕ) → i < r.tones → p < cyclesOf r (toneAt tones r i) → isSingle r (toneAt tones r i) ≡ false
-      → hasEntry tones r (Tones i p true) ≡ true
-  unfolding hasEntry
-  has-second i p k l e = rw (lt-ltb i r.tones k, lt-ltb p (cyclesOf r (toneAt tones r i)) l, e)
+  pub has_second : (i p : ℕ) → i < r.tones → p < cycles_of r (tone_at tones r i) → is_single r (tone_at tones r i) ≡ false
+      → has_entry tones r (Tones i p true) ≡ true
+  unfolding has_entry
+  has_second i p k l e = rw (lt-ltb i r.tones k, lt-ltb p (cycles_of r (tone_at tones r i)) l, e)
 
-  pub data-entry : (pos k : ℕ) (h : Bool) → hasEntry tones r (Data pos k h) ≡ true → (pos < r.size) × (k < bits_at r pos)
-  unfolding hasEntry
-  data-entry pos k h e =
+  pub data_entry : (pos k : ℕ) (h : Bool) → has_entry tones r (Data pos k h) ≡ true → (pos < r.size) × (k < bits_at r pos)
+  unfolding has_entry
+  data_entry pos k h e =
       let a = ltb pos r.size in
       let b = ltb k (bits_at r pos) in
       (ltb-true _ _ (first a b e), ltb-true _ _ (second a b e))
 
-  pub has-data : (pos k : ℕ) (h : Bool) → pos < r.size → k < bits_at r pos → hasEntry tones r (Data pos k h) ≡ true
-  unfolding hasEntry
-  has-data pos k h l g = rw (lt-ltb pos r.size l, lt-ltb k (bits_at r pos) g)
+  pub has_data : (pos k : ℕ) (h : Bool) → pos < r.size → k < bits_at r pos → has_entry tones r (Data pos k h) ≡ true
+  unfolding has_entry
+  has_data pos k h l g = rw (lt-ltb pos r.size l, lt-ltb k (bits_at r pos) g)
 
 -- the same of a phase that a match told
-pub in-tones : (tones : List ℕ) (r : Block) {f : Phase} {i p : ℕ} {h : Bool}
-    → f ≡ Tones i p h → hasEntry tones r f ≡ true → (i < r.tones) × (p < cyclesOf r (toneAt tones r i))
-in-tones tones r {i = i} {p = p} {h = h} g e = tone-entry tones r i p h (subst (λ (f : Phase). hasEntry tones r f ≡ true) g e)
+pub in_tones : (tones : List ℕ) (r : Block) {f : Phase} {i p : ℕ} {h : Bool}
+    → f ≡ Tones i p h → has_entry tones r f ≡ true → (i < r.tones) × (p < cycles_of r (tone_at tones r i))
+in_tones tones r {i = i} {p = p} {h = h} g e = tone-entry tones r i p h (subst (λ (f : Phase). has_entry tones r f ≡ true) g e)
 
-pub in-data : (tones : List ℕ) (r : Block) {f : Phase} {pos k : ℕ} {h : Bool}
-    → f ≡ Data pos k h → hasEntry tones r f ≡ true → (pos < r.size) × (k < bits_at r pos)
-in-data tones r {pos = pos} {k = k} {h = h} g e = data-entry tones r pos k h (subst (λ (f : Phase). hasEntry tones r f ≡ true) g e)
+pub in_data : (tones : List ℕ) (r : Block) {f : Phase} {pos k : ℕ} {h : Bool}
+    → f ≡ Data pos k h → has_entry tones r f ≡ true → (pos < r.size) × (k < bits_at r pos)
+in_data tones r {pos = pos} {k = k} {h = h} g e = data_entry tones r pos k h (subst (λ (f : Phase). has_entry tones r f ≡ true) g e)
 
 -- an entry of a block below the count
 pub record Stands (w : Tape) (b : ℕ) (f : Phase) (left : Duration) : Type 0 where
   pub below : b < w.count
-  pub entry : hasIn w b f ≡ true
-  pub some : remains left (lengthIn w b f) ≡ true
+  pub entry : has_in w b f ≡ true
+  pub some : remains left (length_in w b f) ≡ true
 
 pub stands-valid : (w : Tape) (b : ℕ) (f : Phase) (left : Duration) → Stands w b f left → valid w b f left ≡ true
 unfolding valid
-stands-valid w b f left s = rw (lt-ltb b w.count s.below, s.entry, s.some) (by-true (isStart f && is_none left))
+stands-valid w b f left s = rw (lt-ltb b w.count s.below, s.entry, s.some) (by-true (is_start f && is_none left))
   where
     by-true : (a : Bool) → (a || true) ≡ true
     by-true true = refl
     by-true false = refl
 
-pub valid-stands : (w : Tape) (b : ℕ) (f : Phase) (left : Duration) → isStart f ≡ false → valid w b f left ≡ true
+pub valid-stands : (w : Tape) (b : ℕ) (f : Phase) (left : Duration) → is_start f ≡ false → valid w b f left ≡ true
     → Stands w b f left
 unfolding valid
 valid-stands w b f left s e =
-    let n : (isStart f && is_none left) ≡ false = rw s in
-    let t = hasIn w b f && remains left (lengthIn w b f) in
-    let x = other (isStart f && is_none left) (ltb b w.count && t) e n in
+    let n : (is_start f && is_none left) ≡ false = rw s in
+    let t = has_in w b f && remains left (length_in w b f) in
+    let x = other (is_start f && is_none left) (ltb b w.count && t) e n in
     let y = second (ltb b w.count) t x in
     record {
       below = ltb-true _ _ (first (ltb b w.count) t x);
-      entry = first (hasIn w b f) (remains left (lengthIn w b f)) y;
-      some = second (hasIn w b f) (remains left (lengthIn w b f)) y;
+      entry = first (has_in w b f) (remains left (length_in w b f)) y;
+      some = second (has_in w b f) (remains left (length_in w b f)) y;
     }
 
-pub start-valid : (w : Tape) (b : ℕ) → valid w b Start (T 0) ≡ true
+pub start_valid : (w : Tape) (b : ℕ) → valid w b Start (T 0) ≡ true
 unfolding valid
-start-valid w b = refl
+start_valid w b = refl
 
-pub valid-start : (w : Tape) (b : ℕ) (left : Duration) → valid w b Start left ≡ true → left ≡ T 0
-unfolding valid hasEntry lengthAt remains
-valid-start w b (T n) e =
+pub valid_start : (w : Tape) (b : ℕ) (left : Duration) → valid w b Start left ≡ true → left ≡ T 0
+unfolding valid has_entry length_at remains
+valid_start w b (T n) e =
     ⊎_elim (λ z. ap T z)
     (λ p.
     let x = other (eqb n 0) (ltb b w.count && (leb (min 1 0) n && leb n 0)) e (ne_eqb n 0 (λ z. omega arith)) in
     absurd (omega (arith, within-remains n 0 (second (ltb b w.count) (leb (min 1 0) n && leb n 0) x))))
     (eq-zero-or-pos n)
-valid-start w b Endless e = let x : false ≡ true = second (ltb b w.count) false e in cc
+valid_start w b Endless e = let x : false ≡ true = second (ltb b w.count) false e in cc
 
 -- below the count a start, too, is an entry of its block
-pub below-stands : (w : Tape) (b : ℕ) (f : Phase) (left : Duration) → b < w.count → valid w b f left ≡ true → Stands w b f left
-unfolding hasEntry lengthAt
-below-stands w b Start left h e = record { below = h; entry = refl; some = rw (valid-start w b left e) (remains-full (T 0)) }
-below-stands w b (Tones i p l) left h e = valid-stands w b (Tones i p l) left refl e
-below-stands w b (Data pos k l) left h e = valid-stands w b (Data pos k l) left refl e
-below-stands w b Edge left h e = valid-stands w b Edge left refl e
-below-stands w b Pause left h e = valid-stands w b Pause left refl e
+pub below_stands : (w : Tape) (b : ℕ) (f : Phase) (left : Duration) → b < w.count → valid w b f left ≡ true → Stands w b f left
+unfolding has_entry length_at
+below_stands w b Start left h e = record { below = h; entry = refl; some = rw (valid_start w b left e) (remains-full (T 0)) }
+below_stands w b (Tones i p l) left h e = valid-stands w b (Tones i p l) left refl e
+below_stands w b (Data pos k l) left h e = valid-stands w b (Data pos k l) left refl e
+below_stands w b Edge left h e = valid-stands w b Edge left refl e
+below_stands w b Pause left h e = valid-stands w b Pause left refl e

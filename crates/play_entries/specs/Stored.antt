@@ -5,22 +5,22 @@ use Rattle.law_pulses.specs.Play.{time}
 use Rattle.rows.specs.declared.Block.{Block}
 use Rattle.play_entries.specs.declared.Duration.{Duration}
 use Rattle.play_entries.specs.declared.Duration.TheVariants.{T, Endless}
-use Rattle.play_entries.specs.Entries.{soundOf}
-use Rattle.play_entries.specs.Places.{Tape, blockIn, byRow}
+use Rattle.play_entries.specs.Entries.{sound_of}
+use Rattle.play_entries.specs.Places.{Tape, block_in, by_row}
 
 -- a row's sound and its pause, or that it never ends
-unfoldable pub rowLasts : Block → Duration
-rowLasts r = eqb r.endless 1 ⇒ Endless ∣ T (r.sound + r.pause)
+unfoldable pub row_lasts : Block → Duration
+row_lasts r = eqb r.endless 1 ⇒ Endless ∣ T (r.sound + r.pause)
 
 -- LOADING TIME of the n rows from block b on: up to the end of the last sound above 0 before the first stop or the end,
 -- that of the stop's own row included; 0 if there is none
-unfoldable pub rowsLoading : Tape → ℕ → ℕ → ℕ
-rowsLoading w b zero = 0
-rowsLoading w b (suc n) = byRow (blockIn w b) (blockIn w b).sound (rowsLoading w (b + 1) n)
+unfoldable pub rows_loading : Tape → ℕ → ℕ → ℕ
+rows_loading w b zero = 0
+rows_loading w b (suc n) = by_row (block_in w b) (block_in w b).sound (rows_loading w (b + 1) n)
 
-abbrev pub rowsTime : Tape → ℕ
-rowsTime w = rowsLoading w 0 w.count
+abbrev pub rows_time : Tape → ℕ
+rows_time w = rows_loading w 0 w.count
 
 -- WHAT EVERY LOAD LEAVES: each row's sound is what its entries without the pause last
 pub record Timed (w : Tape) : Type 0 where
-  pub sound : (b : ℕ) → b < w.count → (blockIn w b).sound ≡ time (soundOf w.bytes w.tones b (blockIn w b))
+  pub sound : (b : ℕ) → b < w.count → (block_in w b).sound ≡ time (sound_of w.bytes w.tones b (block_in w b))

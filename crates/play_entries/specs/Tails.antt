@@ -5,7 +5,7 @@ use Rattle.law_pulses.specs.Play.{Entry, pulse, endless, Finite}
 use Rattle.play_entries.specs.declared.Phase.{Phase}
 use Rattle.play_entries.specs.declared.Duration.{Duration}
 use Rattle.play_entries.specs.Entries.{Label, label_at, entry_of}
-use Rattle.play_entries.specs.Places.{Tape, levelIn, list_from, left_at, lengthIn, valid, head_of, left_of}
+use Rattle.play_entries.specs.Places.{Tape, level_in, list_from, left_at, length_in, valid, head_of, left_of}
 
 -- es comes to ys behind entries that all end
 pub record LeadsInto (es ys : List (Entry Label)) : Type 0 where
@@ -16,8 +16,8 @@ pub record LeadsInto (es ys : List (Entry Label)) : Type 0 where
 -- a position's entry in the list from its block on, and what is left there
 pub record PartAt (w : Tape) (b : ℕ) (f : Phase) (left : Duration) : Type 0 where
   pub next : List (Entry Label)
-  pub entry : LeadsInto (list_from w b) (entry_of (label_at b f) (levelIn w b f) (lengthIn w b f) ∷ next)
-  pub rest : left_at w b f left ≡ entry_of (label_at b f) (levelIn w b f) left ∷ next
+  pub entry : LeadsInto (list_from w b) (entry_of (label_at b f) (level_in w b f) (length_in w b f) ∷ next)
+  pub rest : left_at w b f left ≡ entry_of (label_at b f) (level_in w b f) left ∷ next
 
 -- es is what is left to play from the position at its head, and that position is valid
 pub record Tail (w : Tape) (es : List (Entry Label)) : Type 0 where
@@ -28,5 +28,5 @@ pub record Tail (w : Tape) (es : List (Entry Label)) : Type 0 where
 module _ (w : Tape) where
   unfoldable pub Levels : List (Entry Label) → Type 0
   Levels [] = Unit
-  Levels (pulse a v t ∷ es) = (v ≡ levelIn w a.block a.phase) × Levels es
-  Levels (endless a v ∷ es) = (v ≡ levelIn w a.block a.phase) × Levels es
+  Levels (pulse a v t ∷ es) = (v ≡ level_in w a.block a.phase) × Levels es
+  Levels (endless a v ∷ es) = (v ≡ level_in w a.block a.phase) × Levels es

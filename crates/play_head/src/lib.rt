@@ -1,14 +1,14 @@
 // The measured player over the mounted head, by value and lent.
 ghost use Rattle.std.specs.Prelude.{◌≡◌};
-ghost use Rattle.play_entries.specs.Mounted.{tapeOf};
-ghost use Rattle.play_deck.specs.Deck.{headAfter, playMounted};
+ghost use Rattle.play_entries.specs.Mounted.{tape_of};
+ghost use Rattle.play_deck.specs.Deck.{head_after, play_mounted};
 
 use play_deck::{Head, Played, play_measured};
 use play_walk::Reached;
 
 // Where the head is after an answer: on a refusal as it was.
 pub fn head_after(head: Head, r: Reached) -> Head
-    ensures { result ≡ headAfter head r }
+    ensures { result ≡ head_after head r }
 {
     match r {
         Reached::At(s) => {
@@ -37,7 +37,7 @@ pub fn play_mounted(
     head: Head,
     n: u32,
 ) -> Played
-    ensures { result ≡ playMounted (tapeOf tape.now tones.now blocks.now count) head n }
+    ensures { result ≡ play_mounted (tape_of tape.now tones.now blocks.now count) head n }
 {
     let pos = head.position;
     let r = play_measured(tape, tones, blocks, count, pos, n);
@@ -56,9 +56,9 @@ pub fn play_head(
     head: &mut Head,
     n: u32,
 ) -> Reached
-    ensures { (result ≡ (playMounted (tapeOf tape.now tones.now blocks.now count) head.old n).answer)
+    ensures { (result ≡ (play_mounted (tape_of tape.now tones.now blocks.now count) head.old n).answer)
         × (head.new
-        ≡ (playMounted (tapeOf tape.now tones.now blocks.now count) head.old n).head) }
+        ≡ (play_mounted (tape_of tape.now tones.now blocks.now count) head.old n).head) }
 {
     let h = *head;
     let p = play_mounted(tape, tones, blocks, count, h, n);
@@ -75,7 +75,7 @@ pub fn play_once(
     head: Head,
     n: u32,
 ) -> Played
-    ensures { result ≡ playMounted (tapeOf tape.now tones.now blocks.now count) head n }
+    ensures { result ≡ play_mounted (tape_of tape.now tones.now blocks.now count) head n }
 {
     let mut h = head;
     let a = play_head(tape, tones, blocks, count, &mut h, n);

@@ -36,19 +36,19 @@ sounded l (silence n) =
     eqb n 0 ⇒ (pulse tt l.current 0 ∷ []) ∣ (pulse tt l.current (min 3500 n) ∷ pulse tt low (n - 3500) ∷ [])
 sounded l halt = endless tt low ∷ []
 
-unfoldable pub lineBy : Line → Signal → Line
-lineBy l (tick begin n) = behind (voice begin l)
-lineBy l (silence n) = eqb n 0 ⇒ l ∣ quiet
-lineBy l halt = quiet
+unfoldable pub line_by : Line → Signal → Line
+line_by l (tick begin n) = behind (voice begin l)
+line_by l (silence n) = eqb n 0 ⇒ l ∣ quiet
+line_by l halt = quiet
 
 -- SIGNALS ONE BY ONE: their entries, and the line behind them
 unfoldable pub voiced : Line → List Signal → List Bare
 voiced l [] = []
-voiced l (s ∷ ss) = sounded l s ++ voiced (lineBy l s) ss
+voiced l (s ∷ ss) = sounded l s ++ voiced (line_by l s) ss
 
-unfoldable pub linePast : Line → List Signal → Line
-linePast l [] = l
-linePast l (s ∷ ss) = linePast (lineBy l s) ss
+unfoldable pub line_past : Line → List Signal → Line
+line_past l [] = l
+line_past l (s ∷ ss) = line_past (line_by l s) ss
 
 -- m lots of signals from lot p on, one after the other
 unfoldable pub lots : (ℕ → List Signal) → ℕ → ℕ → List Signal
@@ -56,15 +56,15 @@ lots lot p zero = []
 lots lot p (suc m) = lot p ++ lots lot (p + 1) m
 
 -- an entry without its label
-abbrev pub bareOf : {A : Type 0} → Entry A → Bare
-bareOf (pulse a v t) = pulse tt v t
-bareOf (endless a v) = endless tt v
+abbrev pub bare_of : {A : Type 0} → Entry A → Bare
+bare_of (pulse a v t) = pulse tt v t
+bare_of (endless a v) = endless tt v
 
 unfoldable pub bare : {A : Type 0} → List (Entry A) → List Bare
 bare [] = []
-bare (e ∷ es) = bareOf e ∷ bare es
+bare (e ∷ es) = bare_of e ∷ bare es
 
 -- from line l the signals xs are heard as the entries es, and leave line m
 pub record Voices {A : Type 0} (l : Line) (xs : List Signal) (m : Line) (es : List (Entry A)) : Type 0 where
   pub heard : bare es ≡ voiced l xs
-  pub line : linePast l xs ≡ m
+  pub line : line_past l xs ≡ m

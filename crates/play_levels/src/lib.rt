@@ -1,7 +1,7 @@
 // The two levels that run along a tape in the document reading, and what a tone row does to them, by arithmetic.
 ghost use Rattle.std.specs.Prelude.{◌≡◌};
 ghost use Rattle.play_levels.specs.Voiced.{behind};
-ghost use Rattle.play_levels.specs.Closed.{isOne, timesOf, turned, firstLevel, lineAfter};
+ghost use Rattle.play_levels.specs.Closed.{is_one, times_of, turned, first_level, line_after};
 
 use rows::Tone;
 
@@ -14,14 +14,14 @@ pub struct Line {
 
 // Whether a repetition is one pulse.
 pub fn is_one(t: Tone) -> bool
-    ensures { result ≡ isOne t }
+    ensures { result ≡ is_one t }
 {
     t.wave % 3 == 1
 }
 
 // The repetitions that have pulses.
 pub fn times_of(t: Tone) -> u64
-    ensures { result ≡ timesOf t }
+    ensures { result ≡ times_of t }
 {
     if t.wave % 3 == 0 { 0 } else { t.num }
 }
@@ -35,7 +35,7 @@ fn turned(n: u64, v: bool) -> bool
 
 // The level of the first pulse of repetition q, l being the line before the row.
 pub fn first_level(t: Tone, l: Line, q: u64) -> bool
-    ensures { result ≡ firstLevel t l q }
+    ensures { result ≡ first_level t l q }
 {
     let begin = t.wave / 3;
     if begin == 0 {
@@ -65,7 +65,7 @@ pub fn behind(v: bool) -> Line
 
 // The line behind a tone row.
 pub fn line_after(t: Tone, l: Line) -> Line
-    ensures { result ≡ lineAfter t l }
+    ensures { result ≡ line_after t l }
 {
     let n = times_of(t);
     if n == 0 {

@@ -1,16 +1,16 @@
 // Times by the rows' own words: what a row lasts, and the loading time, summed up a row at a time, for the queries and for the listing.
 ghost use Rattle.std.specs.Prelude.{◌≡◌, true, ◌^◌, ◌<◌};
-ghost use Rattle.rows.specs.Well.{wellNumbers};
-ghost use Rattle.play_entries.specs.Stored.{rowLasts};
-ghost use Rattle.play_loading.specs.Sums.{noLoading, endWith, oneMore};
+ghost use Rattle.rows.specs.Well.{well_numbers};
+ghost use Rattle.play_entries.specs.Stored.{row_lasts};
+ghost use Rattle.play_loading.specs.Sums.{no_loading, end_with, one_more};
 
 use play_entries::Duration;
 use rows::Block;
 
 // What a row lasts: its sound and its pause, or that it never ends. Its callers know both to be within their limits.
 pub fn row_lasts(r: Block) -> Duration
-    requires { (r.sound < 2 ^ 50) × (wellNumbers r ≡ true) }
-    ensures { result ≡ rowLasts r }
+    requires { (r.sound < 2 ^ 50) × (well_numbers r ≡ true) }
+    ensures { result ≡ row_lasts r }
 {
     if r.endless == 1 {
         Duration::Endless
@@ -29,7 +29,7 @@ pub struct Loading {
 
 // Before the first row.
 pub fn none() -> Loading
-    ensures { result ≡ noLoading }
+    ensures { result ≡ no_loading }
 {
     Loading {
         sum: 0,
@@ -41,7 +41,7 @@ pub fn none() -> Loading
 // Where the last sound ends, a row's included: a sound of no length is no end.
 fn end_with(s: Loading, sound: u64) -> u64
     requires { (s.sum < 2 ^ 63) × (sound < 2 ^ 50) }
-    ensures { result ≡ endWith s sound }
+    ensures { result ≡ end_with s sound }
 {
     if 0 < sound {
         return s.sum + sound;
@@ -52,8 +52,8 @@ fn end_with(s: Loading, sound: u64) -> u64
 // One row more: what stands behind a stop isn't counted. Its callers know the row's words to be within their limits.
 pub fn one_more(s: Loading, r: Block) -> Loading
     requires sum_bound { (s.sum < 2 ^ 63) × (r.sound < 2 ^ 50) }
-    requires r_value { wellNumbers r ≡ true }
-    ensures { result ≡ oneMore s r }
+    requires r_value { well_numbers r ≡ true }
+    ensures { result ≡ one_more s r }
 {
     if s.over {
         return s;

@@ -1,8 +1,8 @@
 // The block that a position is shown under.
 ghost use Rattle.std.specs.Prelude.{◌≡◌, ℕ, ◌+◌, ◌*◌, ◌≤◌, length};
 ghost use Rattle.rows.specs.Rows.{block};
-ghost use Rattle.play_entries.specs.Mounted.{tapeOf};
-ghost use Rattle.play_deck.specs.Deck.{backTo, block_at};
+ghost use Rattle.play_entries.specs.Mounted.{tape_of};
+ghost use Rattle.play_deck.specs.Deck.{back_to, block_at};
 
 use play_deck::{Check, Selected, judge};
 use play_phases::row_well;
@@ -12,7 +12,7 @@ use rows::block_at;
 // From a block back to a selectable one or 0; its callers know the rows to be lent.
 fn back(tape: &[u8], tones: &[u64], blocks: &[u64], from: u64) -> Selected
     requires { from * block.width + block.width ≤ length blocks.now }
-    ensures { (count : ℕ) → result ≡ backTo (tapeOf tape.now tones.now blocks.now count) from }
+    ensures { (count : ℕ) → result ≡ back_to (tape_of tape.now tones.now blocks.now count) from }
 {
     let mut b = from;
     loop {
@@ -32,7 +32,7 @@ fn back(tape: &[u8], tones: &[u64], blocks: &[u64], from: u64) -> Selected
 
 // The block that a position is shown under: back to a selectable one, or past the end.
 pub fn block(tape: &[u8], tones: &[u64], blocks: &[u64], count: u64, pos: Position) -> Selected
-    ensures { result ≡ block_at (tapeOf tape.now tones.now blocks.now count) pos }
+    ensures { result ≡ block_at (tape_of tape.now tones.now blocks.now count) pos }
 {
     let c = judge(tape, tones, blocks, count, pos);
     match c {

@@ -1,13 +1,13 @@
 // A block's entries by their phases: which there are, how long each is; and whether a row is well formed.
 ghost use Rattle.std.specs.Prelude.{◌≡◌, true, false, not, ◌&&◌, ◌+◌, ◌*◌, ◌<◌, ◌≤◌, max, min, leb, ltb, length};
-ghost use Rattle.rows.specs.Table.{get, capacityOf};
-ghost use Rattle.rows.specs.Rows.{tone, block, toneMost};
-ghost use Rattle.rows.specs.Well.{wellTone, wellNumbers, wellBlock};
-ghost use Rattle.play_entries.specs.Entries.{toneAt, cyclesOf, isSingle, cyclePulses, cycleTime, edged, bits_at, bit_of, half_of, edgeTime};
-ghost use Rattle.play_entries.specs.Entries.{rest_of, wholePause, pauseOf};
-ghost use Rattle.play_entries.specs.Places.{cycleHalf, hasEntry, lengthAt, remains};
-ghost use Rattle.play_entries.specs.Source.{levelOf};
-ghost use Rattle.play_entries.specs.Mounted.{tapeSize};
+ghost use Rattle.rows.specs.Table.{get, capacity_of};
+ghost use Rattle.rows.specs.Rows.{tone, block, tone_most};
+ghost use Rattle.rows.specs.Well.{well_tone, well_numbers, well_block};
+ghost use Rattle.play_entries.specs.Entries.{tone_at, cycles_of, is_single, cycle_pulses, cycle_time, edged, bits_at, bit_of, half_of, edge_time};
+ghost use Rattle.play_entries.specs.Entries.{rest_of, whole_pause, pause_of};
+ghost use Rattle.play_entries.specs.Places.{cycle_half, has_entry, length_at, remains};
+ghost use Rattle.play_entries.specs.Source.{level_of};
+ghost use Rattle.play_entries.specs.Mounted.{tape_size};
 
 use play_entries::{Duration, Phase};
 use play_levels::{is_one, times_of};
@@ -23,7 +23,7 @@ pub fn at_least_one(n: u64) -> u64
 
 // The repetitions of a tone row: in a source row, 0 as one.
 pub fn cycles_of(r: Block, t: Tone) -> u64
-    ensures { result ≡ cyclesOf r t }
+    ensures { result ≡ cycles_of r t }
 {
     if r.sort == 0 {
         return at_least_one(t.num);
@@ -33,7 +33,7 @@ pub fn cycles_of(r: Block, t: Tone) -> u64
 
 // Whether a repetition is one pulse.
 pub fn is_single(r: Block, t: Tone) -> bool
-    ensures { result ≡ isSingle r t }
+    ensures { result ≡ is_single r t }
 {
     if r.sort == 0 {
         return false;
@@ -43,7 +43,7 @@ pub fn is_single(r: Block, t: Tone) -> bool
 
 // How many pulses a repetition has.
 pub fn cycle_pulses(r: Block, t: Tone) -> u64
-    ensures { result ≡ cyclePulses r t }
+    ensures { result ≡ cycle_pulses r t }
 {
     if is_single(r, t) {
         return 1;
@@ -53,8 +53,8 @@ pub fn cycle_pulses(r: Block, t: Tone) -> u64
 
 // T-states of a repetition of a tone row, which its callers know to be well formed.
 pub fn cycle_time(r: Block, t: Tone) -> u64
-    requires { wellTone t ≡ true }
-    ensures { result ≡ cycleTime r t }
+    requires { well_tone t ≡ true }
+    ensures { result ≡ cycle_time r t }
 {
     if is_single(r, t) {
         return t.len1;
@@ -64,8 +64,8 @@ pub fn cycle_time(r: Block, t: Tone) -> u64
 
 // A block's tone row, which its callers know to be one of those lent.
 pub fn row_tone(tones: &[u64], r: Block, index: u64) -> Tone
-    requires { (r.tone + r.tones ≤ capacityOf tone toneMost tones.now) × (index < r.tones) }
-    ensures { result ≡ toneAt tones.now r index }
+    requires { (r.tone + r.tones ≤ capacity_of tone tone_most tones.now) × (index < r.tones) }
+    ensures { result ≡ tone_at tones.now r index }
 {
     tone_at(tones, (r.tone + index) as usize)
 }
@@ -97,7 +97,7 @@ pub fn is_edged(r: Block) -> bool
 
 // The edge's T-states.
 pub fn edge_time(r: Block) -> u64
-    ensures { result ≡ edgeTime r }
+    ensures { result ≡ edge_time r }
 {
     if 3500 <= r.pause { 3500 } else { r.pause }
 }
@@ -114,7 +114,7 @@ fn rest_of(r: Block) -> u64
 
 // A row's whole pause, endless for a stop.
 pub fn whole_pause(r: Block) -> Duration
-    ensures { result ≡ wholePause r }
+    ensures { result ≡ whole_pause r }
 {
     if r.endless == 1 {
         Duration::Endless
@@ -125,7 +125,7 @@ pub fn whole_pause(r: Block) -> Duration
 
 // A block's pause, endless for a stop; without the edge.
 pub fn pause_of(r: Block) -> Duration
-    ensures { result ≡ pauseOf r }
+    ensures { result ≡ pause_of r }
 {
     if r.endless == 1 {
         Duration::Endless
@@ -148,14 +148,14 @@ pub fn half_of(v: u8, k: u64, r: Block) -> u64
 
 // T-states of a half of a tone row's cycle.
 pub fn cycle_half(t: Tone, last: bool) -> u64
-    ensures { result ≡ cycleHalf t last }
+    ensures { result ≡ cycle_half t last }
 {
     if last { t.len2 } else { t.len1 }
 }
 
 // Whether a tone row has this pulse.
 fn has_pulse(r: Block, t: Tone, p: u64, last: bool) -> bool
-    ensures { result ≡ (ltb p (cyclesOf r t) && not (last && isSingle r t)) }
+    ensures { result ≡ (ltb p (cycles_of r t) && not (last && is_single r t)) }
 {
     if p < cycles_of(r, t) {
         if last {
@@ -168,8 +168,8 @@ fn has_pulse(r: Block, t: Tone, p: u64, last: bool) -> bool
 
 // Whether a block has an entry of this phase. Our crates alone call it: its tone rows are lent.
 pub fn has_entry(tones: &[u64], r: Block, f: Phase) -> bool
-    requires { r.tone + r.tones ≤ capacityOf tone toneMost tones.now }
-    ensures { result ≡ hasEntry tones.now r f }
+    requires { r.tone + r.tones ≤ capacity_of tone tone_most tones.now }
+    ensures { result ≡ has_entry tones.now r f }
 {
     match f {
         Phase::Start => true,
@@ -186,10 +186,10 @@ pub fn has_entry(tones: &[u64], r: Block, f: Phase) -> bool
 
 // The length of a block's entry. Our crates alone call it: its data and tone rows are lent, its numbers well formed, the entry one of it.
 pub fn length_at(tape: &[u8], tones: &[u64], r: Block, f: Phase) -> Duration
-    requires size_in_bounds { (r.start + r.size ≤ length tape.now) × (r.tone + r.tones ≤ capacityOf tone toneMost tones.now) }
-    requires r_value { wellNumbers r ≡ true }
-    requires f_value { hasEntry tones.now r f ≡ true }
-    ensures { result ≡ lengthAt tape.now tones.now r f }
+    requires size_in_bounds { (r.start + r.size ≤ length tape.now) × (r.tone + r.tones ≤ capacity_of tone tone_most tones.now) }
+    requires r_value { well_numbers r ≡ true }
+    requires f_value { has_entry tones.now r f ≡ true }
+    ensures { result ≡ length_at tape.now tones.now r f }
 {
     match f {
         Phase::Start => Duration::T(0),
@@ -209,7 +209,7 @@ pub fn length_at(tape: &[u8], tones: &[u64], r: Block, f: Phase) -> Duration
 
 // A tape's bytes, at most 1,048,576.
 pub fn size_of(tape: &[u8]) -> u64
-    ensures { result ≡ tapeSize tape.now }
+    ensures { result ≡ tape_size tape.now }
 {
     let n = tape.len() as u64;
     if 1048576 <= n { 1048576 } else { n }
@@ -218,7 +218,7 @@ pub fn size_of(tape: &[u8]) -> u64
 // Whether block b's row is well formed; its callers know the row to be lent.
 pub fn row_well(tape: &[u8], tones: &[u64], blocks: &[u64], b: u64) -> bool
     requires { b * block.width + block.width ≤ length blocks.now }
-    ensures { result ≡ wellBlock (tapeSize tape.now) tones.now (get block blocks.now b) }
+    ensures { result ≡ well_block (tape_size tape.now) tones.now (get block blocks.now b) }
 {
     block_well(size_of(tape), tones, block_at(blocks, b as usize))
 }
@@ -248,7 +248,7 @@ fn within(n: u64, t: u64) -> bool
 
 // The level of a source row's entry.
 pub fn mic(f: Phase) -> bool
-    ensures { result ≡ levelOf f }
+    ensures { result ≡ level_of f }
 {
     match f {
         Phase::Start => false,

@@ -1,13 +1,13 @@
 // How far one step of a walk goes inside a block: behind an entry, a run of whole cycles, a data byte.
 ghost use Rattle.std.specs.Prelude.{◌≡◌, true, List, ℕ, ◌+◌, ◌<◌, ◌≤◌, length};
-ghost use Rattle.rows.specs.Table.{capacityOf};
-ghost use Rattle.rows.specs.Rows.{tone, toneMost};
-ghost use Rattle.rows.specs.Well.{wellTones, wellNumbers, wellBlock};
-ghost use Rattle.play_entries.specs.Entries.{cyclesOf, toneAt, bits_at};
-ghost use Rattle.play_entries.specs.Places.{hasEntry};
-ghost use Rattle.play_steps.specs.Steps.{endFrom, dataFrom, bitFrom, toneFrom, cycleFrom, secondFrom, Found, stepTo, stepOut};
-ghost use Rattle.play_steps.specs.Steps.{cyclesFitting, oneStep, takeCycles, takeByte, take_of};
-ghost use Rattle.play_entries.specs.Mounted.{tapeSize};
+ghost use Rattle.rows.specs.Table.{capacity_of};
+ghost use Rattle.rows.specs.Rows.{tone, tone_most};
+ghost use Rattle.rows.specs.Well.{well_tones, well_numbers, well_block};
+ghost use Rattle.play_entries.specs.Entries.{cycles_of, tone_at, bits_at};
+ghost use Rattle.play_entries.specs.Places.{has_entry};
+ghost use Rattle.play_steps.specs.Steps.{end_from, data_from, bit_from, tone_from, cycle_from, second_from, Found, step_to, step_out};
+ghost use Rattle.play_steps.specs.Steps.{cycles_fitting, one_step, take_cycles, take_byte, take_of};
+ghost use Rattle.play_entries.specs.Mounted.{tape_size};
 ghost use Rattle.play_entries.specs.declared.Phase.TheVariants.{Tones, Data};
 
 use play_entries::Phase;
@@ -26,7 +26,7 @@ pub struct Step {
 
 // The first entry behind the data.
 fn end_from(r: Block) -> Phase
-    ensures { result ≡ endFrom r }
+    ensures { result ≡ end_from r }
 {
     if is_edged(r) {
         return Phase::Edge;
@@ -36,7 +36,7 @@ fn end_from(r: Block) -> Phase
 
 // The first entry from data byte pos on.
 pub fn data_from(r: Block, pos: u64) -> Phase
-    ensures { result ≡ dataFrom r pos }
+    ensures { result ≡ data_from r pos }
 {
     if pos < r.size {
         return Phase::Data {
@@ -51,7 +51,7 @@ pub fn data_from(r: Block, pos: u64) -> Phase
 // The first entry from bit k of data byte pos on.
 fn bit_from(r: Block, pos: u64, k: u64) -> Phase
     requires { pos < r.size }
-    ensures { result ≡ bitFrom r pos k }
+    ensures { result ≡ bit_from r pos k }
 {
     if k < bits_at(r, pos) {
         return Phase::Data {
@@ -66,7 +66,7 @@ fn bit_from(r: Block, pos: u64, k: u64) -> Phase
 // The first tone row from row i on that has a pulse, or how many tone rows there are; a step a row without one.
 // Its callers know the tone rows to be lent.
 fn voiced_row(tones: &[u64], r: Block, i: u64) -> u64
-    requires { (r.tone + r.tones ≤ capacityOf tone toneMost tones.now) × (i ≤ r.tones) }
+    requires { (r.tone + r.tones ≤ capacity_of tone tone_most tones.now) × (i ≤ r.tones) }
     ensures { Found tones.now r i result }
 {
     let mut j = i;
@@ -81,8 +81,8 @@ fn voiced_row(tones: &[u64], r: Block, i: u64) -> u64
 
 // The first entry from tone row i on.
 fn tone_from(tones: &[u64], r: Block, i: u64) -> Phase
-    requires { (r.tone + r.tones ≤ capacityOf tone toneMost tones.now) × (i ≤ r.tones) }
-    ensures { result ≡ toneFrom tones.now r i }
+    requires { (r.tone + r.tones ≤ capacity_of tone tone_most tones.now) × (i ≤ r.tones) }
+    ensures { result ≡ tone_from tones.now r i }
 {
     let j = voiced_row(tones, r, i);
     if j < r.tones {
@@ -97,8 +97,8 @@ fn tone_from(tones: &[u64], r: Block, i: u64) -> Phase
 
 // The first entry from cycle p of tone row i on. Our crates alone call it: the row has that tone row.
 pub fn cycle_from(tones: &[u64], t: Tone, r: Block, i: u64, p: u64) -> Phase
-    requires { (r.tone + r.tones ≤ capacityOf tone toneMost tones.now) × (i < r.tones) }
-    ensures { result ≡ cycleFrom tones.now t r i p }
+    requires { (r.tone + r.tones ≤ capacity_of tone tone_most tones.now) × (i < r.tones) }
+    ensures { result ≡ cycle_from tones.now t r i p }
 {
     if p < cycles_of(r, t) {
         return Phase::Tones {
@@ -112,9 +112,9 @@ pub fn cycle_from(tones: &[u64], t: Tone, r: Block, i: u64, p: u64) -> Phase
 
 // The first entry behind the first pulse of repetition p of tone row i. Our crates alone call it: the row has that pulse.
 fn second_from(tones: &[u64], t: Tone, r: Block, i: u64, p: u64) -> Phase
-    requires tones_bound { (r.tone + r.tones ≤ capacityOf tone toneMost tones.now) × (i < r.tones) }
-    requires p_bound { p < cyclesOf r t }
-    ensures { result ≡ secondFrom tones.now t r i p }
+    requires tones_bound { (r.tone + r.tones ≤ capacity_of tone tone_most tones.now) × (i < r.tones) }
+    requires p_bound { p < cycles_of r t }
+    ensures { result ≡ second_from tones.now t r i p }
 {
     if is_single(r, t) {
         return cycle_from(tones, t, r, i, p + 1);
@@ -128,7 +128,7 @@ fn second_from(tones: &[u64], t: Tone, r: Block, i: u64, p: u64) -> Phase
 
 // Behind n entries of t T-states, to a phase of the same block.
 pub fn step_to(f: Phase, t: u64, n: u64) -> Step
-    ensures { result ≡ stepTo f t n }
+    ensures { result ≡ step_to f t n }
 {
     Step {
         phase: f,
@@ -140,7 +140,7 @@ pub fn step_to(f: Phase, t: u64, n: u64) -> Step
 
 // Behind the block's last entry, of t T-states.
 fn step_out(t: u64) -> Step
-    ensures { result ≡ stepOut t }
+    ensures { result ≡ step_out t }
 {
     Step {
         phase: Phase::Start,
@@ -152,9 +152,9 @@ fn step_out(t: u64) -> Step
 
 // Behind a half of cycle p of tone row i, which its callers know to be there in a row whose tone rows are lent.
 fn tone_step(tones: &[u64], r: Block, i: u64, p: u64, last: bool, t: u64) -> Step
-    requires tones_bound { (r.tone + r.tones ≤ capacityOf tone toneMost tones.now) × (i < r.tones) }
-    requires p_bound { p < cyclesOf r (toneAt tones.now r i) }
-    ensures { result ≡ oneStep tones.now r (Tones i p last) t }
+    requires tones_bound { (r.tone + r.tones ≤ capacity_of tone tone_most tones.now) × (i < r.tones) }
+    requires p_bound { p < cycles_of r (tone_at tones.now r i) }
+    ensures { result ≡ one_step tones.now r (Tones i p last) t }
 {
     let x = row_tone(tones, r, i);
     if last {
@@ -166,7 +166,7 @@ fn tone_step(tones: &[u64], r: Block, i: u64, p: u64, last: bool, t: u64) -> Ste
 // Behind a half of bit k of data byte pos, which its callers know to be there.
 fn bit_step(r: Block, pos: u64, k: u64, last: bool, t: u64) -> Step
     requires { (pos < r.size) × (k < bits_at r pos) }
-    ensures { (tones : List ℕ) → result ≡ oneStep tones r (Data pos k last) t }
+    ensures { (tones : List ℕ) → result ≡ one_step tones r (Data pos k last) t }
 {
     if last {
         return step_to(bit_from(r, pos, k + 1), t, 1);
@@ -181,9 +181,9 @@ fn bit_step(r: Block, pos: u64, k: u64, last: bool, t: u64) -> Step
 
 // Behind one entry. Our crates alone call it: it is there, in a row whose tone rows are lent.
 pub fn one_step(tones: &[u64], r: Block, f: Phase, t: u64) -> Step
-    requires tones_bound { r.tone + r.tones ≤ capacityOf tone toneMost tones.now }
-    requires f_value { hasEntry tones.now r f ≡ true }
-    ensures { result ≡ oneStep tones.now r f t }
+    requires tones_bound { r.tone + r.tones ≤ capacity_of tone tone_most tones.now }
+    requires f_value { has_entry tones.now r f ≡ true }
+    ensures { result ≡ one_step tones.now r f t }
 {
     match f {
         Phase::Start => step_to(tone_from(tones, r, 0), 0, 1),
@@ -205,7 +205,7 @@ pub fn one_step(tones: &[u64], r: Block, f: Phase, t: u64) -> Step
 // Of m cycles of c T-states each, how many last less than d.
 fn fits(c: u64, m: u64, d: u64) -> u64
     requires { 0 < d }
-    ensures { result ≡ cyclesFitting c m d }
+    ensures { result ≡ cycles_fitting c m d }
 {
     if c == 0 {
         return m;
@@ -217,11 +217,11 @@ fn fits(c: u64, m: u64, d: u64) -> u64
 // From the first half of a cycle, full: the cycles that last less than d, or this half;
 // its callers know the tone rows to be lent and well formed.
 fn take_cycles(tones: &[u64], r: Block, i: u64, p: u64, t: u64, d: u64) -> Step
-    requires tones_bound { (r.tone + r.tones ≤ capacityOf tone toneMost tones.now)
-        × (wellTones tones.now r.tone r.tones ≡ true) }
-    requires i_lt_tones { (i < r.tones) × (p < cyclesOf r (toneAt tones.now r i)) }
+    requires tones_bound { (r.tone + r.tones ≤ capacity_of tone tone_most tones.now)
+        × (well_tones tones.now r.tone r.tones ≡ true) }
+    requires i_lt_tones { (i < r.tones) × (p < cycles_of r (tone_at tones.now r i)) }
     requires d_nonzero { 0 < d }
-    ensures { result ≡ takeCycles tones.now r i p t d }
+    ensures { result ≡ take_cycles tones.now r i p t d }
 {
     let x = row_tone(tones, r, i);
     let c = cycle_time(r, x);
@@ -236,8 +236,8 @@ fn take_cycles(tones: &[u64], r: Block, i: u64, p: u64, t: u64, d: u64) -> Step
 // From the first half of a byte's first bit, full: the byte if it lasts less than d, or this half; its callers know the byte to be lent.
 fn take_byte(tape: &[u8], r: Block, pos: u64, t: u64, d: u64) -> Step
     requires size_in_bounds { (r.start + r.size ≤ length tape.now) × (pos < r.size) }
-    requires r_value { wellNumbers r ≡ true }
-    ensures { (tones : List ℕ) → result ≡ takeByte tape.now tones r pos t d }
+    requires r_value { well_numbers r ≡ true }
+    ensures { (tones : List ℕ) → result ≡ take_byte tape.now tones r pos t d }
 {
     let time = byte_time(tape, r, pos);
     if time < d {
@@ -257,9 +257,9 @@ fn take_tone(
     t: u64,
     d: u64,
 ) -> Step
-    requires tones_bound { (r.tone + r.tones ≤ capacityOf tone toneMost tones.now)
-        × (wellTones tones.now r.tone r.tones ≡ true) }
-    requires i_lt_tones { (i < r.tones) × (p < cyclesOf r (toneAt tones.now r i)) }
+    requires tones_bound { (r.tone + r.tones ≤ capacity_of tone tone_most tones.now)
+        × (well_tones tones.now r.tone r.tones ≡ true) }
+    requires i_lt_tones { (i < r.tones) × (p < cycles_of r (tone_at tones.now r i)) }
     requires d_nonzero { 0 < d }
     ensures { (tape : List ℕ) → result ≡ take_of tape tones.now r (Tones i p last) full t d }
 {
@@ -276,7 +276,7 @@ fn take_tone(
 fn take_bit(tape: &[u8], r: Block, pos: u64, k: u64, last: bool, full: bool, t: u64, d: u64) -> Step
     requires size_in_bounds { r.start + r.size ≤ length tape.now }
     requires pos_lt_size { (pos < r.size) × (k < bits_at r pos) }
-    requires r_value { wellNumbers r ≡ true }
+    requires r_value { well_numbers r ≡ true }
     ensures { (tones : List ℕ) → result ≡ take_of tape.now tones r (Data pos k last) full t d }
 {
     if !full {
@@ -293,17 +293,17 @@ fn take_bit(tape: &[u8], r: Block, pos: u64, k: u64, last: bool, full: bool, t: 
 
 // A turn at another entry: a function of its own, so that the row is copied for the call in these arms of `take` alone.
 fn take_entry(tones: &[u64], r: Block, f: Phase, t: u64) -> Step
-    requires tones_bound { r.tone + r.tones ≤ capacityOf tone toneMost tones.now }
-    requires f_value { hasEntry tones.now r f ≡ true }
-    ensures { result ≡ oneStep tones.now r f t }
+    requires tones_bound { r.tone + r.tones ≤ capacity_of tone tone_most tones.now }
+    requires f_value { has_entry tones.now r f ≡ true }
+    ensures { result ≡ one_step tones.now r f t }
 {
     one_step(tones, r, f, t)
 }
 
 // One turn of the measured walk. Our crates alone call it: from an entry that is there, in a well-formed row.
 pub fn take(tape: &[u8], tones: &[u64], r: Block, f: Phase, full: bool, t: u64, d: u64) -> Step
-    requires r_value { wellBlock (tapeSize tape.now) tones.now r ≡ true }
-    requires f_value { hasEntry tones.now r f ≡ true }
+    requires r_value { well_block (tape_size tape.now) tones.now r ≡ true }
+    requires f_value { has_entry tones.now r f ≡ true }
     requires d_nonzero { 0 < d }
     ensures { result ≡ take_of tape.now tones.now r f full t d }
 {

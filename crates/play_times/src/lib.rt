@@ -2,12 +2,12 @@
 ghost use Rattle.std.specs.Prelude.{◌≡◌, true, List, ℕ, ◌+◌, ◌<◌, ◌≤◌, length};
 ghost use Rattle.law_pulses.specs.Play.{Level, time};
 ghost use Rattle.law_pulses.specs.Runs.{run};
-ghost use Rattle.rows.specs.Table.{capacityOf};
-ghost use Rattle.rows.specs.Rows.{tone, toneMost};
-ghost use Rattle.rows.specs.Well.{wellNumbers};
-ghost use Rattle.play_entries.specs.Entries.{bitEntries, byteEntries, data_of};
-ghost use Rattle.play_entries.specs.Counted.{onesFrom, bitsTime};
-ghost use Rattle.play_entries.specs.Figures.{toneFigure, tonesFigure, dataFigure, Owns};
+ghost use Rattle.rows.specs.Table.{capacity_of};
+ghost use Rattle.rows.specs.Rows.{tone, tone_most};
+ghost use Rattle.rows.specs.Well.{well_numbers};
+ghost use Rattle.play_entries.specs.Entries.{bit_entries, byte_entries, data_of};
+ghost use Rattle.play_entries.specs.Counted.{ones_from, bits_time};
+ghost use Rattle.play_entries.specs.Figures.{tone_figure, tones_figure, data_figure, Owns};
 
 use play_phases::{bits_at, cycle_time, cycles_of, row_tone, size_of};
 use rows::{Block, Tone, tone_capacity};
@@ -15,7 +15,7 @@ use rows_well::{numbers_well, ranges, tone_well};
 
 // T-states of a tone row; 0 for one that isn't well formed.
 pub fn tone_figure(r: Block, t: Tone) -> u64
-    ensures value { result ≡ toneFigure r t }
+    ensures value { result ≡ tone_figure r t }
     ensures upper_bound { result ≤ 8589672450 }
 {
     if !tone_well(t) {
@@ -26,8 +26,8 @@ pub fn tone_figure(r: Block, t: Tone) -> u64
 
 // T-states of a block's tone rows, which its callers know to be lent.
 fn rows_figure(tones: &[u64], r: Block) -> u64
-    requires { r.tone + r.tones ≤ capacityOf tone toneMost tones.now }
-    ensures value { (ts : List Tone) → Owns tones.now r ts → result ≡ tonesFigure r ts }
+    requires { r.tone + r.tones ≤ capacity_of tone tone_most tones.now }
+    ensures value { (ts : List Tone) → Owns tones.now r ts → result ≡ tones_figure r ts }
     ensures upper_bound { result ≤ 562932773683200 }
 {
     let mut sum = 0;
@@ -41,7 +41,7 @@ fn rows_figure(tones: &[u64], r: Block) -> u64
 
 // The same of any row: 0 where its tone rows aren't all lent.
 pub fn tones_figure(tones: &[u64], r: Block) -> u64
-    ensures value { (ts : List Tone) → Owns tones.now r ts → result ≡ tonesFigure r ts }
+    ensures value { (ts : List Tone) → Owns tones.now r ts → result ≡ tones_figure r ts }
     ensures upper_bound { result ≤ 562932773683200 }
 {
     if !ranges(r.tone, r.tones, tone_capacity(tones) as u64) {
@@ -53,8 +53,8 @@ pub fn tones_figure(tones: &[u64], r: Block) -> u64
 // T-states of n bits, k of them ones, which its callers know to be those of a tape's bytes at most, in a row whose numbers are well formed.
 fn counted_time(k: u64, n: u64, r: Block) -> u64
     requires k_le_n { (k ≤ n) × (n ≤ 8388608) }
-    requires r_value { wellNumbers r ≡ true }
-    ensures { result ≡ bitsTime r k n }
+    requires r_value { well_numbers r ≡ true }
+    ensures { result ≡ bits_time r k n }
 {
     2 * (k * r.one + (n - k) * r.zero)
 }
@@ -62,8 +62,8 @@ fn counted_time(k: u64, n: u64, r: Block) -> u64
 // T-states of the first n bits of a byte, which its callers know to be 1 to 8 in a row whose numbers are well formed.
 pub fn bits_time(v: u8, n: u64, r: Block) -> u64
     requires n_nonzero { (0 < n) × (n ≤ 8) }
-    requires r_value { wellNumbers r ≡ true }
-    ensures { (b pos : ℕ) (c : Level) → result ≡ time (run (bitEntries b r c pos v) 0 n) }
+    requires r_value { well_numbers r ≡ true }
+    ensures { (b pos : ℕ) (c : Level) → result ≡ time (run (bit_entries b r c pos v) 0 n) }
 {
     counted_time(u8::count_ones(v >> (8 - n)) as u64, n, r)
 }
@@ -71,8 +71,8 @@ pub fn bits_time(v: u8, n: u64, r: Block) -> u64
 // T-states of a block's data byte at pos, which its callers know to lie in the tape, in a row whose numbers are well formed.
 pub fn byte_time(tape: &[u8], r: Block, pos: u64) -> u64
     requires size_in_bounds { (r.start + r.size ≤ length tape.now) × (pos < r.size) }
-    requires r_value { wellNumbers r ≡ true }
-    ensures { (b : ℕ) (c : Level) → result ≡ time (byteEntries tape.now b r c pos) }
+    requires r_value { well_numbers r ≡ true }
+    ensures { (b : ℕ) (c : Level) → result ≡ time (byte_entries tape.now b r c pos) }
 {
     let at = (r.start + pos) as usize;
     bits_time(tape[at], bits_at(r, pos), r)
@@ -81,7 +81,7 @@ pub fn byte_time(tape: &[u8], r: Block, pos: u64) -> u64
 // One-bits of n bytes of a tape from a place on, which its callers know to lie in it and to be within its limit.
 fn ones(tape: &[u8], from: u64, n: u64) -> u32
     requires { (from + n ≤ length tape.now) × (n ≤ 1048576) }
-    ensures { result ≡ onesFrom tape.now from n }
+    ensures { result ≡ ones_from tape.now from n }
 {
     let mut sum = 0;
     let mut i = 0;
@@ -96,7 +96,7 @@ fn ones(tape: &[u8], from: u64, n: u64) -> u32
 // T-states of a block's data, which its callers know to lie in the tape and to be within its limit, in a row whose numbers are well formed.
 fn data_time(tape: &[u8], r: Block) -> u64
     requires size_in_bounds { (r.start + r.size ≤ length tape.now) × (r.size ≤ 1048576) }
-    requires r_value { wellNumbers r ≡ true }
+    requires r_value { well_numbers r ≡ true }
     ensures { (b : ℕ) (c : Level) → result ≡ time (data_of tape.now b r c) }
 {
     if r.size == 0 {
@@ -108,7 +108,7 @@ fn data_time(tape: &[u8], r: Block) -> u64
 
 // The same of any row: 0 where its data aren't all in the tape, or its numbers aren't well formed.
 pub fn data_figure(tape: &[u8], r: Block) -> u64
-    ensures value { result ≡ dataFigure tape.now r }
+    ensures value { result ≡ data_figure tape.now r }
     ensures upper_bound { result ≤ 1099494850560 }
 {
     if !ranges(r.start, r.size, size_of(tape)) {

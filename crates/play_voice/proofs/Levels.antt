@@ -7,21 +7,21 @@ use mathlib.Core.List.{List}
 use lib.Dec.{eqb}
 use Rattle.law_base.specs.Rules.{◌⇒◌, ◌∣◌}
 use Rattle.law_pulses.specs.Play.{Level, low, high}
-use Rattle.rows.specs.Table.{capacityOf}
-use Rattle.rows.specs.Rows.{tone, toneMost}
+use Rattle.rows.specs.Table.{capacity_of}
+use Rattle.rows.specs.Rows.{tone, tone_most}
 use Rattle.rows.specs.declared.Block.{Block}
 use Rattle.rows_well.specs.declared.Seen.{Seen}
-use Rattle.rows_well.specs.Seen.{seenOf, steadySeen}
+use Rattle.rows_well.specs.Seen.{seen_of, steady_seen}
 use Rattle.play_levels.specs.declared.Line.{Line}
-use Rattle.play_levels.specs.Closed.{beginOf, isOne, turned, flipped, firstLevel}
+use Rattle.play_levels.specs.Closed.{begin_of, is_one, turned, flipped, first_level}
 use Rattle.play_entries.specs.declared.Phase.{Phase}
 use Rattle.play_entries.specs.declared.Phase.TheVariants.{Start, Tones, Data, Edge, Pause}
-use Rattle.play_entries.specs.Entries.{toneAt, isSource, line_at, startLevel, cycleLevel, bitLevel, pauseLevel}
-use Rattle.play_entries.specs.Places.{hasEntry, levelAt}
+use Rattle.play_entries.specs.Entries.{tone_at, is_source, line_at, start_level, cycle_level, bit_level, pause_level}
+use Rattle.play_entries.specs.Places.{has_entry, level_at}
 use Rattle.play_entries.proofs.Valid.{tone-entry}
-use Rattle.play_voice.specs.Voice.{rowsBelow, levelBy, asksPlayed, turnedLine, ToldSeen, row_at, Standing}
+use Rattle.play_voice.specs.Voice.{rows_below, level_by, asks_played, turned_line, ToldSeen, row_at, Standing}
 use Rattle.play_voice.specs.declared.Heard.{Heard}
-use Rattle.play_voice.proofs.Turned.{current-turned}
+use Rattle.play_voice.proofs.Turned.{current_turned}
 
 -- by whether it is endless, and whether it is 0
 paused : (x y : Bool) (at : ℕ → Line) (n : ℕ)
@@ -32,22 +32,22 @@ paused false false at n = refl
 
 module _ (tones : List ℕ) (r : Block) where
   -- the rows below an entry are rows of its block
-  pub below-most : (f : Phase) → hasEntry tones r f ≡ true → rowsBelow r f ≤ r.tones
-  unfolding rowsBelow
-  below-most Start e = omega arith
-  below-most (Tones i p h) e = let k = tone-entry tones r i p h e in omega arith
-  below-most (Data pos k h) e = omega arith
-  below-most Edge e = omega arith
-  below-most Pause e = pause-most (eqb r.endless 1) (eqb r.pause 0) r.tones
+  pub below_most : (f : Phase) → has_entry tones r f ≡ true → rows_below r f ≤ r.tones
+  unfolding rows_below
+  below_most Start e = omega arith
+  below_most (Tones i p h) e = let k = tone-entry tones r i p h e in omega arith
+  below_most (Data pos k h) e = omega arith
+  below_most Edge e = omega arith
+  below_most Pause e = pause_most (eqb r.endless 1) (eqb r.pause 0) r.tones
     where
-      pause-most : (x y : Bool) (n : ℕ) → (x ⇒ 0 ∣ y ⇒ n ∣ 0) ≤ n
-      pause-most true y n = omega arith
-      pause-most false true n = omega arith
-      pause-most false false n = omega arith
+      pause_most : (x y : Bool) (n : ℕ) → (x ⇒ 0 ∣ y ⇒ n ∣ 0) ≤ n
+      pause_most true y n = omega arith
+      pause_most false true n = omega arith
+      pause_most false false n = omega arith
 
-  module _ (d : isSource r ≡ false) where
-    pub level_by_lem : (f : Phase) → levelAt tones r f ≡ levelBy tones r f (line_at tones r (rowsBelow r f))
-    unfolding levelAt levelBy rowsBelow cycleLevel bitLevel pauseLevel
+  module _ (d : is_source r ≡ false) where
+    pub level_by_lem : (f : Phase) → level_at tones r f ≡ level_by tones r f (line_at tones r (rows_below r f))
+    unfolding level_at level_by rows_below cycle_level bit_level pause_level
     level_by_lem Start = refl
     level_by_lem (Tones i p h) = rw d
     level_by_lem (Data pos k h) = rw d
@@ -62,33 +62,33 @@ module _ (tones : List ℕ) (r : Block) where
     first-same x true z o q n = cc
     first-same x false z o q n = rw e
 
-    pub level-same : (f : Phase) → asksPlayed tones r f ≡ false → levelBy tones r f l ≡ levelBy tones r f m
-    unfolding levelBy asksPlayed firstLevel
-    level-same Start n = refl
-    level-same (Tones i p h) n =
-        let t = toneAt tones r i in
-        ap (flipped h) (first-same (eqb (beginOf t) 0) (eqb (beginOf t) 1) (eqb (beginOf t) 2) (isOne t) p n)
-    level-same (Data pos k h) n = ap (flipped h) e
-    level-same Edge n = e
-    level-same Pause n = rw e
+    pub level_same : (f : Phase) → asks_played tones r f ≡ false → level_by tones r f l ≡ level_by tones r f m
+    unfolding level_by asks_played first_level
+    level_same Start n = refl
+    level_same (Tones i p h) n =
+        let t = tone_at tones r i in
+        ap (flipped h) (first-same (eqb (begin_of t) 0) (eqb (begin_of t) 1) (eqb (begin_of t) 2) (is_one t) p n)
+    level_same (Data pos k h) n = ap (flipped h) e
+    level_same Edge n = e
+    level_same Pause n = rw e
 
   -- THE LEVEL BY TURNS, where the rows below are of begin 0 and the entry doesn't ask for the level last played
-  pub level-turned : isSource r ≡ false → (f : Phase) (s : Seen) → s ≡ seenOf tones r.tone (rowsBelow r f)
-      → steadySeen s ≡ true → asksPlayed tones r f ≡ false
-      → levelBy tones r f (turnedLine r s) ≡ levelAt tones r f
-  level-turned d f s e t n =
-      let c = current-turned tones r (rowsBelow r f) (sym (ap steadySeen e) ∙ t) in
-      level-same (turnedLine r s) (line_at tones r (rowsBelow r f)) (ap (λ (x : Seen). (turnedLine r x).current) e ∙ sym c) f n
+  pub level_turned : is_source r ≡ false → (f : Phase) (s : Seen) → s ≡ seen_of tones r.tone (rows_below r f)
+      → steady_seen s ≡ true → asks_played tones r f ≡ false
+      → level_by tones r f (turned_line r s) ≡ level_at tones r f
+  level_turned d f s e t n =
+      let c = current_turned tones r (rows_below r f) (sym (ap steady_seen e) ∙ t) in
+      level_same (turned_line r s) (line_at tones r (rows_below r f)) (ap (λ (x : Seen). (turned_line r x).current) e ∙ sym c) f n
       ∙ sym (level_by_lem d f)
 
 -- what a document row's level asks, of the row that the code read
 abbrev Asked : List ℕ → ℕ → Phase → Heard → Block → Type 0
 Asked tones b f h r =
-    (r.tone + r.tones ≤ capacityOf tone toneMost tones)
-    × (((isSource r ≡ false) × (hasEntry tones r f ≡ true)) × (h.block ≡ b → h.seen ≡ seenOf tones r.tone h.rows))
+    (r.tone + r.tones ≤ capacity_of tone tone_most tones)
+    × (((is_source r ≡ false) × (has_entry tones r f ≡ true)) × (h.block ≡ b → h.seen ≡ seen_of tones r.tone h.rows))
 
-pub asks-level : (tones blocks : List ℕ) (b : ℕ) (f : Phase) (h : Heard) → Standing tones blocks b f → ToldSeen tones blocks h
-    → isSource (row_at blocks b) ≡ false → (r : Block) → r ≡ row_at blocks b → Asked tones b f h r
-asks-level tones blocks b f h x told d r e =
+pub asks_level : (tones blocks : List ℕ) (b : ℕ) (f : Phase) (h : Heard) → Standing tones blocks b f → ToldSeen tones blocks h
+    → is_source (row_at blocks b) ≡ false → (r : Block) → r ≡ row_at blocks b → Asked tones b f h r
+asks_level tones blocks b f h x told d r e =
     subst (Asked tones b f h) (sym e)
-    (x.rows, ((d, x.entry), λ q. told ∙ ap (λ (i : ℕ). seenOf tones (row_at blocks i).tone h.rows) q))
+    (x.rows, ((d, x.entry), λ q. told ∙ ap (λ (i : ℕ). seen_of tones (row_at blocks i).tone h.rows) q))

@@ -1,18 +1,18 @@
 -- Where a head stands, and what a player answers of a list. Definitions alone; assumes nothing.
 use Rattle.std.specs.Prelude.{ℕ, ◌≤◌, ◌<◌, ◌≡◌, Bool, true, false, ◌&&◌, List, [], ◌∷◌, ltb, eqb}
 use Rattle.law_base.specs.Rules.{◌⇒◌, ◌∣◌}
-use Rattle.refusals.specs.Refusals.{noPosition, badRow}
+use Rattle.refusals.specs.Refusals.{no_position, bad_row}
 use Rattle.law_pulses.specs.Play.{Level, low, Entry, pulse, endless, Status, standing, stopped, ended, Answer, answer}
-use Rattle.law_pulses.specs.Source.{isEnded, dropped}
-use Rattle.rows.specs.Table.{capacityOf}
-use Rattle.rows.specs.Rows.{block, blockMost}
+use Rattle.law_pulses.specs.Source.{is_ended, dropped}
+use Rattle.rows.specs.Table.{capacity_of}
+use Rattle.rows.specs.Rows.{block, block_most}
 use Rattle.play_entries.specs.declared.Phase.{Phase}
 use Rattle.play_entries.specs.declared.Phase.TheVariants.{Start}
 use Rattle.play_entries.specs.declared.Duration.{Duration}
 use Rattle.play_entries.specs.declared.Duration.TheVariants.{T}
-use Rattle.play_entries.specs.Entries.{Label, startLevel}
-use Rattle.play_entries.specs.Places.{Tape, blockIn, left_at, valid, head_of, left_of, isStart, levelIn}
-use Rattle.play_entries.specs.Mounted.{wellRow, formed}
+use Rattle.play_entries.specs.Entries.{Label, start_level}
+use Rattle.play_entries.specs.Places.{Tape, block_in, left_at, valid, head_of, left_of, is_start, level_in}
+use Rattle.play_entries.specs.Mounted.{well_row, formed}
 use Rattle.play_walk.specs.declared.Position.{Position}
 use Rattle.play_walk.specs.declared.Stand.{Stand}
 use Rattle.play_walk.specs.declared.Reached.{Reached}
@@ -21,16 +21,16 @@ use Rattle.play_walk.specs.declared.Next.{Next}
 use Rattle.play_walk.specs.declared.Next.TheVariants.{Into, Left}
 
 -- the number for no (rule 20); 0 where the call isn't refused
-unfoldable pub reachedNo : Reached → ℕ
-reachedNo (At s) = 0
-reachedNo (Stopped s) = 0
-reachedNo (Ended s) = 0
-reachedNo NotValid = noPosition
-reachedNo NotFormed = badRow
+unfoldable pub reached_no : Reached → ℕ
+reached_no (At s) = 0
+reached_no (Stopped s) = 0
+reached_no (Ended s) = 0
+reached_no NotValid = no_position
+reached_no NotFormed = bad_row
 
 -- the refusal of this number
-abbrev pub notReached : ℕ → Reached
-notReached n = eqb n noPosition ⇒ NotValid ∣ NotFormed
+abbrev pub not_reached : ℕ → Reached
+not_reached n = eqb n no_position ⇒ NotValid ∣ NotFormed
 
 abbrev pub placed : ℕ → Phase → Duration → Position
 placed b f left = record { block = b; phase = f; left = left }
@@ -51,67 +51,67 @@ abbrev pub position_of : Tape → List (Entry Label) → Position
 position_of w es = placed (head_of w es).block (head_of w es).phase (left_of es)
 
 -- where nothing is left of a list, c
-unfoldable pub levelHere : Level → List (Entry Label) → Level
-levelHere c [] = c
-levelHere c (pulse a v t ∷ es) = v
-levelHere c (endless a v ∷ es) = v
+unfoldable pub level_here : Level → List (Entry Label) → Level
+level_here c [] = c
+level_here c (pulse a v t ∷ es) = v
+level_here c (endless a v ∷ es) = v
 
 -- the level at block b's start, where a head comes to rest: the row's own, which is not judged there; low at the count's
-unfoldable pub restLevel : Tape → ℕ → Level
-restLevel w b = ltb b w.count ⇒ startLevel (blockIn w b) ∣ low
+unfoldable pub rest_level : Tape → ℕ → Level
+rest_level w b = ltb b w.count ⇒ start_level (block_in w b) ∣ low
 
-unfoldable pub toldAs : Status → Stand → Reached
-toldAs standing s = At s
-toldAs stopped s = Stopped s
-toldAs ended s = Ended s
+unfoldable pub told_as : Status → Stand → Reached
+told_as standing s = At s
+told_as stopped s = Stopped s
+told_as ended s = Ended s
 
 -- whether an answer is the end
-unfoldable pub endedIn : Reached → Bool
-endedIn (At s) = false
-endedIn (Stopped s) = false
-endedIn (Ended s) = true
-endedIn NotValid = false
-endedIn NotFormed = false
+unfoldable pub ended_in : Reached → Bool
+ended_in (At s) = false
+ended_in (Stopped s) = false
+ended_in (Ended s) = true
+ended_in NotValid = false
+ended_in NotFormed = false
 
 -- a list's answer, as a player gives it: v is the tape w, or it cut
-unfoldable pub toldReached : Tape → Tape → Answer Label → Reached
-toldReached w v a = toldAs a.tells (stand (position_of v a.place) a.passed (levelHere (restLevel w v.count) a.place))
+unfoldable pub told_reached : Tape → Tape → Answer Label → Reached
+told_reached w v a = told_as a.tells (stand (position_of v a.place) a.passed (level_here (rest_level w v.count) a.place))
 
 -- a walk that reaches a bad row answers 11: it came to the end of v, which is cut there, with T-states left
 unfoldable pub walked : Tape → Tape → Answer Label → Reached
-walked w v a = (isEnded a.tells && ltb v.count w.count) ⇒ notReached badRow ∣ toldReached w v a
+walked w v a = (is_ended a.tells && ltb v.count w.count) ⇒ not_reached bad_row ∣ told_reached w v a
 
 -- at the start of block b, behind the one before, with d T-states left and i entries passed: into it, or where the walk has left
 unfoldable pub next_of : Tape → ℕ → ℕ → ℕ → Next
 next_of w b d i =
-    eqb d 0 ⇒ Left (At (stand (start_at b) i (restLevel w b)))
+    eqb d 0 ⇒ Left (At (stand (start_at b) i (rest_level w b)))
     ∣ eqb b w.count ⇒ Left (Ended (stand (start_at w.count) i low))
-    ∣ wellRow w b ⇒ Into
-    ∣ Left (notReached badRow)
+    ∣ well_row w b ⇒ Into
+    ∣ Left (not_reached bad_row)
 
 -- THE MEASURED WALK of n T-states from a position
-unfoldable pub walkFrom : Tape → Position → ℕ → Reached
-walkFrom w q n = walked w (formed w q.block) (answer (ahead (formed w q.block) q) n)
+unfoldable pub walk_from : Tape → Position → ℕ → Reached
+walk_from w q n = walked w (formed w q.block) (answer (ahead (formed w q.block) q) n)
 
 -- the sum of the finite entries that the source's play drops uncharged in a call of n from a position
-unfoldable pub droppedFrom : Tape → Position → ℕ → ℕ
-droppedFrom w q n = dropped (ahead (formed w q.block) q) n
+unfoldable pub dropped_from : Tape → Position → ℕ → ℕ
+dropped_from w q n = dropped (ahead (formed w q.block) q) n
 
 -- a valid position below the count, in a well-formed row, on a tape whose count is within its capacity
 pub record Walkable (w : Tape) (q : Position) : Type 0 where
-  pub lent : w.count ≤ capacityOf block blockMost w.blocks
+  pub lent : w.count ≤ capacity_of block block_most w.blocks
   pub below : q.block < w.count
-  pub row : wellRow w q.block ≡ true
+  pub row : well_row w q.block ≡ true
   pub stands : valid w q.block q.phase q.left ≡ true
 
 -- where a head stands inside a block the next call goes on: at an entry of a well-formed row, at this level
 pub record GoesOn (w : Tape) (s : Stand) : Type 0 where
   pub there : Walkable w s.position
-  pub level : s.level ≡ levelIn w s.position.block s.position.phase
+  pub level : s.level ≡ level_in w s.position.block s.position.phase
 
 -- .. but not from a block's start, whose row is judged only when it is reached
 abbrev pub Landed : Tape → Stand → Type 0
-Landed w s = isStart s.position.phase ≡ false → GoesOn w s
+Landed w s = is_start s.position.phase ≡ false → GoesOn w s
 
 -- of an answer
 unfoldable pub Lands : Tape → Reached → Type 0

@@ -1,12 +1,12 @@
 // Positions, and the measured walk over a tape's entries, which both players stand on.
 ghost use Rattle.std.specs.Prelude.{◌≡◌, true, false, List, ℕ, ◌+◌, ◌≤◌};
-ghost use Rattle.rows.specs.Table.{capacityOf};
-ghost use Rattle.rows.specs.Rows.{block, blockMost};
-ghost use Rattle.play_entries.specs.Places.{levelAt};
+ghost use Rattle.rows.specs.Table.{capacity_of};
+ghost use Rattle.rows.specs.Rows.{block, block_most};
+ghost use Rattle.play_entries.specs.Places.{level_at};
 ghost use Rattle.play_voice.specs.Voice.{ToldSeen, row_at, Standing};
-ghost use Rattle.play_entries.specs.Source.{levelOf};
-ghost use Rattle.play_entries.specs.Mounted.{tapeOf};
-ghost use Rattle.play_walk.specs.Heads.{placed, start_at, stand, restLevel, next_of, Walkable, walkFrom, Lands};
+ghost use Rattle.play_entries.specs.Source.{level_of};
+ghost use Rattle.play_entries.specs.Mounted.{tape_of};
+ghost use Rattle.play_walk.specs.Heads.{placed, start_at, stand, rest_level, next_of, Walkable, walk_from, Lands};
 ghost use Rattle.play_entries.specs.declared.Duration.TheVariants.{T, Endless};
 ghost use Rattle.play_walk.specs.declared.Reached.TheVariants.{At, Stopped, Ended};
 
@@ -43,7 +43,7 @@ impl Position {
 
     // The level there, of a source row.
     pub fn mic(self) -> bool
-        ensures { result ≡ levelOf self.phase }
+        ensures { result ≡ level_of self.phase }
     {
         let f = self.phase;
         mic(f)
@@ -93,7 +93,7 @@ fn stands(
     requires standing { Standing tones.now blocks.now block phase }
     requires told_seen { ToldSeen tones.now blocks.now h }
     ensures { result
-        ≡ At (stand (placed block phase (T left)) passed (levelAt tones.now (row_at blocks.now block) phase)) }
+        ≡ At (stand (placed block phase (T left)) passed (level_at tones.now (row_at blocks.now block) phase)) }
 {
     Reached::At(Stand {
         position: Position {
@@ -112,7 +112,7 @@ fn stops(tones: &[u64], blocks: &[u64], block: u64, phase: Phase, passed: u64, h
     requires told_seen { ToldSeen tones.now blocks.now h }
     ensures { result
         ≡ Stopped
-        (stand (placed block phase Endless) passed (levelAt tones.now (row_at blocks.now block) phase)) }
+        (stand (placed block phase Endless) passed (level_at tones.now (row_at blocks.now block) phase)) }
 {
     Reached::Stopped(Stand {
         position: Position {
@@ -127,8 +127,8 @@ fn stops(tones: &[u64], blocks: &[u64], block: u64, phase: Phase, passed: u64, h
 
 // The level at block b's start, where a head comes to rest; its callers know the rows up to the count to be lent.
 pub fn rest_level(blocks: &[u64], count: u64, b: u64) -> bool
-    requires { (b ≤ count) × (count ≤ capacityOf block blockMost blocks.now) }
-    ensures { (tape tones : List ℕ) → result ≡ restLevel (tapeOf tape tones blocks.now count) b }
+    requires { (b ≤ count) × (count ≤ capacity_of block block_most blocks.now) }
+    ensures { (tape tones : List ℕ) → result ≡ rest_level (tape_of tape tones blocks.now count) b }
 {
     if b < count {
         return start_level(block_at(blocks, b as usize));
@@ -176,8 +176,8 @@ fn next_block(
     left: u64,
     passed: u64,
 ) -> Next
-    requires { (b ≤ count) × (count ≤ capacityOf block blockMost blocks.now) }
-    ensures { result ≡ next_of (tapeOf tape.now tones.now blocks.now count) b left passed }
+    requires { (b ≤ count) × (count ≤ capacity_of block block_most blocks.now) }
+    ensures { result ≡ next_of (tape_of tape.now tones.now blocks.now count) b left passed }
 {
     if left == 0 {
         return Next::Left(rests(b, passed, rest_level(blocks, count, b)));
@@ -201,10 +201,10 @@ pub fn walk(
     n: u64,
     h: Heard,
 ) -> Reached
-    requires walkable { Walkable (tapeOf tape.now tones.now blocks.now count) pos }
+    requires walkable { Walkable (tape_of tape.now tones.now blocks.now count) pos }
     requires told_seen { ToldSeen tones.now blocks.now h }
-    ensures value { result ≡ walkFrom (tapeOf tape.now tones.now blocks.now count) pos n }
-    ensures lands { Lands (tapeOf tape.now tones.now blocks.now count) result }
+    ensures value { result ≡ walk_from (tape_of tape.now tones.now blocks.now count) pos n }
+    ensures lands { Lands (tape_of tape.now tones.now blocks.now count) result }
 {
     let mut block = pos.block;
     let mut phase = pos.phase;

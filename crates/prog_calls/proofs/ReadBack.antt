@@ -9,33 +9,33 @@ use Rattle.play_walk.specs.declared.Stand.{Stand}
 use Rattle.play_walk.specs.declared.Reached.{Reached}
 use Rattle.play_walk.specs.declared.Reached.TheVariants.{At, Stopped, Ended, NotValid, NotFormed}
 use Rattle.play_walk.specs.Heads.{stand}
-use Rattle.play_deck.specs.Calls.{positionIn, passedIn, answerLevel}
-use Rattle.host_words.specs.Words.{flagOf, words_of}
+use Rattle.play_deck.specs.Calls.{position_in, passed_in, answer_level}
+use Rattle.host_words.specs.Words.{flag_of, words_of}
 use Rattle.host_words.proofs.Positions.{position-words}
-use Rattle.host_run.specs.Rows.{howOf, standRow, callRow}
-use Rattle.prog_calls.specs.Answers.{orStart, place_in, standIn, reachedIn}
+use Rattle.host_run.specs.Rows.{how_of, stand_row, call_row}
+use Rattle.prog_calls.specs.Answers.{or_start, place_in, stand_in, reached_in}
 
-level-back : (b : Bool) → eqb (flagOf b) 1 ≡ b
-unfolding flagOf
-level-back true = refl
-level-back false = refl
+level_back : (b : Bool) → eqb (flag_of b) 1 ≡ b
+unfolding flag_of
+level_back true = refl
+level_back false = refl
 
-stand-place : (how : ℕ) (s : Stand) → place_in (standRow how s) ≡ s.position
-unfolding place_in orStart words_of
-stand-place how s = ap orStart (position-words.0 s.position [])
+stand_place : (how : ℕ) (s : Stand) → place_in (stand_row how s) ≡ s.position
+unfolding place_in or_start words_of
+stand_place how s = ap or_start (position-words.0 s.position [])
 
-stand-back : (how : ℕ) (s : Stand) → standIn (standRow how s) ≡ s
+stand-back : (how : ℕ) (s : Stand) → stand_in (stand_row how s) ≡ s
 stand-back how s =
-    ap (λ (q : Position). stand q s.passed (eqb (flagOf s.level) 1)) (stand-place how s)
-    ∙ ap (λ (v : Bool). stand s.position s.passed v) (level-back s.level)
+    ap (λ (q : Position). stand q s.passed (eqb (flag_of s.level) 1)) (stand_place how s)
+    ∙ ap (λ (v : Bool). stand s.position s.passed v) (level_back s.level)
 
 module _ (q : Position) where
-  pub place-back : (r : Reached) → place_in (callRow q r) ≡ positionIn q r
-  unfolding callRow
-  place-back r = stand-place (howOf r) (stand (positionIn q r) (passedIn r) (answerLevel r))
+  pub place_back : (r : Reached) → place_in (call_row q r) ≡ position_in q r
+  unfolding call_row
+  place_back r = stand_place (how_of r) (stand (position_in q r) (passed_in r) (answer_level r))
 
-  pub reached-back : (r : Reached) → reachedIn (callRow q r) ≡ r
-  unfolding reachedIn callRow howOf positionIn passedIn answerLevel
+  pub reached-back : (r : Reached) → reached_in (call_row q r) ≡ r
+  unfolding reached_in call_row how_of position_in passed_in answer_level
   reached-back (At s) = ap At (stand-back 0 s)
   reached-back (Stopped s) = ap Stopped (stand-back 1 s)
   reached-back (Ended s) = ap Ended (stand-back 2 s)

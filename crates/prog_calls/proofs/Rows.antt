@@ -7,33 +7,33 @@ use mathlib.Core.Path.{◌≡◌, sym, ap, ◌∙◌}
 use mathlib.Core.List.{List, [], ◌∷◌, ◌++◌, append_assoc, append-nil}
 use lib.ListN.{length, take, drop, length-append}
 use lib.Seq.{drop-drop}
-use Rattle.rows.specs.Table.{Codec, get, put, put_all, rows_of, tableOver}
+use Rattle.rows.specs.Table.{Codec, get, put, put_all, rows_of, table_over}
 use Rattle.rows.proofs.Tables.{over_none, put_next, rows-over}
 
 module _ {R : Type 0} (C : Codec R) where
   -- rows put behind the rows of a table
-  puts-over : (rs rows : List R) (t : List ℕ) → length rs * C.width + length rows * C.width ≤ length t
-      → put_all C (tableOver C rs t) (length rs) rows ≡ tableOver C (rs ++ rows) t
+  puts_over : (rs rows : List R) (t : List ℕ) → length rs * C.width + length rows * C.width ≤ length t
+      → put_all C (table_over C rs t) (length rs) rows ≡ table_over C (rs ++ rows) t
   unfolding put_all
-  puts-over rs [] t h = ap (λ (l : List R). tableOver C l t) (sym (append-nil rs))
-  puts-over rs (r ∷ rows) t h =
+  puts_over rs [] t h = ap (λ (l : List R). table_over C l t) (sym (append-nil rs))
+  puts_over rs (r ∷ rows) t h =
       let W = C.width in
       let q = suc-mul (length rows) W in
       let p = suc-mul (length rs) W in
       let l : length (rs ++ r ∷ []) ≡ suc (length rs) = rw length-append (omega arith) in
       let m : length (rs ++ r ∷ []) * W ≡ length rs * W + W = rw l p in
       ap (λ (x : List ℕ). put_all C x (length rs + 1) rows) (put_next C rs t r (omega arith))
-      ∙ ap (λ (n : ℕ). put_all C (tableOver C (rs ++ r ∷ []) t) n rows) (add-one (length rs) ∙ sym l)
-      ∙ puts-over (rs ++ r ∷ []) rows t (omega arith)
-      ∙ ap (λ (x : List R). tableOver C x t) (append_assoc rs (r ∷ []) rows)
+      ∙ ap (λ (n : ℕ). put_all C (table_over C (rs ++ r ∷ []) t) n rows) (add-one (length rs) ∙ sym l)
+      ∙ puts_over (rs ++ r ∷ []) rows t (omega arith)
+      ∙ ap (λ (x : List R). table_over C x t) (append_assoc rs (r ∷ []) rows)
 
   -- ROWS PUT ARE READ
-  pub put-read : (rs : List R) (t : List ℕ) (n : ℕ) → length rs ≡ n → n * C.width ≤ length t → rows_of C (put_all C t 0 rs) n ≡ rs
-  put-read rs t n e h =
+  pub put_read : (rs : List R) (t : List ℕ) (n : ℕ) → length rs ≡ n → n * C.width ≤ length t → rows_of C (put_all C t 0 rs) n ≡ rs
+  put_read rs t n e h =
       let z = zero-mul C.width in
       let k : length rs * C.width ≡ n * C.width = ap (λ (m : ℕ). m * C.width) e in
       ap (λ (x : List ℕ). rows_of C x n)
-      (ap (λ (x : List ℕ). put_all C x 0 rs) (sym (over_none C t)) ∙ puts-over [] rs t (omega arith))
+      (ap (λ (x : List ℕ). put_all C x 0 rs) (sym (over_none C t)) ∙ puts_over [] rs t (omega arith))
       ∙ rows-over C rs t n e
 
   -- row i, and those behind it

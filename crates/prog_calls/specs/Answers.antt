@@ -5,26 +5,26 @@ use Rattle.play_walk.specs.declared.Position.{Position}
 use Rattle.play_walk.specs.declared.Stand.{Stand}
 use Rattle.play_walk.specs.declared.Reached.{Reached}
 use Rattle.play_walk.specs.declared.Reached.TheVariants.{At, Stopped, Ended}
-use Rattle.play_walk.specs.Heads.{start_at, stand, notReached}
+use Rattle.play_walk.specs.Heads.{start_at, stand, not_reached}
 use Rattle.host_words.specs.declared.Placed.{Placed}
 use Rattle.host_words.specs.declared.Placed.TheVariants.{Is, Not}
-use Rattle.host_words.specs.Words.{positionFrom}
+use Rattle.host_words.specs.Words.{position_from}
 use Rattle.host_run.specs.declared.AnswerRow.{AnswerRow}
 
 -- the position that words name; no row of a run names none
-unfoldable pub orStart : Placed → Position
-orStart (Is q) = q
-orStart Not = start_at 0
+unfoldable pub or_start : Placed → Position
+or_start (Is q) = q
+or_start Not = start_at 0
 
 unfoldable pub place_in : AnswerRow → Position
-place_in a = orStart (positionFrom (a.block ∷ a.phase ∷ a.item ∷ a.part ∷ a.half ∷ a.endless ∷ a.left ∷ []))
+place_in a = or_start (position_from (a.block ∷ a.phase ∷ a.item ∷ a.part ∷ a.half ∷ a.endless ∷ a.left ∷ []))
 
-abbrev pub standIn : AnswerRow → Stand
-standIn a = stand (place_in a) a.passed (eqb a.level 1)
+abbrev pub stand_in : AnswerRow → Stand
+stand_in a = stand (place_in a) a.passed (eqb a.level 1)
 
-unfoldable pub reachedIn : AnswerRow → Reached
-reachedIn a =
-    eqb a.how 0 ⇒ At (standIn a)
-    ∣ eqb a.how 1 ⇒ Stopped (standIn a)
-    ∣ eqb a.how 2 ⇒ Ended (standIn a)
-    ∣ notReached a.how
+unfoldable pub reached_in : AnswerRow → Reached
+reached_in a =
+    eqb a.how 0 ⇒ At (stand_in a)
+    ∣ eqb a.how 1 ⇒ Stopped (stand_in a)
+    ∣ eqb a.how 2 ⇒ Ended (stand_in a)
+    ∣ not_reached a.how

@@ -6,17 +6,17 @@ use Rattle.play_entries.specs.Places.{Tape}
 use Rattle.play_deck.specs.Deck.{block_at}
 use Rattle.host_run.specs.declared.AnswerRow.{AnswerRow}
 use Rattle.text_trace.specs.Lines.{line_of}
-use Rattle.prog_calls.specs.Answers.{place_in, reachedIn}
-use Rattle.prog_calls.specs.Trace.{endsRun}
+use Rattle.prog_calls.specs.Answers.{place_in, reached_in}
+use Rattle.prog_calls.specs.Trace.{ends_run}
 
-unfoldable pub lineIn : Bool → Tape → AnswerRow → List ℕ
-lineIn measured w a = line_of measured (reachedIn a) (block_at w (place_in a))
+unfoldable pub line_in : Bool → Tape → AnswerRow → List ℕ
+line_in measured w a = line_of measured (reached_in a) (block_at w (place_in a))
 
-unfoldable pub linesIn : Bool → Tape → List AnswerRow → List ℕ
-linesIn measured w [] = []
-linesIn measured w (a ∷ more) = lineIn measured w a ++ (endsRun measured (reachedIn a) ⇒ [] ∣ linesIn measured w more)
+unfoldable pub lines_in : Bool → Tape → List AnswerRow → List ℕ
+lines_in measured w [] = []
+lines_in measured w (a ∷ more) = line_in measured w a ++ (ends_run measured (reached_in a) ⇒ [] ∣ lines_in measured w more)
 
 -- the same line n times
-unfoldable pub sameLines : ℕ → List ℕ → List ℕ
-sameLines zero t = []
-sameLines (suc n) t = t ++ sameLines n t
+unfoldable pub same_lines : ℕ → List ℕ → List ℕ
+same_lines zero t = []
+same_lines (suc n) t = t ++ same_lines n t

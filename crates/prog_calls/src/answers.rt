@@ -1,8 +1,8 @@
 // A run's rows read back: the answer that a row's words say, and where that leaves the head.
 ghost use Rattle.std.specs.Prelude.{◌≡◌, ◌+◌, ◌*◌, ◌≤◌, length};
 ghost use Rattle.rows.specs.Table.{get};
-ghost use Rattle.host_run.specs.Rows.{answerRow, decodeAnswer};
-ghost use Rattle.prog_calls.specs.Answers.{place_in, reachedIn};
+ghost use Rattle.host_run.specs.Rows.{answer_row, decode_answer};
+ghost use Rattle.prog_calls.specs.Answers.{place_in, reached_in};
 
 use host_run::{ANSWER_WORDS, AnswerRow};
 use host_words::{Placed, position_from};
@@ -11,8 +11,8 @@ use refusals::NO_POSITION;
 
 // The row of a row's words; for the read below.
 fn row_from(s: &[u64]) -> AnswerRow
-    requires { answerRow.width ≤ length s.now }
-    ensures { result ≡ decodeAnswer s.now }
+    requires { answer_row.width ≤ length s.now }
+    ensures { result ≡ decode_answer s.now }
 {
     AnswerRow {
         how: s[0],
@@ -30,8 +30,8 @@ fn row_from(s: &[u64]) -> AnswerRow
 
 // Row i, which its callers know to be lent.
 pub(crate) fn answer_at(t: &[u64], i: usize) -> AnswerRow
-    requires { i * answerRow.width + answerRow.width ≤ length t.now }
-    ensures { result ≡ get answerRow t.now i }
+    requires { i * answer_row.width + answer_row.width ≤ length t.now }
+    ensures { result ≡ get answer_row t.now i }
 {
     let b = i * ANSWER_WORDS;
     row_from(&t[b..b + ANSWER_WORDS])
@@ -50,7 +50,7 @@ pub(crate) fn place_in(a: AnswerRow) -> Position
 
 // A row's answer.
 pub(crate) fn reached_in(a: AnswerRow) -> Reached
-    ensures { result ≡ reachedIn a }
+    ensures { result ≡ reached_in a }
 {
     let s = Stand {
         position: place_in(a),

@@ -5,14 +5,14 @@ mod answers;
 
 ghost use Rattle.std.specs.Prelude.{◌≡◌, true, ◌+◌, ◌*◌, ◌^◌, ◌<◌, ◌≤◌, length};
 ghost use Rattle.rows.specs.Table.{rows_of};
-ghost use Rattle.play_entries.specs.Mounted.{tapeOf};
-ghost use Rattle.play_walk.specs.Heads.{start_at, endedIn};
-ghost use Rattle.host_run.specs.Rows.{answerRow};
-ghost use Rattle.text_out.specs.Out.{Wrote, refusedLine};
-ghost use Rattle.prog_calls.specs.Answers.{reachedIn};
-ghost use Rattle.prog_calls.specs.Playback.{isPlayer, number_in, countsIn, isDescription};
-ghost use Rattle.prog_calls.specs.Trace.{endsRun, runText, tapeText, describedText, traceText, Prints};
-ghost use Rattle.prog_calls.specs.Inner.{lineIn, linesIn, sameLines};
+ghost use Rattle.play_entries.specs.Mounted.{tape_of};
+ghost use Rattle.play_walk.specs.Heads.{start_at, ended_in};
+ghost use Rattle.host_run.specs.Rows.{answer_row};
+ghost use Rattle.text_out.specs.Out.{Wrote, refused_line};
+ghost use Rattle.prog_calls.specs.Answers.{reached_in};
+ghost use Rattle.prog_calls.specs.Playback.{is_player, number_in, counts_in, is_description};
+ghost use Rattle.prog_calls.specs.Trace.{ends_run, run_text, tape_text, described_text, trace_text, Prints};
+ghost use Rattle.prog_calls.specs.Inner.{line_in, lines_in, same_lines};
 
 use answers::{answer_at, place_in, reached_in};
 use cut_fields::{Cursor, field};
@@ -35,14 +35,14 @@ fn number(s: &[u8], at: u64, w: u64) -> u32
 
 // Whether a byte names a player.
 fn is_player(b: u8) -> bool
-    ensures { result ≡ isPlayer b }
+    ensures { result ≡ is_player b }
 {
     b == b'm' || b == b's'
 }
 
 // Whether the bytes begin with a description, whatever model they name.
 fn is_description(s: &[u8]) -> bool
-    ensures { result ≡ isDescription s.now }
+    ensures { result ≡ is_description s.now }
 {
     if s.len() < 8 {
         return false;
@@ -60,7 +60,7 @@ fn is_description(s: &[u8]) -> bool
 // Each call's count.
 fn read_counts(bytes: &[u8], counts: &mut [u32])
     requires { length counts.old ≤ 1000 }
-    ensures { counts.new ≡ countsIn bytes.now (length counts.old) }
+    ensures { counts.new ≡ counts_in bytes.now (length counts.old) }
 {
     let mut i = 0;
     while i < counts.len() {
@@ -71,7 +71,7 @@ fn read_counts(bytes: &[u8], counts: &mut [u32])
 
 // Whether an answer is the end.
 fn is_end(r: Reached) -> bool
-    ensures { result ≡ endedIn r }
+    ensures { result ≡ ended_in r }
 {
     match r {
         Reached::At(_) => false,
@@ -84,7 +84,7 @@ fn is_end(r: Reached) -> bool
 
 // Whether a run ends with a row.
 fn ends_run(measured: bool, a: AnswerRow) -> bool
-    ensures { result ≡ endsRun measured (reachedIn a) }
+    ensures { result ≡ ends_run measured (reached_in a) }
 {
     if measured {
         return false;
@@ -105,7 +105,7 @@ fn put_row(
 ) -> usize
     requires { at + 256 < 2 ^ 63 }
     ensures { Wrote out.old at
-        (lineIn measured (tapeOf tape.now tones.now blocks.now count) a) out.new result }
+        (line_in measured (tape_of tape.now tones.now blocks.now count) a) out.new result }
 {
     let shown = block(tape, tones, blocks, count, place_in(a));
     put_line(out, at, measured, reached_in(a), shown)
@@ -122,11 +122,11 @@ fn put_rows(
     n: usize,
     out: &mut [u8],
 ) -> usize
-    requires width_in_bounds { n * answerRow.width ≤ length answers.now }
+    requires width_in_bounds { n * answer_row.width ≤ length answers.now }
     requires n_bound { n ≤ 1000 }
     ensures { Wrote out.old 0
-        (linesIn measured (tapeOf tape.now tones.now blocks.now count)
-        (rows_of answerRow answers.now n)) out.new result }
+        (lines_in measured (tape_of tape.now tones.now blocks.now count)
+        (rows_of answer_row answers.now n)) out.new result }
 {
     let mut at = 0;
     let mut i = 0;
@@ -144,7 +144,7 @@ fn put_rows(
 // The line of a refusal n times.
 fn put_refusals(out: &mut [u8], k: u32, n: usize) -> usize
     requires { n ≤ 1000 }
-    ensures { Wrote out.old 0 (sameLines n (refusedLine k)) out.new result }
+    ensures { Wrote out.old 0 (same_lines n (refused_line k)) out.new result }
 {
     let mut at = 0;
     let mut i = 0;
@@ -167,10 +167,10 @@ fn put_run(
     answers: &mut [u64],
     out: &mut [u8],
 ) -> usize
-    requires width_in_bounds { length counts.now * answerRow.width ≤ length answers.old }
+    requires width_in_bounds { length counts.now * answer_row.width ≤ length answers.old }
     requires counts_len_bound { length counts.now ≤ 1000 }
     ensures { Wrote out.old 0
-        (runText measured (tapeOf tape.now tones.now blocks.now count) (start_at from)
+        (run_text measured (tape_of tape.now tones.now blocks.now count) (start_at from)
         counts.now) out.new result }
 {
     let pos = Position::new_at_block(from);
@@ -203,11 +203,11 @@ fn put_counted(
     answers: &mut [u64],
     out: &mut [u8],
 ) -> usize
-    requires width_in_bounds { length counts.old * answerRow.width ≤ length answers.old }
+    requires width_in_bounds { length counts.old * answer_row.width ≤ length answers.old }
     requires counts_len_bound { length counts.old ≤ 1000 }
     ensures { Wrote out.old 0
-        (runText measured (tapeOf tape.now tones.now blocks.now count) (start_at from)
-        (countsIn bytes.now (length counts.old))) out.new result }
+        (run_text measured (tape_of tape.now tones.now blocks.now count) (start_at from)
+        (counts_in bytes.now (length counts.old))) out.new result }
 {
     read_counts(bytes, counts);
     put_run(
@@ -236,8 +236,8 @@ pub fn say_calls(
 ) -> usize
     requires calls_bound { calls ≤ 1000 }
     requires in_bounds { 256000 ≤ length out.old }
-    ensures { Prints (runText measured (tapeOf tape.now tones.now blocks.now count)
-        (start_at from) (countsIn counts.now calls)) result out.new }
+    ensures { Prints (run_text measured (tape_of tape.now tones.now blocks.now count)
+        (start_at from) (counts_in counts.now calls)) result out.new }
 {
     let mut each = no_counts();
     let mut answers = [0u64; 10000];
@@ -258,7 +258,7 @@ pub fn say_calls(
 // `refused n`
 fn say_refused(out: &mut [u8], k: u32) -> usize
     requires { 32 ≤ length out.old }
-    ensures { Prints (refusedLine k) result out.new }
+    ensures { Prints (refused_line k) result out.new }
 {
     put_refusal(out, 0, k)
 }
@@ -275,7 +275,7 @@ fn say_tape(
 ) -> usize
     requires calls_bound { calls ≤ 1000 }
     requires in_bounds { 256000 ≤ length out.old }
-    ensures { Prints (tapeText measured model tape.now from (countsIn counts.now calls)) result
+    ensures { Prints (tape_text measured model tape.now from (counts_in counts.now calls)) result
         out.new }
 {
     let mut blocks = [0u64; BLOCK_TABLE];
@@ -293,9 +293,9 @@ fn say_tape(
 
 // What is printed of a description and its tape.
 fn say_described(input: &[u8], model: u32, out: &mut [u8]) -> usize
-    requires input_value { isDescription input.now ≡ true }
+    requires input_value { is_description input.now ≡ true }
     requires in_bounds { 256000 ≤ length out.old }
-    ensures { Prints (describedText model input.now) result out.new }
+    ensures { Prints (described_text model input.now) result out.new }
 {
     let calls = number(input, 6, 2) as usize;
     let tape = &input[8 + 4 * calls..];
@@ -309,7 +309,7 @@ fn say_described(input: &[u8], model: u32, out: &mut [u8]) -> usize
 // What is printed of an input, into the front of `out`; the count of its bytes. Our programs call it.
 pub fn say_trace(input: &[u8], out: &mut [u8]) -> usize
     requires { 256000 ≤ length out.old }
-    ensures { Prints (traceText input.now) result out.new }
+    ensures { Prints (trace_text input.now) result out.new }
 {
     if input.len() == 0 {
         return say_refused(out, BAD_MODEL);

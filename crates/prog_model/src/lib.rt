@@ -1,10 +1,10 @@
 // The model that a byte of a program's input names.
 ghost use Rattle.std.specs.Prelude.{◌≡◌};
-ghost use Rattle.prog_model.specs.Models.{modelOf};
+ghost use Rattle.prog_model.specs.Models.{model_of};
 
 // The model that a byte names; 3, which is none, for any other.
 pub fn model_of(b: u8) -> u32
-    ensures { result ≡ modelOf b }
+    ensures { result ≡ model_of b }
 {
     match b {
         b'4' => 0,

@@ -12,80 +12,80 @@ use Rattle.law_base.specs.Rules.{◌⇒◌, ◌∣◌}
 use Rattle.law_base.proofs.Tests.{first, second}
 use Rattle.rows.specs.Table.{get}
 use Rattle.rows.specs.Rows.{block, tone}
-use Rattle.rows.specs.Well.{wellTone, wellTones, wellBlock}
+use Rattle.rows.specs.Well.{well_tone, well_tones, well_block}
 use Rattle.rows.specs.declared.Tone.{Tone}
 use Rattle.rows.specs.declared.Block.{Block}
-use Rattle.rows.proofs.WellLaws.{block-clauses, ranges-inside, tones-lent, tone-most}
+use Rattle.rows.proofs.WellLaws.{block_clauses, ranges_inside, tones_lent, tone-most}
 use Rattle.play_entries.specs.declared.Duration.{Duration}
-use Rattle.play_entries.specs.Mounted.{tapeSize}
+use Rattle.play_entries.specs.Mounted.{tape_size}
 use Rattle.text_out.specs.Out.{ascii, digits, decimal, Wrote, Fitted}
-use Rattle.text_out.proofs.Writing.{then, each-length, decimal-length, wrote-fitted}
+use Rattle.text_out.proofs.Writing.{then, each-length, decimal-length, wrote_fitted}
 use Rattle.text_name.specs.Names.{name_of}
-use Rattle.text_listing.proofs.Lines.{row-short}
-use Rattle.text_view.specs.View.{View, tonesFrom, rowView}
-use Rattle.text_view.specs.Dump.{hex, hexAll, toneText, tonesText, headText, viewLine}
-use Rattle.text_view.proofs.Parts.{hex-length, head-length}
-use Rattle.prog_tape.specs.Inner.{dataText, pulsesText, ReadyLine}
+use Rattle.text_listing.proofs.Lines.{row_short}
+use Rattle.text_view.specs.View.{View, tones_from, row_view}
+use Rattle.text_view.specs.Dump.{hex, hex_all, tone_text, tones_text, head_text, view_line}
+use Rattle.text_view.proofs.Parts.{hex-length, head_length}
+use Rattle.prog_tape.specs.Inner.{data_text, pulses_text, ReadyLine}
 
 -- a word, a number and a line feed
-pub said-most : (word : List ℕ) (n : ℕ) → length word ≤ 8 → length (word ++ decimal n ++ ascii "\n") ≤ 32
-said-most word n h = simp length-append (omega (arith, decimal-length n))
+pub said_most : (word : List ℕ) (n : ℕ) → length word ≤ 8 → length (word ++ decimal n ++ ascii "\n") ≤ 32
+said_most word n h = simp length-append (omega (arith, decimal-length n))
 
 -- a number below 10 ^ k has at most k digits
-digits-few : (f k n : ℕ) → n < 10 ^ suc k → length (digits f n) ≤ suc k
+digits_few : (f k n : ℕ) → n < 10 ^ suc k → length (digits f n) ≤ suc k
 unfolding digits
-digits-few zero k n h = omega arith
-digits-few (suc f) zero n h =
+digits_few zero k n h = omega arith
+digits_few (suc f) zero n h =
     let l : n < 10 = h in
     rw (lt-ltb n 10 l) (omega arith)
-digits-few (suc f) (suc k) n h =
-    by_cases (ltb n 10) (digits-few f k (n / 10) ((div-lt_iff_lt-mul (omega arith)).1 (rw (← pow-suc 10 (suc k)) h)))
+digits_few (suc f) (suc k) n h =
+    by_cases (ltb n 10) (digits_few f k (n / 10) ((div-lt_iff_lt-mul (omega arith)).1 (rw (← pow-suc 10 (suc k)) h)))
   where
     by_cases : (b : Bool) → length (digits f (n / 10)) ≤ suc k
         → length (b ⇒ ((48 + n) ∷ []) ∣ digits f (n / 10) ++ ((48 + n % 10) ∷ [])) ≤ suc (suc k)
     by_cases true l = omega arith
     by_cases false l = simp length-append (omega arith)
 
-decimal-five : (n : ℕ) → n ≤ 65535 → length (decimal n) ≤ 5
+decimal_five : (n : ℕ) → n ≤ 65535 → length (decimal n) ≤ 5
 unfolding decimal
-decimal-five n h = let l : n < 10 ^ 5 = omega arith in digits-few 20 4 n l
+decimal_five n h = let l : n < 10 ^ 5 = omega arith in digits_few 20 4 n l
 
-tone-short : (t : Tone) → wellTone t ≡ true → length (toneText t) ≤ 18
-unfolding toneText
+tone-short : (t : Tone) → well_tone t ≡ true → length (tone_text t) ≤ 18
+unfolding tone_text
 tone-short t e =
     let h = tone-most t e in
     simp length-append (omega (
       arith,
-      decimal-five t.num h.num,
-      decimal-five t.len1 h.len1,
-      decimal-five t.len2 h.len2,
+      decimal_five t.num h.num,
+      decimal_five t.len1 h.len1,
+      decimal_five t.len2 h.len2,
     ))
 
-tones-short : (tones : List ℕ) (from n : ℕ) → wellTones tones from n ≡ true → length (tonesText (tonesFrom tones from n)) ≤ 18 * n
-unfolding wellTones tonesText tonesFrom
+tones-short : (tones : List ℕ) (from n : ℕ) → well_tones tones from n ≡ true → length (tones_text (tones_from tones from n)) ≤ 18 * n
+unfolding well_tones tones_text tones_from
 tones-short tones from zero e = omega arith
 tones-short tones from (suc n) e =
-    let a = tone-short (get tone tones from) (first (wellTone (get tone tones from)) (wellTones tones (from + 1) n) e) in
-    let b = tones-short tones (from + 1) n (second (wellTone (get tone tones from)) (wellTones tones (from + 1) n) e) in
+    let a = tone-short (get tone tones from) (first (well_tone (get tone tones from)) (well_tones tones (from + 1) n) e) in
+    let b = tones-short tones (from + 1) n (second (well_tone (get tone tones from)) (well_tones tones (from + 1) n) e) in
     simp (length-append, mul-suc) (omega arith)
 
 -- bytes in hexadecimal, and a part of n bytes, which has no more
-hex-most : (s : List ℕ) → length (hexAll s) ≤ 2 * length s
+hex-most : (s : List ℕ) → length (hex_all s) ≤ 2 * length s
 hex-most s = each-length hex 2 hex-length s
 
-part-most : (n from : ℕ) (s : List ℕ) → length (take n (drop from s)) ≤ n
-part-most n from s = omega (arith, length-take n (drop from s))
+part_most : (n from : ℕ) (s : List ℕ) → length (take n (drop from s)) ≤ n
+part_most n from s = omega (arith, length-take n (drop from s))
 
 -- how far a line's numbers reach, its name, and its data
 module _ {d d1 : List ℕ} {at o : ℕ} where
-  pub head-next : (i : ℕ) (b : Bool) (nil one last : ℕ) (p : Duration) → Wrote d at (headText i b nil one last p) d1 o → o ≤ at + 136
-  head-next i b nil one last p w = omega (arith, w.count, head-length i b nil one last p)
+  pub head_next : (i : ℕ) (b : Bool) (nil one last : ℕ) (p : Duration) → Wrote d at (head_text i b nil one last p) d1 o → o ≤ at + 136
+  head_next i b nil one last p w = omega (arith, w.count, head_length i b nil one last p)
 
-  pub name-next : (s : List ℕ) → Wrote d at (hexAll s) d1 o → o ≤ at + 2 * length s
-  name-next s w = omega (arith, w.count, hex-most s)
+  pub name_next : (s : List ℕ) → Wrote d at (hex_all s) d1 o → o ≤ at + 2 * length s
+  name_next s w = omega (arith, w.count, hex-most s)
 
-  pub data-next : (n from : ℕ) (s : List ℕ) → Wrote d at (dataText (take n (drop from s))) d1 o → o ≤ at + 2 * n + 6
-  data-next n from s w = omega (arith, w.count, hex-most (take n (drop from s)), part-most n from s)
+  pub data_next : (n from : ℕ) (s : List ℕ) → Wrote d at (data_text (take n (drop from s))) d1 o → o ≤ at + 2 * n + 6
+  data_next n from s w = omega (arith, w.count, hex-most (take n (drop from s)), part_most n from s)
 
 -- what a well-formed row's ranges are inside of
 pub record Inside (tape : List ℕ) (tones : List ℕ) (r : Block) : Type 0 where
@@ -96,16 +96,16 @@ pub record Inside (tape : List ℕ) (tones : List ℕ) (r : Block) : Type 0 wher
   pub rows : (r.tone + r.tones) * tone.width ≤ length tones
   pub most : r.tones ≤ 65536
 
-pub row_inside : (tape tones : List ℕ) (r : Block) → wellBlock (tapeSize tape) tones r ≡ true → Inside tape tones r
+pub row_inside : (tape tones : List ℕ) (r : Block) → well_block (tape_size tape) tones r ≡ true → Inside tape tones r
 row_inside tape tones r e =
-    let h = (block-clauses (tapeSize tape) tones r e).ranges in
-    let i = ranges-inside (tapeSize tape) tones r h in
+    let h = (block_clauses (tape_size tape) tones r e).ranges in
+    let i = ranges_inside (tape_size tape) tones r h in
     record {
       bytes = omega (arith, i.bytes);
       name = omega (arith, i.name);
       few = omega (arith, i.bytes);
       chars = omega (arith, i.name);
-      rows = tones-lent (tapeSize tape) tones r h;
+      rows = tones_lent (tape_size tape) tones r h;
       most = omega (arith, i.rows);
     }
 
@@ -114,43 +114,43 @@ joined : (h n a x b y c : List ℕ) → h ++ n ++ (a ++ x) ++ (b ++ y ++ c) ≡ 
 joined h n a x b y c = simp append_assoc refl
 
 pub line_joins : (i : ℕ) (v : View)
-    → headText i v.selectable v.zero v.one v.last v.pause ++ hexAll v.name ++ dataText v.bytes ++ pulsesText v.tones
-    ≡ viewLine i v
-unfolding viewLine
+    → head_text i v.selectable v.zero v.one v.last v.pause ++ hex_all v.name ++ data_text v.bytes ++ pulses_text v.tones
+    ≡ view_line i v
+unfolding view_line
 line_joins i v =
-    joined (headText i v.selectable v.zero v.one v.last v.pause) (hexAll v.name) (ascii " data=") (hexAll v.bytes)
-    (ascii " tones=") (tonesText v.tones) (ascii "\n")
+    joined (head_text i v.selectable v.zero v.one v.last v.pause) (hex_all v.name) (ascii " data=") (hex_all v.bytes)
+    (ascii " tones=") (tones_text v.tones) (ascii "\n")
 
 -- what was written of a line's parts
-pub line-written : {d d1 d2 d3 d4 : List ℕ} {o1 o2 o3 o4 : ℕ} (i : ℕ) (v : View)
-    → Wrote d 0 (headText i v.selectable v.zero v.one v.last v.pause) d1 o1 → Wrote d1 o1 (hexAll v.name) d2 o2
-    → Wrote d2 o2 (dataText v.bytes) d3 o3 → Wrote d3 o3 (pulsesText v.tones) d4 o4 → Wrote d 0 (viewLine i v) d4 o4
-line-written {d} {d4 = d4} {o4 = o4} i v h n b t =
+pub line_written : {d d1 d2 d3 d4 : List ℕ} {o1 o2 o3 o4 : ℕ} (i : ℕ) (v : View)
+    → Wrote d 0 (head_text i v.selectable v.zero v.one v.last v.pause) d1 o1 → Wrote d1 o1 (hex_all v.name) d2 o2
+    → Wrote d2 o2 (data_text v.bytes) d3 o3 → Wrote d3 o3 (pulses_text v.tones) d4 o4 → Wrote d 0 (view_line i v) d4 o4
+line_written {d} {d4 = d4} {o4 = o4} i v h n b t =
     subst (λ (l : List ℕ). Wrote d 0 l d4 o4) (line_joins i v) (then (then (then h n) b) t)
 
 -- EVERY LINE FITS
-pub line-most : (tape tones : List ℕ) (i : ℕ) (r : Block) → wellBlock (tapeSize tape) tones r ≡ true → length (name_of tape r) ≤ 510
-    → length (viewLine i (rowView tape tones r)) ≤ 1200 + 2 * length tape + 5 * length tones
-line-most tape tones i r e h =
-    let v = rowView tape tones r in
+pub line_most : (tape tones : List ℕ) (i : ℕ) (r : Block) → well_block (tape_size tape) tones r ≡ true → length (name_of tape r) ≤ 510
+    → length (view_line i (row_view tape tones r)) ≤ 1200 + 2 * length tape + 5 * length tones
+line_most tape tones i r e h =
+    let v = row_view tape tones r in
     let q = row_inside tape tones r e in
-    let a = head-length i v.selectable v.zero v.one v.last v.pause in
+    let a = head_length i v.selectable v.zero v.one v.last v.pause in
     let b = hex-most (name_of tape r) in
     let c = hex-most v.bytes in
-    let d = part-most r.size r.start tape in
-    let g = tones-short tones r.tone r.tones (block-clauses (tapeSize tape) tones r e).rows in
+    let d = part_most r.size r.start tape in
+    let g = tones-short tones r.tone r.tones (block_clauses (tape_size tape) tones r e).rows in
     rw (← line_joins i v) (simp length-append (omega arith))
 
 -- a row that was read from the table is well formed
-pub line-well : {tape tones blocks : List ℕ} {i : ℕ} {r : Block} → ReadyLine tape tones blocks i → r ≡ get block blocks i
-    → wellBlock (tapeSize tape) tones r ≡ true
-line-well {tape} {tones} ready e = subst (λ (q : Block). wellBlock (tapeSize tape) tones q ≡ true) (sym e) ready.well
+pub line_well : {tape tones blocks : List ℕ} {i : ℕ} {r : Block} → ReadyLine tape tones blocks i → r ≡ get block blocks i
+    → well_block (tape_size tape) tones r ≡ true
+line_well {tape} {tones} ready e = subst (λ (q : Block). well_block (tape_size tape) tones q ≡ true) (sym e) ready.well
 
 -- and its line fits
-pub line-fits : {out out' : List ℕ} {n : ℕ} (tape tones blocks : List ℕ) (i : ℕ) (r : Block) → ReadyLine tape tones blocks i
+pub line_fits : {out out' : List ℕ} {n : ℕ} (tape tones blocks : List ℕ) (i : ℕ) (r : Block) → ReadyLine tape tones blocks i
     → r ≡ get block blocks i → 1200 + 2 * length tape + 5 * length tones ≤ length out
-    → Wrote out 0 (viewLine i (rowView tape tones r)) out' n
-    → Fitted (viewLine i (rowView tape tones (get block blocks i))) out out' n
-line-fits {out} {out'} {n} tape tones blocks i r ready e room w =
-    subst (λ (q : Block). Fitted (viewLine i (rowView tape tones q)) out out' n) e
-    (wrote-fitted w (omega (arith, line-most tape tones i r (line-well ready e) (row-short ready.row e))))
+    → Wrote out 0 (view_line i (row_view tape tones r)) out' n
+    → Fitted (view_line i (row_view tape tones (get block blocks i))) out out' n
+line_fits {out} {out'} {n} tape tones blocks i r ready e room w =
+    subst (λ (q : Block). Fitted (view_line i (row_view tape tones q)) out out' n) e
+    (wrote_fitted w (omega (arith, line_most tape tones i r (line_well ready e) (row_short ready.row e))))

@@ -3,19 +3,19 @@ use Rattle.std.specs.Prelude.{ℕ, ◌≡◌, true, List, ◌++◌}
 use Rattle.rows.specs.declared.Tone.{Tone}
 use Rattle.rows.specs.Table.{get}
 use Rattle.rows.specs.Rows.{block}
-use Rattle.rows.specs.Well.{wellBlock}
-use Rattle.play_entries.specs.Mounted.{tapeSize}
+use Rattle.rows.specs.Well.{well_block}
+use Rattle.play_entries.specs.Mounted.{tape_size}
 use Rattle.text_out.specs.Out.{ascii}
-use Rattle.text_view.specs.Dump.{hexAll, tonesText}
+use Rattle.text_view.specs.Dump.{hex_all, tones_text}
 use Rattle.text_listing.specs.Inner.{ReadyRow}
 
-abbrev pub dataText : List ℕ → List ℕ
-dataText bytes = ascii " data=" ++ hexAll bytes
+abbrev pub data_text : List ℕ → List ℕ
+data_text bytes = ascii " data=" ++ hex_all bytes
 
-abbrev pub pulsesText : List Tone → List ℕ
-pulsesText tones = ascii " tones=" ++ tonesText tones ++ ascii "\n"
+abbrev pub pulses_text : List Tone → List ℕ
+pulses_text tones = ascii " tones=" ++ tones_text tones ++ ascii "\n"
 
 -- what a block's line is written from: row i is ready, as for a listing, and well formed with its tone rows
 pub record ReadyLine (bytes tones blocks : List ℕ) (i : ℕ) : Type 0 where
   pub row : ReadyRow bytes blocks i
-  pub well : wellBlock (tapeSize bytes) tones (get block blocks i) ≡ true
+  pub well : well_block (tape_size bytes) tones (get block blocks i) ≡ true

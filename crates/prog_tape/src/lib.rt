@@ -2,17 +2,17 @@
 ghost use Rattle.std.specs.Prelude.{◌≡◌, true, ◌++◌, ◌+◌, ◌*◌, ◌^◌, ◌<◌, ◌≤◌, length, take, drop};
 ghost use Rattle.rows.specs.Table.{get};
 ghost use Rattle.rows.specs.Rows.{block, tone};
-ghost use Rattle.rows.specs.Well.{wellBlock};
-ghost use Rattle.play_entries.specs.Mounted.{tapeSize};
-ghost use Rattle.text_out.specs.Out.{ascii, decimal, Wrote, Fitted, refusedLine};
+ghost use Rattle.rows.specs.Well.{well_block};
+ghost use Rattle.play_entries.specs.Mounted.{tape_size};
+ghost use Rattle.text_out.specs.Out.{ascii, decimal, Wrote, Fitted, refused_line};
 ghost use Rattle.text_name.specs.Names.{name_of};
 ghost use Rattle.load_blocks.specs.Does.{lent_of};
-ghost use Rattle.load_tape.specs.Load.{loadNamed};
-ghost use Rattle.text_listing.specs.Page.{formatText};
-ghost use Rattle.text_view.specs.View.{tonesFrom, rowView};
-ghost use Rattle.text_view.specs.Dump.{hexAll, viewLine};
-ghost use Rattle.prog_tape.specs.Lines.{firstLine, linesAfter, Opens};
-ghost use Rattle.prog_tape.specs.Inner.{dataText, pulsesText, ReadyLine};
+ghost use Rattle.load_tape.specs.Load.{load_named};
+ghost use Rattle.text_listing.specs.Page.{format_text};
+ghost use Rattle.text_view.specs.View.{tones_from, row_view};
+ghost use Rattle.text_view.specs.Dump.{hex_all, view_line};
+ghost use Rattle.prog_tape.specs.Lines.{first_line, lines_after, Opens};
+ghost use Rattle.prog_tape.specs.Inner.{data_text, pulses_text, ReadyLine};
 
 use load_tape::{Format, Loaded, load};
 use refusals::TAPE_BAD;
@@ -40,7 +40,7 @@ fn put_said(out: &mut [u8], word: &[u8], n: u64) -> usize
 // The format and the number of blocks.
 fn put_count(out: &mut [u8], format: Format, n: u64) -> usize
     requires { 32 ≤ length out.old }
-    ensures { Fitted (formatText format ++ ascii " " ++ decimal n ++ ascii "\n") out.old out.new result }
+    ensures { Fitted (format_text format ++ ascii " " ++ decimal n ++ ascii "\n") out.old out.new result }
 {
     match format {
         Format::Tap => put_said(out, b"TAP ", n),
@@ -51,7 +51,7 @@ fn put_count(out: &mut [u8], format: Format, n: u64) -> usize
 // A refusal, which no line follows.
 fn put_no(out: &mut [u8], k: u32) -> Opening
     requires { 32 ≤ length out.old }
-    ensures fitted { Fitted (refusedLine k) out.old out.new result.size }
+    ensures fitted { Fitted (refused_line k) out.old out.new result.size }
     ensures more_value { result.more ≡ 0 }
 {
     let size = put_said(out, b"refused ", k as u64);
@@ -61,8 +61,8 @@ fn put_no(out: &mut [u8], k: u32) -> Opening
 // The first line of a load's text; our programs alone call it.
 pub fn put_first(out: &mut [u8], loaded: Loaded) -> Opening
     requires { 32 ≤ length out.old }
-    ensures fitted { Fitted (firstLine loaded) out.old out.new result.size }
-    ensures more_value { result.more ≡ linesAfter loaded }
+    ensures fitted { Fitted (first_line loaded) out.old out.new result.size }
+    ensures more_value { result.more ≡ lines_after loaded }
 {
     match loaded {
         Loaded::Tape {
@@ -88,7 +88,7 @@ pub fn begin(
 ) -> Opening
     requires { 32 ≤ length out.old }
     ensures { Opens (length blocks.old) (length tones.old) tape.now
-        (loadNamed (lent_of (length blocks.old) (length tones.old)) tape.now model) result
+        (load_named (lent_of (length blocks.old) (length tones.old)) tape.now model) result
         blocks.new tones.new out.old out.new }
 {
     let loaded = load(tape, model, blocks, tones);
@@ -100,7 +100,7 @@ fn put_name(out: &mut [u8], at: usize, tape: &[u8], r: Block) -> usize
     requires size_in_bounds { (r.start + r.size ≤ length tape.now) × (r.text + r.chars ≤ length tape.now) }
     requires chars_bound { (r.chars ≤ 1048576) × (length (name_of tape.now r) ≤ 510) }
     requires at_bound { at < 2 ^ 32 }
-    ensures { Wrote out.old at (hexAll (name_of tape.now r)) out.new result }
+    ensures { Wrote out.old at (hex_all (name_of tape.now r)) out.new result }
 {
     let mut name = [0u8; 512];
     let n = text_name::put_name(&mut name, 0, tape, r);
@@ -111,7 +111,7 @@ fn put_name(out: &mut [u8], at: usize, tape: &[u8], r: Block) -> usize
 fn put_data(out: &mut [u8], at: usize, tape: &[u8], r: Block) -> usize
     requires size_in_bounds { (r.start + r.size ≤ length tape.now) × (r.size ≤ 1048576) }
     requires at_bound { at < 2 ^ 32 }
-    ensures { Wrote out.old at (dataText (take r.size (drop r.start tape.now))) out.new result }
+    ensures { Wrote out.old at (data_text (take r.size (drop r.start tape.now))) out.new result }
 {
     let a = put_all(out, at, b" data=");
     let from = r.start as usize;
@@ -123,7 +123,7 @@ fn put_data(out: &mut [u8], at: usize, tape: &[u8], r: Block) -> usize
 fn put_pulses(out: &mut [u8], at: usize, tones: &[u64], r: Block) -> usize
     requires width_in_bounds { (r.tone + r.tones) * tone.width ≤ length tones.now }
     requires at_bound { (at < 2 ^ 32) × (r.tones ≤ 65536) }
-    ensures { Wrote out.old at (pulsesText (tonesFrom tones.now r.tone r.tones)) out.new result }
+    ensures { Wrote out.old at (pulses_text (tones_from tones.now r.tone r.tones)) out.new result }
 {
     let a = put_all(out, at, b" tones=");
     let end = put_tones(out, a, tones, r.tone as usize, r.tones as usize);
@@ -132,9 +132,9 @@ fn put_pulses(out: &mut [u8], at: usize, tones: &[u64], r: Block) -> usize
 
 // The line of a block that its callers know to be well formed, and its name to be short.
 fn put_line(out: &mut [u8], tape: &[u8], tones: &[u64], i: u64, r: Block) -> usize
-    requires r_value { wellBlock (tapeSize tape.now) tones.now r ≡ true }
+    requires r_value { well_block (tape_size tape.now) tones.now r ≡ true }
     requires r_len_bound { length (name_of tape.now r) ≤ 510 }
-    ensures { Wrote out.old 0 (viewLine i (rowView tape.now tones.now r)) out.new result }
+    ensures { Wrote out.old 0 (view_line i (row_view tape.now tones.now r)) out.new result }
 {
     let a = put_head(out, 0, i, r);
     let b = put_name(out, a, tape, r);
@@ -146,7 +146,7 @@ fn put_line(out: &mut [u8], tape: &[u8], tones: &[u64], i: u64, r: Block) -> usi
 pub fn block_line(tape: &[u8], tones: &[u64], blocks: &[u64], i: usize, out: &mut [u8]) -> usize
     requires ready_line { ReadyLine tape.now tones.now blocks.now i }
     requires tones_in_bounds { 1200 + 2 * length tape.now + 5 * length tones.now ≤ length out.old }
-    ensures { Fitted (viewLine i (rowView tape.now tones.now (get block blocks.now i)))
+    ensures { Fitted (view_line i (row_view tape.now tones.now (get block blocks.now i)))
         out.old out.new result }
 {
     put_line(out, tape, tones, i as u64, block_at(blocks, i))

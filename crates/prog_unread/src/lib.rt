@@ -2,8 +2,8 @@
 ghost use Rattle.std.specs.Prelude.{◌≡◌, ◌++◌, ◌+◌, ◌^◌, ◌<◌, ◌≤◌, length};
 ghost use Rattle.text_out.specs.Out.{ascii, decimal, Wrote, Fitted};
 ghost use Rattle.load_blocks.specs.Does.{lent_of};
-ghost use Rattle.load_tape.specs.Load.{loadNamed, answer_of, blockTable, toneTable};
-ghost use Rattle.prog_unread.specs.Report.{pieceText, fieldText, failureText, tzxText, reportText};
+ghost use Rattle.load_tape.specs.Load.{load_named, answer_of, block_table, tone_table};
+ghost use Rattle.prog_unread.specs.Report.{piece_text, field_text, failure_text, tzx_text, report_text};
 
 use load_source::Failure;
 use load_tape::{Format, Loaded, load};
@@ -28,7 +28,7 @@ fn put_said(out: &mut [u8], at: usize, word: &[u8], n: u64) -> usize
 // A piece: its kind, and the place of its kind byte.
 fn put_piece(out: &mut [u8], at: usize, kind: u8, piece: u64) -> usize
     requires { at + 64 < 2 ^ 63 }
-    ensures { Wrote out.old at (pieceText kind piece) out.new result }
+    ensures { Wrote out.old at (piece_text kind piece) out.new result }
 {
     let a = put_said(out, at, b" kind ", kind as u64);
     put_said(out, a, b" piece ", piece)
@@ -37,7 +37,7 @@ fn put_piece(out: &mut [u8], at: usize, kind: u8, piece: u64) -> usize
 // A field: its place and its width.
 fn put_field(out: &mut [u8], at: usize, place: u64, width: u64) -> usize
     requires { at + 64 < 2 ^ 63 }
-    ensures { Wrote out.old at (fieldText place width) out.new result }
+    ensures { Wrote out.old at (field_text place width) out.new result }
 {
     let a = put_said(out, at, b" place ", place);
     put_said(out, a, b" width ", width)
@@ -46,7 +46,7 @@ fn put_field(out: &mut [u8], at: usize, place: u64, width: u64) -> usize
 // What an attempt met.
 fn put_failure(out: &mut [u8], at: usize, f: Failure) -> usize
     requires { at + 160 < 2 ^ 63 }
-    ensures { Wrote out.old at (failureText f) out.new result }
+    ensures { Wrote out.old at (failure_text f) out.new result }
 {
     match f {
         Failure::BadSignature => put_all(out, at, b"signature bad"),
@@ -79,7 +79,7 @@ fn put_failure(out: &mut [u8], at: usize, f: Failure) -> usize
 // An attempt's line, after its first words.
 fn put_attempt(out: &mut [u8], at: usize, word: &[u8], f: Failure) -> usize
     requires { (at + 256 < 2 ^ 63) × (length word.now ≤ 16) }
-    ensures { Wrote out.old at (word.now ++ failureText f ++ ascii "\n") out.new result }
+    ensures { Wrote out.old at (word.now ++ failure_text f ++ ascii "\n") out.new result }
 {
     let a = put_all(out, at, word);
     let b = put_failure(out, a, f);
@@ -89,7 +89,7 @@ fn put_attempt(out: &mut [u8], at: usize, word: &[u8], f: Failure) -> usize
 // The line of the attempt as TZX: a field in no piece is the signature.
 fn put_tzx(out: &mut [u8], at: usize, f: Failure) -> usize
     requires { at + 256 < 2 ^ 63 }
-    ensures { Wrote out.old at (ascii "tzx " ++ tzxText f ++ ascii "\n") out.new result }
+    ensures { Wrote out.old at (ascii "tzx " ++ tzx_text f ++ ascii "\n") out.new result }
 {
     if let Failure::Short { place: _, width: _ } = f {
         return put_attempt(out, at, b"tzx signature ", f);
@@ -100,7 +100,7 @@ fn put_tzx(out: &mut [u8], at: usize, f: Failure) -> usize
 // What a load answered; our programs alone call it.
 pub fn put_report(out: &mut [u8], loaded: Loaded) -> usize
     requires { 256 ≤ length out.old }
-    ensures { Fitted (reportText loaded) out.old out.new result }
+    ensures { Fitted (report_text loaded) out.old out.new result }
 {
     match loaded {
         Loaded::Tape {
@@ -133,12 +133,12 @@ pub fn say_unread(
     out: &mut [u8],
 ) -> usize
     requires { 256 ≤ length out.old }
-    ensures fitted { Fitted (reportText (answer_of (loadNamed (lent_of (length blocks.old) (length tones.old))
+    ensures fitted { Fitted (report_text (answer_of (load_named (lent_of (length blocks.old) (length tones.old))
         tape.now model))) out.old out.new result }
-    ensures blocks_after { blocks.new ≡ blockTable (length blocks.old)
-        (loadNamed (lent_of (length blocks.old) (length tones.old)) tape.now model) }
-    ensures tones_after { tones.new ≡ toneTable (length tones.old)
-        (loadNamed (lent_of (length blocks.old) (length tones.old)) tape.now model) }
+    ensures blocks_after { blocks.new ≡ block_table (length blocks.old)
+        (load_named (lent_of (length blocks.old) (length tones.old)) tape.now model) }
+    ensures tones_after { tones.new ≡ tone_table (length tones.old)
+        (load_named (lent_of (length blocks.old) (length tones.old)) tape.now model) }
 {
     let loaded = load(tape, model, blocks, tones);
     put_report(out, loaded)

@@ -2,45 +2,45 @@
 use Rattle.std.specs.Prelude.{ℕ}
 
 -- model is not 0 (48K), 1 (128K), 2 (Plus3)
-abbrev pub badModel : ℕ
-badModel = 1
+abbrev pub bad_model : ℕ
+bad_model = 1
 
 -- tape over 1,048,576 bytes (in the listing, over 65,535)
-abbrev pub tapeLong : ℕ
-tapeLong = 2
+abbrev pub tape_long : ℕ
+tape_long = 2
 
 -- TZX and TAP reading both err
-abbrev pub tapeBad : ℕ
-tapeBad = 3
+abbrev pub tape_bad : ℕ
+tape_bad = 3
 
 -- a generalised piece on which the Rust panics
 abbrev pub generalised : ℕ
 generalised = 4
 
 -- a block needs more tone rows than remain
-abbrev pub tonesFull : ℕ
-tonesFull = 5
+abbrev pub tones_full : ℕ
+tones_full = 5
 
 -- more block rows than remain
-abbrev pub blocksFull : ℕ
-blocksFull = 6
+abbrev pub blocks_full : ℕ
+blocks_full = 6
 
 -- TZX was read whole, but a block with data has last bits above 8
-abbrev pub lastBits : ℕ
-lastBits = 7
+abbrev pub last_bits : ℕ
+last_bits = 7
 
 -- block number not below the count
 abbrev pub no_block : ℕ
 no_block = 8
 
 -- position not valid on this tape, or words that name no position
-abbrev pub noPosition : ℕ
-noPosition = 9
+abbrev pub no_position : ℕ
+no_position = 9
 
 -- output buffer shorter than the text, or the answer's row shorter than its values
-abbrev pub noRoom : ℕ
-noRoom = 10
+abbrev pub no_room : ℕ
+no_room = 10
 
 -- a needed row is not well formed, or the count exceeds capacity
-abbrev pub badRow : ℕ
-badRow = 11
+abbrev pub bad_row : ℕ
+bad_row = 11

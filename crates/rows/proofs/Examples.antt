@@ -5,9 +5,9 @@ use mathlib.Core.Path.{◌≡◌, refl}
 use mathlib.Core.Bool.{Bool, true, false}
 use mathlib.Core.List.{List, [], ◌∷◌, map}
 use lib.ListN.{set}
-use Rattle.rows.specs.Table.{zeros, capacityOf, appended}
-use Rattle.rows.specs.Rows.{tone, toneMost, encodeTone, decodeTone, block, blockMost, encodeBlock, decodeBlock}
-use Rattle.rows.specs.Well.{wellTone, wellTones, wellRanges, wellNumbers, wellCases, wellBlock}
+use Rattle.rows.specs.Table.{zeros, capacity_of, appended}
+use Rattle.rows.specs.Rows.{tone, tone_most, encode_tone, decode_tone, block, block_most, encode_block, decode_block}
+use Rattle.rows.specs.Well.{well_tone, well_tones, well_ranges, well_numbers, well_cases, well_block}
 
 -- n numbers, each one more than the one before it
 abbrev up_from : ℕ → ℕ → List ℕ
@@ -15,39 +15,39 @@ up_from k zero = []
 up_from k (suc n) = k ∷ up_from (suc k) n
 
 -- the words of a tone and of a block, read and written back
-tone-words : encodeTone (decodeTone (7 ∷ 8 ∷ 9 ∷ 6 ∷ [])) ≡ 7 ∷ 8 ∷ 9 ∷ 6 ∷ []
-tone-words = refl
+tone_words_lem : encode_tone (decode_tone (7 ∷ 8 ∷ 9 ∷ 6 ∷ [])) ≡ 7 ∷ 8 ∷ 9 ∷ 6 ∷ []
+tone_words_lem = refl
 
-block_words : encodeBlock (decodeBlock (up_from 1 block.width)) ≡ up_from 1 block.width
+block_words : encode_block (decode_block (up_from 1 block.width)) ≡ up_from 1 block.width
 block_words = refl
 
 -- ten words are two tone rows and a broken one: row 1 is appended, row 2 is not
-appends : map (λ n. appended tone toneMost (zeros 10) n (decodeTone (7 ∷ 8 ∷ 9 ∷ 6 ∷ []))) (1 ∷ 2 ∷ [])
+appends : map (λ n. appended tone tone_most (zeros 10) n (decode_tone (7 ∷ 8 ∷ 9 ∷ 6 ∷ []))) (1 ∷ 2 ∷ [])
     ≡ (0 ∷ 0 ∷ 0 ∷ 0 ∷ 7 ∷ 8 ∷ 9 ∷ 6 ∷ 0 ∷ 0 ∷ []) ∷ zeros 10 ∷ []
 appends = refl
 
 -- whole rows alone count, and no more than the limit
-block-capacities : map (λ n. capacityOf block blockMost (zeros n))
+block_capacities : map (λ n. capacity_of block block_most (zeros n))
     ((block.width - 1) ∷ block.width ∷ (4096 * block.width - 1) ∷ 4096 * block.width ∷ 4097 * block.width ∷ [])
     ≡ 0 ∷ 1 ∷ 4095 ∷ 4096 ∷ 4096 ∷ []
-block-capacities = refl
+block_capacities = refl
 
-tone-capacities : map (λ n. capacityOf tone toneMost (zeros n)) ((tone.width - 1) ∷ tone.width ∷ 65537 * tone.width ∷ [])
+tone_capacities : map (λ n. capacity_of tone tone_most (zeros n)) ((tone.width - 1) ∷ tone.width ∷ 65537 * tone.width ∷ [])
     ≡ 0 ∷ 1 ∷ 65536 ∷ []
-tone-capacities = refl
+tone_capacities = refl
 
 -- tones, and whether they are well formed
 tones-judged :
-    map (λ w. wellTone (decodeTone w)) ((65535 ∷ 65535 ∷ 65535 ∷ 11 ∷ []) ∷ (65536 ∷ 0 ∷ 0 ∷ 0 ∷ []) ∷
+    map (λ w. well_tone (decode_tone w)) ((65535 ∷ 65535 ∷ 65535 ∷ 11 ∷ []) ∷ (65536 ∷ 0 ∷ 0 ∷ 0 ∷ []) ∷
     (0 ∷ 65536 ∷ 0 ∷ 0 ∷ []) ∷ (0 ∷ 0 ∷ 65536 ∷ 0 ∷ []) ∷ (0 ∷ 0 ∷ 0 ∷ 12 ∷ []) ∷ [])
     ≡ true ∷ false ∷ false ∷ false ∷ false ∷ []
-unfolding wellTone
+unfolding well_tone
 tones-judged = refl
 
 -- a blank row is well formed over an empty tape and an empty table
-blank-well : wellBlock 0 [] (decodeBlock (zeros block.width)) ≡ true
-unfolding wellBlock wellRanges wellNumbers wellCases wellTones
-blank-well = refl
+blank_well : well_block 0 [] (decode_block (zeros block.width)) ≡ true
+unfolding well_block well_ranges well_numbers well_cases well_tones
+blank_well = refl
 
 -- a block with 19 bytes of a tape of 20 and two tone rows; the table's third row is bad, its fourth broken
 abbrev row : List ℕ
@@ -116,6 +116,6 @@ blocks =
     ((0, 3) ∷ (1, 1) ∷ [], false) ∷
     []
 
-blocks-judged : map (λ e. wellBlock 20 table (decodeBlock (changed e.0))) blocks ≡ map (λ e. e.1) blocks
-unfolding wellBlock wellRanges wellNumbers wellCases wellTones wellTone
+blocks-judged : map (λ e. well_block 20 table (decode_block (changed e.0))) blocks ≡ map (λ e. e.1) blocks
+unfolding well_block well_ranges well_numbers well_cases well_tones well_tone
 blocks-judged = refl

@@ -5,15 +5,15 @@ use lib.Bits.{bit_and, bit_or, bit_xor, and_le_l, and_le_r, or_lt, or_add_and}
 use Rattle.law_base.proofs.Tests.{first, second}
 use Rattle.rows.specs.Table.{get}
 use Rattle.rows.specs.Rows.{tone}
-use Rattle.rows.specs.Well.{wellTone, wellTones}
+use Rattle.rows.specs.Well.{well_tone, well_tones}
 use Rattle.rows.specs.declared.Tone.{Tone}
 use Rattle.rows.proofs.WellLaws.{tone-most}
 use Rattle.rows_well.specs.declared.Seen.{Seen}
-use Rattle.rows_well.specs.Seen.{unseen, seeingRow, seenFrom, seenOf, wellSeen, steadySeen}
+use Rattle.rows_well.specs.Seen.{unseen, seeing_row, seen_from, seen_of, well_seen, steady_seen}
 
 -- bits joined stay below a power of two exactly where both do
-pub or-within : (k a b : ℕ) → bit_or a b < 2 ^ k → (a < 2 ^ k) × (b < 2 ^ k)
-or-within k a b h =
+pub or_within : (k a b : ℕ) → bit_or a b < 2 ^ k → (a < 2 ^ k) × (b < 2 ^ k)
+or_within k a b h =
     let e = or_add_and a b in
     let l = and_le_l a b in
     let r = and_le_r a b in
@@ -26,8 +26,8 @@ same_test false true f g = g refl
 same_test false false f g = refl
 
 -- a row's limits as its test
-most-tone : (t : Tone) → t.num ≤ 65535 → t.len1 ≤ 65535 → t.len2 ≤ 65535 → t.wave ≤ 11 → wellTone t ≡ true
-unfolding wellTone
+most-tone : (t : Tone) → t.num ≤ 65535 → t.len1 ≤ 65535 → t.len2 ≤ 65535 → t.wave ≤ 11 → well_tone t ≡ true
+unfolding well_tone
 most-tone t a b c d = rw (le-leb t.num 65535 a, le-leb t.len1 65535 b, le-leb t.len2 65535 c, le-leb t.wave 11 d)
 
 -- a row's own limits, as numbers
@@ -38,19 +38,19 @@ record Within (t : Tone) (s : Seen) : Type 0 where
   pub len2 : t.len2 ≤ 65535
   pub wave : t.wave ≤ 65535
 
-words-within : (t : Tone) (s : Seen) → (seeingRow t s).words ≤ 65535 → Within t s
-words-within t s h =
+words_within : (t : Tone) (s : Seen) → (seeing_row t s).words ≤ 65535 → Within t s
+words_within t s h =
     let x = bit_or s.words t.num in
     let y = bit_or x t.len1 in
     let z = bit_or y t.len2 in
-    let d = or-within 16 z t.wave (omega arith) in
-    let c = or-within 16 y t.len2 d.0 in
-    let b = or-within 16 x t.len1 c.0 in
-    let a = or-within 16 s.words t.num b.0 in
+    let d = or_within 16 z t.wave (omega arith) in
+    let c = or_within 16 y t.len2 d.0 in
+    let b = or_within 16 x t.len1 c.0 in
+    let a = or_within 16 s.words t.num b.0 in
     record { words = omega arith; num = omega arith; len1 = omega arith; len2 = omega arith; wave = omega arith }
 
-words-joined : (t : Tone) (s : Seen) → Within t s → (seeingRow t s).words ≤ 65535
-words-joined t s w =
+words_joined : (t : Tone) (s : Seen) → Within t s → (seeing_row t s).words ≤ 65535
+words_joined t s w =
     let x = bit_or s.words t.num in
     let y = bit_or x t.len1 in
     let z = bit_or y t.len2 in
@@ -70,80 +70,80 @@ limits_of s m n e =
     let w = leb s.words 65535 in
     record { words = leb-true _ _ (first w (leb m n) e); other = leb-true _ _ (second w (leb m n) e) }
 
-limits-hold : (s : Seen) (m n : ℕ) → s.words ≤ 65535 → m ≤ n → (leb s.words 65535 && leb m n) ≡ true
-limits-hold s m n a b = rw (le-leb s.words 65535 a, le-leb m n b)
+limits_hold : (s : Seen) (m n : ℕ) → s.words ≤ 65535 → m ≤ n → (leb s.words 65535 && leb m n) ≡ true
+limits_hold s m n a b = rw (le-leb s.words 65535 a, le-leb m n b)
 
 -- one row more
-well-more : (t : Tone) (s : Seen) → wellSeen (seeingRow t s) ≡ (wellSeen s && wellTone t)
-well-more t s = same_test _ _ on back
+well_more : (t : Tone) (s : Seen) → well_seen (seeing_row t s) ≡ (well_seen s && well_tone t)
+well_more t s = same_test _ _ on back
   where
-    on : wellSeen (seeingRow t s) ≡ true → (wellSeen s && wellTone t) ≡ true
+    on : well_seen (seeing_row t s) ≡ true → (well_seen s && well_tone t) ≡ true
     on e =
-        let l = limits_of (seeingRow t s) (seeingRow t s).tops 15 e in
-        let w = words-within t s l.words in
-        let p = or-within 4 s.tops ((t.wave + 4) % 2 ^ 64) (omega (arith, l.other)) in
-        rw (limits-hold s s.tops 15 w.words (omega arith)) (most-tone t w.num w.len1 w.len2 (omega arith))
+        let l = limits_of (seeing_row t s) (seeing_row t s).tops 15 e in
+        let w = words_within t s l.words in
+        let p = or_within 4 s.tops ((t.wave + 4) % 2 ^ 64) (omega (arith, l.other)) in
+        rw (limits_hold s s.tops 15 w.words (omega arith)) (most-tone t w.num w.len1 w.len2 (omega arith))
 
-    back : (wellSeen s && wellTone t) ≡ true → wellSeen (seeingRow t s) ≡ true
+    back : (well_seen s && well_tone t) ≡ true → well_seen (seeing_row t s) ≡ true
     back e =
-        let l = limits_of s s.tops 15 (first (wellSeen s) (wellTone t) e) in
-        let h = tone-most t (second (wellSeen s) (wellTone t) e) in
+        let l = limits_of s s.tops 15 (first (well_seen s) (well_tone t) e) in
+        let h = tone-most t (second (well_seen s) (well_tone t) e) in
         let w : Within t s = record { words = l.words; num = h.num; len1 = h.len1; len2 = h.len2; wave = omega arith } in
         let p = or_lt 4 s.tops ((t.wave + 4) % 2 ^ 64) (omega arith) (omega arith) in
-        limits-hold (seeingRow t s) (seeingRow t s).tops 15 (words-joined t s w) (omega arith)
+        limits_hold (seeing_row t s) (seeing_row t s).tops 15 (words_joined t s w) (omega arith)
 
-pub steady-more : (t : Tone) (s : Seen) → steadySeen (seeingRow t s) ≡ true → (steadySeen s ≡ true) × (t.wave ≤ 2)
-steady-more t s e =
-    let l = limits_of (seeingRow t s) (seeingRow t s).lows 3 e in
-    let w = words-within t s l.words in
-    let p = or-within 2 s.lows ((t.wave + 1) % 2 ^ 64) (omega (arith, l.other)) in
-    (limits-hold s s.lows 3 w.words (omega arith), omega arith)
+pub steady_more : (t : Tone) (s : Seen) → steady_seen (seeing_row t s) ≡ true → (steady_seen s ≡ true) × (t.wave ≤ 2)
+steady_more t s e =
+    let l = limits_of (seeing_row t s) (seeing_row t s).lows 3 e in
+    let w = words_within t s l.words in
+    let p = or_within 2 s.lows ((t.wave + 1) % 2 ^ 64) (omega (arith, l.other)) in
+    (limits_hold s s.lows 3 w.words (omega arith), omega arith)
 
 module _ (tones : List ℕ) where
   -- the rows by their last one
-  wells-last : (from n : ℕ) → wellTones tones from (suc n) ≡ (wellTones tones from n && wellTone (get tone tones (from + n)))
-  unfolding wellTones
-  wells-last from zero = rw add-zero (and-true (wellTone (get tone tones from)))
-  wells-last from (suc n) =
+  wells_last : (from n : ℕ) → well_tones tones from (suc n) ≡ (well_tones tones from n && well_tone (get tone tones (from + n)))
+  unfolding well_tones
+  wells_last from zero = rw add-zero (and-true (well_tone (get tone tones from)))
+  wells_last from (suc n) =
       let k : from + 1 + n ≡ from + suc n = omega arith in
-      ap (λ (b : Bool). wellTone (get tone tones from) && b)
-      (wells-last (from + 1) n ∙ ap (λ (i : ℕ). wellTones tones (from + 1) n && wellTone (get tone tones i)) k)
-      ∙ sym (and_assoc (wellTone (get tone tones from)) (wellTones tones (from + 1) n) (wellTone (get tone tones (from + suc n))))
+      ap (λ (b : Bool). well_tone (get tone tones from) && b)
+      (wells_last (from + 1) n ∙ ap (λ (i : ℕ). well_tones tones (from + 1) n && well_tone (get tone tones i)) k)
+      ∙ sym (and_assoc (well_tone (get tone tones from)) (well_tones tones (from + 1) n) (well_tone (get tone tones (from + suc n))))
 
-  wells-more : (s : Seen) (from n : ℕ) → wellSeen (seenFrom tones s from n) ≡ (wellSeen s && wellTones tones from n)
-  unfolding seenFrom wellTones
-  wells-more s from zero = sym (and-true (wellSeen s))
-  wells-more s from (suc n) =
+  wells_more : (s : Seen) (from n : ℕ) → well_seen (seen_from tones s from n) ≡ (well_seen s && well_tones tones from n)
+  unfolding seen_from well_tones
+  wells_more s from zero = sym (and-true (well_seen s))
+  wells_more s from (suc n) =
       let t = get tone tones (from + n) in
-      well-more t (seenFrom tones s from n)
-      ∙ ap (λ (b : Bool). b && wellTone t) (wells-more s from n)
-      ∙ and_assoc (wellSeen s) (wellTones tones from n) (wellTone t)
-      ∙ ap (λ (b : Bool). wellSeen s && b) (sym (wells-last from n))
+      well_more t (seen_from tones s from n)
+      ∙ ap (λ (b : Bool). b && well_tone t) (wells_more s from n)
+      ∙ and_assoc (well_seen s) (well_tones tones from n) (well_tone t)
+      ∙ ap (λ (b : Bool). well_seen s && b) (sym (wells_last from n))
 
   -- THE ROWS ARE WELL FORMED exactly where what was seen of them is
-  pub seen-wells : (from n : ℕ) → wellSeen (seenOf tones from n) ≡ wellTones tones from n
-  seen-wells from n = wells-more unseen from n
+  pub seen_wells : (from n : ℕ) → well_seen (seen_of tones from n) ≡ well_tones tones from n
+  seen_wells from n = wells_more unseen from n
 
   -- one turn over the rows
-  pub seen-turn : (s : Seen) (from i : ℕ) → from ≤ i
-      → seenFrom tones s from (i + 1 - from) ≡ seeingRow (get tone tones i) (seenFrom tones s from (i - from))
-  unfolding seenFrom
-  seen-turn s from i h =
+  pub seen_turn : (s : Seen) (from i : ℕ) → from ≤ i
+      → seen_from tones s from (i + 1 - from) ≡ seeing_row (get tone tones i) (seen_from tones s from (i - from))
+  unfolding seen_from
+  seen_turn s from i h =
       let k : i + 1 - from ≡ suc (i - from) = omega arith in
       let e : from + (i - from) ≡ i = omega arith in
       rw (k, e)
 
   -- rows seen one after the other
-  pub seen-joins : (s : Seen) (from a b : ℕ) → seenFrom tones (seenFrom tones s from a) (from + a) b ≡ seenFrom tones s from (a + b)
-  unfolding seenFrom
-  seen-joins s from a zero = rw add-zero
-  seen-joins s from a (suc b) =
+  pub seen_joins : (s : Seen) (from a b : ℕ) → seen_from tones (seen_from tones s from a) (from + a) b ≡ seen_from tones s from (a + b)
+  unfolding seen_from
+  seen_joins s from a zero = rw add-zero
+  seen_joins s from a (suc b) =
       rw (add-suc a b)
-      (ap₂ (λ (i : ℕ) (x : Seen). seeingRow (get tone tones i) x) (add_assoc from a b) (seen-joins s from a b))
+      (ap₂ (λ (i : ℕ) (x : Seen). seeing_row (get tone tones i) x) (add_assoc from a b) (seen_joins s from a b))
 
   -- on from the first k rows to the first n
-  pub seen-on : (s : Seen) (from k n : ℕ) → s ≡ seenOf tones from k → k ≤ n
-      → seenFrom tones s (from + k) (n - k) ≡ seenOf tones from n
-  seen-on s from k n e h =
+  pub seen_on : (s : Seen) (from k n : ℕ) → s ≡ seen_of tones from k → k ≤ n
+      → seen_from tones s (from + k) (n - k) ≡ seen_of tones from n
+  seen_on s from k n e h =
       let z : k + (n - k) ≡ n = omega arith in
-      ap (λ (x : Seen). seenFrom tones x (from + k) (n - k)) e ∙ seen-joins unseen from k (n - k) ∙ ap (seenOf tones from) z
+      ap (λ (x : Seen). seen_from tones x (from + k) (n - k)) e ∙ seen_joins unseen from k (n - k) ∙ ap (seen_of tones from) z

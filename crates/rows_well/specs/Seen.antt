@@ -10,8 +10,8 @@ abbrev pub unseen : Seen
 unseen = record { words = 0; tops = 0; lows = 0; turns = 0 }
 
 -- a row more: its words; its wave and 4, below 16 up to 11; its wave and 1, below 4 up to 2; its count, where the wave is odd
-abbrev pub seeingRow : Tone → Seen → Seen
-seeingRow t s =
+abbrev pub seeing_row : Tone → Seen → Seen
+seeing_row t s =
     record {
       words = bit_or (bit_or (bit_or (bit_or s.words t.num) t.len1) t.len2) t.wave;
       tops = bit_or s.tops ((t.wave + 4) % 2 ^ 64);
@@ -20,17 +20,17 @@ seeingRow t s =
     }
 
 -- n rows from row `from` on behind what was seen before, the last row last
-unfoldable pub seenFrom : List ℕ → Seen → ℕ → ℕ → Seen
-seenFrom tones s from zero = s
-seenFrom tones s from (suc n) = seeingRow (get tone tones (from + n)) (seenFrom tones s from n)
+unfoldable pub seen_from : List ℕ → Seen → ℕ → ℕ → Seen
+seen_from tones s from zero = s
+seen_from tones s from (suc n) = seeing_row (get tone tones (from + n)) (seen_from tones s from n)
 
-abbrev pub seenOf : List ℕ → ℕ → ℕ → Seen
-seenOf tones from n = seenFrom tones unseen from n
+abbrev pub seen_of : List ℕ → ℕ → ℕ → Seen
+seen_of tones from n = seen_from tones unseen from n
 
 -- what was seen is well formed
-abbrev pub wellSeen : Seen → Bool
-wellSeen s = nat_le s.words 65535 && nat_le s.tops 15
+abbrev pub well_seen : Seen → Bool
+well_seen s = nat_le s.words 65535 && nat_le s.tops 15
 
 -- what was seen is of begin 0: no wave is above 2
-abbrev pub steadySeen : Seen → Bool
-steadySeen s = nat_le s.words 65535 && nat_le s.lows 3
+abbrev pub steady_seen : Seen → Bool
+steady_seen s = nat_le s.words 65535 && nat_le s.lows 3

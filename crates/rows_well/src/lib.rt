@@ -1,9 +1,9 @@
 // Which tone rows and block rows are well formed, and what a pass over tone rows tells beside it.
 ghost use Rattle.std.specs.Prelude.{◌≡◌, ◌+◌, ◌*◌, ◌≤◌, length};
 ghost use Rattle.rows.specs.Rows.{tone};
-ghost use Rattle.rows.specs.Well.{inside, wellTones, wellRanges, wellPause, wellLast, wellNumbers, wellSound, wellLevels, wellCases, wellTone, wellBlock};
-ghost use Rattle.rows_well.specs.Seen.{unseen, seeingRow, seenFrom, wellSeen, steadySeen};
-ghost use Rattle.rows_well.specs.Words.{wellWords};
+ghost use Rattle.rows.specs.Well.{inside, well_tones, well_ranges, well_pause, well_last, well_numbers, well_sound, well_levels, well_cases, well_tone, well_block};
+ghost use Rattle.rows_well.specs.Seen.{unseen, seeing_row, seen_from, well_seen, steady_seen};
+ghost use Rattle.rows_well.specs.Words.{well_words};
 
 use rows::{Block, Tone, tone_at, tone_capacity};
 use std::num::wrapping_add_u64;
@@ -38,7 +38,7 @@ pub fn none_seen() -> Seen
 
 // A tone row more. A limit of all the rows is a limit of the bits gathered, so no row needs a test of its own.
 fn see(t: Tone, s: Seen) -> Seen
-    ensures { result ≡ seeingRow t s }
+    ensures { result ≡ seeing_row t s }
 {
     Seen {
         words: s.words | t.num | t.len1 | t.len2 | t.wave,
@@ -51,7 +51,7 @@ fn see(t: Tone, s: Seen) -> Seen
 // n tone rows from row `from` on, behind what was seen before; its callers know the rows to be lent.
 pub fn tones_seen(tones: &[u64], past: Seen, from: u64, n: u64) -> Seen
     requires { (from + n) * tone.width ≤ length tones.now }
-    ensures { result ≡ seenFrom tones.now past from n }
+    ensures { result ≡ seen_from tones.now past from n }
 {
     let mut s = past;
     let mut i = from as usize;
@@ -66,21 +66,21 @@ pub fn tones_seen(tones: &[u64], past: Seen, from: u64, n: u64) -> Seen
 
 // Whether the rows seen are well formed.
 pub fn seen_well(s: Seen) -> bool
-    ensures { result ≡ wellSeen s }
+    ensures { result ≡ well_seen s }
 {
     s.words <= 65535 && s.tops <= 15
 }
 
 // Whether the rows seen are of begin 0: their words tell that no wave wraps.
 pub fn seen_steady(s: Seen) -> bool
-    ensures { result ≡ steadySeen s }
+    ensures { result ≡ steady_seen s }
 {
     s.words <= 65535 && s.lows <= 3
 }
 
 // Whether a tone row is well formed.
 pub fn tone_well(t: Tone) -> bool
-    ensures { result ≡ wellTone t }
+    ensures { result ≡ well_tone t }
 {
     if 65535 < t.num {
         return false;
@@ -97,14 +97,14 @@ pub fn tone_well(t: Tone) -> bool
 // Whether n tone rows from row `from` on are well formed; its callers know the rows to be lent.
 pub fn tones_well(tones: &[u64], from: u64, n: u64) -> bool
     requires { (from + n) * tone.width ≤ length tones.now }
-    ensures { result ≡ wellTones tones.now from n }
+    ensures { result ≡ well_tones tones.now from n }
 {
     seen_well(tones_seen(tones, none_seen(), from, n))
 }
 
 // Whether a block's ranges lie inside the tone table and a tape of `tape` bytes.
 fn ranges_well(tape: u64, tones: &[u64], r: Block) -> bool
-    ensures { result ≡ wellRanges tape tones.now r }
+    ensures { result ≡ well_ranges tape tones.now r }
 {
     if !ranges(r.tone, r.tones, tone_capacity(tones) as u64) {
         return false;
@@ -117,21 +117,21 @@ fn ranges_well(tape: u64, tones: &[u64], r: Block) -> bool
 
 // Whether a block's pause is endless or within its limit.
 fn pause_well(r: Block) -> bool
-    ensures { result ≡ wellPause r }
+    ensures { result ≡ well_pause r }
 {
     r.endless == 1 || r.pause <= 229372500
 }
 
 // Whether a block's last bits are within their limit, which only data has.
 fn last_well(r: Block) -> bool
-    ensures { result ≡ wellLast r }
+    ensures { result ≡ well_last r }
 {
     r.size == 0 || r.last <= 8
 }
 
 // Whether a block's numbers are within their limits.
 pub fn numbers_well(r: Block) -> bool
-    ensures { result ≡ wellNumbers r }
+    ensures { result ≡ well_numbers r }
 {
     if 65535 < r.zero {
         return false;
@@ -147,21 +147,21 @@ pub fn numbers_well(r: Block) -> bool
 
 // Whether a block's sound is within its limit, 2 ^ 50.
 fn sound_well(r: Block) -> bool
-    ensures { result ≡ wellSound r }
+    ensures { result ≡ well_sound r }
 {
     r.sound < 1125899906842624
 }
 
 // Whether a block's levels are 0 or 1.
 fn levels_well(r: Block) -> bool
-    ensures { result ≡ wellLevels r }
+    ensures { result ≡ well_levels r }
 {
     r.level <= 1 && r.played <= 1
 }
 
 // Whether a block's flags are 0 or 1 and its case numbers named ones.
 fn cases_well(r: Block) -> bool
-    ensures { result ≡ wellCases r }
+    ensures { result ≡ well_cases r }
 {
     if 1 < r.endless {
         return false;
@@ -180,7 +180,7 @@ fn cases_well(r: Block) -> bool
 
 // Whether a block's row is well formed but for its tone rows, over a tape of `tape` bytes.
 pub fn words_well(tape: u64, tones: &[u64], r: Block) -> bool
-    ensures { result ≡ wellWords tape tones.now r }
+    ensures { result ≡ well_words tape tones.now r }
 {
     if !ranges_well(tape, tones, r) {
         return false;
@@ -196,7 +196,7 @@ pub fn words_well(tape: u64, tones: &[u64], r: Block) -> bool
 
 // Whether a block's row is well formed, with its tone rows, over a tape of `tape` bytes.
 pub fn block_well(tape: u64, tones: &[u64], r: Block) -> bool
-    ensures { result ≡ wellBlock tape tones.now r }
+    ensures { result ≡ well_block tape tones.now r }
 {
     if !words_well(tape, tones, r) {
         return false;

@@ -7,7 +7,7 @@ use native.Mathlib.Omega.{arith}
 use native.Mathlib.Numerals.{add-one}
 use lib.ListN.{length, length-append, length-drop, get_or, take, drop}
 use lib.Seq.{take_at, drop_at, length-take-le}
-use Rattle.text_codes.specs.Encoding.{table, encoded, flatTexts, offsets}
+use Rattle.text_codes.specs.Encoding.{table, encoded, flat_texts, offsets}
 
 -- s from a to e is the text of ts at k
 record Cut (ts : List (List ℕ)) (s : List ℕ) (k a e : ℕ) : Type 0 where
@@ -15,27 +15,27 @@ record Cut (ts : List (List ℕ)) (s : List ℕ) (k a e : ℕ) : Type 0 where
   inside : e ≤ length s
   is : take (e - a) (drop a s) ≡ get_or ts k []
 
-first-offset : (a : ℕ) (ts : List (List ℕ)) → get_or (offsets a ts) 0 0 ≡ a
+first_offset : (a : ℕ) (ts : List (List ℕ)) → get_or (offsets a ts) 0 0 ≡ a
 unfolding offsets
-first-offset a [] = refl
-first-offset a (t ∷ ts) = refl
+first_offset a [] = refl
+first_offset a (t ∷ ts) = refl
 
 -- for any texts, after any bytes p
 cut : (p : List ℕ) (n : ℕ) (ts : List (List ℕ)) (k : ℕ) → length p ≡ n → k < length ts
-    → Cut ts (p ++ flatTexts ts) k (get_or (offsets n ts) k 0) (get_or (offsets n ts) (suc k) 0)
-unfolding offsets flatTexts
+    → Cut ts (p ++ flat_texts ts) k (get_or (offsets n ts) k 0) (get_or (offsets n ts) (suc k) 0)
+unfolding offsets flat_texts
 cut p n [] k e h = absurd (not-suc-le-zero h)
 cut p n (t ∷ ts) zero e h =
     let l : length t ≡ (n + length t) - n = omega arith in
-    rw (first-offset (n + length t) ts) (record {
+    rw (first_offset (n + length t) ts) (record {
       order = omega arith;
       inside = simp length-append (omega arith);
-      is = rw (drop_at p (t ++ flatTexts ts) n e, take_at t (flatTexts ts) ((n + length t) - n) l);
+      is = rw (drop_at p (t ++ flat_texts ts) n e, take_at t (flat_texts ts) ((n + length t) - n) l);
     })
 cut p n (t ∷ ts) (suc k) e h =
     let l : length (p ++ t) ≡ n + length t = rw length-append (omega arith) in
     let q = cut (p ++ t) (n + length t) ts k l (le_of_suc-le-suc h) in
-    rw (← append_assoc p t (flatTexts ts)) (record { order = q.order; inside = q.inside; is = q.is })
+    rw (← append_assoc p t (flat_texts ts)) (record { order = q.order; inside = q.inside; is = q.is })
 
 codes : length table ≡ 256
 unfolding table
@@ -54,22 +54,22 @@ nine : longest table ≡ 9
 unfolding table
 nine = refl
 
-pub code-length : (k : ℕ) → length (encoded k) ≤ 9
+pub code_length : (k : ℕ) → length (encoded k) ≤ 9
 unfolding encoded
-code-length k = omega (arith, no_longer table k, nine)
+code_length k = omega (arith, no_longer table k, nine)
 
 -- the text of code k, where a and e are the offsets that the code read
 pub record CodeText (k a e : ℕ) : Type 0 where
   pub order : a ≤ e
-  pub inside : e ≤ length (flatTexts table)
+  pub inside : e ≤ length (flat_texts table)
   pub short : e - a ≤ 9
-  pub is : take (e - a) (drop a (flatTexts table)) ≡ encoded k
+  pub is : take (e - a) (drop a (flat_texts table)) ≡ encoded k
 
 pub part : (k a e : ℕ) → k < 256 → a ≡ get_or (offsets 0 table) k 0 → e ≡ get_or (offsets 0 table) (k + 1) 0 → CodeText k a e
 unfolding encoded
 part k a e h p q =
-    let c : Cut table (flatTexts table) k a e = rw (p, q, add-one) (cut [] 0 table k refl (rw codes h)) in
-    let l : length (take (e - a) (drop a (flatTexts table))) ≡ e - a =
-    length-take-le (e - a) (drop a (flatTexts table)) (rw length-drop (omega (arith, c.inside))) in
+    let c : Cut table (flat_texts table) k a e = rw (p, q, add-one) (cut [] 0 table k refl (rw codes h)) in
+    let l : length (take (e - a) (drop a (flat_texts table))) ≡ e - a =
+    length-take-le (e - a) (drop a (flat_texts table)) (rw length-drop (omega (arith, c.inside))) in
     let m : e - a ≡ length (encoded k) = sym l ∙ ap length c.is in
-    record { order = c.order; inside = c.inside; short = omega (arith, m, code-length k); is = c.is }
+    record { order = c.order; inside = c.inside; short = omega (arith, m, code_length k); is = c.is }

@@ -1,11 +1,11 @@
 -- The Rust's SPECTRUM_ENCODING: for each of the 256 codes its text, in UTF-8. Assumes nothing.
 use Rattle.std.specs.Prelude.{ℕ, ◌+◌, List, [], ◌∷◌, ◌++◌, map, get_or, length}
 use Prim.Native.String.{String}
-use Rattle.text_out.specs.Out.{utf8, eachByte}
+use Rattle.text_out.specs.Out.{utf8, each_byte}
 
 -- the texts of the codes 00 to FF, eight a line
-abbrev pub codeTexts : List String
-codeTexts =
+abbrev pub code_texts : List String
+code_texts =
     "" ∷ "" ∷ "" ∷ "" ∷ "" ∷ "" ∷ "" ∷ "" ∷
     "" ∷ "" ∷ "" ∷ "" ∷ "" ∷ "" ∷ "" ∷ "" ∷
     "" ∷ "" ∷ "" ∷ "" ∷ "" ∷ "" ∷ "" ∷ "" ∷
@@ -40,19 +40,19 @@ codeTexts =
     "SAVE" ∷ "RANDOMIZE" ∷ "IF" ∷ "CLS" ∷ "DRAW" ∷ "CLEAR" ∷ "RETURN" ∷ "COPY" ∷ []
 
 unfoldable pub table : List (List ℕ)
-table = map utf8 codeTexts
+table = map utf8 code_texts
 
 unfoldable pub encoded : ℕ → List ℕ
 encoded code = get_or table code []
 
 -- codes one after the other
 abbrev pub spelled : List ℕ → List ℕ
-spelled codes = eachByte encoded codes
+spelled codes = each_byte encoded codes
 
 -- texts one after the other, and where each of them begins and the last one ends, counted from a
-unfoldable pub flatTexts : List (List ℕ) → List ℕ
-flatTexts [] = []
-flatTexts (t ∷ ts) = t ++ flatTexts ts
+unfoldable pub flat_texts : List (List ℕ) → List ℕ
+flat_texts [] = []
+flat_texts (t ∷ ts) = t ++ flat_texts ts
 
 unfoldable pub offsets : ℕ → List (List ℕ) → List ℕ
 offsets a [] = a ∷ []

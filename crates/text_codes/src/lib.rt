@@ -1,7 +1,7 @@
 // The Spectrum's character codes as text, the Rust's `SPECTRUM_ENCODING`: flat bytes and where each code's text begins.
 ghost use Rattle.std.specs.Prelude.{◌≡◌, ◌+◌, ◌-◌, ◌*◌, ◌^◌, ◌≤◌, ◌<◌, length, take, drop, get_or};
 ghost use Rattle.text_out.specs.Out.{Wrote};
-ghost use Rattle.text_codes.specs.Encoding.{table, encoded, spelled, flatTexts, offsets};
+ghost use Rattle.text_codes.specs.Encoding.{table, encoded, spelled, flat_texts, offsets};
 
 // The texts of all codes, one after the other.
 const FLAT: [u8; 534] =
@@ -48,8 +48,8 @@ fn start_of(k: usize) -> usize
 
 // The texts' bytes from a up to e.
 fn put_part(out: &mut [u8], at: usize, a: usize, e: usize) -> usize
-    requires { (a ≤ e) × (e ≤ length (flatTexts table)) × (at + (e - a) < 2 ^ 63) }
-    ensures { Wrote out.old at (take (e - a) (drop a (flatTexts table))) out.new result }
+    requires { (a ≤ e) × (e ≤ length (flat_texts table)) × (at + (e - a) < 2 ^ 63) }
+    ensures { Wrote out.old at (take (e - a) (drop a (flat_texts table))) out.new result }
 {
     text_out::put_all(out, at, &FLAT[a..e])
 }

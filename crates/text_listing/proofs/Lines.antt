@@ -9,38 +9,38 @@ use lib.ListN.{length}
 use Rattle.rows.specs.declared.Block.{Block}
 use Rattle.rows.specs.Table.{get}
 use Rattle.rows.specs.Rows.{block}
-use Rattle.rows.specs.Well.{wellNumbers}
+use Rattle.rows.specs.Well.{well_numbers}
 use Rattle.text_name.specs.Names.{name_of}
-use Rattle.play_entries.specs.Mounted.{tapeOf}
-use Rattle.play_loading.specs.Sums.{loadingAfter}
-use Rattle.play_loading.proofs.Summing.{sums-fit}
+use Rattle.play_entries.specs.Mounted.{tape_of}
+use Rattle.play_loading.specs.Sums.{loading_after}
+use Rattle.play_loading.proofs.Summing.{sums_fit}
 use Rattle.text_listing.specs.Inner.{ReadyRow, Ready}
 
 module _ {bytes blocks : List ℕ} {i : ℕ} (ready : ReadyRow bytes blocks i) where
   -- the row as it was read
   module _ {r : Block} (e : r ≡ get block blocks i) where
-    pub row-numbers : wellNumbers r ≡ true
-    row-numbers = subst (λ (x : Block). wellNumbers x ≡ true) (sym e) ready.numbers
+    pub row_numbers : well_numbers r ≡ true
+    row_numbers = subst (λ (x : Block). well_numbers x ≡ true) (sym e) ready.numbers
 
-    pub row-sound : r.sound < 2 ^ 50
-    row-sound = subst (λ (x : Block). x.sound < 2 ^ 50) (sym e) ready.sound
+    pub row_sound : r.sound < 2 ^ 50
+    row_sound = subst (λ (x : Block). x.sound < 2 ^ 50) (sym e) ready.sound
 
-    pub row-places : (r.start + r.size ≤ length bytes) × (r.text + r.chars ≤ length bytes)
-    row-places =
+    pub row_places : (r.start + r.size ≤ length bytes) × (r.text + r.chars ≤ length bytes)
+    row_places =
         subst (λ (x : Block). (x.start + x.size ≤ length bytes) × (x.text + x.chars ≤ length bytes)) (sym e)
         (omega (arith, ready.inside), omega (arith, ready.named))
 
-    pub row-chars : r.chars ≤ 1048576
-    row-chars = subst (λ (x : Block). x.chars ≤ 1048576) (sym e) (omega (arith, ready.named))
+    pub row_chars : r.chars ≤ 1048576
+    row_chars = subst (λ (x : Block). x.chars ≤ 1048576) (sym e) (omega (arith, ready.named))
 
-    pub row-short : length (name_of bytes r) ≤ 510
-    row-short = subst (λ (x : Block). length (name_of bytes x) ≤ 510) (sym e) ready.short
+    pub row_short : length (name_of bytes r) ≤ 510
+    row_short = subst (λ (x : Block). length (name_of bytes x) ≤ 510) (sym e) ready.short
 
 -- the sum of the first i rows fits
 pub rows_fit : {bytes blocks : List ℕ} {n : ℕ} → Ready bytes blocks n → (tones : List ℕ) (i : ℕ) → i ≤ n
-    → (loadingAfter (tapeOf bytes tones blocks n) i).sum < 2 ^ 63
+    → (loading_after (tape_of bytes tones blocks n) i).sum < 2 ^ 63
 rows_fit {bytes} {blocks} {n} ready tones i h =
-    sums-fit (tapeOf bytes tones blocks n) i (omega (arith, ready.few))
+    sums_fit (tape_of bytes tones blocks n) i (omega (arith, ready.few))
     (record {
       sound = λ b l. (ready.rows b (omega arith)).sound;
       numbers = λ b l. (ready.rows b (omega arith)).numbers;

@@ -10,16 +10,16 @@ use lib.Seq.{drop-cons, drop-drop, take-length, take-append-le}
 use lib.Dec.{ltb, eqb}
 use borrow.Author.Tests.{lt-ltb, le-ltb}
 use Rattle.law_base.specs.Rules.{◌⇒◌, ◌∣◌}
-use Rattle.law_base.proofs.Numbers.{lt-or-ge}
+use Rattle.law_base.proofs.Numbers.{lt_or_ge}
 use Rattle.text_out.specs.Out.{Wrote}
-use Rattle.text_out.proofs.Writing.{wrote-counted, wrote-whole}
-use Rattle.text_out.proofs.Loops.{Goes, goes_none, goes_on, goes_over, byte-here}
-use Rattle.text_listing.specs.Shown.{shown, isC1, printed, width}
+use Rattle.text_out.proofs.Writing.{wrote_counted, wrote_whole}
+use Rattle.text_out.proofs.Loops.{Goes, goes_none, goes_on, goes_over, byte_here}
+use Rattle.text_listing.specs.Shown.{shown, is_c1, printed, width}
 
 -- the last byte, a code point of two bytes, and a byte that another follows
-shown-last : (b : ℕ) → shown (b ∷ []) ≡ printed false b ∷ []
+shown_last : (b : ℕ) → shown (b ∷ []) ≡ printed false b ∷ []
 unfolding shown
-shown-last b = by_cases (ltb b 32 || eqb b 127)
+shown_last b = by_cases (ltb b 32 || eqb b 127)
   where
     by_cases : (t : Bool) → (t ⇒ (0x3F ∷ []) ∣ (b ∷ [])) ≡ (t ⇒ 0x3F ∣ b) ∷ []
     by_cases true = refl
@@ -38,33 +38,33 @@ shown-first b c bs = by_cases (eqb b 0xC2 && ltb c 0xA0) (ltb b 32 || eqb b 127)
     by_cases false false = refl
 
 -- the code point at i, and what follows it
-pub shown-at : (s : List ℕ) (i : ℕ) → i < length s
-    → shown (drop i s) ≡ printed (isC1 s i) (get_or s i 0) ∷ shown (drop (i + width (isC1 s i)) s)
+pub shown_at : (s : List ℕ) (i : ℕ) → i < length s
+    → shown (drop i s) ≡ printed (is_c1 s i) (get_or s i 0) ∷ shown (drop (i + width (is_c1 s i)) s)
 unfolding shown
-shown-at s i h = ⊎_elim more last (lt-or-ge (i + 1) (length s))
+shown_at s i h = ⊎_elim more last (lt_or_ge (i + 1) (length s))
   where
-    more : i + 1 < length s → shown (drop i s) ≡ printed (isC1 s i) (get_or s i 0) ∷ shown (drop (i + width (isC1 s i)) s)
+    more : i + 1 < length s → shown (drop i s) ≡ printed (is_c1 s i) (get_or s i 0) ∷ shown (drop (i + width (is_c1 s i)) s)
     more k =
         let c = get_or s (i + 1) 0 in
         let t = eqb (get_or s i 0) 0xC2 && ltb c 0xA0 in
         let next = ap (λ (l : List ℕ). get_or s i 0 ∷ l) (drop-cons s (i + 1) 0 k) in
-        let two : drop i s ≡ get_or s i 0 ∷ c ∷ drop (suc (i + 1)) s = byte-here s i h ∙ next in
+        let two : drop i s ≡ get_or s i 0 ∷ c ∷ drop (suc (i + 1)) s = byte_here s i h ∙ next in
         rw (lt-ltb (i + 1) (length s) k) (
         ap shown two
         ∙ shown-first (get_or s i 0) c (drop (suc (i + 1)) s)
         ∙ ap (λ (l : List ℕ). printed t (get_or s i 0) ∷ shown (drop (width t) l)) (sym two)
         ∙ ap (λ (l : List ℕ). printed t (get_or s i 0) ∷ shown l) (drop-drop (width t) i s))
 
-    last : length s ≤ i + 1 → shown (drop i s) ≡ printed (isC1 s i) (get_or s i 0) ∷ shown (drop (i + width (isC1 s i)) s)
+    last : length s ≤ i + 1 → shown (drop i s) ≡ printed (is_c1 s i) (get_or s i 0) ∷ shown (drop (i + width (is_c1 s i)) s)
     last k =
         let none : drop (i + 1) s ≡ [] = drop_of_length-le s k in
-        let alone = byte-here s i h ∙ ap (λ (l : List ℕ). get_or s i 0 ∷ l) none in
-        rw (le-ltb (i + 1) (length s) k, none) (ap shown alone ∙ shown-last (get_or s i 0))
+        let alone = byte_here s i h ∙ ap (λ (l : List ℕ). get_or s i 0 ∷ l) none in
+        rw (le-ltb (i + 1) (length s) k, none) (ap shown alone ∙ shown_last (get_or s i 0))
 
 -- it lies in the name
-pub c1-inside : (s : List ℕ) (i : ℕ) → i < length s → i + width (isC1 s i) ≤ length s
-c1-inside s i h = ⊎_elim (λ k. rw (lt-ltb (i + 1) (length s) k) (either (eqb (get_or s i 0) 0xC2 && ltb (get_or s (i + 1) 0) 0xA0) k))
-    (λ k. rw (le-ltb (i + 1) (length s) k) (omega arith)) (lt-or-ge (i + 1) (length s))
+pub c1_inside : (s : List ℕ) (i : ℕ) → i < length s → i + width (is_c1 s i) ≤ length s
+c1_inside s i h = ⊎_elim (λ k. rw (lt-ltb (i + 1) (length s) k) (either (eqb (get_or s i 0) 0xC2 && ltb (get_or s (i + 1) 0) 0xA0) k))
+    (λ k. rw (le-ltb (i + 1) (length s) k) (omega arith)) (lt_or_ge (i + 1) (length s))
   where
     either : (t : Bool) → i + 1 < length s → i + width t ≤ length s
     either true k = omega arith
@@ -97,31 +97,31 @@ pub record Shows (d₀ : List ℕ) (at : ℕ) (s : List ℕ) (i : ℕ) (d : List
   pub inside : i ≤ length s
   pub goes : Goes (λ j. shown (drop j s)) 1 d₀ at i d o
 
-pub shows-none : (d : List ℕ) (at : ℕ) (s : List ℕ) → Shows d at s 0 d at
-shows-none d at s = record { inside = omega arith; goes = goes_none _ 1 d at }
+pub shows_none : (d : List ℕ) (at : ℕ) (s : List ℕ) → Shows d at s 0 d at
+shows_none d at s = record { inside = omega arith; goes = goes_none _ 1 d at }
 
-pub shows-on : {d₀ d d1 s : List ℕ} {at i o o1 b k : ℕ} {c1 : Bool} → Shows d₀ at s i d o → i < length s
-    → c1 ≡ isC1 s i → b ≡ printed c1 (get_or s i 0) → k ≡ width c1 → Wrote d o (b ∷ []) d1 o1
+pub shows_on : {d₀ d d1 s : List ℕ} {at i o o1 b k : ℕ} {c1 : Bool} → Shows d₀ at s i d o → i < length s
+    → c1 ≡ is_c1 s i → b ≡ printed c1 (get_or s i 0) → k ≡ width c1 → Wrote d o (b ∷ []) d1 o1
     → Shows d₀ at s (i + k) d1 o1
-shows-on {s = s} {i = i} {b = b} {k} {c1} g h e p q w =
-    let z : k ≡ width (isC1 s i) = q ∙ ap width e in
-    let y : b ≡ printed (isC1 s i) (get_or s i 0) = p ∙ ap (λ (t : Bool). printed t (get_or s i 0)) e in
+shows_on {s = s} {i = i} {b = b} {k} {c1} g h e p q w =
+    let z : k ≡ width (is_c1 s i) = q ∙ ap width e in
+    let y : b ≡ printed (is_c1 s i) (get_or s i 0) = p ∙ ap (λ (t : Bool). printed t (get_or s i 0)) e in
     let split : b ∷ shown (drop (i + k) s) ≡ shown (drop i s) =
     ap (λ (x : ℕ). x ∷ shown (drop (i + k) s)) y
-    ∙ ap (λ (x : ℕ). printed (isC1 s i) (get_or s i 0) ∷ shown (drop (i + x) s)) z
-    ∙ sym (shown-at s i h) in
-    let some = width_some (isC1 s i) in
-    record { inside = omega (arith, c1-inside s i h, z); goes = goes_on k g.goes (sym split) (omega (arith, z)) w }
+    ∙ ap (λ (x : ℕ). printed (is_c1 s i) (get_or s i 0) ∷ shown (drop (i + x) s)) z
+    ∙ sym (shown_at s i h) in
+    let some = width_some (is_c1 s i) in
+    record { inside = omega (arith, c1_inside s i h, z); goes = goes_on k g.goes (sym split) (omega (arith, z)) w }
 
-pub shows-over : {d₀ d s : List ℕ} {at i o : ℕ} → Shows d₀ at s i d o → length s ≤ i → Wrote d₀ at (shown s) d o
+pub shows_over : {d₀ d s : List ℕ} {at i o : ℕ} → Shows d₀ at s i d o → length s ≤ i → Wrote d₀ at (shown s) d o
 unfolding shown
-shows-over {s = s} g h = goes_over g.goes (ap shown (drop_of_length-le s h))
+shows_over {s = s} g h = goes_over g.goes (ap shown (drop_of_length-le s h))
 
 -- a text that was written into lent bytes, read back from them
-pub name-part : {d d1 t : List ℕ} {n : ℕ} → Wrote d 0 t d1 n → length t ≤ length d → take n d1 ≡ t
-name-part {d} {d1} {t} {n} p h =
-    ap (λ (x : ℕ). take x d1) (wrote-counted p) ∙ ap (take (length t)) (wrote-whole p h)
+pub name_part : {d d1 t : List ℕ} {n : ℕ} → Wrote d 0 t d1 n → length t ≤ length d → take n d1 ≡ t
+name_part {d} {d1} {t} {n} p h =
+    ap (λ (x : ℕ). take x d1) (wrote_counted p) ∙ ap (take (length t)) (wrote_whole p h)
     ∙ take-append-le (length t) t (drop (length t) d) (omega arith) ∙ take-length t
 
 pub part_length : {d d1 t : List ℕ} {n : ℕ} → Wrote d 0 t d1 n → length t ≤ length d → n ≡ length (take n d1)
-part_length p h = wrote-counted p ∙ sym (ap length (name-part p h))
+part_length p h = wrote_counted p ∙ sym (ap length (name_part p h))

@@ -1,7 +1,7 @@
 -- Code points as UTF-8, as the Unicode standard has it (table 3-6, one to four bytes), and as they are shown (rule 116). Assumes nothing.
 use Rattle.std.specs.Prelude.{ℕ, ◌+◌, ◌/◌, ◌%◌, ◌≡◌, Bool, true, ◌&&◌, ◌||◌, List, [], ◌∷◌, ltb, leb}
 use Rattle.law_base.specs.Rules.{◌⇒◌, ◌∣◌}
-use Rattle.text_out.specs.Out.{eachByte}
+use Rattle.text_out.specs.Out.{each_byte}
 
 -- a code point's bytes
 unfoldable pub bytes_of : ℕ → List ℕ
@@ -15,19 +15,19 @@ bytes_of p =
 unfoldable pub is_scalar : ℕ → Bool
 is_scalar p = ltb p 0xD800 || (ltb 0xDFFF p && ltb p 0x110000)
 
-unfoldable pub areScalars : List ℕ → Bool
-areScalars [] = true
-areScalars (p ∷ ps) = is_scalar p && areScalars ps
+unfoldable pub are_scalars : List ℕ → Bool
+are_scalars [] = true
+are_scalars (p ∷ ps) = is_scalar p && are_scalars ps
 
 -- BYTES ARE THE UTF-8 OF CODE POINTS
 pub record Utf8 (bytes points : List ℕ) : Type 0 where
-  pub whole : bytes ≡ eachByte bytes_of points
-  pub scalars : areScalars points ≡ true
+  pub whole : bytes ≡ each_byte bytes_of points
+  pub scalars : are_scalars points ≡ true
 
 -- those that don't print: below 32, and from 127 to 159
-unfoldable pub isControl : ℕ → Bool
-isControl p = ltb p 32 || (leb 127 p && leb p 159)
+unfoldable pub is_control : ℕ → Bool
+is_control p = ltb p 32 || (leb 127 p && leb p 159)
 
 -- a code point as it is shown: `?` for one that doesn't print
-unfoldable pub shownPoint : ℕ → ℕ
-shownPoint p = isControl p ⇒ 63 ∣ p
+unfoldable pub shown_point : ℕ → ℕ
+shown_point p = is_control p ⇒ 63 ∣ p

@@ -13,8 +13,8 @@ shown (b ∷ c ∷ bs) =
     ∣ b ∷ shown (c ∷ bs)
 
 -- a code point from 128 to 159 begins at i
-abbrev pub isC1 : List ℕ → ℕ → Bool
-isC1 s i = ltb (i + 1) (length s) ⇒ (eqb (get_or s i 0) 0xC2 && ltb (get_or s (i + 1) 0) 0xA0) ∣ false
+abbrev pub is_c1 : List ℕ → ℕ → Bool
+is_c1 s i = ltb (i + 1) (length s) ⇒ (eqb (get_or s i 0) 0xC2 && ltb (get_or s (i + 1) 0) 0xA0) ∣ false
 
 -- what prints for it, or for the byte b, and how many bytes it takes
 abbrev pub printed : Bool → ℕ → ℕ

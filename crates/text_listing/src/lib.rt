@@ -6,13 +6,13 @@ ghost use Rattle.std.specs.Prelude.{◌≡◌, List, ℕ, ◌+◌, ◌^◌, ◌<
 ghost use Rattle.text_out.specs.Out.{Wrote};
 ghost use Rattle.rows.specs.Table.{get};
 ghost use Rattle.rows.specs.Rows.{block};
-ghost use Rattle.play_entries.specs.Stored.{rowsTime};
-ghost use Rattle.play_entries.specs.Mounted.{tapeOf};
-ghost use Rattle.play_loading.specs.Sums.{oneMore};
+ghost use Rattle.play_entries.specs.Stored.{rows_time};
+ghost use Rattle.play_entries.specs.Mounted.{tape_of};
+ghost use Rattle.play_loading.specs.Sums.{one_more};
 ghost use Rattle.text_name.specs.Names.{name_of};
 ghost use Rattle.text_listing.specs.Shown.{shown};
-ghost use Rattle.text_listing.specs.Inner.{rowHeadText, rowTailText, ReadyRow, Ready};
-ghost use Rattle.text_listing.specs.Lines.{markText, rowText, rowsText};
+ghost use Rattle.text_listing.specs.Inner.{row_head_text, row_tail_text, ReadyRow, Ready};
+ghost use Rattle.text_listing.specs.Lines.{mark_text, row_text, rows_text};
 
 pub use page::put_listing;
 use play_entries::Duration;
@@ -45,7 +45,7 @@ fn put_name(out: &mut [u8], at: usize, tape: &[u8], r: Block) -> usize
 // A star for a selectable block.
 fn put_mark(out: &mut [u8], at: usize, selectable: u64) -> usize
     requires { at + 1 < 2 ^ 63 }
-    ensures { Wrote out.old at (markText (eqb selectable 1)) out.new result }
+    ensures { Wrote out.old at (mark_text (eqb selectable 1)) out.new result }
 {
     if selectable == 1 {
         put(out, at, b'*')
@@ -57,7 +57,7 @@ fn put_mark(out: &mut [u8], at: usize, selectable: u64) -> usize
 // A row's number, mark and data size.
 fn put_head(out: &mut [u8], at: usize, i: u64, r: Block) -> usize
     requires { at + 64 < 2 ^ 63 }
-    ensures { Wrote out.old at (rowHeadText i r) out.new result }
+    ensures { Wrote out.old at (row_head_text i r) out.new result }
 {
     let a = put_decimal(out, at, i);
     let b = put(out, a, b' ');
@@ -73,7 +73,7 @@ fn put_tail(out: &mut [u8], at: usize, tape: &[u8], r: Block, d: Duration) -> us
     requires chars_bound { r.chars ≤ 1048576 }
     requires r_len_bound { length (name_of tape.now r) ≤ 510 }
     requires at_bound { at + 600 < 2 ^ 63 }
-    ensures { Wrote out.old at (rowTailText d (name_of tape.now r)) out.new result }
+    ensures { Wrote out.old at (row_tail_text d (name_of tape.now r)) out.new result }
 {
     let a = put_lasts(out, at, d, b"stop");
     let b = put(out, a, b' ');
@@ -86,9 +86,9 @@ fn put_row(out: &mut [u8], s: Told, tape: &[u8], blocks: &[u64], i: u64) -> Told
     requires ready_row { ReadyRow tape.now blocks.now i }
     requires at_bound { (s.at + 1024 < 2 ^ 63) × (s.load.sum < 2 ^ 63) }
     ensures by_index { (tones : List ℕ) (n : ℕ)
-        → Wrote out.old s.at (rowText (tapeOf tape.now tones blocks.now n) i)
+        → Wrote out.old s.at (row_text (tape_of tape.now tones blocks.now n) i)
         out.new result.at }
-    ensures load_value { result.load ≡ oneMore s.load (get block blocks.now i) }
+    ensures load_value { result.load ≡ one_more s.load (get block blocks.now i) }
 {
     let r = block_at(blocks, i as usize);
     let a = put_head(out, s.at, i, r);
@@ -103,8 +103,8 @@ pub fn put_rows(out: &mut [u8], at: usize, tape: &[u8], blocks: &[u64], n: u64) 
     requires ready { Ready tape.now blocks.now n }
     requires at_bound { at ≤ 1024 }
     ensures by_index { (tones : List ℕ) → Wrote out.old
-        at (rowsText (tapeOf tape.now tones blocks.now n) n) out.new result.at }
-    ensures by_index_2 { (tones : List ℕ) → result.load.end ≡ rowsTime (tapeOf tape.now tones blocks.now n) }
+        at (rows_text (tape_of tape.now tones blocks.now n) n) out.new result.at }
+    ensures by_index_2 { (tones : List ℕ) → result.load.end ≡ rows_time (tape_of tape.now tones blocks.now n) }
 {
     let load = none();
     let mut s = Told { at, load };

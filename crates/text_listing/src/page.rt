@@ -1,9 +1,9 @@
 // A listing's whole text: its first line, the rows' lines and the last.
 ghost use Rattle.std.specs.Prelude.{List, ℕ, ◌+◌, ◌^◌, ◌<◌};
 ghost use Rattle.text_out.specs.Out.{Wrote};
-ghost use Rattle.play_entries.specs.Mounted.{tapeOf};
+ghost use Rattle.play_entries.specs.Mounted.{tape_of};
 ghost use Rattle.text_listing.specs.Inner.{Ready};
-ghost use Rattle.text_listing.specs.Page.{modelText, formatText, countText, loadingText, listingText};
+ghost use Rattle.text_listing.specs.Page.{model_text, format_text, count_text, loading_text, listing_text};
 
 use crate::put_rows;
 use load_tape::Format;
@@ -12,7 +12,7 @@ use text_out::{put, put_all, put_decimal};
 // The model's name.
 fn put_model(out: &mut [u8], at: usize, model: u32) -> usize
     requires { at + 5 < 2 ^ 63 }
-    ensures { Wrote out.old at (modelText model) out.new result }
+    ensures { Wrote out.old at (model_text model) out.new result }
 {
     if model == 0 {
         return put_all(out, at, b"48K");
@@ -26,7 +26,7 @@ fn put_model(out: &mut [u8], at: usize, model: u32) -> usize
 // The format's.
 fn put_format(out: &mut [u8], at: usize, format: Format) -> usize
     requires { at + 3 < 2 ^ 63 }
-    ensures { Wrote out.old at (formatText format) out.new result }
+    ensures { Wrote out.old at (format_text format) out.new result }
 {
     match format {
         Format::Tap => put_all(out, at, b"TAP"),
@@ -37,7 +37,7 @@ fn put_format(out: &mut [u8], at: usize, format: Format) -> usize
 // The first line from behind the model's name on.
 fn put_count(out: &mut [u8], at: usize, format: Format, n: u64) -> usize
     requires { at + 64 < 2 ^ 63 }
-    ensures { Wrote out.old at (countText format n) out.new result }
+    ensures { Wrote out.old at (count_text format n) out.new result }
 {
     let a = put_all(out, at, b" format ");
     let b = put_format(out, a, format);
@@ -49,7 +49,7 @@ fn put_count(out: &mut [u8], at: usize, format: Format, n: u64) -> usize
 // The last line.
 fn put_total(out: &mut [u8], at: usize, total: u64) -> usize
     requires { at + 64 < 2 ^ 63 }
-    ensures { Wrote out.old at (loadingText total) out.new result }
+    ensures { Wrote out.old at (loading_text total) out.new result }
 {
     let a = put_all(out, at, b"time ");
     let b = put_decimal(out, a, total);
@@ -67,7 +67,7 @@ pub fn put_listing(
 ) -> usize
     requires { Ready tape.now blocks.now n }
     ensures { (tones : List ℕ) → Wrote out.old 0
-        (listingText model format (tapeOf tape.now tones blocks.now n)) out.new result }
+        (listing_text model format (tape_of tape.now tones blocks.now n)) out.new result }
 {
     let a = put_all(out, 0, b"model ");
     let b = put_model(out, a, model);

@@ -1,14 +1,14 @@
 // A name as a listing shows it.
 ghost use Rattle.std.specs.Prelude.{◌≡◌, ◌+◌, ◌^◌, ◌<◌, length};
 ghost use Rattle.text_out.specs.Out.{Wrote};
-ghost use Rattle.text_listing.specs.Shown.{shown, isC1, printed, width};
+ghost use Rattle.text_listing.specs.Shown.{shown, is_c1, printed, width};
 
 use text_out::put;
 
 // Whether a code point from 128 to 159 begins at i: C2 and a byte below A0.
 fn is_c1(name: &[u8], i: usize) -> bool
     requires { i < length name.now }
-    ensures { result ≡ isC1 name.now i }
+    ensures { result ≡ is_c1 name.now i }
 {
     if i + 1 < name.len() {
         return name[i] == 0xC2 && name[i + 1] < 0xA0;

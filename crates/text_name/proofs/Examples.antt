@@ -5,16 +5,16 @@ use mathlib.Core.Bool.{false}
 use mathlib.Core.List.{List, [], ◌∷◌, ◌++◌, map}
 use lib.ListN.{set}
 use Rattle.rows.specs.declared.Block.{Block}
-use Rattle.rows.specs.Rows.{decodeBlock}
-use Rattle.text_out.specs.Out.{decimal, digits, latin1, eachByte}
+use Rattle.rows.specs.Rows.{decode_block}
+use Rattle.text_out.specs.Out.{decimal, digits, latin1, each_byte}
 use Rattle.text_codes.specs.Encoding.{table, encoded}
-use Rattle.text_name.specs.Headers.{typeName, headerName}
-use Rattle.text_name.specs.Names.{isHeader, sizeShown, sizeName, guessed, name_of, unselected, nameOne, nameAll}
+use Rattle.text_name.specs.Headers.{type_name, header_name}
+use Rattle.text_name.specs.Names.{is_header, size_shown, size_name, guessed, name_of, unselected, name_one, name_all}
 
 -- a selectable row of `tones` tone rows, with its data's and its given name's places
 abbrev row : ℕ → ℕ → ℕ → ℕ → ℕ → ℕ → Block
 row tones start size named text chars =
-    decodeBlock (0 ∷ tones ∷ start ∷ size ∷ 0 ∷ 0 ∷ 0 ∷ 0 ∷ 0 ∷ 1 ∷ named ∷ text ∷ chars ∷ [])
+    decode_block (0 ∷ tones ∷ start ∷ size ∷ 0 ∷ 0 ∷ 0 ∷ 0 ∷ 0 ∷ 1 ∷ named ∷ text ∷ chars ∷ [])
 
 abbrev blank : List ℕ
 blank = 32 ∷ 32 ∷ 32 ∷ 32 ∷ 32 ∷ 32 ∷ 32 ∷ 32 ∷ 32 ∷ 32 ∷ []
@@ -109,7 +109,7 @@ names =
     []
 
 named : map (λ e. name_of e.0 e.1) names ≡ map (λ e. e.2) names
-unfolding name_of guessed isHeader headerName typeName sizeName sizeShown decimal digits latin1 eachByte encoded table
+unfolding name_of guessed is_header header_name type_name size_name size_shown decimal digits latin1 each_byte encoded table
 named = refl
 
 -- rows over one tape: a header, a named header, a block, a named block and a stop
@@ -143,6 +143,6 @@ passes =
     ([], []) ∷
     []
 
-selected : map (λ e. map (λ r. r.selectable) (nameAll tape false e.0)) passes ≡ map (λ e. e.1) passes
-unfolding nameAll nameOne isHeader unselected
+selected : map (λ e. map (λ r. r.selectable) (name_all tape false e.0)) passes ≡ map (λ e. e.1) passes
+unfolding name_all name_one is_header unselected
 selected = refl

@@ -10,20 +10,20 @@ use Rattle.law_base.proofs.Tests.{first, second}
 use Rattle.text_out.specs.Out.{latin1}
 use Rattle.text_out.proofs.Writing.{decimal-length, latin1-length, each-length}
 use Rattle.rows.specs.declared.Block.{Block}
-use Rattle.rows.specs.Table.{capacityOf}
-use Rattle.rows.specs.Rows.{tone, toneMost}
-use Rattle.rows.specs.Well.{inside, wellRanges, wellNumbers, wellCases, wellTones, wellBlock}
-use Rattle.text_name.proofs.Headers.{either, header-length}
-use Rattle.text_name.specs.Names.{isHeader, sizeShown, sizeName, guessed, name_of}
-use Rattle.rows.proofs.WellLaws.{block-clauses}
-use Rattle.rows.proofs.WellLaws.{ranges-inside}
+use Rattle.rows.specs.Table.{capacity_of}
+use Rattle.rows.specs.Rows.{tone, tone_most}
+use Rattle.rows.specs.Well.{inside, well_ranges, well_numbers, well_cases, well_tones, well_block}
+use Rattle.text_name.proofs.Headers.{either, header_length}
+use Rattle.text_name.specs.Names.{is_header, size_shown, size_name, guessed, name_of}
+use Rattle.rows.proofs.WellLaws.{block_clauses}
+use Rattle.rows.proofs.WellLaws.{ranges_inside}
 
 -- a header has 19 bytes
-pub header-size : (s : List ℕ) (r : Block) → isHeader s r ≡ true → r.size ≡ 19
-unfolding isHeader
-header-size s r e = eqb-true r.size 19 (first (eqb r.size 19) (eqb (get_or s r.start 0) 0) e)
+pub header_size : (s : List ℕ) (r : Block) → is_header s r ≡ true → r.size ≡ 19
+unfolding is_header
+header_size s r e = eqb-true r.size 19 (first (eqb r.size 19) (eqb (get_or s r.start 0) 0) e)
 
 -- what `put_name` asks is so of a well-formed row
-pub inside-tape : (tape : ℕ) (tones : List ℕ) (r : Block) → wellBlock tape tones r ≡ true
+pub inside_tape : (tape : ℕ) (tones : List ℕ) (r : Block) → well_block tape tones r ≡ true
     → (r.start + r.size ≤ tape) × (r.text + r.chars ≤ tape)
-inside-tape tape tones r e = let i = ranges-inside tape tones r (block-clauses tape tones r e).ranges in (i.bytes, i.name)
+inside_tape tape tones r e = let i = ranges_inside tape tones r (block_clauses tape tones r e).ranges in (i.bytes, i.name)

@@ -5,13 +5,13 @@ use Rattle.text_out.specs.Out.{ascii, decimal}
 use Rattle.text_codes.specs.Encoding.{spelled}
 
 -- `Program`, `Array`, `Bytes` for second byte 0, 1, 3, else `Type x`
-unfoldable pub typeName : ℕ → List ℕ
-typeName b =
+unfoldable pub type_name : ℕ → List ℕ
+type_name b =
     eqb b 0 ⇒ ascii "Program"
     ∣ eqb b 1 ⇒ ascii "Array"
     ∣ eqb b 3 ⇒ ascii "Bytes"
     ∣ ascii "Type " ++ decimal b
 
 -- then `: ` and bytes 2 to 11 through `SPECTRUM_ENCODING`; the header's data begin at `start`
-unfoldable pub headerName : List ℕ → ℕ → List ℕ
-headerName s start = typeName (get_or s (start + 1) 0) ++ (ascii ": " ++ spelled (take 10 (drop (start + 2) s)))
+unfoldable pub header_name : List ℕ → ℕ → List ℕ
+header_name s start = type_name (get_or s (start + 1) 0) ++ (ascii ": " ++ spelled (take 10 (drop (start + 2) s)))

@@ -1,12 +1,12 @@
 // A header's name as text.
 ghost use Rattle.std.specs.Prelude.{◌+◌, ◌^◌, ◌≤◌, ◌<◌, length};
 ghost use Rattle.text_out.specs.Out.{Wrote};
-ghost use Rattle.text_name.specs.Headers.{typeName, headerName};
+ghost use Rattle.text_name.specs.Headers.{type_name, header_name};
 
 // What a header's type byte is called.
 fn put_type(out: &mut [u8], at: usize, kind: u8) -> usize
     requires { at + 25 < 2 ^ 63 }
-    ensures { Wrote out.old at (typeName kind) out.new result }
+    ensures { Wrote out.old at (type_name kind) out.new result }
 {
     match kind {
         0 => text_out::put_all(out, at, b"Program"),
@@ -23,7 +23,7 @@ fn put_type(out: &mut [u8], at: usize, kind: u8) -> usize
 // The name of the header whose data begin at `start`.
 pub(crate) fn put_header(out: &mut [u8], at: usize, tape: &[u8], start: usize) -> usize
     requires { (start + 12 ≤ length tape.now) × (at + 128 < 2 ^ 63) }
-    ensures { Wrote out.old at (headerName tape.now start) out.new result }
+    ensures { Wrote out.old at (header_name tape.now start) out.new result }
 {
     let kind = tape[start + 1];
     let a = put_type(out, at, kind);

@@ -3,13 +3,13 @@ mod header;
 
 ghost use Rattle.std.specs.Prelude.{◌≡◌, ◌+◌, ◌*◌, ◌^◌, ◌≤◌, ◌<◌, length, get_or};
 ghost use Rattle.text_out.specs.Out.{Wrote};
-ghost use Rattle.text_name.specs.Names.{isHeader, sizeShown, sizeName, guessed, name_of};
+ghost use Rattle.text_name.specs.Names.{is_header, size_shown, size_name, guessed, name_of};
 
 use rows::Block;
 
 // The number of `n bytes`.
 fn size_shown(r: Block) -> u64
-    ensures { result ≡ sizeShown r }
+    ensures { result ≡ size_shown r }
 {
     if r.size == 0 {
         return r.tones / 8;
@@ -20,7 +20,7 @@ fn size_shown(r: Block) -> u64
 // The name of a block by its size.
 fn put_size(out: &mut [u8], at: usize, r: Block) -> usize
     requires { at + 128 < 2 ^ 63 }
-    ensures { Wrote out.old at (sizeName r) out.new result }
+    ensures { Wrote out.old at (size_name r) out.new result }
 {
     let a = text_out::put_decimal(out, at, size_shown(r));
     text_out::put_all(out, a, b" bytes")
@@ -39,7 +39,7 @@ fn byte_at(tape: &[u8], place: u64) -> u8
 
 // Whether a block's data are a header.
 pub fn is_header(tape: &[u8], r: Block) -> bool
-    ensures { result ≡ isHeader tape.now r }
+    ensures { result ≡ is_header tape.now r }
 {
     if r.size != 19 {
         return false;

@@ -7,7 +7,7 @@ use mathlib.Core.Path.{◌≡◌, refl, ap, ◌∙◌}
 use mathlib.Core.List.{List, [], ◌∷◌, ◌++◌}
 use lib.ListN.{length, get_or, drop, drop_of_length-le}
 use lib.Seq.{drop-cons}
-use Rattle.text_out.specs.Out.{Wrote, eachByte}
+use Rattle.text_out.specs.Out.{Wrote, each_byte}
 use Rattle.text_out.proofs.Writing.{wrote_nothing, then}
 
 -- `left i` is still to be written behind i things, of which none has taken more than k bytes: it ends what was begun
@@ -29,33 +29,33 @@ pub goes_over : {left : ℕ → List ℕ} {k : ℕ} {d₀ d : List ℕ} {at i o 
 goes_over {d = d} {o = o} g e = g.rest d o (rw e (wrote_nothing d o))
 
 -- the byte at i, and those behind it
-pub byte-here : (s : List ℕ) (i : ℕ) → i < length s → drop i s ≡ get_or s i 0 ∷ drop (i + 1) s
-byte-here s i h = drop-cons s i 0 h ∙ rw add-one
+pub byte_here : (s : List ℕ) (i : ℕ) → i < length s → drop i s ≡ get_or s i 0 ∷ drop (i + 1) s
+byte_here s i h = drop-cons s i 0 h ∙ rw add-one
 
 -- A TEXT FOR EACH BYTE of s, of at most k bytes
 pub record Spells (f : ℕ → List ℕ) (k : ℕ) (d₀ : List ℕ) (at : ℕ) (s : List ℕ) (i : ℕ) (d : List ℕ)
     (o : ℕ) : Type 0 where
-  pub goes : Goes (λ j. eachByte f (drop j s)) k d₀ at i d o
+  pub goes : Goes (λ j. each_byte f (drop j s)) k d₀ at i d o
 
 module _ {f : ℕ → List ℕ} {k : ℕ} {d₀ : List ℕ} {at : ℕ} {s : List ℕ} where
-  pub spells-none : Spells f k d₀ at s 0 d₀ at
-  spells-none = record { goes = goes_none _ k d₀ at }
+  pub spells_none : Spells f k d₀ at s 0 d₀ at
+  spells_none = record { goes = goes_none _ k d₀ at }
 
-  pub spells-on : {d d1 : List ℕ} {i o o1 : ℕ} → Spells f k d₀ at s i d o → i < length s → length (f (get_or s i 0)) ≤ k
+  pub spells_on : {d d1 : List ℕ} {i o o1 : ℕ} → Spells f k d₀ at s i d o → i < length s → length (f (get_or s i 0)) ≤ k
       → Wrote d o (f (get_or s i 0)) d1 o1 → Spells f k d₀ at s (i + 1) d1 o1
-  unfolding eachByte
-  spells-on {i = i} g h most w =
-      record { goes = goes_on 1 g.goes (ap (eachByte f) (byte-here s i h)) (omega (arith, most, mul-one k)) w }
+  unfolding each_byte
+  spells_on {i = i} g h most w =
+      record { goes = goes_on 1 g.goes (ap (each_byte f) (byte_here s i h)) (omega (arith, most, mul-one k)) w }
 
-  pub spells-over : {d : List ℕ} {i o : ℕ} → Spells f k d₀ at s i d o → length s ≤ i → Wrote d₀ at (eachByte f s) d o
-  unfolding eachByte
-  spells-over g h = goes_over g.goes (ap (eachByte f) (drop_of_length-le s h))
+  pub spells_over : {d : List ℕ} {i o : ℕ} → Spells f k d₀ at s i d o → length s ≤ i → Wrote d₀ at (each_byte f s) d o
+  unfolding each_byte
+  spells_over g h = goes_over g.goes (ap (each_byte f) (drop_of_length-le s h))
 
 -- each byte as it is
 abbrev pub itself : ℕ → List ℕ
 itself b = b ∷ []
 
-pub each-itself : (s : List ℕ) → eachByte itself s ≡ s
-unfolding eachByte
-each-itself [] = refl
-each-itself (b ∷ s) = ap (λ (l : List ℕ). b ∷ l) (each-itself s)
+pub each_itself : (s : List ℕ) → each_byte itself s ≡ s
+unfolding each_byte
+each_itself [] = refl
+each_itself (b ∷ s) = ap (λ (l : List ℕ). b ∷ l) (each_itself s)

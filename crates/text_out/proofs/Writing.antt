@@ -10,11 +10,11 @@ use lib.Seq.{sets, length-sets, sets-eq}
 use lib.Dec.{ltb}
 use borrow.Author.Tests.{lt-ltb, le-ltb, le-leb, lt-leb}
 use Rattle.law_base.specs.Rules.{◌⇒◌, ◌∣◌}
-use Rattle.text_out.specs.Out.{Wrote, digits, decimal, latin1, eachByte, fits, told, Fitted}
+use Rattle.text_out.specs.Out.{Wrote, digits, decimal, latin1, each_byte, fits, told, Fitted}
 
-sets-append : (d s t : List ℕ) (at : ℕ) → sets (sets d at s) (at + length s) t ≡ sets d at (s ++ t)
-sets-append d [] t at = rw add-zero
-sets-append d (a ∷ s) t at = rw (add-suc, ← suc-add at (length s)) (sets-append (set d at a) s t (suc at))
+sets_append : (d s t : List ℕ) (at : ℕ) → sets (sets d at s) (at + length s) t ≡ sets d at (s ++ t)
+sets_append d [] t at = rw add-zero
+sets_append d (a ∷ s) t at = rw (add-suc, ← suc-add at (length s)) (sets_append (set d at a) s t (suc at))
 
 pub wrote_nothing : (d : List ℕ) (at : ℕ) → Wrote d at [] d at
 wrote_nothing d at = record { count = sym (add-zero at); bytes = refl }
@@ -24,46 +24,46 @@ then {d} {d1} {d2} {s} {t} {at} {r1} {r2} p q = record {
   count = q.count ∙ ap (λ (n : ℕ). n + length t) p.count ∙ add_assoc at (length s) (length t)
       ∙ sym (ap (λ (n : ℕ). at + n) (length-append s t));
   bytes = q.bytes ∙ ap (λ (n : ℕ). sets d1 n t) p.count ∙ ap (λ (l : List ℕ). sets l (at + length s) t) p.bytes
-      ∙ sets-append d s t at;
+      ∙ sets_append d s t at;
 }
 
 pub same_len : {d d1 s : List ℕ} {at r : ℕ} → Wrote d at s d1 r → length d1 ≡ length d
 same_len {d} {d1} {s} {at} p = ap length p.bytes ∙ length-sets d at s
 
 -- a write from 0 on that has room leaves the text, and the bytes after it as they were
-pub wrote-whole : {d d1 t : List ℕ} {r : ℕ} → Wrote d 0 t d1 r → length t ≤ length d → d1 ≡ t ++ drop (length t) d
-wrote-whole {d} {d1} {t} p h =
+pub wrote_whole : {d d1 t : List ℕ} {r : ℕ} → Wrote d 0 t d1 r → length t ≤ length d → d1 ≡ t ++ drop (length t) d
+wrote_whole {d} {d1} {t} p h =
     let z : 0 + length t ≡ length t = omega arith in
     let h2 : 0 + length t ≤ length d = omega arith in
     p.bytes ∙ sets-eq t d 0 h2 ∙ ap (λ (n : ℕ). t ++ drop n d) z
 
 -- A DRY RUN AND THE RUN: a dry run counts the text;
 -- lent bytes that it says suffice then have the text told, and others are too short for it
-pub wrote-counted : {d d1 t : List ℕ} {n : ℕ} → Wrote d 0 t d1 n → n ≡ length t
-wrote-counted {d} {d1} {t} p = omega (arith, p.count)
+pub wrote_counted : {d d1 t : List ℕ} {n : ℕ} → Wrote d 0 t d1 n → n ≡ length t
+wrote_counted {d} {d1} {t} p = omega (arith, p.count)
 
-pub dry-told : {dry dry' out out' t : List ℕ} {n n' : ℕ} → Wrote dry 0 t dry' n → Wrote out 0 t out' n'
+pub dry_told : {dry dry' out out' t : List ℕ} {n n' : ℕ} → Wrote dry 0 t dry' n → Wrote out 0 t out' n'
     → n ≤ length out → Fitted t out out' n
 unfolding told
-dry-told {out = out} {t = t} p q h =
-    let r : fits t out ≡ true = le-leb (length t) (length out) (omega (arith, wrote-counted p)) in
-    record { count = wrote-counted p; room = r; bytes = wrote-whole q (omega (arith, wrote-counted p)) ∙ rw r }
+dry_told {out = out} {t = t} p q h =
+    let r : fits t out ≡ true = le-leb (length t) (length out) (omega (arith, wrote_counted p)) in
+    record { count = wrote_counted p; room = r; bytes = wrote_whole q (omega (arith, wrote_counted p)) ∙ rw r }
 
-pub dry-short : {dry dry' t : List ℕ} {n : ℕ} (out : List ℕ) → Wrote dry 0 t dry' n → length out < n
+pub dry_short : {dry dry' t : List ℕ} {n : ℕ} (out : List ℕ) → Wrote dry 0 t dry' n → length out < n
     → (fits t out ≡ false) × (told t out ≡ out)
 unfolding told
-dry-short {t = t} out p h =
-    let r : fits t out ≡ false = lt-leb (length t) (length out) (omega (arith, wrote-counted p)) in
+dry_short {t = t} out p h =
+    let r : fits t out ≡ false = lt-leb (length t) (length out) (omega (arith, wrote_counted p)) in
     (r, rw r)
 
 -- a text that was written into bytes that have room for it, and how many of these it takes
 module _ {t out out' : List ℕ} {n : ℕ} where
-  pub wrote-fitted : Wrote out 0 t out' n → length t ≤ length out → Fitted t out out' n
-  wrote-fitted w h = dry-told w w (omega (arith, wrote-counted w))
+  pub wrote_fitted : Wrote out 0 t out' n → length t ≤ length out → Fitted t out out' n
+  wrote_fitted w h = dry_told w w (omega (arith, wrote_counted w))
 
-  pub fitted-most : Fitted t out out' n → n ≤ length out'
+  pub fitted_most : Fitted t out out' n → n ≤ length out'
   unfolding told
-  fitted-most f =
+  fitted_most f =
       let e : out' ≡ t ++ drop (length t) out = f.bytes ∙ rw f.room in
       omega (arith, f.count, ap length e, length-append t (drop (length t) out))
 
@@ -107,8 +107,8 @@ latin1-length b = cases (ltb b 128)
 
 -- a text for each byte, where no byte's text is longer than k
 pub each-length : (f : ℕ → List ℕ) (k : ℕ) → ((b : ℕ) → length (f b) ≤ k) → (s : List ℕ)
-    → length (eachByte f s) ≤ k * length s
-unfolding eachByte
+    → length (each_byte f s) ≤ k * length s
+unfolding each_byte
 each-length f k h [] = omega arith
 each-length f k h (b ∷ s) = simp (length-append, mul-suc) (omega (arith, h b, each-length f k h s))
 
@@ -122,11 +122,11 @@ pub as_high : {d d1 : List ℕ} {at r : ℕ} (b : ℕ) → 128 ≤ b → Wrote d
 unfolding latin1
 as_high b k w = rw (le-ltb b 128 k) w
 
-pub as-digit : {d d1 : List ℕ} {at r : ℕ} (n : ℕ) → n < 10 → Wrote d at ((48 + n) ∷ []) d1 r → Wrote d at (decimal n) d1 r
+pub as_digit : {d d1 : List ℕ} {at r : ℕ} (n : ℕ) → n < 10 → Wrote d at ((48 + n) ∷ []) d1 r → Wrote d at (decimal n) d1 r
 unfolding decimal digits
-as-digit n h w = rw (lt-ltb n 10 h) w
+as_digit n h w = rw (lt-ltb n 10 h) w
 
-pub as-digits : {d d1 d2 : List ℕ} {at r1 r2 : ℕ} (n : ℕ) → 10 ≤ n → n < 2 ^ 64 → Wrote d at (decimal (n / 10)) d1 r1
+pub as_digits : {d d1 d2 : List ℕ} {at r1 r2 : ℕ} (n : ℕ) → 10 ≤ n → n < 2 ^ 64 → Wrote d at (decimal (n / 10)) d1 r1
     → Wrote d1 r1 ((48 + n % 10) ∷ []) d2 r2 → Wrote d at (decimal n) d2 r2
 unfolding decimal
-as-digits n h k p q = rw (digits_step n h k) (then p q)
+as_digits n h k p q = rw (digits_step n h k) (then p q)

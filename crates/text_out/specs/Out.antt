@@ -16,15 +16,15 @@ ascii []ᵗ = []
 ascii (c ∷ᵗ t) = code c ∷ ascii t
 
 -- a code point below 65,536 in UTF-8, and a text of such
-abbrev pub utf8Of : ℕ → List ℕ
-utf8Of n =
+abbrev pub utf8_of : ℕ → List ℕ
+utf8_of n =
     ltb n 128 ⇒ (n ∷ [])
     ∣ ltb n 2048 ⇒ ((192 + n / 64) ∷ (128 + n % 64) ∷ [])
     ∣ ((224 + n / 4096) ∷ (128 + n / 64 % 64) ∷ (128 + n % 64) ∷ [])
 
 abbrev pub utf8 : String → List ℕ
 utf8 []ᵗ = []
-utf8 (c ∷ᵗ t) = utf8Of (code c) ++ utf8 t
+utf8 (c ∷ᵗ t) = utf8_of (code c) ++ utf8 t
 
 -- a number in decimal, of f digits at the most; a number of 64 bits has no more than 20
 unfoldable pub digits : ℕ → ℕ → List ℕ
@@ -39,12 +39,12 @@ unfoldable pub latin1 : ℕ → List ℕ
 latin1 b = ltb b 128 ⇒ (b ∷ []) ∣ ((192 + b / 64) ∷ (128 + b % 64) ∷ [])
 
 -- the texts of bytes, one after the other
-unfoldable pub eachByte : (ℕ → List ℕ) → List ℕ → List ℕ
-eachByte f [] = []
-eachByte f (b ∷ bs) = f b ++ eachByte f bs
+unfoldable pub each_byte : (ℕ → List ℕ) → List ℕ → List ℕ
+each_byte f [] = []
+each_byte f (b ∷ bs) = f b ++ each_byte f bs
 
 abbrev pub latin : List ℕ → List ℕ
-latin bs = eachByte latin1 bs
+latin bs = each_byte latin1 bs
 
 -- lent bytes that are not shorter than a text
 abbrev pub fits : List ℕ → List ℕ → Bool
@@ -61,8 +61,8 @@ pub record Fitted (t out out' : List ℕ) (n : ℕ) : Type 0 where
   pub bytes : out' ≡ told t out
 
 -- `refused n` (rule 110), and the line of it
-unfoldable pub refusedText : ℕ → List ℕ
-refusedText k = ascii "refused " ++ decimal k
+unfoldable pub refused_text : ℕ → List ℕ
+refused_text k = ascii "refused " ++ decimal k
 
-unfoldable pub refusedLine : ℕ → List ℕ
-refusedLine k = refusedText k ++ ascii "\n"
+unfoldable pub refused_line : ℕ → List ℕ
+refused_line k = refused_text k ++ ascii "\n"

@@ -7,9 +7,9 @@ use Rattle.text_out.proofs.Writing.{decimal-length}
 use Rattle.play_entries.specs.declared.Phase.{Phase}
 use Rattle.play_entries.specs.declared.Phase.TheVariants.{Start, Tones, Data, Edge, Pause}
 use Rattle.play_entries.specs.declared.Duration.{Duration}
-use Rattle.text_value.proofs.Lengths.{flag-length, duration-length}
+use Rattle.text_value.proofs.Lengths.{flag-length, duration_length}
 use Rattle.play_walk.specs.declared.Stand.{Stand}
-use Rattle.text_trace.specs.Places.{spaced, numbers, phaseText, leftText, placeText}
+use Rattle.text_trace.specs.Places.{spaced, numbers, phase_text, left_text, place_text}
 
 pub spaced-length : (n : ℕ) → length (spaced n) ≤ 21
 unfolding spaced
@@ -20,20 +20,20 @@ unfolding numbers
 numbers-length n m v =
     simp length-append (omega (arith, spaced-length n, spaced-length m, flag-length v))
 
-pub phase-length : (f : Phase) → length (phaseText f) ≤ 48
-unfolding phaseText
-phase-length Start = omega arith
-phase-length (Tones i p v) = omega (arith, numbers-length i p v)
-phase-length (Data pos k v) = omega (arith, numbers-length pos k v)
-phase-length Edge = omega arith
-phase-length Pause = omega arith
+pub phase_length : (f : Phase) → length (phase_text f) ≤ 48
+unfolding phase_text
+phase_length Start = omega arith
+phase_length (Tones i p v) = omega (arith, numbers-length i p v)
+phase_length (Data pos k v) = omega (arith, numbers-length pos k v)
+phase_length Edge = omega arith
+phase_length Pause = omega arith
 
-pub rest-length : (d : Duration) (v : Bool) → length (leftText d v) ≤ 34
-unfolding leftText
-rest-length d v = simp length-append (omega (arith, duration-length d, flag-length v))
+pub rest-length : (d : Duration) (v : Bool) → length (left_text d v) ≤ 34
+unfolding left_text
+rest-length d v = simp length-append (omega (arith, duration_length d, flag-length v))
 
-pub place-length : (s : Stand) → length (placeText s) ≤ 103
-unfolding placeText
-place-length s =
+pub place_length : (s : Stand) → length (place_text s) ≤ 103
+unfolding place_text
+place_length s =
     simp length-append
-    (omega (arith, decimal-length s.position.block, phase-length s.position.phase, rest-length s.position.left s.level))
+    (omega (arith, decimal-length s.position.block, phase_length s.position.phase, rest-length s.position.left s.level))

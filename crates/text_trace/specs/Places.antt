@@ -4,7 +4,7 @@ use Rattle.text_out.specs.Out.{ascii, decimal}
 use Rattle.play_entries.specs.declared.Phase.{Phase}
 use Rattle.play_entries.specs.declared.Phase.TheVariants.{Start, Tones, Data, Edge, Pause}
 use Rattle.play_entries.specs.declared.Duration.{Duration}
-use Rattle.text_value.specs.Values.{flag, durationText}
+use Rattle.text_value.specs.Values.{flag, duration_text}
 use Rattle.play_walk.specs.declared.Stand.{Stand}
 
 -- ` n`
@@ -16,17 +16,17 @@ unfoldable pub numbers : ℕ → ℕ → Bool → List ℕ
 numbers n m last = spaced n ++ spaced m ++ (0x20 ∷ flag last)
 
 -- `start`; `tone` with row, cycle and half; `data` with byte, bit and half; `edge`; `pause`
-unfoldable pub phaseText : Phase → List ℕ
-phaseText Start = ascii "start"
-phaseText (Tones i p last) = ascii "tone" ++ numbers i p last
-phaseText (Data pos k last) = ascii "data" ++ numbers pos k last
-phaseText Edge = ascii "edge"
-phaseText Pause = ascii "pause"
+unfoldable pub phase_text : Phase → List ℕ
+phase_text Start = ascii "start"
+phase_text (Tones i p last) = ascii "tone" ++ numbers i p last
+phase_text (Data pos k last) = ascii "data" ++ numbers pos k last
+phase_text Edge = ascii "edge"
+phase_text Pause = ascii "pause"
 
 -- ` left LEFT level LEVEL`
-unfoldable pub leftText : Duration → Bool → List ℕ
-leftText left level = ascii " left " ++ durationText left ++ ascii " level " ++ flag level
+unfoldable pub left_text : Duration → Bool → List ℕ
+left_text left level = ascii " left " ++ duration_text left ++ ascii " level " ++ flag level
 
 -- `BLOCK PHASE left LEFT level LEVEL`
-unfoldable pub placeText : Stand → List ℕ
-placeText s = decimal s.position.block ++ ascii " " ++ phaseText s.position.phase ++ leftText s.position.left s.level
+unfoldable pub place_text : Stand → List ℕ
+place_text s = decimal s.position.block ++ ascii " " ++ phase_text s.position.phase ++ left_text s.position.left s.level

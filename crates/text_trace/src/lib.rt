@@ -2,9 +2,9 @@
 mod place;
 
 ghost use Rattle.std.specs.Prelude.{◌+◌, ◌^◌, ◌<◌};
-ghost use Rattle.text_out.specs.Out.{Wrote, refusedText, refusedLine};
-ghost use Rattle.text_trace.specs.Lines.{selectedText, standLine, passedLine, sourceLine};
-ghost use Rattle.text_trace.specs.Lines.{measuredLine, line_of};
+ghost use Rattle.text_out.specs.Out.{Wrote, refused_text, refused_line};
+ghost use Rattle.text_trace.specs.Lines.{selected_text, stand_line, passed_line, source_line};
+ghost use Rattle.text_trace.specs.Lines.{measured_line, line_of};
 
 use place::put_place;
 use play_deck::Selected;
@@ -15,7 +15,7 @@ use text_out::{put, put_all, put_decimal};
 // `refused n`
 fn put_refused(out: &mut [u8], at: usize, k: u32) -> usize
     requires { at + 32 < 2 ^ 63 }
-    ensures { Wrote out.old at (refusedText k) out.new result }
+    ensures { Wrote out.old at (refused_text k) out.new result }
 {
     let x = put_all(out, at, b"refused ");
     put_decimal(out, x, k as u64)
@@ -24,7 +24,7 @@ fn put_refused(out: &mut [u8], at: usize, k: u32) -> usize
 // The same, to the end of the line; our crates alone call it.
 pub fn put_refusal(out: &mut [u8], at: usize, k: u32) -> usize
     requires { at + 32 < 2 ^ 63 }
-    ensures { Wrote out.old at (refusedLine k) out.new result }
+    ensures { Wrote out.old at (refused_line k) out.new result }
 {
     let x = put_refused(out, at, k);
     put(out, x, b'\n')
@@ -33,7 +33,7 @@ pub fn put_refusal(out: &mut [u8], at: usize, k: u32) -> usize
 // The block that it is shown under.
 fn put_selected(out: &mut [u8], at: usize, b: Selected) -> usize
     requires { at + 32 < 2 ^ 63 }
-    ensures { Wrote out.old at (selectedText b) out.new result }
+    ensures { Wrote out.old at (selected_text b) out.new result }
 {
     match b {
         Selected::Block(n) => put_decimal(out, at, n),
@@ -45,7 +45,7 @@ fn put_selected(out: &mut [u8], at: usize, b: Selected) -> usize
 // Both, to the end of the line.
 fn put_shown(out: &mut [u8], at: usize, s: Stand, b: Selected) -> usize
     requires { at + 160 < 2 ^ 63 }
-    ensures { Wrote out.old at (standLine s b) out.new result }
+    ensures { Wrote out.old at (stand_line s b) out.new result }
 {
     let x = put_place(out, at, s);
     let y = put_all(out, x, b" selected ");
@@ -56,7 +56,7 @@ fn put_shown(out: &mut [u8], at: usize, s: Stand, b: Selected) -> usize
 // A line of the source's play.
 fn put_source(out: &mut [u8], at: usize, answer: Reached, b: Selected) -> usize
     requires { at + 160 < 2 ^ 63 }
-    ensures { Wrote out.old at (sourceLine answer b) out.new result }
+    ensures { Wrote out.old at (source_line answer b) out.new result }
 {
     match answer {
         Reached::At(s) => put_shown(out, at, s, b),
@@ -70,7 +70,7 @@ fn put_source(out: &mut [u8], at: usize, answer: Reached, b: Selected) -> usize
 // The entries passed, then where the head is.
 fn put_told(out: &mut [u8], at: usize, s: Stand, b: Selected) -> usize
     requires { at + 200 < 2 ^ 63 }
-    ensures { Wrote out.old at (passedLine s b) out.new result }
+    ensures { Wrote out.old at (passed_line s b) out.new result }
 {
     let x = put_all(out, at, b" passed ");
     let y = put_decimal(out, x, s.passed);
@@ -81,7 +81,7 @@ fn put_told(out: &mut [u8], at: usize, s: Stand, b: Selected) -> usize
 // A line of the measured player.
 fn put_measured(out: &mut [u8], at: usize, answer: Reached, b: Selected) -> usize
     requires { at + 240 < 2 ^ 63 }
-    ensures { Wrote out.old at (measuredLine answer b) out.new result }
+    ensures { Wrote out.old at (measured_line answer b) out.new result }
 {
     match answer {
         Reached::At(s) => {

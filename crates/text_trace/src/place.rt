@@ -1,7 +1,7 @@
 // The text of a place: where a call leaves the head.
 ghost use Rattle.std.specs.Prelude.{◌+◌, ◌^◌, ◌<◌};
 ghost use Rattle.text_out.specs.Out.{Wrote};
-ghost use Rattle.text_trace.specs.Places.{spaced, numbers, phaseText, leftText, placeText};
+ghost use Rattle.text_trace.specs.Places.{spaced, numbers, phase_text, left_text, place_text};
 
 use play_entries::{Duration, Phase};
 use play_walk::Stand;
@@ -31,7 +31,7 @@ fn put_numbers(out: &mut [u8], at: usize, n: u64, m: u64, last: bool) -> usize
 // Where an entry stands in its block.
 fn put_phase(out: &mut [u8], at: usize, f: Phase) -> usize
     requires { at + 72 < 2 ^ 63 }
-    ensures { Wrote out.old at (phaseText f) out.new result }
+    ensures { Wrote out.old at (phase_text f) out.new result }
 {
     match f {
         Phase::Start => put_all(out, at, b"start"),
@@ -59,7 +59,7 @@ fn put_phase(out: &mut [u8], at: usize, f: Phase) -> usize
 // What is left, and the level.
 fn put_rest(out: &mut [u8], at: usize, left: Duration, level: bool) -> usize
     requires { at + 40 < 2 ^ 63 }
-    ensures { Wrote out.old at (leftText left level) out.new result }
+    ensures { Wrote out.old at (left_text left level) out.new result }
 {
     let a = put_all(out, at, b" left ");
     let b = put_duration(out, a, left);
@@ -70,7 +70,7 @@ fn put_rest(out: &mut [u8], at: usize, left: Duration, level: bool) -> usize
 // Where a call leaves the head.
 pub(crate) fn put_place(out: &mut [u8], at: usize, s: Stand) -> usize
     requires { at + 128 < 2 ^ 63 }
-    ensures { Wrote out.old at (placeText s) out.new result }
+    ensures { Wrote out.old at (place_text s) out.new result }
 {
     let q = s.position;
     let f = q.phase;

@@ -10,10 +10,10 @@ flag false = ascii "0"
 flag true = ascii "1"
 
 -- T-states, or a word for what never ends
-abbrev pub lastsText : List ℕ → Duration → List ℕ
-lastsText word (T n) = decimal n
-lastsText word Endless = word
+abbrev pub lasts_text : List ℕ → Duration → List ℕ
+lasts_text word (T n) = decimal n
+lasts_text word Endless = word
 
 -- that word is `endless`
-unfoldable pub durationText : Duration → List ℕ
-durationText d = lastsText (ascii "endless") d
+unfoldable pub duration_text : Duration → List ℕ
+duration_text d = lasts_text (ascii "endless") d

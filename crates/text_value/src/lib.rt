@@ -1,7 +1,7 @@
 // Small values as text: a flag, a duration. Our crates alone call it: the place is far from overflow.
 ghost use Rattle.std.specs.Prelude.{◌+◌, ◌^◌, ◌<◌, ◌≤◌, length};
 ghost use Rattle.text_out.specs.Out.{Wrote};
-ghost use Rattle.text_value.specs.Values.{flag, lastsText, durationText};
+ghost use Rattle.text_value.specs.Values.{flag, lasts_text, duration_text};
 
 use play_entries::Duration;
 use text_out::{put, put_all, put_decimal};
@@ -21,7 +21,7 @@ pub fn put_flag(out: &mut [u8], at: usize, v: bool) -> usize
 pub fn put_lasts(out: &mut [u8], at: usize, d: Duration, word: &[u8]) -> usize
     requires at_bound { at + 20 < 2 ^ 63 }
     requires word_len_bound { length word.now ≤ 20 }
-    ensures { Wrote out.old at (lastsText word.now d) out.new result }
+    ensures { Wrote out.old at (lasts_text word.now d) out.new result }
 {
     match d {
         Duration::T(n) => put_decimal(out, at, n),
@@ -32,7 +32,7 @@ pub fn put_lasts(out: &mut [u8], at: usize, d: Duration, word: &[u8]) -> usize
 // T-states, or `endless`.
 pub fn put_duration(out: &mut [u8], at: usize, d: Duration) -> usize
     requires { at + 20 < 2 ^ 63 }
-    ensures { Wrote out.old at (durationText d) out.new result }
+    ensures { Wrote out.old at (duration_text d) out.new result }
 {
     put_lasts(out, at, d, b"endless")
 }

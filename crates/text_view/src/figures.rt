@@ -1,8 +1,8 @@
 // The numbers of a view's line, up to the name, written into lent bytes. Our programs alone call it.
 ghost use Rattle.std.specs.Prelude.{◌+◌, ◌^◌, ◌<◌, length, eqb};
 ghost use Rattle.text_out.specs.Out.{Wrote};
-ghost use Rattle.play_entries.specs.Entries.{wholePause};
-ghost use Rattle.text_view.specs.Dump.{field, selText, bitsText, endText, headText};
+ghost use Rattle.play_entries.specs.Entries.{whole_pause};
+ghost use Rattle.text_view.specs.Dump.{field, sel_text, bits_text, end_text, head_text};
 
 use play_entries::Duration;
 use play_phases::whole_pause;
@@ -22,7 +22,7 @@ fn put_field(out: &mut [u8], at: usize, word: &[u8], n: u64) -> usize
 // A block's number and mark.
 fn put_mark(out: &mut [u8], at: usize, i: u64, selectable: bool) -> usize
     requires { at + 26 < 2 ^ 63 }
-    ensures { Wrote out.old at (selText i selectable) out.new result }
+    ensures { Wrote out.old at (sel_text i selectable) out.new result }
 {
     let a = put_decimal(out, at, i);
     let b = put_all(out, a, b" sel=");
@@ -32,7 +32,7 @@ fn put_mark(out: &mut [u8], at: usize, i: u64, selectable: bool) -> usize
 // The lengths of its bits.
 fn put_bits(out: &mut [u8], at: usize, zero: u64, one: u64, last: u64) -> usize
     requires { at + 77 < 2 ^ 63 }
-    ensures { Wrote out.old at (bitsText zero one last) out.new result }
+    ensures { Wrote out.old at (bits_text zero one last) out.new result }
 {
     let a = put_field(out, at, b" zero=", zero);
     let b = put_field(out, a, b" one=", one);
@@ -42,7 +42,7 @@ fn put_bits(out: &mut [u8], at: usize, zero: u64, one: u64, last: u64) -> usize
 // Its pause, and the name's word.
 fn put_end(out: &mut [u8], at: usize, pause: Duration) -> usize
     requires { at + 33 < 2 ^ 63 }
-    ensures { Wrote out.old at (endText pause) out.new result }
+    ensures { Wrote out.old at (end_text pause) out.new result }
 {
     let a = put_all(out, at, b" pause=");
     let b = put_duration(out, a, pause);
@@ -53,7 +53,7 @@ fn put_end(out: &mut [u8], at: usize, pause: Duration) -> usize
 pub fn put_head(out: &mut [u8], at: usize, i: u64, r: Block) -> usize
     requires { at + 136 < 2 ^ 63 }
     ensures { Wrote out.old
-        at (headText i (eqb r.selectable 1) r.zero r.one r.last (wholePause r)) out.new result }
+        at (head_text i (eqb r.selectable 1) r.zero r.one r.last (whole_pause r)) out.new result }
 {
     let a = put_mark(out, at, i, r.selectable == 1);
     let b = put_bits(out, a, r.zero, r.one, r.last);

@@ -5,8 +5,8 @@ mod figures;
 ghost use Rattle.std.specs.Prelude.{◌≡◌, ◌+◌, ◌*◌, ◌^◌, ◌<◌, ◌≤◌, length};
 ghost use Rattle.rows.specs.Rows.{tone};
 ghost use Rattle.text_out.specs.Out.{Wrote};
-ghost use Rattle.text_view.specs.View.{tonesFrom};
-ghost use Rattle.text_view.specs.Dump.{digit, hex, hexAll, toneText, tonesText};
+ghost use Rattle.text_view.specs.View.{tones_from};
+ghost use Rattle.text_view.specs.Dump.{digit, hex, hex_all, tone_text, tones_text};
 
 pub use figures::put_head;
 use rows::{Tone, tone_at};
@@ -32,7 +32,7 @@ fn put_byte(out: &mut [u8], at: usize, b: u8) -> usize
 // All of s, two digits a byte.
 pub fn put_hex(out: &mut [u8], at: usize, s: &[u8]) -> usize
     requires { at + 2 * length s.now < 2 ^ 63 }
-    ensures { Wrote out.old at (hexAll s.now) out.new result }
+    ensures { Wrote out.old at (hex_all s.now) out.new result }
 {
     let mut o = at;
     let mut i = 0;
@@ -46,7 +46,7 @@ pub fn put_hex(out: &mut [u8], at: usize, s: &[u8]) -> usize
 // A tone row.
 fn put_tone(out: &mut [u8], at: usize, t: Tone) -> usize
     requires { at + 63 < 2 ^ 63 }
-    ensures { Wrote out.old at (toneText t) out.new result }
+    ensures { Wrote out.old at (tone_text t) out.new result }
 {
     let a = put_decimal(out, at, t.num);
     let b = put(out, a, b'x');
@@ -60,7 +60,7 @@ fn put_tone(out: &mut [u8], at: usize, t: Tone) -> usize
 pub fn put_tones(out: &mut [u8], at: usize, tones: &[u64], from: usize, n: usize) -> usize
     requires width_in_bounds { (from + n) * tone.width ≤ length tones.now }
     requires n_bound { at + 63 * n < 2 ^ 62 }
-    ensures { Wrote out.old at (tonesText (tonesFrom tones.now from n)) out.new result }
+    ensures { Wrote out.old at (tones_text (tones_from tones.now from n)) out.new result }
 {
     let mut o = at;
     let mut i = 0;

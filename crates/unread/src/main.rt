@@ -2,8 +2,8 @@
 // was read, or `refused n`; of refusal 3 also what both attempts met.
 ghost use Rattle.std.specs.Prelude.{◌≡◌, ◌≤◌, length};
 ghost use Rattle.text_out.specs.Out.{Fitted};
-ghost use Rattle.prog_unread.specs.Report.{fullBlocks, fullTones};
-ghost use Rattle.unread.specs.Heard.{unreadHeard};
+ghost use Rattle.prog_unread.specs.Report.{full_blocks, full_tones};
+ghost use Rattle.unread.specs.Heard.{unread_heard};
 
 use load_tape::Loaded;
 use prog_model::model_of;
@@ -12,9 +12,9 @@ use refusals::BAD_MODEL;
 
 // What is printed of the input, into the front of `out`; the count of its bytes.
 fn answer(input: &[u8], blocks: &mut [u64], tones: &mut [u64], out: &mut [u8]) -> usize
-    requires blocks_len { (length blocks.old ≡ fullBlocks) × (length tones.old ≡ fullTones) }
+    requires blocks_len { (length blocks.old ≡ full_blocks) × (length tones.old ≡ full_tones) }
     requires in_bounds { 256 ≤ length out.old }
-    ensures { Fitted (unreadHeard input.now) out.old out.new result }
+    ensures { Fitted (unread_heard input.now) out.old out.new result }
 {
     if input.len() == 0 {
         let none = Loaded::Refused(BAD_MODEL);
@@ -26,7 +26,7 @@ fn answer(input: &[u8], blocks: &mut [u64], tones: &mut [u64], out: &mut [u8]) -
 
 // Reads the input into lent bytes, and writes what the answer says of it.
 fn print(input: &mut [u8], blocks: &mut [u64], tones: &mut [u64], out: &mut [u8])
-    requires blocks_len { (length blocks.old ≡ fullBlocks) × (length tones.old ≡ fullTones) }
+    requires blocks_len { (length blocks.old ≡ full_blocks) × (length tones.old ≡ full_tones) }
     requires in_bounds { 256 ≤ length out.old }
 {
     let n = io::read_full(0, input);

@@ -3,7 +3,7 @@ use native.Mathlib.Omega.{arith}
 use mathlib.Core.Path.{ap}
 use borrow.Author.Rules.{rules}
 use Rattle.rows.specs.declared.Block.{Block}
-use Rattle.play_entries.specs.Mounted.{tapeOf}
+use Rattle.play_entries.specs.Mounted.{tape_of}
 use Rattle.ask.specs.declared.Number.TheVariants.{Is}
 use Rattle.ask.specs.Queries.{size_of}
 use Rattle.ask.proofs.Refusals.{asked, number-refused, number-given}
@@ -21,7 +21,7 @@ returns c =
 block-at-requires : tie.Need-block-at-requires
 block-at-requires c κs =
     let a = c.before.before.before.before.before.args in
-    let q = asked (tapeOf a.tape.now a.tones.now a.blocks.now a.count) a.i _ c.before.refusal.ensures
+    let q = asked (tape_of a.tape.now a.tones.now a.blocks.now a.count) a.i _ c.before.refusal.ensures
     c.if1.false in
     omega arith
 

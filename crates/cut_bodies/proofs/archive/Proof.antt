@@ -1,5 +1,5 @@
 -- `archive` meets its contract. Assumes nothing.
-use Rattle.cut_grammar.specs.Grammar.{readAt, enclosed}
+use Rattle.cut_grammar.specs.Grammar.{read_at, enclosed}
 use Rattle.cut_grammar.specs.Kinds.{kind32}
 use Rattle.cut_fields.proofs.Runs.{field-inside}
 use lib.Seq.{length-take-le}
@@ -36,14 +36,14 @@ enum-known-at : tie.Need-enum-known-at
 enum-known-at c = search rules
 
 returns : tie.Need-returns
-unfolding kind32 readAt enclosed
+unfolding kind32 read_at enclosed
 returns c =
     let end = c.before.before.before.before in
     let field = end.before.before.before.before in
     rw (c.sealed.ensures, c.before.info.ensures, ← field.field.ensures, ← end.before.before.pass.ensures, end.end.given.1)
 
 returns-2 : tie.Need-returns-2
-unfolding kind32 readAt enclosed
+unfolding kind32 read_at enclosed
 returns-2 c =
     let pass = c.before.before.before in
     rw (← pass.before.before.field.ensures, ← pass.pass.ensures, c.before.at.given.1)

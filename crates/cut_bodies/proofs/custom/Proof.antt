@@ -1,5 +1,5 @@
 -- `custom` meets its contract. Assumes nothing.
-use Rattle.cut_grammar.specs.Grammar.{readAt, passAt}
+use Rattle.cut_grammar.specs.Grammar.{read_at, pass_at}
 use Rattle.cut_grammar.specs.Kinds.{kind35}
 use borrow.Author.Rules.{rules}
 use Rattle.cut_bodies.proofs.custom.Statement.{statement}
@@ -15,7 +15,7 @@ whole-requires : tie.Need-whole-requires
 whole-requires c κs = search rules
 
 returns : tie.Need-returns
-unfolding kind35 readAt passAt
+unfolding kind35 read_at pass_at
 returns c =
     rw (c.whole.ensures, c.before.counted.ensures, c.before.before.pass.ensures)
 

@@ -1,5 +1,5 @@
 -- `group_start` meets its contract. Assumes nothing.
-use Rattle.cut_grammar.specs.Grammar.{readAt, passAt}
+use Rattle.cut_grammar.specs.Grammar.{read_at, pass_at}
 use Rattle.cut_grammar.specs.Kinds.{kind21}
 use borrow.Author.Rules.{rules}
 use Rattle.cut_bodies.proofs.group_start.Statement.{statement}
@@ -12,7 +12,7 @@ whole-requires : tie.Need-whole-requires
 whole-requires c κs = search rules
 
 returns : tie.Need-returns
-unfolding kind21 readAt passAt
+unfolding kind21 read_at pass_at
 returns c =
     rw (c.whole.ensures, c.before.counted.ensures)
 

@@ -1,5 +1,5 @@
 -- `hardware` meets its contract. Assumes nothing.
-use Rattle.cut_grammar.specs.Grammar.{readAt, passAt}
+use Rattle.cut_grammar.specs.Grammar.{read_at, pass_at}
 use Rattle.cut_grammar.specs.Kinds.{kind33}
 use borrow.Author.Rules.{rules}
 use Rattle.cut_bodies.proofs.hardware.Statement.{statement}
@@ -18,7 +18,7 @@ whole-requires : tie.Need-whole-requires
 whole-requires c κs = search rules
 
 returns : tie.Need-returns
-unfolding kind33 readAt passAt
+unfolding kind33 read_at pass_at
 returns c =
     rw (c.whole.ensures, c.before.groups.ensures, c.before.before.before.field.ensures)
 

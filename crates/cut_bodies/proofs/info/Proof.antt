@@ -1,5 +1,5 @@
 -- `info` meets its contract. Assumes nothing.
-use Rattle.cut_grammar.specs.Grammar.{readAt, passAt}
+use Rattle.cut_grammar.specs.Grammar.{read_at, pass_at}
 use Rattle.cut_grammar.specs.Kinds.{info32}
 use borrow.Author.Rules.{rules}
 use Rattle.cut_bodies.proofs.info.Statement.{statement}
@@ -15,7 +15,7 @@ whole-requires : tie.Need-whole-requires
 whole-requires c κs = search rules
 
 returns : tie.Need-returns
-unfolding info32 readAt passAt
+unfolding info32 read_at pass_at
 returns c =
     rw (c.whole.ensures, c.before.texts.ensures, c.before.before.field.ensures)
 

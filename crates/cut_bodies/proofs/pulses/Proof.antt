@@ -1,5 +1,5 @@
 -- `pulses` meets its contract. Assumes nothing.
-use Rattle.cut_grammar.specs.Grammar.{readAt, passAt}
+use Rattle.cut_grammar.specs.Grammar.{read_at, pass_at}
 use Rattle.cut_grammar.specs.Kinds.{kind13}
 use borrow.Author.Rules.{rules}
 use Rattle.cut_bodies.proofs.pulses.Statement.{statement}
@@ -21,7 +21,7 @@ whole-requires : tie.Need-whole-requires
 whole-requires c κs = search rules
 
 returns : tie.Need-returns
-unfolding kind13 readAt passAt
+unfolding kind13 read_at pass_at
 returns c =
     let place = c.before.before.before in
     rw (c.whole.ensures, c.before.each.ensures, place.place.ensures, place.before.field.ensures)

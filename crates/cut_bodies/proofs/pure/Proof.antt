@@ -1,5 +1,5 @@
 -- `pure` meets its contract. Assumes nothing.
-use Rattle.cut_grammar.specs.Grammar.{readAt, passAt}
+use Rattle.cut_grammar.specs.Grammar.{read_at, pass_at}
 use Rattle.cut_grammar.specs.Kinds.{kind14}
 use borrow.Author.Rules.{rules}
 use Rattle.cut_bodies.proofs.pure.Statement.{statement}
@@ -24,7 +24,7 @@ whole-requires : tie.Need-whole-requires
 whole-requires c κs = search rules
 
 returns : tie.Need-returns
-unfolding kind14 readAt passAt
+unfolding kind14 read_at pass_at
 returns c =
     let after2 = c.before.before.before in
     rw (

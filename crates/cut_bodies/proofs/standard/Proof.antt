@@ -1,5 +1,5 @@
 -- `standard` meets its contract. Assumes nothing.
-use Rattle.cut_grammar.specs.Grammar.{readAt, passAt}
+use Rattle.cut_grammar.specs.Grammar.{read_at, pass_at}
 use Rattle.cut_grammar.specs.Kinds.{kind10}
 use borrow.Author.Rules.{rules}
 use Rattle.cut_bodies.proofs.standard.Statement.{statement}
@@ -15,7 +15,7 @@ whole-requires : tie.Need-whole-requires
 whole-requires c κs = search rules
 
 returns : tie.Need-returns
-unfolding kind10 readAt passAt
+unfolding kind10 read_at pass_at
 returns c =
     rw (c.whole.ensures, c.before.counted.ensures, c.before.before.field.ensures)
 

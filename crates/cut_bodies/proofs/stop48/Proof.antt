@@ -1,6 +1,6 @@
 -- `stop48` meets its contract. Assumes nothing.
-use Rattle.cut_grammar.specs.Grammar.{readAt, passAt}
-use Rattle.cut_grammar.specs.Kinds.{kind2A}
+use Rattle.cut_grammar.specs.Grammar.{read_at, pass_at}
+use Rattle.cut_grammar.specs.Kinds.{kind_2a}
 use borrow.Author.Rules.{rules}
 use Rattle.cut_bodies.proofs.stop48.Statement.{statement}
 use Rattle.cut_bodies.proofs.stop48.Tie as tie
@@ -12,7 +12,7 @@ whole-requires : tie.Need-whole-requires
 whole-requires c κs = search rules
 
 returns : tie.Need-returns
-unfolding kind2A readAt passAt
+unfolding kind_2a read_at pass_at
 returns c =
     rw (c.whole.ensures, c.before.field.ensures)
 

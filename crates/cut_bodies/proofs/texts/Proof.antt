@@ -1,7 +1,7 @@
 -- `texts` meets its contract. Assumes nothing.
 use Rattle.cut_fields.specs.Run.{times}
-use Rattle.cut_grammar.proofs.Turns.{texts-more}
-use Rattle.cut_grammar.specs.Grammar.{textsAt}
+use Rattle.cut_grammar.proofs.Turns.{texts_more}
+use Rattle.cut_grammar.specs.Grammar.{texts_at}
 use borrow.Author.Rules.{rules}
 use native.Mathlib.Omega.{arith}
 use mathlib.Core.Path.{◌≡◌, refl, sym, ◌∙◌}
@@ -9,7 +9,7 @@ use Rattle.cut_bodies.proofs.texts.Statement.{statement}
 use Rattle.cut_bodies.proofs.texts.Tie as tie
 
 abbrev invariant-loop : tie.invariant-loop
-invariant-loop tape n at₀ left₀ at left = textsAt tape at left ≡ textsAt tape at₀ left₀
+invariant-loop tape n at₀ left₀ at left = texts_at tape at left ≡ texts_at tape at₀ left₀
 
 abbrev decreases-loop : tie.decreases-loop
 decreases-loop tape n at₀ left₀ at left = left
@@ -36,11 +36,11 @@ loop-again c =
     rw (
       c.counted.ensures,
       c.before.field.ensures,
-    ) (sym (texts-more loop.before.before.args.tape.now loop.loop.at loop.loop.left c.before.before.loop-test.true))
+    ) (sym (texts_more loop.before.before.args.tape.now loop.loop.at loop.loop.left c.before.before.loop-test.true))
     ∙ loop.loop.invariant
 
 returns : tie.Need-returns invariant-loop decreases-loop
-unfolding textsAt times
+unfolding texts_at times
 returns c =
     let z : c.before.loop.left ≡ 0 = omega arith in rw z at c.before.loop.invariant
 

@@ -1,5 +1,5 @@
 -- `turbo` meets its contract. Assumes nothing.
-use Rattle.cut_grammar.specs.Grammar.{readAt, passAt}
+use Rattle.cut_grammar.specs.Grammar.{read_at, pass_at}
 use Rattle.cut_grammar.specs.Kinds.{kind11}
 use borrow.Author.Rules.{rules}
 use Rattle.cut_bodies.proofs.turbo.Statement.{statement}
@@ -36,7 +36,7 @@ whole-requires : tie.Need-whole-requires
 whole-requires c κs = search rules
 
 returns : tie.Need-returns
-unfolding kind11 readAt passAt
+unfolding kind11 read_at pass_at
 returns c =
     let after6 = c.before.before.before in
     let after3 = after6.before.before.before in

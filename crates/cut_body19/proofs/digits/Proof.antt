@@ -1,6 +1,6 @@
--- `binaryDigits` meets its contract. Assumes nothing.
+-- `binary_digits` meets its contract. Assumes nothing.
 use Rattle.cut_grammar.proofs.Turns.{digits-zero, digits_more}
-use Rattle.cut_grammar.specs.Grammar.{binaryDigits}
+use Rattle.cut_grammar.specs.Grammar.{binary_digits}
 use borrow.Author.Rules.{rules}
 use native.Mathlib.Omega.{arith}
 use mathlib.Core.Path.{◌≡◌, sym, ◌∙◌}
@@ -9,7 +9,7 @@ use Rattle.cut_body19.proofs.digits.Statement.{statement}
 use Rattle.cut_body19.proofs.digits.Tie as tie
 
 abbrev invariant-loop : tie.invariant-loop
-invariant-loop n left₀ k₀ left k = (k ≤ 32) × (k + binaryDigits (32 - k) left ≡ binaryDigits 32 n)
+invariant-loop n left₀ k₀ left k = (k ≤ 32) × (k + binary_digits (32 - k) left ≡ binary_digits 32 n)
 
 abbrev decreases-loop : tie.decreases-loop
 decreases-loop n left₀ k₀ left k = 32 - k
@@ -34,7 +34,7 @@ loop-again c =
     (omega arith, sym (digits_more loop.loop.k loop.loop.left c.before.loop-test.true c.if1.false) ∙ loop.loop.invariant.1)
 
 returns-2 : tie.Need-returns-2 invariant-loop decreases-loop
-unfolding binaryDigits
+unfolding binary_digits
 returns-2 c =
     let z : 32 - c.before.loop.k ≡ 0 = omega arith in omega (arith, rw z at c.before.loop.invariant.1)
 

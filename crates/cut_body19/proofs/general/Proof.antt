@@ -5,7 +5,7 @@ use Rattle.cut_fields.specs.declared.Cursor.{Cursor}
 use Rattle.cut_grammar.specs.declared.Body.{Body}
 use Rattle.cut_grammar.specs.declared.GeneralHead.{GeneralHead}
 use Rattle.cut_grammar.specs.Steps.{head19, tables19}
-use Rattle.cut_grammar.specs.Grammar.{readAt, passAt}
+use Rattle.cut_grammar.specs.Grammar.{read_at, pass_at}
 use Rattle.cut_grammar.specs.Kinds.{kind19}
 use Prim.Native.Nat.{ℕ, ◌*◌, ◌+◌, ◌≤◌, ◌<◌, ◌^◌}
 use native.Mathlib.Nat.{mul-le-mul}
@@ -90,8 +90,8 @@ stream-requires c κs = search rules
 
 -- the head, then the tables
 head-tables : (full : ℕ) (s : List ℕ) (c : Cursor) {h : GeneralHead} {b : Body} → h ≡ head19 s c → b ≡ tables19 full s h
-    → b ≡ readAt (kind19 full) s c
-unfolding kind19 readAt passAt head19 tables19
+    → b ≡ read_at (kind19 full) s c
+unfolding kind19 read_at pass_at head19 tables19
 head-tables full s c e q = q ∙ ap (tables19 full s) e
 
 returns : tie.Need-returns

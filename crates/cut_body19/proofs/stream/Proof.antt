@@ -1,7 +1,7 @@
 -- `stream` meets its contract. Assumes nothing.
 use Rattle.cut_fields.proofs.Runs.{each-stopped, stopped}
 use Rattle.cut_grammar.specs.Kinds.{stream19}
-use Rattle.cut_grammar.specs.Grammar.{readAt, passAt, whole_at, fittingAt}
+use Rattle.cut_grammar.specs.Grammar.{read_at, pass_at, whole_at, fitting_at}
 use borrow.Author.Tests.{le-leb, lt-leb}
 use borrow.Author.Rules.{rules}
 use Rattle.cut_body19.proofs.stream.Statement.{statement}
@@ -20,18 +20,18 @@ enum-known-c-2 : tie.Need-enum-known-c-2
 enum-known-c-2 c = search rules
 
 returns : tie.Need-returns
-unfolding stream19 readAt passAt fittingAt
+unfolding stream19 read_at pass_at fitting_at
 returns c =
     let at_c = c.before.before.before.before in
     rw (c.whole.ensures, c.before.each.ensures, at_c.c.given.1, le-leb _ _ c.before.before.if1.true)
 
 returns-2 : tie.Need-returns-2
-unfolding stream19 readAt passAt fittingAt
+unfolding stream19 read_at pass_at fitting_at
 returns-2 c =
     rw (c.before.before.c.given.1, lt-leb _ _ c.if1.false)
 
 returns-3 : tie.Need-returns-3
-unfolding stream19 readAt passAt fittingAt whole_at
+unfolding stream19 read_at pass_at fitting_at whole_at
 returns-3 c =
     let a = c.before.before.before.before.args in
     rw (

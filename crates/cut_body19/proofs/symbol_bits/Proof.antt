@@ -1,5 +1,5 @@
 -- `symbol_bits` meets its contract. Assumes nothing.
-use Rattle.cut_grammar.specs.Grammar.{binaryDigits}
+use Rattle.cut_grammar.specs.Grammar.{binary_digits}
 use borrow.Author.Rules.{rules}
 use Rattle.cut_body19.proofs.symbol_bits.Statement.{statement}
 use Rattle.cut_body19.proofs.symbol_bits.Tie as tie
@@ -11,7 +11,7 @@ digits-requires : tie.Need-digits-requires
 digits-requires c κs = search rules
 
 returns : tie.Need-returns
-unfolding binaryDigits
+unfolding binary_digits
 returns c =
     rw c.if1.true
 

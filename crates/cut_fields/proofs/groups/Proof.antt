@@ -3,7 +3,7 @@ use Prim.Native.Nat.{ℕ, ◌≤◌, ◌<◌}
 use Prim.Native.Nat.{◌*◌, ◌+◌, ◌^◌}
 use native.Mathlib.Omega.{arith}
 use mathlib.Core.Path.{sym, ◌∙◌}
-use Rattle.cut_fields.proofs.Runs.{groups-short, groups-all, groups-stopped, stopped}
+use Rattle.cut_fields.proofs.Runs.{groups-short, groups_all, groups-stopped, stopped}
 use native.Mathlib.Nat.{mul-le-mul}
 use borrow.Author.Rules.{rules}
 use Rattle.cut_fields.proofs.groups.Statement.{statement}
@@ -55,7 +55,7 @@ returns-2 : tie.Need-returns-2
 returns-2 c =
     let at_c = c.before.before.before in
     let a = at_c.before.before.before.args in
-    rw at_c.c.given.1 (sym (groups-all a.tape.now _ _ _ c.before.wholes.ensures c.if1.false))
+    rw at_c.c.given.1 (sym (groups_all a.tape.now _ _ _ c.before.wholes.ensures c.if1.false))
 
 returns-3 : tie.Need-returns-3
 returns-3 c =

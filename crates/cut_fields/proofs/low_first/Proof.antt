@@ -3,19 +3,19 @@ use borrow.Author.Rules.{rules}
 use Prim.Native.Nat.{◌≤◌, ◌<◌, ◌+◌, ◌-◌, ◌^◌}
 use mathlib.Core.Path.{◌≡◌, refl}
 use native.Mathlib.Omega.{arith}
-use Rattle.cut_fields.specs.Field.{leAt}
-use Rattle.cut_fields.proofs.Le.{le-more, le_step}
+use Rattle.cut_fields.specs.Field.{le_at}
+use Rattle.cut_fields.proofs.Le.{le_more, le_step}
 use Rattle.cut_fields.proofs.low_first.Statement.{statement}
 use Rattle.cut_fields.proofs.low_first.Tie as tie
 
 abbrev invariant-loop : tie.invariant-loop
-invariant-loop tape at width value₀ left₀ value left = (left ≤ width) × (value ≡ leAt tape (at + left) (width - left))
+invariant-loop tape at width value₀ left₀ value left = (left ≤ width) × (value ≡ le_at tape (at + left) (width - left))
 
 abbrev decreases-loop : tie.decreases-loop
 decreases-loop tape at width value₀ left₀ value left = left
 
 loop-holds : tie.Need-loop-init invariant-loop decreases-loop
-unfolding leAt
+unfolding le_at
 loop-holds c =
     let a = c.args in
     let e : a.width - a.width ≡ 0 = omega arith in
@@ -39,7 +39,7 @@ small c =
     let l = c.before.before.loop in
     let a = c.before.before.before.args in
     let e = l.invariant.1 in
-    omega (arith, le-more a.tape.now (λ i. (c.shared-slice-known.given i).fits) (a.at + l.left) (a.width - l.left) (omega arith))
+    omega (arith, le_more a.tape.now (λ i. (c.shared-slice-known.given i).fits) (a.at + l.left) (a.width - l.left) (omega arith))
 
 mul-value : tie.Need-overflow-mul-value invariant-loop decreases-loop
 mul-value c = omega (arith, small c)

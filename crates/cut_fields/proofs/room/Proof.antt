@@ -1,5 +1,5 @@
 -- `room` meets its contract. Assumes nothing.
-use Rattle.law_base.proofs.Numbers.{leb-sub}
+use Rattle.law_base.proofs.Numbers.{leb_sub}
 use native.Mathlib.Omega.{arith}
 use borrow.Author.Tests.{lt-leb}
 use lib.ListN.{length}
@@ -9,7 +9,7 @@ use Rattle.cut_fields.proofs.room.Tie as tie
 
 returns : tie.Need-returns
 returns c =
-    leb-sub c.before.args.at c.before.args.n _ c.if1.true
+    leb_sub c.before.args.at c.before.args.n _ c.if1.true
 
 returns-2 : tie.Need-returns-2
 returns-2 c =

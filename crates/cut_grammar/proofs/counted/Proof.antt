@@ -1,5 +1,5 @@
 -- `counted` meets its contract. Assumes nothing.
-use Rattle.cut_grammar.specs.Grammar.{countedAt}
+use Rattle.cut_grammar.specs.Grammar.{counted_at}
 use borrow.Author.Rules.{rules}
 use Rattle.cut_grammar.proofs.counted.Statement.{statement}
 use Rattle.cut_grammar.proofs.counted.Tie as tie
@@ -17,7 +17,7 @@ pass-requires : tie.Need-pass-requires
 pass-requires c κs = search rules
 
 returns : tie.Need-returns
-unfolding countedAt
+unfolding counted_at
 returns c =
     rw (c.pass.ensures, c.before.before.place.ensures, c.before.before.before.field.ensures)
 

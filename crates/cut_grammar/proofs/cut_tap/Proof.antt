@@ -1,12 +1,12 @@
 -- `cut_tap` meets its contract. Assumes nothing.
-use Rattle.cut_grammar.specs.Cut.{tapAt, tapBlock}
+use Rattle.cut_grammar.specs.Cut.{tap_at, tap_block}
 use borrow.Author.Tests.{le-leb, lt-leb, eq-eqb, ne_eqb}
 use borrow.Author.Rules.{rules}
 use Rattle.cut_grammar.proofs.cut_tap.Statement.{statement}
 use Rattle.cut_grammar.proofs.cut_tap.Tie as tie
 
 returns : tie.Need-returns
-unfolding tapAt tapBlock
+unfolding tap_at tap_block
 returns c =
     rw (le-leb _ _ c.if1.true)
 
@@ -14,7 +14,7 @@ add-if2 : tie.Need-overflow-add-if2
 add-if2 c = search rules
 
 returns-2 : tie.Need-returns-2
-unfolding tapAt tapBlock
+unfolding tap_at tap_block
 returns-2 c =
     rw (lt-leb _ _ c.before.if1.false, eq-eqb _ _ c.if2.true)
 
@@ -28,7 +28,7 @@ enum-known-c-2 : tie.Need-enum-known-c-2
 enum-known-c-2 c = search rules
 
 returns-3 : tie.Need-returns-3
-unfolding tapAt tapBlock
+unfolding tap_at tap_block
 returns-3 c =
     let counted = c.before.before.before in
     rw (
@@ -39,7 +39,7 @@ returns-3 c =
     )
 
 returns-4 : tie.Need-returns-4
-unfolding tapAt tapBlock
+unfolding tap_at tap_block
 returns-4 c =
     let counted = c.before.before.before in
     rw (

@@ -1,5 +1,5 @@
 -- `head` meets its contract. Assumes nothing.
-use Rattle.cut_grammar.specs.Cut.{headAt}
+use Rattle.cut_grammar.specs.Cut.{head_at}
 use borrow.Author.Tests.{le-leb, lt-leb}
 use mathlib.Core.Path.{sym, ◌∙◌}
 use borrow.Author.Rules.{rules}
@@ -7,7 +7,7 @@ use Rattle.cut_grammar.proofs.head.Statement.{statement}
 use Rattle.cut_grammar.proofs.head.Tie as tie
 
 returns : tie.Need-returns
-unfolding headAt
+unfolding head_at
 returns c =
     rw (lt-leb _ _ c.if1.true)
 
@@ -21,13 +21,13 @@ shared-slice-read-t9 : tie.Need-shared-slice-read-t9
 shared-slice-read-t9 c = search rules
 
 returns-2 : tie.Need-returns-2
-unfolding headAt
+unfolding head_at
 returns-2 c =
     let signed = c.before.before.before in
     rw (le-leb _ _ signed.before.if1.false, sym signed.signed.ensures ∙ c.before.before.if2.true)
 
 returns-3 : tie.Need-returns-3
-unfolding headAt
+unfolding head_at
 returns-3 c =
     rw (le-leb _ _ c.before.before.if1.false, sym c.before.signed.ensures ∙ c.if2.false)
 

@@ -1,7 +1,7 @@
 -- `signed` meets its contract. Assumes nothing.
 use borrow.Author.Tests.{eq-eqb, ne_eqb}
 use Rattle.cut_grammar.proofs.Turns.{starts_more}
-use Rattle.cut_grammar.specs.Cut.{startsAt, signature}
+use Rattle.cut_grammar.specs.Cut.{starts_at, signature}
 use lib.ListN.{drop}
 use borrow.Author.Rules.{rules}
 use native.Mathlib.Omega.{arith}
@@ -11,7 +11,7 @@ use Rattle.cut_grammar.proofs.signed.Statement.{statement}
 use Rattle.cut_grammar.proofs.signed.Tie as tie
 
 abbrev invariant-loop : tie.invariant-loop
-invariant-loop tape i₀ i = (i ≤ 8) × (startsAt tape i (drop i signature) ≡ startsAt tape 0 signature)
+invariant-loop tape i₀ i = (i ≤ 8) × (starts_at tape i (drop i signature) ≡ starts_at tape 0 signature)
 
 abbrev decreases-loop : tie.decreases-loop
 decreases-loop tape i₀ i = 8 - i
@@ -49,7 +49,7 @@ loop-again c =
     )
 
 returns-2 : tie.Need-returns-2 invariant-loop decreases-loop
-unfolding startsAt
+unfolding starts_at
 returns-2 c =
     let e : c.before.loop.i ≡ 8 = omega arith in rw e at c.before.loop.invariant.1
 

@@ -4,9 +4,9 @@ use mathlib.Core.Path.{◌≡◌}
 use mathlib.Core.Bool.{◌||◌}
 use native.Mathlib.Omega.{arith}
 use Rattle.law_base.specs.Arms.{between}
-use Rattle.law_base.proofs.Arms.{lookup-none, between_in, between-below, between-above}
-use Rattle.cut_grammar.specs.Grammar.{Layout, readAt, passAt, unknown}
-use Rattle.cut_grammar.specs.Kinds.{kind22, kind25, kind5A, kinds, kind_of}
+use Rattle.law_base.proofs.Arms.{lookup-none, between_in, between_below, between_above}
+use Rattle.cut_grammar.specs.Grammar.{Layout, read_at, pass_at, unknown}
+use Rattle.cut_grammar.specs.Kinds.{kind22, kind25, kind_5a, kinds, kind_of}
 use borrow.Author.Rules.{rules}
 use Rattle.cut_piece.proofs.body_of.Statement.{statement}
 use Rattle.cut_piece.proofs.body_of.Tie as tie
@@ -122,12 +122,12 @@ returns-8 c =
     rw (c.group-start.ensures, c.before.match.keys8)
 
 returns-9 : tie.Need-returns-9
-unfolding kind_of kinds readAt kind22
+unfolding kind_of kinds read_at kind22
 returns-9 c =
     rw (c.whole.ensures, c.before.match.keys9)
 
 returns-10 : tie.Need-returns-10
-unfolding kind_of kinds readAt
+unfolding kind_of kinds read_at
 returns-10 c =
     rw c.match.keys10
 
@@ -137,7 +137,7 @@ returns-11 c =
     rw (c.loop-start.ensures, c.before.match.keys11)
 
 returns-12 : tie.Need-returns-12
-unfolding kind_of kinds readAt kind25
+unfolding kind_of kinds read_at kind25
 returns-12 c =
     rw (c.whole2.ensures, c.before.match.keys12)
 
@@ -147,7 +147,7 @@ returns-13 c =
     rw (c.stop48.ensures, c.before.match.keys13)
 
 returns-14 : tie.Need-returns-14
-unfolding kind_of kinds readAt
+unfolding kind_of kinds read_at
 returns-14 c =
     rw c.match.keys14
 
@@ -172,7 +172,7 @@ returns-18 c =
     rw (c.hardware.ensures, c.before.match.keys18)
 
 returns-19 : tie.Need-returns-19
-unfolding kind_of kinds readAt
+unfolding kind_of kinds read_at
 returns-19 c =
     rw c.match.keys19
 
@@ -182,17 +182,17 @@ returns-20 c =
     rw (c.custom.ensures, c.before.match.keys20)
 
 returns-21 : tie.Need-returns-21
-unfolding kind_of kinds readAt
+unfolding kind_of kinds read_at
 returns-21 c =
     rw c.match.keys21
 
 returns-22 : tie.Need-returns-22
-unfolding kind_of kinds readAt kind5A passAt
+unfolding kind_of kinds read_at kind_5a pass_at
 returns-22 c =
     rw (c.whole3.ensures, c.before.pass.ensures, c.before.before.match.keys22)
 
 returns-23 : tie.Need-returns-23
-unfolding kind_of kinds readAt
+unfolding kind_of kinds read_at
 returns-23 c =
     let match = c.before.before in
     let k = match.before.before.args.kind in
@@ -207,13 +207,13 @@ returns-23 c =
     )
 
 returns-24 : tie.Need-returns-24
-unfolding kind_of kinds readAt
+unfolding kind_of kinds read_at
 returns-24 c =
     let match = c.before.before.before.before in
     let k = match.before.before.args.kind in
     rw (
       lookup-none (kinds match.before.before.args.full) k (described k) match.match.rest,
-      between-above 0x15 0x18 k (omega arith),
+      between_above 0x15 0x18 k (omega arith),
       between_in 0x26 0x28 k (past-25 k c.before.if3.false match.match.rest.0.0.0.0.0.0.0.0.0.0.0.0.0.0.0.1
           match.match.rest.0.0.0.0.0.0.0.0.0.0.0.0.0.0.1 match.match.rest.0.0.0.0.0.0.0.0.0.0.0.0.0.1
           match.match.rest.0.0.0.0.0.0.0.0.0.0.0.0.1 match.match.rest.0.0.0.0.0.0.0.0.0.0.0.1
@@ -221,36 +221,36 @@ returns-24 c =
     )
 
 returns-25 : tie.Need-returns-25
-unfolding kind_of kinds readAt
+unfolding kind_of kinds read_at
 returns-25 c =
     let a = c.before.before.before.args in
     let k = a.kind in
     rw (
       lookup-none (kinds a.full) k (described k) c.before.match.rest,
-      between-below 0x15 0x18 k (omega arith),
-      between-below 0x26 0x28 k (omega arith),
+      between_below 0x15 0x18 k (omega arith),
+      between_below 0x26 0x28 k (omega arith),
     )
 
 returns-26 : tie.Need-returns-26
-unfolding kind_of kinds readAt
+unfolding kind_of kinds read_at
 returns-26 c =
     let match = c.before.before.before in
     let k = match.before.before.args.kind in
     rw (
       lookup-none (kinds match.before.before.args.full) k (described k) match.match.rest,
-      between-above 0x15 0x18 k (omega arith),
-      between-below 0x26 0x28 k (omega arith),
+      between_above 0x15 0x18 k (omega arith),
+      between_below 0x26 0x28 k (omega arith),
     )
 
 returns-27 : tie.Need-returns-27
-unfolding kind_of kinds readAt
+unfolding kind_of kinds read_at
 returns-27 c =
     let match = c.before.before.before.before in
     let k = match.before.before.args.kind in
     rw (
       lookup-none (kinds match.before.before.args.full) k (described k) match.match.rest,
-      between-above 0x15 0x18 k (omega arith),
-      between-above 0x26 0x28 k (omega arith),
+      between_above 0x15 0x18 k (omega arith),
+      between_above 0x26 0x28 k (omega arith),
     )
 
 pub body-of-spec : {M : Type 1} → statement M

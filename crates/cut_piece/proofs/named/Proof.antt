@@ -1,5 +1,5 @@
--- `takenAs` meets its contract. Assumes nothing.
-use Rattle.cut_grammar.specs.Cut.{takenAs}
+-- `taken_as` meets its contract. Assumes nothing.
+use Rattle.cut_grammar.specs.Cut.{taken_as}
 use borrow.Author.Rules.{rules}
 use Rattle.cut_piece.proofs.named.Statement.{statement}
 use Rattle.cut_piece.proofs.named.Tie as tie
@@ -17,22 +17,22 @@ enum-known-body-4 : tie.Need-enum-known-body-4
 enum-known-body-4 c = search rules
 
 returns : tie.Need-returns
-unfolding takenAs
+unfolding taken_as
 returns c =
     rw c.before.body.given.1
 
 returns-2 : tie.Need-returns-2
-unfolding takenAs
+unfolding taken_as
 returns-2 c =
     rw c.before.body2.given.1
 
 returns-3 : tie.Need-returns-3
-unfolding takenAs
+unfolding taken_as
 returns-3 c =
     rw c.before.body3.given.1
 
 returns-4 : tie.Need-returns-4
-unfolding takenAs
+unfolding taken_as
 returns-4 c =
     rw c.before.body4.given.1
 

@@ -1,7 +1,7 @@
 -- `first` meets its contract: each return is one rule. Assumes nothing.
 use borrow.Author.Rules.{rules}
 use native.Mathlib.Omega.{arith}
-use Rattle.dump.proofs.Hearing.{first-none, first-bad, first-long, first-tape}
+use Rattle.dump.proofs.Hearing.{first-none, first-bad, first_long, first_tape}
 use Rattle.dump.proofs.first.Statement.{statement}
 use Rattle.dump.proofs.first.Tie as tie
 
@@ -75,7 +75,7 @@ returns-3 c =
     let refuse3 = c.before.before.before.before.before.before in
     let model_of = refuse3.before.before.before.before.before.before.before in
     let start = model_of.before.before.before.before.before.before.before in
-    first-long start.args.input.now start.requires.0.0 start.requires.0.1 (omega arith) model_of.model_of.ensures (omega arith)
+    first_long start.args.input.now start.requires.0.0 start.requires.0.1 (omega arith) model_of.model_of.ensures (omega arith)
     (omega arith) refuse3.refuse3.ensures
 
 begin-requires : tie.Need-begin-requires
@@ -95,7 +95,7 @@ returns-4 c =
     let begin = c.before.before.before.before.before.before in
     let model_of = begin.before.before.before.before.before.before.before in
     let start = model_of.before.before.before.before.before.before.before in
-    first-tape start.args.input.now start.requires.0.0 start.requires.0.1 (omega arith) model_of.model_of.ensures (omega arith)
+    first_tape start.args.input.now start.requires.0.0 start.requires.0.1 (omega arith) model_of.model_of.ensures (omega arith)
     (omega arith) begin.begin.ensures
 
 pub first_spec : {M : Type 1} → statement M

@@ -1,7 +1,7 @@
 -- `line` meets its contract: the row that the load left is ready, and its line is the dump's. Assumes nothing.
 use borrow.Author.Rules.{rules}
 use native.Mathlib.Omega.{arith}
-use Rattle.dump.proofs.Hearing.{line-heard, part-short, part-ready, part-told}
+use Rattle.dump.proofs.Hearing.{line_heard, part_short, part_ready, part_told}
 use Rattle.dump.proofs.line.Statement.{statement}
 use Rattle.dump.proofs.line.Tie as tie
 
@@ -10,7 +10,7 @@ sub-block-line c =
     let known = c.before.before.before in
     let start = known.before in
     let a = start.args in
-    let f = line-heard a.input.now a.i (λ j. (known.shared-slice-known.given j).fits) start.requires.0 start.requires.1.0 in
+    let f = line_heard a.input.now a.i (λ j. (known.shared-slice-known.given j).fits) start.requires.0 start.requires.1.0 in
     omega (arith, f.some)
 
 part-block-line-start : tie.Need-slice-bounds-block-line-start
@@ -18,7 +18,7 @@ part-block-line-start c =
     let known = c.before.before.before in
     let start = known.before in
     let a = start.args in
-    let f = line-heard a.input.now a.i (λ j. (known.shared-slice-known.given j).fits) start.requires.0 start.requires.1.0 in
+    let f = line_heard a.input.now a.i (λ j. (known.shared-slice-known.given j).fits) start.requires.0 start.requires.1.0 in
     omega (arith, f.some)
 
 part-block-line-end : tie.Need-slice-bounds-block-line-end
@@ -29,9 +29,9 @@ block-line-requires c κs =
     let known = c.before.before.before.before.before in
     let start = known.before in
     let a = start.args in
-    let f = line-heard a.input.now a.i (λ j. (known.shared-slice-known.given j).fits) start.requires.0 start.requires.1.0 in (
-      part-ready a.input.now a.i f,
-      omega (arith, start.requires.1.1, part-short a.input.now a.i f),
+    let f = line_heard a.input.now a.i (λ j. (known.shared-slice-known.given j).fits) start.requires.0 start.requires.1.0 in (
+      part_ready a.input.now a.i f,
+      omega (arith, start.requires.1.1, part_short a.input.now a.i f),
     )
 
 same_length : tie.Need-same-length
@@ -42,8 +42,8 @@ returns c =
     let known = c.before.before.before.before.before.before.before.before in
     let start = known.before in
     let a = start.args in
-    let f = line-heard a.input.now a.i (λ j. (known.shared-slice-known.given j).fits) start.requires.0 start.requires.1.0 in
-    part-told a.input.now a.i f c.before.before.block-line.ensures
+    let f = line_heard a.input.now a.i (λ j. (known.shared-slice-known.given j).fits) start.requires.0 start.requires.1.0 in
+    part_told a.input.now a.i f c.before.before.block-line.ensures
 
 pub line-spec : {M : Type 1} → statement M
 line-spec =

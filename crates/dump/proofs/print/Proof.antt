@@ -5,8 +5,8 @@ use mathlib.Core.Path.{◌≡◌}
 use lib.ListN.{length}
 use borrow.Author.Rules.{rules}
 use Rattle.law_base.proofs.Parts.{take_counted}
-use Rattle.text_out.proofs.Writing.{fitted-most}
-use Rattle.dump.proofs.Hearing.{more-lines}
+use Rattle.text_out.proofs.Writing.{fitted_most}
+use Rattle.dump.proofs.Hearing.{more_lines}
 use Rattle.dump.proofs.print.Statement.{statement}
 use Rattle.dump.proofs.print.Tie as tie
 
@@ -22,11 +22,11 @@ first-requires c κs =
 
 slice-reshare-prefix-write-all : tie.Need-slice-reshare-prefix-write-all invariant-loop decreases-loop
 slice-reshare-prefix-write-all c =
-    fitted-most c.before.before.before.before.before.before.first.ensures.line
+    fitted_most c.before.before.before.before.before.before.first.ensures.line
 
 slice-aggregate-write-all : tie.Need-slice-aggregate-write-all invariant-loop decreases-loop
 slice-aggregate-write-all c =
-    take_counted _ _ (fitted-most c.before.before.before.before.before.before.before.first.ensures.line)
+    take_counted _ _ (fitted_most c.before.before.before.before.before.before.before.first.ensures.line)
 
 write-all-requires : tie.Need-write-all-requires invariant-loop decreases-loop
 write-all-requires c κs =
@@ -42,16 +42,16 @@ line-requires c κs =
     let start = first.before.before.before.before.before.before.before.before in
     let g = first.first.ensures in (
       record { blocks = g.blocks; tones = g.tones },
-      (more-lines start.args.input.now g (omega arith), (omega arith, omega arith)),
+      (more_lines start.args.input.now g (omega arith), (omega arith, omega arith)),
     )
 
 slice-reshare-prefix-write-all-2 : tie.Need-slice-reshare-prefix-write-all-2 invariant-loop decreases-loop
 slice-reshare-prefix-write-all-2 c =
-    fitted-most c.before.before.line.ensures
+    fitted_most c.before.before.line.ensures
 
 slice-aggregate-write-all-2 : tie.Need-slice-aggregate-write-all-2 invariant-loop decreases-loop
 slice-aggregate-write-all-2 c =
-    take_counted _ _ (fitted-most c.before.before.before.line.ensures)
+    take_counted _ _ (fitted_most c.before.before.before.line.ensures)
 
 write-all-requires-2 : tie.Need-write-all-requires-2 invariant-loop decreases-loop
 write-all-requires-2 c κs =

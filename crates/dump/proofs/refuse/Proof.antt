@@ -1,6 +1,6 @@
 -- `refuse` meets its contract: zeros, and the line. Assumes nothing.
 use borrow.Author.Rules.{rules}
-use Rattle.load_tape.specs.Load.{blockTable, toneTable}
+use Rattle.load_tape.specs.Load.{block_table, tone_table}
 use Rattle.dump.proofs.Hearing.{opens-no}
 use Rattle.dump.proofs.refuse.Statement.{statement}
 use Rattle.dump.proofs.refuse.Tie as tie
@@ -24,7 +24,7 @@ same-length-3 : tie.Need-same-length-3
 same-length-3 c = search rules
 
 returns : tie.Need-returns
-unfolding blockTable toneTable
+unfolding block_table tone_table
 returns c =
     let put_first = c.before.before in
     let blank2 = put_first.before.before.before.before in

@@ -1,6 +1,6 @@
 -- `call_words` meets its contract. Assumes nothing.
-use Rattle.export.proofs.Inside.{passed-inside}
-use Rattle.play_entries.specs.Mounted.{tapeOf}
+use Rattle.export.proofs.Inside.{passed_inside}
+use Rattle.play_entries.specs.Mounted.{tape_of}
 use mathlib.Core.Path.{sym, ◌∙◌}
 use borrow.Author.Rules.{rules}
 use Rattle.export.proofs.call_words.Statement.{statement}
@@ -16,9 +16,9 @@ tell-inside-requires : tie.Need-tell-inside-requires
 tell-inside-requires c κs =
     let s = c.before.before.before.before.before.before.before.before.before in
     let a = s.args in
-    let w = tapeOf a.tape.now a.tones.now a.blocks.now a.count in
+    let w = tape_of a.tape.now a.tones.now a.blocks.now a.count in
     let x = c.before.before in
-    let t = passed-inside a.decreases w a.position.now a.pos a.n x.before.assay.result s.requires x.before.assay.ensures
+    let t = passed_inside a.decreases w a.position.now a.pos a.n x.before.assay.result s.requires x.before.assay.ensures
     (sym x.is-inside.ensures ∙ c.before.if1.true) in
     (t.seven, t.less)
 
@@ -29,9 +29,9 @@ returns : tie.Need-returns
 returns c =
     let s = c.before.before.before.before.before.before.before.before.before.before.before.before in
     let a = s.args in
-    let w = tapeOf a.tape.now a.tones.now a.blocks.now a.count in
+    let w = tape_of a.tape.now a.tones.now a.blocks.now a.count in
     let x = c.before.before.before.before.before in
-    let t = passed-inside a.decreases w a.position.now a.pos a.n x.before.assay.result s.requires x.before.assay.ensures
+    let t = passed_inside a.decreases w a.position.now a.pos a.n x.before.assay.result s.requires x.before.assay.ensures
     (sym x.is-inside.ensures ∙ c.before.before.before.before.if1.true) in
     let told = c.before.before.tell-inside.ensures in
     (told.0 ∙ sym (t.number a.answer.now), told.1 ∙ sym (t.values a.answer.now))

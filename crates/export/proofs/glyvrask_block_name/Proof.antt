@@ -1,6 +1,6 @@
 -- `glyvrask_block_name` meets its contract: the name told where there is a word for its length. Assumes nothing.
 use native.Mathlib.Omega.{arith}
-use Rattle.export.proofs.Naming.{name-unwritten, name-written}
+use Rattle.export.proofs.Naming.{name_unwritten, name_written}
 use borrow.Author.Rules.{rules}
 use Rattle.export.proofs.glyvrask_block_name.Statement.{statement}
 use Rattle.export.proofs.glyvrask_block_name.Tie as tie
@@ -18,7 +18,7 @@ returns : tie.Need-returns
 returns c =
     let block_size = c.before.before.before.before in
     let a = block_size.before.before.before.before.before.before.before.args in
-    name-unwritten _ _ _ a.answer.now (omega arith) block_size.block_size.ensures c.before.before.tell-number.ensures
+    name_unwritten _ _ _ a.answer.now (omega arith) block_size.block_size.ensures c.before.before.tell-number.ensures
 
 block-name-requires : tie.Need-block-name-requires
 block-name-requires c κs = search rules
@@ -34,9 +34,9 @@ same-length-3 c = search rules
 
 returns-2 : tie.Need-returns-2
 returns-2 c =
-    let block-name = c.before.before.before.before.before.before in
-    let a = block-name.before.before.before.before.before.before.before.before.args in
-    name-written _ _ _ a.answer.now (omega arith) block-name.block-name.ensures c.before.before.tell-number2.ensures
+    let block_name = c.before.before.before.before.before.before in
+    let a = block_name.before.before.before.before.before.before.before.before.args in
+    name_written _ _ _ a.answer.now (omega arith) block_name.block-name.ensures c.before.before.tell-number2.ensures
 
 pub glyvrask-block-name-spec : {M : Type 1} → statement M
 glyvrask-block-name-spec =

@@ -2,8 +2,8 @@
 use native.Mathlib.Omega.{arith}
 use lib.ListN.{length}
 use Rattle.load_blocks.specs.Does.{lent_of}
-use Rattle.load_tape.specs.Load.{loadNamed}
-use Rattle.export.proofs.Loading.{load-short, load_told}
+use Rattle.load_tape.specs.Load.{load_named}
+use Rattle.export.proofs.Loading.{load_short, load_told}
 use borrow.Author.Rules.{rules}
 use Rattle.export.proofs.glyvrask_load.Statement.{statement}
 use Rattle.export.proofs.glyvrask_load.Tie as tie
@@ -11,7 +11,7 @@ use Rattle.export.proofs.glyvrask_load.Tie as tie
 returns : tie.Need-returns
 returns c =
     let a = c.before.before.before.before.before.args in
-    load-short (loadNamed (lent_of (length a.blocks.now) (length a.tones.now)) a.tape.now a.model) _ _ _ _
+    load_short (load_named (lent_of (length a.blocks.now) (length a.tones.now)) a.tape.now a.model) _ _ _ _
     a.answer.now (omega arith)
 
 load-requires : tie.Need-load-requires

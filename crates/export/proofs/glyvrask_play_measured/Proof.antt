@@ -1,8 +1,8 @@
 -- `glyvrask_play_measured` meets its contract. Assumes nothing.
-use Rattle.export.specs.Export.{withPlace}
-use Rattle.host_run.specs.Runs.{playerOf}
-use Rattle.play_entries.specs.Mounted.{tapeOf}
-use Rattle.export.proofs.Placing.{tell-misplaced}
+use Rattle.export.specs.Export.{with_place}
+use Rattle.host_run.specs.Runs.{player_of}
+use Rattle.play_entries.specs.Mounted.{tape_of}
+use Rattle.export.proofs.Placing.{tell_misplaced}
 use mathlib.Core.Path.{sym, ◌∙◌}
 use borrow.Author.Rules.{rules}
 use Rattle.export.proofs.glyvrask_play_measured.Statement.{statement}
@@ -28,7 +28,7 @@ same_length : tie.Need-same-length
 same_length c = search rules
 
 returns : tie.Need-returns
-unfolding withPlace playerOf
+unfolding with_place player_of
 returns c =
     let told = c.before.before.before.before.before in
     rw (← told.before.before.position_from.ensures, told.pos.given.1) c.before.before.call-words.ensures
@@ -36,9 +36,9 @@ returns c =
 returns-2 : tie.Need-returns-2
 returns-2 c =
     let a = c.before.before.before.before.before.before.before.before.before.args in
-    let w = tapeOf a.tape.now a.tones.now a.blocks.now a.count in
+    let w = tape_of a.tape.now a.tones.now a.blocks.now a.count in
     rw (← c.before.before.before.position_from.ensures, c.before.enum_told.given.1)
-    (tell-misplaced w _ a.position.now _ c.misplaced.ensures)
+    (tell_misplaced w _ a.position.now _ c.misplaced.ensures)
 
 pub glyvrask-play-measured-spec : {M : Type 1} → statement M
 glyvrask-play-measured-spec =

@@ -1,5 +1,5 @@
 -- `glyvrask_play_run` meets its contract. Assumes nothing.
-use Rattle.export.specs.Export.{fromPlace}
+use Rattle.export.specs.Export.{from_place}
 use borrow.Author.Rules.{rules}
 use Rattle.export.proofs.glyvrask_play_run.Statement.{statement}
 use Rattle.export.proofs.glyvrask_play_run.Tie as tie
@@ -23,13 +23,13 @@ same_length : tie.Need-same-length
 same_length c = search rules
 
 returns : tie.Need-returns
-unfolding fromPlace
+unfolding from_place
 returns c =
     let told = c.before.before.before.before.before in
     rw (← told.before.before.position_from.ensures, told.pos.given.1) c.before.before.play-run.ensures
 
 returns-2 : tie.Need-returns-2
-unfolding fromPlace
+unfolding from_place
 returns-2 c =
     let e = c.before.before.before.position_from.ensures in
     (rw (← e, c.before.enum_told.given.1) c.misplaced.ensures, rw (← e, c.before.enum_told.given.1))

@@ -1,7 +1,7 @@
 -- `glyvrask_position_block` meets its contract: the words are read as a position, and its block told. Assumes nothing.
-use Rattle.export.specs.Export.{withPlace}
-use Rattle.play_entries.specs.Mounted.{tapeOf}
-use Rattle.export.proofs.Placing.{tell-misplaced}
+use Rattle.export.specs.Export.{with_place}
+use Rattle.play_entries.specs.Mounted.{tape_of}
+use Rattle.export.proofs.Placing.{tell_misplaced}
 use borrow.Author.Rules.{rules}
 use Rattle.export.proofs.glyvrask_position_block.Statement.{statement}
 use Rattle.export.proofs.glyvrask_position_block.Tie as tie
@@ -28,7 +28,7 @@ same_length : tie.Need-same-length
 same_length c = search rules
 
 returns : tie.Need-returns
-unfolding withPlace
+unfolding with_place
 returns c =
     let block = c.before.before.before.before in
     let position_from = block.before.before.before.before in
@@ -38,9 +38,9 @@ returns c =
 returns-2 : tie.Need-returns-2
 returns-2 c =
     let a = c.before.before.before.before.before.before.before.before.before.args in
-    let w = tapeOf a.tape.now a.tones.now a.blocks.now a.count in
+    let w = tape_of a.tape.now a.tones.now a.blocks.now a.count in
     rw (← c.before.before.before.position_from.ensures, c.before.enum_told.given.1)
-    (tell-misplaced w _ a.position.now _ c.misplaced.ensures)
+    (tell_misplaced w _ a.position.now _ c.misplaced.ensures)
 
 pub glyvrask-position-block-spec : {M : Type 1} → statement M
 glyvrask-position-block-spec =

@@ -2,7 +2,7 @@
 use native.Mathlib.Omega.{arith}
 use mathlib.Core.Path.{sym, ◌∙◌}
 use borrow.Author.Rules.{rules}
-use Rattle.play_entries.specs.Mounted.{tapeOf}
+use Rattle.play_entries.specs.Mounted.{tape_of}
 use Rattle.export.proofs.Placing.{none_over, none-empty, none-bad, none_other}
 use Rattle.export.proofs.misplaced.Statement.{statement}
 use Rattle.export.proofs.misplaced.Tie as tie
@@ -13,13 +13,13 @@ overfull-requires c κs = search rules
 returns : tie.Need-returns
 returns c =
     let a = c.before.before.before.before.before.before.args in
-    let w = tapeOf a.tape.now a.tones.now a.blocks.now a.count in
+    let w = tape_of a.tape.now a.tones.now a.blocks.now a.count in
     none_over w a.words.now (sym c.before.overfull.ensures ∙ c.if1.true)
 
 returns-2 : tie.Need-returns-2
 returns-2 c =
     let a = c.before.before.before.before.before.before.before.args in
-    let w = tapeOf a.tape.now a.tones.now a.blocks.now a.count in
+    let w = tape_of a.tape.now a.tones.now a.blocks.now a.count in
     none-empty w a.words.now (sym c.before.before.overfull.ensures ∙ c.before.if1.false) (omega arith)
 
 shared-slice-read-refusal : tie.Need-shared-slice-read-refusal
@@ -31,13 +31,13 @@ refusal-requires c κs = search rules
 returns-3 : tie.Need-returns-3
 returns-3 c =
     let a = c.before.before.before.before.before.before.before.before.before.before.args in
-    let w = tapeOf a.tape.now a.tones.now a.blocks.now a.count in
+    let w = tape_of a.tape.now a.tones.now a.blocks.now a.count in
     none-bad w a.words.now (omega arith) c.before.refusal.ensures (omega arith)
 
 returns-4 : tie.Need-returns-4
 returns-4 c =
     let a = c.before.before.before.before.before.before.before.before.before.before.args in
-    let w = tapeOf a.tape.now a.tones.now a.blocks.now a.count in
+    let w = tape_of a.tape.now a.tones.now a.blocks.now a.count in
     none_other w a.words.now (omega arith) c.before.refusal.ensures (λ e. omega arith)
 
 pub misplaced-spec : {M : Type 1} → statement M

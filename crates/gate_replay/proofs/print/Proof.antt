@@ -5,8 +5,8 @@ use mathlib.Core.Path.{◌≡◌}
 use lib.ListN.{length}
 use borrow.Author.Rules.{rules}
 use Rattle.law_base.proofs.Parts.{take_counted}
-use Rattle.text_out.proofs.Writing.{fitted-most}
-use Rattle.prog_tape.proofs.Lines.{line-left}
+use Rattle.text_out.proofs.Writing.{fitted_most}
+use Rattle.prog_tape.proofs.Lines.{line_left}
 use Rattle.gate_replay.proofs.print.Statement.{statement}
 use Rattle.gate_replay.proofs.print.Tie as tie
 
@@ -22,11 +22,11 @@ begin-requires c κs =
 
 slice-reshare-prefix-write-all : tie.Need-slice-reshare-prefix-write-all invariant-loop decreases-loop
 slice-reshare-prefix-write-all c =
-    fitted-most c.before.before.before.before.before.before.begin.ensures.line
+    fitted_most c.before.before.before.before.before.before.begin.ensures.line
 
 slice-aggregate-write-all : tie.Need-slice-aggregate-write-all invariant-loop decreases-loop
 slice-aggregate-write-all c =
-    take_counted _ _ (fitted-most c.before.before.before.before.before.before.before.begin.ensures.line)
+    take_counted _ _ (fitted_most c.before.before.before.before.before.before.before.begin.ensures.line)
 
 write-all-requires : tie.Need-write-all-requires invariant-loop decreases-loop
 write-all-requires c κs =
@@ -42,7 +42,7 @@ block-line-requires c κs =
     let known = begin.before.before.before.before.before.before.before in
     let a = known.before.args in
     let g = begin.begin.ensures in (
-      (line-left (length a.blocks.now) (length a.tones.now) a.tape.now a.model
+      (line_left (length a.blocks.now) (length a.tones.now) a.tape.now a.model
           (λ j. (known.shared-slice-known.given j).fits) g.blocks g.tones c.before.before.before.before.loop.i
           (omega (arith, g.more))).ready,
       omega arith,
@@ -50,11 +50,11 @@ block-line-requires c κs =
 
 slice-reshare-prefix-write-all-2 : tie.Need-slice-reshare-prefix-write-all-2 invariant-loop decreases-loop
 slice-reshare-prefix-write-all-2 c =
-    fitted-most c.before.before.block-line.ensures
+    fitted_most c.before.before.block-line.ensures
 
 slice-aggregate-write-all-2 : tie.Need-slice-aggregate-write-all-2 invariant-loop decreases-loop
 slice-aggregate-write-all-2 c =
-    take_counted _ _ (fitted-most c.before.before.before.block-line.ensures)
+    take_counted _ _ (fitted_most c.before.before.before.block-line.ensures)
 
 write-all-requires-2 : tie.Need-write-all-requires-2 invariant-loop decreases-loop
 write-all-requires-2 c κs =

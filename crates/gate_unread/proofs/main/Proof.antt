@@ -1,6 +1,6 @@
 -- `main` meets its contract. Lengths of the arrays are by a law, as lists of so many are not to be computed. Assumes nothing.
 use borrow.Author.Rules.{rules}
-use Rattle.prog_unread.specs.Report.{fullBlocks, fullTones}
+use Rattle.prog_unread.specs.Report.{full_blocks, full_tones}
 use Rattle.law_base.proofs.Parts.{zeros-counted}
 use Rattle.gate_unread.proofs.main.Statement.{statement}
 use Rattle.gate_unread.proofs.main.Tie as tie
@@ -12,10 +12,10 @@ slice-aggregate-load-all : tie.Need-slice-aggregate-load-all
 slice-aggregate-load-all c = zeros-counted 1048577
 
 slice-aggregate-load-all-2 : tie.Need-slice-aggregate-load-all-2
-slice-aggregate-load-all-2 c = zeros-counted fullBlocks
+slice-aggregate-load-all-2 c = zeros-counted full_blocks
 
 slice-aggregate-load-all-3 : tie.Need-slice-aggregate-load-all-3
-slice-aggregate-load-all-3 c = zeros-counted fullTones
+slice-aggregate-load-all-3 c = zeros-counted full_tones
 
 slice-aggregate-load-all-4 : tie.Need-slice-aggregate-load-all-4
 slice-aggregate-load-all-4 c = search rules

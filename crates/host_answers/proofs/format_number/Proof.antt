@@ -1,5 +1,5 @@
 -- `format_number` meets its contract: each format has its number. Assumes nothing.
-use Rattle.host_answers.specs.Answers.{formatNumber}
+use Rattle.host_answers.specs.Answers.{format_number}
 use borrow.Author.Rules.{rules}
 use Rattle.host_answers.proofs.format_number.Statement.{statement}
 use Rattle.host_answers.proofs.format_number.Tie as tie
@@ -11,12 +11,12 @@ enum-told-2 : tie.Need-enum-told-2
 enum-told-2 c = search rules
 
 returns : tie.Need-returns
-unfolding formatNumber
+unfolding format_number
 returns c =
     rw c.enum_told.given.1
 
 returns-2 : tie.Need-returns-2
-unfolding formatNumber
+unfolding format_number
 returns-2 c =
     rw c.enum-told2.given.1
 

@@ -1,5 +1,5 @@
 -- `met_words` meets its contract. Assumes nothing.
-use Rattle.host_answers.specs.Answers.{metOf}
+use Rattle.host_answers.specs.Answers.{met_of}
 use borrow.Author.Rules.{rules}
 use Rattle.host_answers.proofs.met_words.Statement.{statement}
 use Rattle.host_answers.proofs.met_words.Tie as tie
@@ -26,22 +26,22 @@ cast-t14 : tie.Need-overflow-cast-t14
 cast-t14 c = search rules
 
 returns : tie.Need-returns
-unfolding metOf
+unfolding met_of
 returns c =
     rw c.before.f.given.1
 
 returns-2 : tie.Need-returns-2
-unfolding metOf
+unfolding met_of
 returns-2 c =
     rw c.enum_told.given.1
 
 returns-3 : tie.Need-returns-3
-unfolding metOf
+unfolding met_of
 returns-3 c =
     rw c.before.f2.given.1
 
 returns-4 : tie.Need-returns-4
-unfolding metOf
+unfolding met_of
 returns-4 c =
     rw c.before.f3.given.1
 

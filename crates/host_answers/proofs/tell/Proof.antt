@@ -5,7 +5,7 @@ use mathlib.Core.Path.{◌≡◌, refl}
 use lib.ListN.{length, length-set}
 use lib.Seq.{paste}
 use borrow.Author.Rules.{rules}
-use Rattle.host_answers.proofs.Telling.{tell-turn, tell-short, tell-whole}
+use Rattle.host_answers.proofs.Telling.{tell_turn, tell_short, tell_whole}
 use Rattle.host_answers.proofs.tell.Statement.{statement}
 use Rattle.host_answers.proofs.tell.Tie as tie
 
@@ -18,7 +18,7 @@ decreases-loop words answer₀ j₀ answer j = length words - j
 
 returns : tie.Need-returns invariant-loop decreases-loop
 returns c = let a = c.before.args in
-    tell-short a.words.now a.answer.now (omega arith)
+    tell_short a.words.now a.answer.now (omega arith)
 
 loop-holds : tie.Need-loop-init invariant-loop decreases-loop
 loop-holds c = (omega arith, refl, refl)
@@ -46,7 +46,7 @@ loop-again c =
     let a = c.before.before.before.before.args in
     let l = c.before.before.loop in (
       omega arith,
-      tell-turn a.words.now a.answer.now l.answer l.j l.invariant.1 (omega arith) (omega arith),
+      tell_turn a.words.now a.answer.now l.answer l.j l.invariant.1 (omega arith) (omega arith),
       simp length-set (omega arith),
     )
 
@@ -57,7 +57,7 @@ returns-2 : tie.Need-returns-2 invariant-loop decreases-loop
 returns-2 c =
     let a = c.before.before.before.args in
     let l = c.before.loop in
-    tell-whole a.words.now a.answer.now l.answer l.j (omega arith) (omega arith) l.invariant.1
+    tell_whole a.words.now a.answer.now l.answer l.j (omega arith) (omega arith) l.invariant.1
 
 pub tell-spec : {M : Type 1} → statement M
 tell-spec =

@@ -1,5 +1,5 @@
 -- `tell_both` meets its contract: what both attempts met, in eight words. Assumes nothing.
-use Rattle.host_answers.specs.Answers.{bothWords}
+use Rattle.host_answers.specs.Answers.{both_words}
 use borrow.Author.Rules.{rules}
 use Rattle.host_answers.proofs.tell_both.Statement.{statement}
 use Rattle.host_answers.proofs.tell_both.Tie as tie
@@ -20,7 +20,7 @@ same_length : tie.Need-same-length
 same_length c = search rules
 
 returns : tie.Need-returns
-unfolding bothWords
+unfolding both_words
 returns c =
     let y = c.before.before.before.before.before in
     rw (← y.before.met-words.ensures, ← y.met-words2.ensures) c.before.before.tell-refused.ensures

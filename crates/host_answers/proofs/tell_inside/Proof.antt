@@ -1,5 +1,5 @@
 -- `tell_inside` meets its contract. Assumes nothing.
-use Rattle.host_answers.specs.Answers.{insideWords}
+use Rattle.host_answers.specs.Answers.{inside_words}
 use borrow.Author.Rules.{rules}
 use Rattle.host_answers.proofs.tell_inside.Statement.{statement}
 use Rattle.host_answers.proofs.tell_inside.Tie as tie
@@ -41,7 +41,7 @@ same_length : tie.Need-same-length
 same_length c = search rules
 
 returns : tie.Need-returns
-unfolding insideWords
+unfolding inside_words
 returns c =
     let read = c.before.before.before.before.before.before in
     rw (← read.before.before.before.before.before.before.flag.ensures) c.before.before.tell.ensures

@@ -1,6 +1,6 @@
 -- `tell_loaded` meets its contract: format, blocks and tone rows, or the refusal, 3 with its words. Assumes nothing.
-use Rattle.host_answers.specs.Answers.{number_of, values_of, ofLoaded}
-use Rattle.host_answers.proofs.Telling.{tell-refused}
+use Rattle.host_answers.specs.Answers.{number_of, values_of, of_loaded}
+use Rattle.host_answers.proofs.Telling.{tell_refused}
 use borrow.Author.Rules.{rules}
 use Rattle.host_answers.proofs.tell_loaded.Statement.{statement}
 use Rattle.host_answers.proofs.tell_loaded.Tie as tie
@@ -30,7 +30,7 @@ same_length : tie.Need-same-length
 same_length c = search rules
 
 returns : tie.Need-returns
-unfolding number_of values_of ofLoaded
+unfolding number_of values_of of_loaded
 returns c =
     let format-number = c.before.before.before.before.before in
     rw (format-number.before.before.a.given.1, ← format-number.format-number.ensures) c.before.before.tell.ensures
@@ -39,14 +39,14 @@ same-length-2 : tie.Need-same-length-2
 same-length-2 c = search rules
 
 returns-2 : tie.Need-returns-2
-unfolding ofLoaded
+unfolding of_loaded
 returns-2 c =
     rw c.before.before.before.before.before.a2.given.1 c.before.before.tell-both.ensures
 
 returns-3 : tie.Need-returns-3
-unfolding ofLoaded
+unfolding of_loaded
 returns-3 c =
-    rw c.before.a3.given.1 (tell-refused _ _)
+    rw c.before.a3.given.1 (tell_refused _ _)
 
 pub tell-loaded-spec : {M : Type 1} → statement M
 tell-loaded-spec =

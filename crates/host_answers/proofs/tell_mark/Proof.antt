@@ -1,6 +1,6 @@
 -- `tell_mark` meets its contract: the mark as a word, or the refusal. Assumes nothing.
-use Rattle.host_answers.specs.Answers.{number_of, values_of, ofMark}
-use Rattle.host_answers.proofs.Telling.{tell-refused}
+use Rattle.host_answers.specs.Answers.{number_of, values_of, of_mark}
+use Rattle.host_answers.proofs.Telling.{tell_refused}
 use borrow.Author.Rules.{rules}
 use Rattle.host_answers.proofs.tell_mark.Statement.{statement}
 use Rattle.host_answers.proofs.tell_mark.Tie as tie
@@ -24,15 +24,15 @@ same_length : tie.Need-same-length
 same_length c = search rules
 
 returns : tie.Need-returns
-unfolding number_of values_of ofMark
+unfolding number_of values_of of_mark
 returns c =
     let flag = c.before.before.before.before.before in
     rw (flag.before.before.a.given.1, ← flag.flag.ensures) c.before.before.tell.ensures
 
 returns-2 : tie.Need-returns-2
-unfolding ofMark
+unfolding of_mark
 returns-2 c =
-    rw c.before.a2.given.1 (tell-refused _ _)
+    rw c.before.a2.given.1 (tell_refused _ _)
 
 pub tell-mark-spec : {M : Type 1} → statement M
 tell-mark-spec =

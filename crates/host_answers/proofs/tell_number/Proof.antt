@@ -1,6 +1,6 @@
 -- `tell_number` meets its contract: the number as a word, or the refusal. Assumes nothing.
-use Rattle.host_answers.specs.Answers.{number_of, values_of, ofNumber}
-use Rattle.host_answers.proofs.Telling.{tell-refused}
+use Rattle.host_answers.specs.Answers.{number_of, values_of, of_number}
+use Rattle.host_answers.proofs.Telling.{tell_refused}
 use borrow.Author.Rules.{rules}
 use Rattle.host_answers.proofs.tell_number.Statement.{statement}
 use Rattle.host_answers.proofs.tell_number.Tie as tie
@@ -21,14 +21,14 @@ same_length : tie.Need-same-length
 same_length c = search rules
 
 returns : tie.Need-returns
-unfolding number_of values_of ofNumber
+unfolding number_of values_of of_number
 returns c =
     rw c.before.before.before.before.before.before.a.given.1 c.before.before.tell.ensures
 
 returns-2 : tie.Need-returns-2
-unfolding ofNumber
+unfolding of_number
 returns-2 c =
-    rw c.before.a2.given.1 (tell-refused _ _)
+    rw c.before.a2.given.1 (tell_refused _ _)
 
 pub tell-number-spec : {M : Type 1} → statement M
 tell-number-spec =

@@ -1,5 +1,5 @@
 -- `tell_position` meets its contract: the seven words. Assumes nothing.
-use Rattle.host_answers.specs.Answers.{number_of, values_of, ofPosition}
+use Rattle.host_answers.specs.Answers.{number_of, values_of, of_position}
 use Rattle.host_words.specs.Words.{words_of}
 use borrow.Author.Rules.{rules}
 use Rattle.host_answers.proofs.tell_position.Statement.{statement}
@@ -21,7 +21,7 @@ same_length : tie.Need-same-length
 same_length c = search rules
 
 returns : tie.Need-returns
-unfolding number_of values_of ofPosition words_of
+unfolding number_of values_of of_position words_of
 returns c =
     let Span-of = c.before.before.before.before.before in
     rw (← Span-of.Span-of.ensures, ← Span-of.before.spot_of_lem.ensures) c.before.before.tell.ensures

@@ -1,6 +1,6 @@
 -- `tell_reached` meets its contract: how the player stands, or the refusal. Assumes nothing.
-use Rattle.host_answers.specs.Answers.{number_of, values_of, ofReached}
-use Rattle.host_answers.proofs.Telling.{tell-refused}
+use Rattle.host_answers.specs.Answers.{number_of, values_of, of_reached}
+use Rattle.host_answers.proofs.Telling.{tell_refused}
 use borrow.Author.Rules.{rules}
 use Rattle.host_answers.proofs.tell_reached.Statement.{statement}
 use Rattle.host_answers.proofs.tell_reached.Tie as tie
@@ -33,7 +33,7 @@ same_length : tie.Need-same-length
 same_length c = search rules
 
 returns : tie.Need-returns
-unfolding number_of values_of ofReached
+unfolding number_of values_of of_reached
 returns c =
     rw c.before.before.before.before.before.a.given.1 c.before.before.tell-stand.ensures
 
@@ -41,7 +41,7 @@ same-length-2 : tie.Need-same-length-2
 same-length-2 c = search rules
 
 returns-2 : tie.Need-returns-2
-unfolding number_of values_of ofReached
+unfolding number_of values_of of_reached
 returns-2 c =
     rw c.before.before.before.before.before.a2.given.1 c.before.before.tell-stand2.ensures
 
@@ -49,19 +49,19 @@ same-length-3 : tie.Need-same-length-3
 same-length-3 c = search rules
 
 returns-3 : tie.Need-returns-3
-unfolding number_of values_of ofReached
+unfolding number_of values_of of_reached
 returns-3 c =
     rw c.before.before.before.before.before.a3.given.1 c.before.before.tell-stand3.ensures
 
 returns-4 : tie.Need-returns-4
-unfolding ofReached
+unfolding of_reached
 returns-4 c =
-    rw c.enum_told.given.1 (tell-refused _ _)
+    rw c.enum_told.given.1 (tell_refused _ _)
 
 returns-5 : tie.Need-returns-5
-unfolding ofReached
+unfolding of_reached
 returns-5 c =
-    rw c.enum-told2.given.1 (tell-refused _ _)
+    rw c.enum-told2.given.1 (tell_refused _ _)
 
 pub tell-reached-spec : {M : Type 1} → statement M
 tell-reached-spec =

@@ -1,6 +1,6 @@
 -- `tell_selected` meets its contract: the block as a word, or the refusal. Assumes nothing.
-use Rattle.host_answers.specs.Answers.{number_of, values_of, ofSelected}
-use Rattle.host_answers.proofs.Telling.{tell-refused}
+use Rattle.host_answers.specs.Answers.{number_of, values_of, of_selected}
+use Rattle.host_answers.proofs.Telling.{tell_refused}
 use borrow.Author.Rules.{rules}
 use Rattle.host_answers.proofs.tell_selected.Statement.{statement}
 use Rattle.host_answers.proofs.tell_selected.Tie as tie
@@ -24,19 +24,19 @@ same_length : tie.Need-same-length
 same_length c = search rules
 
 returns : tie.Need-returns
-unfolding number_of values_of ofSelected
+unfolding number_of values_of of_selected
 returns c =
     rw c.before.before.before.before.before.before.a.given.1 c.before.before.tell.ensures
 
 returns-2 : tie.Need-returns-2
-unfolding ofSelected
+unfolding of_selected
 returns-2 c =
-    rw c.enum_told.given.1 (tell-refused _ _)
+    rw c.enum_told.given.1 (tell_refused _ _)
 
 returns-3 : tie.Need-returns-3
-unfolding ofSelected
+unfolding of_selected
 returns-3 c =
-    rw c.enum-told2.given.1 (tell-refused _ _)
+    rw c.enum-told2.given.1 (tell_refused _ _)
 
 pub tell-selected-spec : {M : Type 1} → statement M
 tell-selected-spec =

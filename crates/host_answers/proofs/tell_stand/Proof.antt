@@ -1,5 +1,5 @@
 -- `tell_stand` meets its contract: how it stands, the entries passed, the level, the seven words. Assumes nothing.
-use Rattle.host_answers.specs.Answers.{standWords}
+use Rattle.host_answers.specs.Answers.{stand_words}
 use Rattle.host_words.specs.Words.{words_of}
 use borrow.Author.Rules.{rules}
 use Rattle.host_answers.proofs.tell_stand.Statement.{statement}
@@ -24,7 +24,7 @@ same_length : tie.Need-same-length
 same_length c = search rules
 
 returns : tie.Need-returns
-unfolding standWords words_of
+unfolding stand_words words_of
 returns c =
     let flag = c.before.before.before.before.before in
     rw (← flag.flag.ensures, ← flag.before.Span-of.ensures, ← flag.before.before.spot_of_lem.ensures)

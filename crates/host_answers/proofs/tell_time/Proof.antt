@@ -1,6 +1,6 @@
 -- `tell_time` meets its contract: the duration as words, or the refusal. Assumes nothing.
-use Rattle.host_answers.specs.Answers.{number_of, values_of, ofTime}
-use Rattle.host_answers.proofs.Telling.{tell-refused}
+use Rattle.host_answers.specs.Answers.{number_of, values_of, of_time}
+use Rattle.host_answers.proofs.Telling.{tell_refused}
 use borrow.Author.Rules.{rules}
 use Rattle.host_answers.proofs.tell_time.Statement.{statement}
 use Rattle.host_answers.proofs.tell_time.Tie as tie
@@ -24,15 +24,15 @@ same_length : tie.Need-same-length
 same_length c = search rules
 
 returns : tie.Need-returns
-unfolding number_of values_of ofTime
+unfolding number_of values_of of_time
 returns c =
     let Span-of = c.before.before.before.before.before in
     rw (Span-of.before.before.a.given.1, ← Span-of.Span-of.ensures) c.before.before.tell.ensures
 
 returns-2 : tie.Need-returns-2
-unfolding ofTime
+unfolding of_time
 returns-2 c =
-    rw c.before.a2.given.1 (tell-refused _ _)
+    rw c.before.a2.given.1 (tell_refused _ _)
 
 pub tell-time-spec : {M : Type 1} → statement M
 tell-time-spec =

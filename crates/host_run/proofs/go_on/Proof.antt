@@ -1,8 +1,8 @@
 -- `go_on` meets its contract. Assumes nothing.
 use borrow.Author.Rules.{rules}
-use Rattle.host_run.proofs.Runs.{gone-on}
+use Rattle.host_run.proofs.Runs.{gone_on}
 use Rattle.host_run.proofs.Insides.{put-length}
-use Rattle.play_entries.specs.Mounted.{tapeOf}
+use Rattle.play_entries.specs.Mounted.{tape_of}
 use native.Mathlib.Omega.{arith}
 use Prim.Native.Nat.{◌+◌}
 use lib.ListN.{length}
@@ -47,14 +47,14 @@ returns c =
     let call = c.before.before.before.before.before.before.before in
     let s = call.before.before.before.before.before.before.before.before.before in
     let a = s.args in
-    let w = tapeOf a.tape.now a.tones.now a.blocks.now a.count in
+    let w = tape_of a.tape.now a.tones.now a.blocks.now a.count in
     let put = c.before.before.before.before.put-answer in
     let row = c.before.before.before.before.before.row_of in (
       subst (λ (q : Position). Assayed w q c.assay-after.result) (sym c.before.position_in.ensures) c.assay-after.ensures,
       (
         refl,
         (
-          gone-on a.decreases w a.counts.now a.answers.now a.g s.requires.1.1 _ refl
+          gone_on a.decreases w a.counts.now a.answers.now a.g s.requires.1.1 _ refl
               call.call_by.result call.call_by.ensures.0 row.result row.ensures _ put.ensures
               (record { position = c.before.position_in.result; finding = c.assay-after.result; next = a.g.next + 1 })
               c.before.position_in.ensures refl,

@@ -1,6 +1,6 @@
 -- `play_run` meets its contract. Assumes nothing.
 use borrow.Author.Rules.{rules}
-use Rattle.host_run.specs.Runs.{checkNo, runNo, runTable}
+use Rattle.host_run.specs.Runs.{check_no, run_no, run_table}
 use Rattle.host_run.proofs.play_run.Statement.{statement}
 use Rattle.host_run.proofs.play_run.Tie as tie
 
@@ -23,7 +23,7 @@ same_length : tie.Need-same-length
 same_length c = search rules
 
 returns : tie.Need-returns
-unfolding runNo runTable checkNo
+unfolding run_no run_table check_no
 returns c =
     let fit = c.before.before.run-fitting.ensures in
     let told = c.before.before.before.before in
@@ -31,14 +31,14 @@ returns c =
     (rw (← e, told.enum_told.given.1) fit.0, rw (← e, told.enum_told.given.1) fit.1)
 
 returns-2 : tie.Need-returns-2
-unfolding runNo runTable checkNo
+unfolding run_no run_table check_no
 returns-2 c =
     let e = c.before.before.assay.ensures.check in
     let f = c.enum-told2.given.1 in
     (rw (← e, f), rw (← e, f))
 
 returns-3 : tie.Need-returns-3
-unfolding runNo runTable checkNo
+unfolding run_no run_table check_no
 returns-3 c =
     let e = c.before.before.assay.ensures.check in
     let f = c.enum-told3.given.1 in

@@ -1,5 +1,5 @@
 -- `position_in` meets its contract. Assumes nothing.
-use Rattle.play_deck.specs.Calls.{positionIn}
+use Rattle.play_deck.specs.Calls.{position_in}
 use borrow.Author.Rules.{rules}
 use Rattle.host_run.proofs.position_in.Statement.{statement}
 use Rattle.host_run.proofs.position_in.Tie as tie
@@ -20,23 +20,23 @@ enum-told-2 : tie.Need-enum-told-2
 enum-told-2 c = search rules
 
 returns : tie.Need-returns
-unfolding positionIn
+unfolding position_in
 returns c = rw c.before.before.r.given.1
 
 returns-2 : tie.Need-returns-2
-unfolding positionIn
+unfolding position_in
 returns-2 c = rw c.before.before.r2.given.1
 
 returns-3 : tie.Need-returns-3
-unfolding positionIn
+unfolding position_in
 returns-3 c = rw c.before.before.r3.given.1
 
 returns-4 : tie.Need-returns-4
-unfolding positionIn
+unfolding position_in
 returns-4 c = rw c.enum_told.given.1
 
 returns-5 : tie.Need-returns-5
-unfolding positionIn
+unfolding position_in
 returns-5 c = rw c.enum-told2.given.1
 
 pub position-in-spec : {M : Type 1} → statement M

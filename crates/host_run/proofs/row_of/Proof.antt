@@ -1,6 +1,6 @@
 -- `row_of` meets its contract. Assumes nothing.
-use Rattle.play_deck.specs.Calls.{positionIn, passedIn, answerLevel}
-use Rattle.host_run.specs.Rows.{howOf, callRow}
+use Rattle.play_deck.specs.Calls.{position_in, passed_in, answer_level}
+use Rattle.host_run.specs.Rows.{how_of, call_row}
 use borrow.Author.Rules.{rules}
 use Rattle.host_run.proofs.row_of.Statement.{statement}
 use Rattle.host_run.proofs.row_of.Tie as tie
@@ -36,23 +36,23 @@ refused-row-requires-2 : tie.Need-refused-row-requires-2
 refused-row-requires-2 c κs = search rules
 
 returns : tie.Need-returns
-unfolding callRow howOf positionIn passedIn answerLevel
+unfolding call_row how_of position_in passed_in answer_level
 returns c = rw c.before.before.r.given.1 c.stand-row.ensures
 
 returns-2 : tie.Need-returns-2
-unfolding callRow howOf positionIn passedIn answerLevel
+unfolding call_row how_of position_in passed_in answer_level
 returns-2 c = rw c.before.before.r2.given.1 c.stand-row2.ensures
 
 returns-3 : tie.Need-returns-3
-unfolding callRow howOf positionIn passedIn answerLevel
+unfolding call_row how_of position_in passed_in answer_level
 returns-3 c = rw c.before.before.r3.given.1 c.stand-row3.ensures
 
 returns-4 : tie.Need-returns-4
-unfolding callRow howOf positionIn passedIn answerLevel
+unfolding call_row how_of position_in passed_in answer_level
 returns-4 c = rw c.before.enum_told.given.1 c.refused-row.ensures
 
 returns-5 : tie.Need-returns-5
-unfolding callRow howOf positionIn passedIn answerLevel
+unfolding call_row how_of position_in passed_in answer_level
 returns-5 c = rw c.before.enum-told2.given.1 c.refused-row2.ensures
 
 pub row-of-spec : {M : Type 1} → statement M

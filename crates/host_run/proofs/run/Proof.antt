@@ -3,20 +3,20 @@ use Prim.Native.Nat.{◌-◌, ◌≤◌}
 use native.Mathlib.Omega.{arith}
 use mathlib.Core.Path.{◌≡◌, refl, sym, ap, ◌∙◌}
 use lib.ListN.{length}
-use Rattle.play_entries.specs.Mounted.{tapeOf}
-use Rattle.host_run.specs.Inside.{leadsTo, Known}
-use Rattle.host_run.proofs.Runs.{gone-all}
+use Rattle.play_entries.specs.Mounted.{tape_of}
+use Rattle.host_run.specs.Inside.{leads_to, Known}
+use Rattle.host_run.proofs.Runs.{gone_all}
 use borrow.Author.Rules.{rules}
 use Rattle.host_run.proofs.run.Statement.{statement}
 use Rattle.host_run.proofs.run.Tie as tie
 
 abbrev invariant-loop : tie.invariant-loop
 invariant-loop tape tones blocks count measured counts answers₀ g₀ answers g =
-    Known (tapeOf tape tones blocks count) g
+    Known (tape_of tape tones blocks count) g
     × ((g.next ≤ length counts)
     × ((length answers ≡ length answers₀)
-    × (leadsTo measured (tapeOf tape tones blocks count) counts answers g
-    ≡ leadsTo measured (tapeOf tape tones blocks count) counts answers₀ g₀)))
+    × (leads_to measured (tape_of tape tones blocks count) counts answers g
+    ≡ leads_to measured (tape_of tape tones blocks count) counts answers₀ g₀)))
 
 abbrev decreases-loop : tie.decreases-loop
 decreases-loop tape tones blocks count measured counts answers₀ g₀ answers g = length counts - g.next
@@ -68,8 +68,8 @@ returns : tie.Need-returns invariant-loop decreases-loop
 returns c =
     let L = c.before.before.loop in
     let a = c.before.before.before.before.before.before.before.before.args in
-    let w = tapeOf a.tape.now a.tones.now a.blocks.now a.count in
-    sym (gone-all a.decreases w a.counts.now L.answers L.g (omega arith)) ∙ L.invariant.1.1.1
+    let w = tape_of a.tape.now a.tones.now a.blocks.now a.count in
+    sym (gone_all a.decreases w a.counts.now L.answers L.g (omega arith)) ∙ L.invariant.1.1.1
 
 pub run_spec : {M : Type 1} → statement M
 run_spec =

@@ -6,10 +6,10 @@ use lib.ListN.{length, drop}
 use mathlib.Core.List.{List}
 use Rattle.rows.specs.Table as Table
 use Rattle.rows.specs.Table.{put_all}
-use Rattle.host_run.specs.Rows.{answerRow}
-use Rattle.host_run.specs.Inside.{insideRows, insideLeft}
-use Rattle.host_run.proofs.Insides.{put-length, nothing, none-put, rows_end, left_end, rows-stop, left-stop}
-use Rattle.host_run.proofs.Insides.{left-on, next-on, table_on}
+use Rattle.host_run.specs.Rows.{answer_row}
+use Rattle.host_run.specs.Inside.{inside_rows, inside_left}
+use Rattle.host_run.proofs.Insides.{put-length, nothing, none-put, rows_end, left_end, rows-stop, left_stop}
+use Rattle.host_run.proofs.Insides.{left_on, next_on, table_on}
 use borrow.Author.Rules.{rules}
 use Rattle.host_run.proofs.run_inside.Statement.{statement}
 use Rattle.host_run.proofs.run_inside.Tie as tie
@@ -17,10 +17,10 @@ use Rattle.host_run.proofs.run_inside.Tie as tie
 abbrev invariant-loop : tie.invariant-loop
 invariant-loop counts answers₀ from row left₀ i₀ answers left i =
     (i ≤ length counts) × ((length answers ≡ length answers₀)
-    × ((i₀ + length (insideRows row left₀ (drop i₀ counts)) ≡ i + length (insideRows row left (drop i counts)))
-    × ((insideLeft left₀ (drop i₀ counts) ≡ insideLeft left (drop i counts))
-    × (put_all answerRow answers₀ i₀ (insideRows row left₀ (drop i₀ counts))
-    ≡ put_all answerRow answers i (insideRows row left (drop i counts))))))
+    × ((i₀ + length (inside_rows row left₀ (drop i₀ counts)) ≡ i + length (inside_rows row left (drop i counts)))
+    × ((inside_left left₀ (drop i₀ counts) ≡ inside_left left (drop i counts))
+    × (put_all answer_row answers₀ i₀ (inside_rows row left₀ (drop i₀ counts))
+    ≡ put_all answer_row answers i (inside_rows row left (drop i counts))))))
 
 abbrev decreases-loop : tie.decreases-loop
 decreases-loop counts answers₀ from row left₀ i₀ answers left i = length counts - i
@@ -74,12 +74,12 @@ loop-again c =
       (
         ap length put.ensures ∙ room ∙ L.invariant.1.0,
         (
-          L.invariant.1.1.0 ∙ next-on ns a.row L.left L.i h n e l,
+          L.invariant.1.1.0 ∙ next_on ns a.row L.left L.i h n e l,
           (
-            L.invariant.1.1.1.0 ∙ left-on ns a.row L.left L.i h n e l,
+            L.invariant.1.1.1.0 ∙ left_on ns a.row L.left L.i h n e l,
             L.invariant.1.1.1.1 ∙ table_on ns a.row L.left L.i h n e l L.answers
-                ∙ ap (λ (x : List ℕ). put_all answerRow x (L.i + 1) (insideRows a.row (L.left - n) (drop (L.i + 1) ns)))
-                (sym (put.ensures ∙ ap (Table.put answerRow L.answers L.i) w)),
+                ∙ ap (λ (x : List ℕ). put_all answer_row x (L.i + 1) (inside_rows a.row (L.left - n) (drop (L.i + 1) ns)))
+                (sym (put.ensures ∙ ap (Table.put answer_row L.answers L.i) w)),
           ),
         ),
       ),
@@ -117,7 +117,7 @@ returns-2 c =
     let z = rows-stop ns a.row L.left L.i h n e l in (
       sym (L.invariant.1.1.0 ∙ nothing L.i z),
       (
-        sym (L.invariant.1.1.1.0 ∙ left-stop ns a.row L.left L.i h n e l),
+        sym (L.invariant.1.1.1.0 ∙ left_stop ns a.row L.left L.i h n e l),
         (sym (L.invariant.1.1.1.1 ∙ none-put L.answers L.i z), L.invariant.1.0),
       ),
     )

@@ -1,15 +1,15 @@
 -- `flag` meets its contract: a flag is 0 or 1. Assumes nothing.
-use Rattle.host_words.specs.Words.{flagOf}
+use Rattle.host_words.specs.Words.{flag_of}
 use Rattle.host_words.proofs.flag.Statement.{statement}
 use Rattle.host_words.proofs.flag.Tie as tie
 
 returns : tie.Need-returns
-unfolding flagOf
+unfolding flag_of
 returns c =
     rw c.if1.true
 
 returns-2 : tie.Need-returns-2
-unfolding flagOf
+unfolding flag_of
 returns-2 c =
     rw c.if1.false
 

@@ -1,13 +1,13 @@
 -- `position_from` meets its contract: seven words, or none is named. Assumes nothing.
 use mathlib.Core.Path.{◌∙◌}
 use borrow.Author.Tests.{lt-ltb, le-ltb}
-use Rattle.host_words.specs.Words.{positionFrom}
+use Rattle.host_words.specs.Words.{position_from}
 use borrow.Author.Rules.{rules}
 use Rattle.host_words.proofs.position_from.Statement.{statement}
 use Rattle.host_words.proofs.position_from.Tie as tie
 
 returns : tie.Need-returns
-unfolding positionFrom
+unfolding position_from
 returns c =
     rw (lt-ltb _ _ c.if1.true)
 
@@ -42,7 +42,7 @@ with-phase-requires : tie.Need-with-phase-requires
 with-phase-requires c κs = search rules
 
 returns-2 : tie.Need-returns-2
-unfolding positionFrom
+unfolding position_from
 returns-2 c =
     let phase-from = c.before.before.before.before.before in
     let if1 = phase-from.before.before.before.before.before in

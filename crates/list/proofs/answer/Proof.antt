@@ -1,7 +1,7 @@
 -- `answer` meets its contract: each return is one rule. Assumes nothing.
 use native.Mathlib.Omega.{arith}
 use borrow.Author.Rules.{rules}
-use Rattle.list.proofs.Hearing.{says_none, says-tape}
+use Rattle.list.proofs.Hearing.{says_none, says_tape}
 use Rattle.list.proofs.answer.Statement.{statement}
 use Rattle.list.proofs.answer.Tie as tie
 
@@ -41,7 +41,7 @@ returns-2 : tie.Need-returns-2
 returns-2 c =
     let m = c.before.before.before.before.before in
     let a = m.before.before.before.before.before.args in
-    says-tape a.input.now (omega arith) m.model_of.ensures c.before.before.say.ensures
+    says_tape a.input.now (omega arith) m.model_of.ensures c.before.before.say.ensures
 
 pub answer-spec : {M : Type 1} → statement M
 answer-spec =

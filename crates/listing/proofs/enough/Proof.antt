@@ -1,7 +1,7 @@
 -- `enough` meets its contract: the most by the rows' number, or the length that the dry run tells. Assumes nothing.
 use native.Mathlib.Omega.{arith}
 use borrow.Author.Rules.{rules}
-use Rattle.text_out.proofs.Writing.{wrote-counted}
+use Rattle.text_out.proofs.Writing.{wrote_counted}
 use Rattle.text_listing.proofs.PageTexts.{text-rows}
 use Rattle.listing.proofs.enough.Statement.{statement}
 use Rattle.listing.proofs.enough.Tie as tie
@@ -26,7 +26,7 @@ put-listing-requires c κs = search rules
 returns-2 : tie.Need-returns-2
 returns-2 c =
     let w = c.before.put-listing.ensures in
-    (λ tones. omega (arith, wrote-counted (w tones)), λ tones h. wrote-counted (w tones))
+    (λ tones. omega (arith, wrote_counted (w tones)), λ tones h. wrote_counted (w tones))
 
 pub enough-spec : {M : Type 1} → statement M
 enough-spec =

@@ -3,14 +3,14 @@
 use native.Mathlib.Omega.{arith}
 use mathlib.Core.Path.{refl}
 use borrow.Author.Rules.{rules}
-use Rattle.load_tape.specs.Load.{refusalNo}
-use Rattle.listing.proofs.Mounting.{leaves-told, lent-words, load-ready, no-model, too_long, load-refused, load_told}
+use Rattle.load_tape.specs.Load.{refusal_no}
+use Rattle.listing.proofs.Mounting.{leaves-told, lent_words, load_ready, no_model, too_long, load_refused, load_told}
 use Rattle.listing.proofs.glyvrask_listing.Statement.{statement}
 use Rattle.listing.proofs.glyvrask_listing.Tie as tie
 
 returns : tie.Need-returns
 returns c =
-    no-model _ _ _ (omega arith)
+    no_model _ _ _ (omega arith)
 
 returns-2 : tie.Need-returns-2
 returns-2 c =
@@ -42,8 +42,8 @@ tell-requires c κs =
     let load = format.before.before.before.before in
     let shared-slice-known = load.before.before.before.before.before.before in
     let a = shared-slice-known.before.args in
-    load-ready a.tape.now a.model (λ i. (shared-slice-known.shared-slice-known.given i).fits)
-    (leaves-told (lent-words a.tape.now a.model load.load.ensures) format.format.given.1)
+    load_ready a.tape.now a.model (λ i. (shared-slice-known.shared-slice-known.given i).fits)
+    (leaves-told (lent_words a.tape.now a.model load.load.ensures) format.format.given.1)
 
 enum_told : tie.Need-enum-told
 enum_told c =
@@ -63,23 +63,23 @@ returns-3 c =
     let load = format.before.before.before.before in
     let a = load.before.before.before.before.before.before.before.args in
     load_told a.tape.now a.model (omega arith) (omega arith) a.out.now
-    (leaves-told (lent-words a.tape.now a.model load.load.ensures) format.format.given.1) c.before.before.tell.ensures
+    (leaves-told (lent_words a.tape.now a.model load.load.ensures) format.format.given.1) c.before.before.tell.ensures
 
 returns-4 : tie.Need-returns-4
-unfolding refusalNo
+unfolding refusal_no
 returns-4 c =
     let load = c.before.before.before.before in
     let a = load.before.before.before.before.before.before.before.args in
-    load-refused a.tape.now a.model (omega arith) (omega arith) a.out.now
-    (leaves-told (lent-words a.tape.now a.model load.load.ensures) c.enum_told.given.1) refl
+    load_refused a.tape.now a.model (omega arith) (omega arith) a.out.now
+    (leaves-told (lent_words a.tape.now a.model load.load.ensures) c.enum_told.given.1) refl
 
 returns-5 : tie.Need-returns-5
-unfolding refusalNo
+unfolding refusal_no
 returns-5 c =
     let load = c.before.before.before.before.before in
     let a = load.before.before.before.before.before.before.before.args in
-    load-refused a.tape.now a.model (omega arith) (omega arith) a.out.now
-    (leaves-told (lent-words a.tape.now a.model load.load.ensures) c.before.k.given.1) refl
+    load_refused a.tape.now a.model (omega arith) (omega arith) a.out.now
+    (leaves-told (lent_words a.tape.now a.model load.load.ensures) c.before.k.given.1) refl
 
 pub glyvrask-listing-spec : {M : Type 1} → statement M
 glyvrask-listing-spec =

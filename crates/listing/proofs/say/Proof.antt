@@ -1,7 +1,7 @@
 -- `say` meets its contract: a number below 32 is the load's refusal, and another the text's length. Assumes nothing.
 use native.Mathlib.Omega.{arith}
 use borrow.Author.Rules.{rules}
-use Rattle.listing.proofs.Saying.{say-refusal, say-text}
+use Rattle.listing.proofs.Saying.{say_refusal, say_text}
 use Rattle.listing.proofs.say.Statement.{statement}
 use Rattle.listing.proofs.say.Tie as tie
 
@@ -19,7 +19,7 @@ returns c =
     let glyvrask-listing = c.before.before.before.before.before.before.before in
     let shared-slice-known = glyvrask-listing.before.before.before in
     let a = shared-slice-known.before.args in
-    say-refusal a.tape.now a.out.now a.model (λ i. (shared-slice-known.shared-slice-known.given i).fits)
+    say_refusal a.tape.now a.out.now a.model (λ i. (shared-slice-known.shared-slice-known.given i).fits)
     shared-slice-known.before.requires glyvrask-listing.glyvrask-listing.ensures.0 glyvrask-listing.glyvrask-listing.ensures.1
     (omega arith) c.before.before.say-refused.ensures
 
@@ -34,7 +34,7 @@ returns-2 c =
     let glyvrask-listing = c.before.before.before in
     let shared-slice-known = glyvrask-listing.before.before.before in
     let a = shared-slice-known.before.args in
-    say-text a.tape.now a.out.now a.model (λ i. (shared-slice-known.shared-slice-known.given i).fits)
+    say_text a.tape.now a.out.now a.model (λ i. (shared-slice-known.shared-slice-known.given i).fits)
     shared-slice-known.before.requires glyvrask-listing.glyvrask-listing.ensures.0
     glyvrask-listing.glyvrask-listing.ensures.1 (omega arith)
 

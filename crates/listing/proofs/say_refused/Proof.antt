@@ -1,10 +1,10 @@
 -- `say_refused` meets its contract: three writes into bytes that have room. Assumes nothing.
 use native.Mathlib.Omega.{arith}
 use borrow.Author.Rules.{rules}
-use Rattle.text_out.specs.Out.{refusedText, refusedLine}
+use Rattle.text_out.specs.Out.{refused_text, refused_line}
 use Rattle.text_out.proofs.Writing.{then}
-use Rattle.listing.proofs.Saying.{refused-most, says-written}
-use Rattle.text_listing.proofs.Texts.{decimal-long}
+use Rattle.listing.proofs.Saying.{refused-most, says_written}
+use Rattle.text_listing.proofs.Texts.{decimal_long}
 use Rattle.listing.proofs.say_refused.Statement.{statement}
 use Rattle.listing.proofs.say_refused.Tie as tie
 
@@ -22,18 +22,18 @@ put-requires c κs =
     let put-decimal = c.before.before.before in
     let put_all_lem = put-decimal.before.before.before.before in
     let a = put_all_lem.before.before.before.before.args in
-    omega (arith, put_all_lem.put_all_lem.ensures.count, put-decimal.put-decimal.ensures.count, decimal-long a.k)
+    omega (arith, put_all_lem.put_all_lem.ensures.count, put-decimal.put-decimal.ensures.count, decimal_long a.k)
 
 same_length : tie.Need-same-length
 same_length c = search rules
 
 returns : tie.Need-returns
-unfolding refusedLine refusedText
+unfolding refused_line refused_text
 returns c =
     let put-decimal = c.before.before.before.before.before.before in
     let put_all_lem = put-decimal.before.before.before.before in
     let start = put_all_lem.before.before.before.before in
-    says-written (then (then put_all_lem.put_all_lem.ensures put-decimal.put-decimal.ensures) c.before.before.put.ensures)
+    says_written (then (then put_all_lem.put_all_lem.ensures put-decimal.put-decimal.ensures) c.before.before.put.ensures)
     (omega (arith, start.requires, refused-most start.args.k))
 
 pub say-refused-spec : {M : Type 1} → statement M

@@ -4,11 +4,11 @@ use native.Mathlib.Omega.{arith}
 use mathlib.Core.List.{List, []}
 use lib.ListN.{length}
 use borrow.Author.Rules.{rules}
-use Rattle.play_entries.specs.Mounted.{tapeOf}
-use Rattle.text_out.proofs.Writing.{wrote-counted}
-use Rattle.text_listing.specs.Page.{listingText}
+use Rattle.play_entries.specs.Mounted.{tape_of}
+use Rattle.text_out.proofs.Writing.{wrote_counted}
+use Rattle.text_listing.specs.Page.{listing_text}
 use Rattle.text_listing.proofs.PageTexts.{text-most}
-use Rattle.listing.proofs.Texts.{tells-short, tells}
+use Rattle.listing.proofs.Texts.{tells_short, tells}
 use Rattle.listing.proofs.tell.Statement.{statement}
 use Rattle.listing.proofs.tell.Tie as tie
 
@@ -18,10 +18,10 @@ enough-requires c κs = search rules
 returns : tie.Need-returns
 returns c =
     let a = c.before.before.before.before.before.args in
-    let t : List ℕ → List ℕ = λ tones. listingText a.model a.format (tapeOf a.tape.now tones a.blocks.now a.n) in
+    let t : List ℕ → List ℕ = λ tones. listing_text a.model a.format (tape_of a.tape.now tones a.blocks.now a.n) in
     let h : (tones : List ℕ) → length a.out.now < length (t tones) = λ tones.
     omega (arith, c.before.enough.ensures.1 tones (omega arith)) in
-    (λ tones. (tells-short (t tones) a.out.now (h tones)).0, λ tones. (tells-short (t tones) a.out.now (h tones)).1)
+    (λ tones. (tells_short (t tones) a.out.now (h tones)).0, λ tones. (tells_short (t tones) a.out.now (h tones)).1)
 
 put-listing-requires : tie.Need-put-listing-requires
 put-listing-requires c κs = search rules
@@ -31,7 +31,7 @@ cast-result c =
     let s = c.before.before.before.before.before.before.before.before.before in
     omega (
       arith,
-      wrote-counted (c.before.before.put-listing.ensures []),
+      wrote_counted (c.before.before.put-listing.ensures []),
       text-most s.args.model s.args.format s.requires [],
     )
 

@@ -1,8 +1,8 @@
 -- `data_block` meets its contract: the row is born of its tone rows, its bits and what they sound. Assumes nothing.
 use native.Mathlib.Omega.{arith}
 use mathlib.Core.List.{[], ◌∷◌}
-use Rattle.load_blocks.proofs.Laws.{does-born, two-and-data}
-use Rattle.load_blocks.specs.Blocks.{dataSound}
+use Rattle.load_blocks.proofs.Laws.{does_born, two_and_data}
+use Rattle.load_blocks.specs.Blocks.{data_sound}
 use borrow.Author.Rules.{rules}
 use Rattle.load_blocks.proofs.data_block.Statement.{statement}
 use Rattle.load_blocks.proofs.data_block.Tie as tie
@@ -46,8 +46,8 @@ returns c =
     let second = figure.before in
     let row = second.before.before in
     let a = row.before.before.before.before.args in
-    does-born a.tape.now a.origin (dataSound (a.pilot ∷ a.sync ∷ []) a.bits a.pause) row.data-row.ensures
-    (two-and-data a.tape.now a.pilot a.sync _ second.before.tone-figure.ensures.0 second.tone-figure2.ensures.0
+    does_born a.tape.now a.origin (data_sound (a.pilot ∷ a.sync ∷ []) a.bits a.pause) row.data-row.ensures
+    (two_and_data a.tape.now a.pilot a.sync _ second.before.tone-figure.ensures.0 second.tone-figure2.ensures.0
     figure.data-figure.ensures.0 made.with-sound.ensures) two.two-tones.ensures
 
 pub data-block-spec : {M : Type 1} → statement M

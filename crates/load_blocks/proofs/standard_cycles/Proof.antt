@@ -1,15 +1,15 @@
 -- `standard_cycles` meets its contract. Assumes nothing.
-use Rattle.load_blocks.specs.Blocks.{standardCycles}
+use Rattle.load_blocks.specs.Blocks.{standard_cycles}
 use Rattle.load_blocks.proofs.standard_cycles.Statement.{statement}
 use Rattle.load_blocks.proofs.standard_cycles.Tie as tie
 
 returns : tie.Need-returns
-unfolding standardCycles
+unfolding standard_cycles
 returns c =
     rw c.if1.true
 
 returns-2 : tie.Need-returns-2
-unfolding standardCycles
+unfolding standard_cycles
 returns-2 c =
     rw c.if1.false
 

@@ -1,5 +1,5 @@
 -- `standard_data_block` meets its contract. Assumes nothing.
-use Rattle.load_blocks.specs.Blocks.{standardTones, standardSound}
+use Rattle.load_blocks.specs.Blocks.{standard_tones, standard_sound}
 use borrow.Author.Rules.{rules}
 use Rattle.load_blocks.proofs.standard_data_block.Statement.{statement}
 use Rattle.load_blocks.proofs.standard_data_block.Tie as tie
@@ -17,7 +17,7 @@ same-length-2 : tie.Need-same-length-2
 same-length-2 c = search rules
 
 returns : tie.Need-returns
-unfolding standardTones standardSound
+unfolding standard_tones standard_sound
 returns c =
     let block = c.before.before.before.before in
     rw (← block.before.before.before.standard-cycles.ensures) block.data-block.ensures

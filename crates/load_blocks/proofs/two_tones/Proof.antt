@@ -1,8 +1,8 @@
 -- `two_tones` meets its contract. Assumes nothing.
 use Rattle.load_blocks.proofs.Laws.{rows_more}
 use Rattle.load_blocks.specs.Does.{lent_of}
-use Rattle.load_blocks.specs.Adds.{addRows}
-use Rattle.load_state.proofs.Laws.{then-on, then-no}
+use Rattle.load_blocks.specs.Adds.{add_rows}
+use Rattle.load_state.proofs.Laws.{then_on, then_no}
 use mathlib.Core.List.{[], ◌∷◌}
 use borrow.Author.Rules.{rules}
 use Rattle.load_blocks.proofs.two_tones.Statement.{statement}
@@ -33,7 +33,7 @@ returns c =
     let add-tone = next.before.before.before.before in
     let a = add-tone.before.before.before.before.args in
     λ B N t h. rw (rows_more (lent_of B N) a.a (a.b ∷ []) a.r t)
-    (then-on (add-tone.add-tone.ensures B N _ t h) next.next.given.1 (λ u k. one-tone.one-tone.ensures B N u k))
+    (then_on (add-tone.add-tone.ensures B N _ t h) next.next.given.1 (λ u k. one-tone.one-tone.ensures B N u k))
 
 same-length-3 : tie.Need-same-length-3
 same-length-3 c = search rules
@@ -43,7 +43,7 @@ returns-2 c =
     let add-tone = c.before.before.before.before.before in
     let a = add-tone.before.before.before.before.args in
     λ B N t h. rw (rows_more (lent_of B N) a.a (a.b ∷ []) a.r t)
-    (then-no (addRows (lent_of B N) (a.b ∷ []) a.r) (add-tone.add-tone.ensures B N _ t h) c.before.k.given.1)
+    (then_no (add_rows (lent_of B N) (a.b ∷ []) a.r) (add-tone.add-tone.ensures B N _ t h) c.before.k.given.1)
 
 pub two-tones-spec : {M : Type 1} → statement M
 two-tones-spec =

@@ -2,7 +2,7 @@
 use lib.Bits.{and_mask}
 use native.Mathlib.Omega.{arith}
 use native.Mathlib.Nat.{one-le-pow}
-use Rattle.load_general.specs.General.{symbolNumber}
+use Rattle.load_general.specs.General.{symbol_number}
 use borrow.Author.Rules.{rules}
 use Rattle.load_general.proofs.number_at.Statement.{statement}
 use Rattle.load_general.proofs.number_at.Tie as tie
@@ -27,7 +27,7 @@ sub-result c =
     omega (arith, c.power.ensures, one-le-pow c.before.before.before.before.before.args.g.nb 2 (omega arith))
 
 returns : tie.Need-returns
-unfolding symbolNumber
+unfolding symbol_number
 returns c =
     rw (c.power.ensures, and_mask, c.before.shift.ensures, c.before.before.byte_at.ensures)
 

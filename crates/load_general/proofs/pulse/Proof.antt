@@ -1,5 +1,5 @@
 -- `pulse` meets its contract. Assumes nothing.
-use Rattle.cut_fields.proofs.Le.{le-small}
+use Rattle.cut_fields.proofs.Le.{le_small}
 use native.Mathlib.Omega.{arith}
 use borrow.Author.Rules.{rules}
 use Rattle.load_general.proofs.pulse.Statement.{statement}
@@ -11,7 +11,7 @@ low-first-requires c κs = search rules
 cast-result : tie.Need-overflow-cast-result
 cast-result c =
     let a = c.before.before.args in
-    omega (arith, c.low_first.ensures, le-small a.tape.now (λ i. (c.before.shared-slice-known.given i).fits) a.at 2)
+    omega (arith, c.low_first.ensures, le_small a.tape.now (λ i. (c.before.shared-slice-known.given i).fits) a.at 2)
 
 returns : tie.Need-returns
 returns c = search rules

@@ -1,5 +1,5 @@
 -- `symbol` meets its contract. Assumes nothing.
-use Rattle.load_general.specs.Held.{symbolWords}
+use Rattle.load_general.specs.Held.{symbol_words}
 use Rattle.load_general.specs.General.{symbol_at}
 use borrow.Author.Tests.{lt-ltb, le-ltb}
 use borrow.Author.Rules.{rules}
@@ -31,12 +31,12 @@ pulse-requires-2 : tie.Need-pulse-requires-2
 pulse-requires-2 c κs = search rules
 
 returns : tie.Need-returns
-unfolding symbolWords symbol_at
+unfolding symbol_words symbol_at
 returns c =
     rw (c.before.before.pulse.ensures, c.pulse2.ensures, lt-ltb _ _ c.before.if1.true)
 
 returns-2 : tie.Need-returns-2
-unfolding symbolWords symbol_at
+unfolding symbol_words symbol_at
 returns-2 c =
     rw (c.before.pulse.ensures, le-ltb _ _ c.if1.false)
 

@@ -1,18 +1,18 @@
 -- `data_part` meets its contract. Assumes nothing.
-use Rattle.load_general.specs.Made.{judgedOf}
-use Rattle.load_general.specs.General.{dataPart}
+use Rattle.load_general.specs.Made.{judged_of}
+use Rattle.load_general.specs.General.{data_part}
 use borrow.Author.Tests.{eq-eqb, ne_eqb, le-leb, lt-leb}
 use borrow.Author.Rules.{rules}
 use Rattle.load_general_data.proofs.data_part.Statement.{statement}
 use Rattle.load_general_data.proofs.data_part.Tie as tie
 
 returns : tie.Need-returns
-unfolding dataPart judgedOf
+unfolding data_part judged_of
 returns c =
     rw (eq-eqb _ _ c.if1.true)
 
 returns-2 : tie.Need-returns-2
-unfolding dataPart judgedOf
+unfolding data_part judged_of
 returns-2 c =
     rw (ne_eqb _ _ c.before.before.if1.false, le-leb _ _ c.if2.true)
 
@@ -20,7 +20,7 @@ singles-part-requires : tie.Need-singles-part-requires
 singles-part-requires c κs = search rules
 
 returns-3 : tie.Need-returns-3
-unfolding dataPart
+unfolding data_part
 returns-3 c =
     let if2 = c.before.before.before in
     rw (ne_eqb _ _ if2.before.before.if1.false, lt-leb _ _ if2.if2.false, eq-eqb _ _ c.before.if3.true)
@@ -30,7 +30,7 @@ pairs-part-requires : tie.Need-pairs-part-requires
 pairs-part-requires c κs = search rules
 
 returns-4 : tie.Need-returns-4
-unfolding dataPart
+unfolding data_part
 returns-4 c =
     let if3 = c.before.before.before in
     let if1 = if3.before.before.before.before in
@@ -42,7 +42,7 @@ returns-4 c =
     ) c.pairs-part.ensures
 
 returns-5 : tie.Need-returns-5
-unfolding dataPart judgedOf
+unfolding data_part judged_of
 returns-5 c =
     let if2 = c.before.before.before.before in
     rw (

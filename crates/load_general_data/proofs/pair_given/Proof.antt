@@ -2,7 +2,7 @@
 use borrow.Author.Tests.{lt-ltb, le-ltb}
 use Rattle.load_general.proofs.Given.{pair-given}
 use native.Mathlib.Omega.{arith}
-use Rattle.load_general.proofs.Symbols.{pair-bit, pair-even}
+use Rattle.load_general.proofs.Symbols.{pair_bit, pair_even}
 use borrow.Author.Rules.{rules}
 use Rattle.load_general_data.proofs.pair_given.Statement.{statement}
 use Rattle.load_general_data.proofs.pair_given.Tie as tie
@@ -14,19 +14,19 @@ mul-bit-2 : tie.Need-overflow-mul-bit-2
 mul-bit-2 c =
     let a = c.before.before.args in
     let p = c.before.before.requires in
-    omega (arith, pair-bit a.i a.g.nb a.g.totd p.3 p.1, p.0.places.fits)
+    omega (arith, pair_bit a.i a.g.nb a.g.totd p.3 p.1, p.0.places.fits)
 
 number-at-requires : tie.Need-number-at-requires
 number-at-requires c κs =
     let a = c.before.before.args in
     let p = c.before.before.requires in
-    (p.0, p.2, pair-bit a.i a.g.nb a.g.totd p.3 p.1, omega arith)
+    (p.0, p.2, pair_bit a.i a.g.nb a.g.totd p.3 p.1, omega arith)
 
 number-at-requires-2 : tie.Need-number-at-requires-2
 number-at-requires-2 c κs =
     let a = c.before.before.before.before.before.args in
     let p = c.before.before.before.before.before.requires in
-    (p.0, p.2, pair-bit a.i a.g.nb a.g.totd p.3 p.1, pair-even a.i a.g.nb)
+    (p.0, p.2, pair_bit a.i a.g.nb a.g.totd p.3 p.1, pair_even a.i a.g.nb)
 
 returns : tie.Need-returns
 returns c =

@@ -4,13 +4,13 @@ use mathlib.Core.Path.{sym, ◌∙◌}
 use Rattle.load_general.proofs.Given.{every-pair}
 use native.Mathlib.Omega.{arith}
 use Rattle.rows.proofs.Clauses.{failed, passed}
-use Rattle.load_general.specs.General.{pairRow}
-use Rattle.load_general.proofs.Loops.{Judging, judging-starts, judging-refused, judging-on, judging-over}
+use Rattle.load_general.specs.General.{pair_row}
+use Rattle.load_general.proofs.Loops.{Judging, judging_starts, judging_refused, judging_on, judging_over}
 use Rattle.load_general_data.proofs.pairs_given.Statement.{statement}
 use Rattle.load_general_data.proofs.pairs_given.Tie as tie
 
 abbrev invariant-loop : tie.invariant-loop
-invariant-loop tape g n i₀ i = Judging (pairRow tape g) (g.totd / 2) i
+invariant-loop tape g n i₀ i = Judging (pair_row tape g) (g.totd / 2) i
 
 abbrev decreases-loop : tie.decreases-loop
 decreases-loop tape g n i₀ i = g.totd / 2 - i
@@ -31,7 +31,7 @@ pairs-of-requires c κs =
 loop-holds : tie.Need-loop-init invariant-loop decreases-loop
 loop-holds c =
     let a = c.before.before.before.before.args in
-    judging-starts (pairRow a.tape.now a.g) (a.g.totd / 2)
+    judging_starts (pair_row a.tape.now a.g) (a.g.totd / 2)
 
 pair-given-requires : tie.Need-pair-given-requires invariant-loop decreases-loop
 pair-given-requires c κs =
@@ -43,7 +43,7 @@ returns-2 : tie.Need-returns-2 invariant-loop decreases-loop
 returns-2 c =
     let loop = c.before.before.before in
     let a = loop.before.before.before.before.before.args in
-    judging-refused (pairRow a.tape.now a.g) (a.g.totd / 2) loop.loop.i (omega (arith, loop.before.pairs_of.ensures))
+    judging_refused (pair_row a.tape.now a.g) (a.g.totd / 2) loop.loop.i (omega (arith, loop.before.pairs_of.ensures))
     loop.loop.invariant (failed c.before.pair-given.ensures c.if2.true)
 
 add-i : tie.Need-overflow-add-i invariant-loop decreases-loop
@@ -58,13 +58,13 @@ loop-again : tie.Need-loop-preserved invariant-loop decreases-loop
 loop-again c =
     let loop = c.before.before.before in
     let a = loop.before.before.before.before.before.args in
-    judging-on (pairRow a.tape.now a.g) (a.g.totd / 2) loop.loop.i (omega (arith, loop.before.pairs_of.ensures))
+    judging_on (pair_row a.tape.now a.g) (a.g.totd / 2) loop.loop.i (omega (arith, loop.before.pairs_of.ensures))
     loop.loop.invariant (passed c.before.pair-given.ensures c.if2.false)
 
 returns-3 : tie.Need-returns-3 invariant-loop decreases-loop
 returns-3 c =
     let a = c.before.before.before.before.before.before.args in
-    judging-over (pairRow a.tape.now a.g) (a.g.totd / 2) c.before.loop.i (omega (arith, c.before.before.pairs_of.ensures))
+    judging_over (pair_row a.tape.now a.g) (a.g.totd / 2) c.before.loop.i (omega (arith, c.before.before.pairs_of.ensures))
     c.before.loop.invariant
 
 pub pairs-given-spec : {M : Type 1} → statement M

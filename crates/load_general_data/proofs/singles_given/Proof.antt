@@ -5,13 +5,13 @@ use Rattle.load_general.proofs.Given.{every-single}
 use Prim.Native.Nat.{◌-◌}
 use native.Mathlib.Omega.{arith}
 use Rattle.rows.proofs.Clauses.{failed, passed}
-use Rattle.load_general.specs.General.{singleRow}
-use Rattle.load_general.proofs.Loops.{Judging, judging-starts, judging-refused, judging-on, judging-over}
+use Rattle.load_general.specs.General.{single_row}
+use Rattle.load_general.proofs.Loops.{Judging, judging_starts, judging_refused, judging_on, judging_over}
 use Rattle.load_general_data.proofs.singles_given.Statement.{statement}
 use Rattle.load_general_data.proofs.singles_given.Tie as tie
 
 abbrev invariant-loop : tie.invariant-loop
-invariant-loop tape g i₀ i = Judging (singleRow tape g) g.totd i
+invariant-loop tape g i₀ i = Judging (single_row tape g) g.totd i
 
 abbrev decreases-loop : tie.decreases-loop
 decreases-loop tape g i₀ i = g.totd - i
@@ -28,7 +28,7 @@ returns c =
 loop-holds : tie.Need-loop-init invariant-loop decreases-loop
 loop-holds c =
     let a = c.before.before.before.args in
-    judging-starts (singleRow a.tape.now a.g) a.g.totd
+    judging_starts (single_row a.tape.now a.g) a.g.totd
 
 single-given-requires : tie.Need-single-given-requires invariant-loop decreases-loop
 single-given-requires c κs =
@@ -38,7 +38,7 @@ returns-2 : tie.Need-returns-2 invariant-loop decreases-loop
 returns-2 c =
     let loop = c.before.before.before.before in
     let a = loop.before.before.before.before.args in
-    judging-refused (singleRow a.tape.now a.g) a.g.totd loop.loop.i (omega arith) loop.loop.invariant
+    judging_refused (single_row a.tape.now a.g) a.g.totd loop.loop.i (omega arith) loop.loop.invariant
     (failed c.before.single-given.ensures c.if3.true)
 
 add-i : tie.Need-overflow-add-i invariant-loop decreases-loop
@@ -53,14 +53,14 @@ loop-again : tie.Need-loop-preserved invariant-loop decreases-loop
 loop-again c =
     let loop = c.before.before.before.before in
     let a = loop.before.before.before.before.args in
-    judging-on (singleRow a.tape.now a.g) a.g.totd loop.loop.i (omega arith) loop.loop.invariant
+    judging_on (single_row a.tape.now a.g) a.g.totd loop.loop.i (omega arith) loop.loop.invariant
     (passed c.before.single-given.ensures c.if3.false)
 
 returns-3 : tie.Need-returns-3 invariant-loop decreases-loop
 returns-3 c =
     let loop = c.before.before in
     let a = loop.before.before.before.before.args in
-    judging-over (singleRow a.tape.now a.g) a.g.totd loop.loop.i (omega arith) loop.loop.invariant
+    judging_over (single_row a.tape.now a.g) a.g.totd loop.loop.i (omega arith) loop.loop.invariant
 
 pub singles-given-spec : {M : Type 1} → statement M
 singles-given-spec =

@@ -1,6 +1,6 @@
 -- `singles_part` meets its contract. Assumes nothing.
-use Rattle.load_general.specs.Made.{judgedOf}
-use Rattle.load_general.specs.General.{singlesOf, singleRow}
+use Rattle.load_general.specs.Made.{judged_of}
+use Rattle.load_general.specs.General.{singles_of, single_row}
 use borrow.Author.Tests.{eq-eqb, ne_eqb}
 use borrow.Author.Rules.{rules}
 use Rattle.load_general_data.proofs.singles_part.Statement.{statement}
@@ -13,16 +13,16 @@ part-of-requires : tie.Need-part-of-requires
 part-of-requires c κs = search rules
 
 returns : tie.Need-returns
-unfolding singlesOf judgedOf
+unfolding singles_of judged_of
 returns c =
     rw (eq-eqb _ _ c.if1.true)
 
 returns-2 : tie.Need-returns-2
-unfolding singlesOf
+unfolding singles_of
 returns-2 c =
     let a = c.before.before.before.before.before.args in
     rw (ne_eqb _ _ c.before.before.if1.false)
-    (c.part_of.ensures (singleRow a.tape.now a.g) c.before.singles-given.ensures)
+    (c.part_of.ensures (single_row a.tape.now a.g) c.before.singles-given.ensures)
 
 pub singles-part-spec : {M : Type 1} → statement M
 singles-part-spec = tie.close (tie.spec singles-given-requires part-of-requires returns returns-2)

@@ -1,7 +1,7 @@
 -- `entry_row` meets its contract. Assumes nothing.
 use Rattle.load_general.proofs.Symbols.{kept-symbol}
-use Rattle.load_general.specs.General.{entryRow, entrySymbol, entryRepeat}
-use Rattle.cut_fields.proofs.Le.{le-small}
+use Rattle.load_general.specs.General.{entry_row, entry_symbol, entry_repeat}
+use Rattle.cut_fields.proofs.Le.{le_small}
 use borrow.Author.Tests.{le-leb, lt-leb}
 use Prim.Native.Nat.{◌+◌, ◌*◌}
 use native.Mathlib.Omega.{arith}
@@ -19,7 +19,7 @@ byte-at-requires : tie.Need-byte-at-requires
 byte-at-requires c κs = search rules
 
 returns : tie.Need-returns
-unfolding entryRow entrySymbol
+unfolding entry_row entry_symbol
 returns c =
     rw (← c.before.before.byte_at.ensures, le-leb _ _ c.if1.true)
 
@@ -44,12 +44,12 @@ cycles-requires c κs =
     omega (
       arith,
       c.low_first.ensures,
-      le-small shared-slice-known.before.args.tape.now (λ i. (shared-slice-known.shared-slice-known.given i).fits)
+      le_small shared-slice-known.before.args.tape.now (λ i. (shared-slice-known.shared-slice-known.given i).fits)
           (shared-slice-known.before.args.g.entries + shared-slice-known.before.args.i * 3 + 1) 2,
     )
 
 returns-2 : tie.Need-returns-2
-unfolding entryRow entrySymbol entryRepeat
+unfolding entry_row entry_symbol entry_repeat
 returns-2 c =
     let if1 = c.before.before.before in
     let a = if1.before.before.before.before.before.args in

@@ -1,7 +1,7 @@
 -- `pilot_part` meets its contract. Assumes nothing.
-use Rattle.load_general.proofs.Parts.{some-pulses}
-use Rattle.load_general.specs.Made.{judgedOf}
-use Rattle.load_general.specs.General.{pilotOf, entrySymbol, entryRow}
+use Rattle.load_general.proofs.Parts.{some_pulses}
+use Rattle.load_general.specs.Made.{judged_of}
+use Rattle.load_general.specs.General.{pilot_of, entry_symbol, entry_row}
 use borrow.Author.Tests.{eq-eqb, ne_eqb, le-leb, lt-leb}
 use native.Mathlib.Omega.{arith}
 use mathlib.Core.Path.{◌≡◌, sym, ◌∙◌}
@@ -11,7 +11,7 @@ use Rattle.load_general_pilot.proofs.pilot_part.Statement.{statement}
 use Rattle.load_general_pilot.proofs.pilot_part.Tie as tie
 
 returns : tie.Need-returns
-unfolding pilotOf judgedOf
+unfolding pilot_of judged_of
 returns c =
     rw (eq-eqb _ _ c.if1.true)
 
@@ -20,24 +20,24 @@ one-or-two-requires c κs = search rules
 
 entries-given-requires : tie.Need-entries-given-requires
 entries-given-requires c κs =
-    (c.before.before.before.before.before.requires, omega arith, some-pulses _ (sym c.before.one-or-two.ensures ∙ c.if2.true))
+    (c.before.before.before.before.before.requires, omega arith, some_pulses _ (sym c.before.one-or-two.ensures ∙ c.if2.true))
 
 part-of-requires : tie.Need-part-of-requires
 part-of-requires c κs = search rules
 
 returns-2 : tie.Need-returns-2
-unfolding pilotOf
+unfolding pilot_of
 returns-2 c =
-    let one-or-two = c.before.before.before in
-    let a = one-or-two.before.before.before.before.args in
-    rw (ne_eqb _ _ one-or-two.before.if1.false, ← one-or-two.one-or-two.ensures, c.before.before.if2.true)
-    (c.part_of.ensures (entryRow a.tape.now a.g) c.before.entries-given.ensures)
+    let one_or_two = c.before.before.before in
+    let a = one_or_two.before.before.before.before.args in
+    rw (ne_eqb _ _ one_or_two.before.if1.false, ← one_or_two.one-or-two.ensures, c.before.before.if2.true)
+    (c.part_of.ensures (entry_row a.tape.now a.g) c.before.entries-given.ensures)
 
 byte-at-requires : tie.Need-byte-at-requires
 byte-at-requires c κs = search rules
 
 returns-3 : tie.Need-returns-3
-unfolding pilotOf entrySymbol judgedOf
+unfolding pilot_of entry_symbol judged_of
 returns-3 c =
     let if2 = c.before.before.before in
     let a = if2.before.before.before.before.before.args in
@@ -52,7 +52,7 @@ returns-3 c =
     )
 
 returns-4 : tie.Need-returns-4
-unfolding pilotOf entrySymbol judgedOf
+unfolding pilot_of entry_symbol judged_of
 returns-4 c =
     let if2 = c.before.before.before in
     let a = if2.before.before.before.before.before.args in

@@ -1,7 +1,7 @@
 -- `equal_halves` meets its contract. Assumes nothing.
 use mathlib.Core.Path.{refl}
 use Rattle.load_general.specs.Held.{symbol_of}
-use Rattle.load_general.specs.General.{equalHalves}
+use Rattle.load_general.specs.General.{equal_halves}
 use borrow.Author.Rules.{rules}
 use Rattle.load_general_rows.proofs.equal_halves.Statement.{statement}
 use Rattle.load_general_rows.proofs.equal_halves.Tie as tie
@@ -13,7 +13,7 @@ array-read-result-2 : tie.Need-array-read-result-2
 array-read-result-2 c = search rules
 
 returns : tie.Need-returns
-unfolding equalHalves symbol_of
+unfolding equal_halves symbol_of
 returns c =
     refl
 

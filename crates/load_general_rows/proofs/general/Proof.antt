@@ -1,7 +1,7 @@
 -- `general` meets its contract. Assumes nothing.
-use Rattle.load_general_rows.proofs.Answers.{pilot-refused, pilot-stop, done_refused, done-stop}
+use Rattle.load_general_rows.proofs.Answers.{pilot_refused, pilot_stop, done_refused, done-stop}
 use Rattle.load_general.proofs.Parts.{told-refused, told-stop}
-use Rattle.load_general.specs.General.{pilotOf, generalOf}
+use Rattle.load_general.specs.General.{pilot_of, general_of}
 use mathlib.Core.Path.{sym, ◌∙◌}
 use borrow.Author.Rules.{rules}
 use Rattle.load_general_rows.proofs.general.Statement.{statement}
@@ -21,16 +21,16 @@ enum-known-n c = search rules
 
 with-pilot-requires : tie.Need-with-pilot-requires
 with-pilot-requires c κs =
-    let pilot-part = c.before.before.before.before in
-    let start = pilot-part.before.before.before in
-    (start.requires, sym pilot-part.pilot-part.ensures ∙ c.before.before.n.given.1)
+    let pilot_part = c.before.before.before.before in
+    let start = pilot_part.before.before.before in
+    (start.requires, sym pilot_part.pilot-part.ensures ∙ c.before.before.n.given.1)
 
 returns : tie.Need-returns
 returns c =
     let a = c.before.before.before.before.before.args in
     let s = a.tape.now in
     let g = a.g in
-    rw (pilot-refused s g (told-refused (pilotOf s g) (sym c.before.before.pilot-part.ensures ∙ c.enum_told.given.1)))
+    rw (pilot_refused s g (told-refused (pilot_of s g) (sym c.before.before.pilot-part.ensures ∙ c.enum_told.given.1)))
     (done_refused a.used a.tones.now)
 
 returns-2 : tie.Need-returns-2
@@ -38,14 +38,14 @@ returns-2 c =
     let a = c.before.before.before.before.before.args in
     let s = a.tape.now in
     let g = a.g in
-    rw (pilot-stop s g (told-stop (pilotOf s g) (sym c.before.before.pilot-part.ensures ∙ c.enum-told2.given.1)))
+    rw (pilot_stop s g (told-stop (pilot_of s g) (sym c.before.before.pilot-part.ensures ∙ c.enum-told2.given.1)))
     (done-stop a.used a.tones.now)
 
 same_length : tie.Need-same-length
 same_length c = search rules
 
 returns-3 : tie.Need-returns-3
-unfolding generalOf
+unfolding general_of
 returns-3 c =
     c.before.before.with-pilot.ensures
 

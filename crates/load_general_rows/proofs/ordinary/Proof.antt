@@ -1,5 +1,5 @@
 -- `ordinary` meets its contract. Assumes nothing.
-use Rattle.load_general.proofs.Symbols.{two-inside, symbol-back}
+use Rattle.load_general.proofs.Symbols.{two_inside, symbol-back}
 use Rattle.load_general.specs.General.{ordinary}
 use Rattle.rows.proofs.Clauses.{failed, passed}
 use borrow.Author.Tests.{eq-eqb, ne_eqb, lt-ltb, le-ltb}
@@ -29,7 +29,7 @@ symbol-requires c κs =
       omega arith,
       omega (
         arith,
-        two-inside start.args.tape.now start.args.g start.requires.places (omega arith)
+        two_inside start.args.tape.now start.args.g start.requires.places (omega arith)
             c.before.before.if2.false c.if3.false,
       ),
     )
@@ -57,7 +57,7 @@ symbol-requires-2 c κs =
       omega arith,
       omega (
         arith,
-        two-inside start.args.tape.now start.args.g start.requires.places (omega arith) if3.before.before.if2.false
+        two_inside start.args.tape.now start.args.g start.requires.places (omega arith) if3.before.before.if2.false
             if3.if3.false,
       ),
     )

@@ -1,7 +1,7 @@
 -- `pair_tone` meets its contract. Assumes nothing.
-use Rattle.load_general.proofs.Given.{pair-below, pair-below-2, pair-tone}
+use Rattle.load_general.proofs.Given.{pair_below, pair_below_2, pair-tone}
 use native.Mathlib.Omega.{arith}
-use Rattle.load_general.proofs.Symbols.{pair-bit, pair-even}
+use Rattle.load_general.proofs.Symbols.{pair_bit, pair_even}
 use borrow.Author.Rules.{rules}
 use Rattle.load_general_rows.proofs.pair_tone.Statement.{statement}
 use Rattle.load_general_rows.proofs.pair_tone.Tie as tie
@@ -13,19 +13,19 @@ mul-bit-2 : tie.Need-overflow-mul-bit-2
 mul-bit-2 c =
     let a = c.before.before.args in
     let p = c.before.before.requires in
-    omega (arith, pair-bit a.i a.g.nb a.g.totd p.4 p.2, p.0.places.fits)
+    omega (arith, pair_bit a.i a.g.nb a.g.totd p.4 p.2, p.0.places.fits)
 
 number-at-requires : tie.Need-number-at-requires
 number-at-requires c κs =
     let a = c.before.before.args in
     let p = c.before.before.requires in
-    (p.0, p.3, pair-bit a.i a.g.nb a.g.totd p.4 p.2, omega arith)
+    (p.0, p.3, pair_bit a.i a.g.nb a.g.totd p.4 p.2, omega arith)
 
 number-at-requires-2 : tie.Need-number-at-requires-2
 number-at-requires-2 c κs =
     let a = c.before.before.before.args in
     let p = c.before.before.before.requires in
-    (p.0, p.3, pair-bit a.i a.g.nb a.g.totd p.4 p.2, pair-even a.i a.g.nb)
+    (p.0, p.3, pair_bit a.i a.g.nb a.g.totd p.4 p.2, pair_even a.i a.g.nb)
 
 cast-y : tie.Need-overflow-cast-y
 cast-y c = search rules
@@ -37,7 +37,7 @@ element-copy-out-y : tie.Need-element-copy-out-y
 element-copy-out-y c =
     let a = c.before.before.before.before.args in
     let p = c.before.before.before.before.requires in
-    omega (arith, pair-below a.tape.now a.g a.i p.5, c.before.number_at.ensures, p.0.asd)
+    omega (arith, pair_below a.tape.now a.g a.i p.5, c.before.number_at.ensures, p.0.asd)
 
 cast-z : tie.Need-overflow-cast-z
 cast-z c = search rules
@@ -49,7 +49,7 @@ element-copy-out-z : tie.Need-element-copy-out-z
 element-copy-out-z c =
     let a = c.before.before.before.before.before.args in
     let p = c.before.before.before.before.before.requires in
-    omega (arith, pair-below-2 a.tape.now a.g a.i p.5, c.before.number-at2.ensures, p.0.asd)
+    omega (arith, pair_below_2 a.tape.now a.g a.i p.5, c.before.number-at2.ensures, p.0.asd)
 
 array-read-one-cycle : tie.Need-array-read-one-cycle
 array-read-one-cycle c = search rules

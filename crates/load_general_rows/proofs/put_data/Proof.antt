@@ -1,5 +1,5 @@
 -- `put_data` meets its contract. Assumes nothing.
-use Rattle.load_general.proofs.Parts.{singles-sorted, pairs-sorted, sorted-tones, sorted-count}
+use Rattle.load_general.proofs.Parts.{singles_sorted, pairs_sorted, sorted_tones, sorted_count}
 use borrow.Author.Rules.{rules}
 use Rattle.load_general_rows.proofs.put_data.Statement.{statement}
 use Rattle.load_general_rows.proofs.put_data.Tie as tie
@@ -8,17 +8,17 @@ put-singles-requires : tie.Need-put-singles-requires
 put-singles-requires c κs =
     let a = c.before.before.before.before.before.args in
     let p = c.before.before.before.before.before.requires in
-    let o = singles-sorted a.tape.now a.g p.1 c.before.if1.true in
+    let o = singles_sorted a.tape.now a.g p.1 c.before.if1.true in
     let r = o.ready in
-    (p.0, r.0, r.1, r.2, r.3, sorted-tones o p.1, sorted-count o p.1 p.2)
+    (p.0, r.0, r.1, r.2, r.3, sorted_tones o p.1, sorted_count o p.1 p.2)
 
 put-pairs-requires : tie.Need-put-pairs-requires
 put-pairs-requires c κs =
     let a = c.before.before.before.before.before.args in
     let p = c.before.before.before.before.before.requires in
-    let o = pairs-sorted a.tape.now a.g p.1 c.before.if1.false in
+    let o = pairs_sorted a.tape.now a.g p.1 c.before.if1.false in
     let r = o.ready in
-    (p.0, r.0, r.1, r.2, r.3, sorted-tones o p.1, sorted-count o p.1 p.2)
+    (p.0, r.0, r.1, r.2, r.3, sorted_tones o p.1, sorted_count o p.1 p.2)
 
 same_length : tie.Need-same-length
 same_length c = search rules
@@ -28,7 +28,7 @@ returns c =
     let if1 = c.before.before.before.before in
     let start = if1.before.before.before.before in
     let a = start.args in
-    let o = singles-sorted a.tape.now a.g start.requires.1 if1.if1.true in
+    let o = singles_sorted a.tape.now a.g start.requires.1 if1.if1.true in
     rw o.rows c.before.before.put-singles.ensures
 
 same-length-2 : tie.Need-same-length-2
@@ -39,7 +39,7 @@ returns-2 c =
     let if1 = c.before.before.before.before in
     let start = if1.before.before.before.before in
     let a = start.args in
-    let o = pairs-sorted a.tape.now a.g start.requires.1 if1.if1.false in
+    let o = pairs_sorted a.tape.now a.g start.requires.1 if1.if1.false in
     rw o.rows c.before.before.put-pairs.ensures
 
 pub put-data-spec : {M : Type 1} → statement M

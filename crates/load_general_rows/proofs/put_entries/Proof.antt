@@ -3,15 +3,15 @@ use borrow.Author.Rules.{rules}
 use Prim.Native.Nat.{◌+◌, ◌-◌}
 use native.Mathlib.Omega.{arith}
 use mathlib.Core.Path.{ap, ◌∙◌}
-use Rattle.load_general.specs.Made.{putGiven}
-use Rattle.load_general.specs.General.{entryRow}
-use Rattle.load_general.proofs.Symbols.{pilot-inside}
-use Rattle.load_general.proofs.Loops.{Writing, writing-starts, writing-on, writing-over}
+use Rattle.load_general.specs.Made.{put_given}
+use Rattle.load_general.specs.General.{entry_row}
+use Rattle.load_general.proofs.Symbols.{pilot_inside}
+use Rattle.load_general.proofs.Loops.{Writing, writing_starts, writing_on, writing_over}
 use Rattle.load_general_rows.proofs.put_entries.Statement.{statement}
 use Rattle.load_general_rows.proofs.put_entries.Tie as tie
 
 abbrev invariant-loop : tie.invariant-loop
-invariant-loop tape g tones₀ used a i₀ tones i = Writing (entryRow tape g) g.totp used tones₀ tones i
+invariant-loop tape g tones₀ used a i₀ tones i = Writing (entry_row tape g) g.totp used tones₀ tones i
 
 abbrev decreases-loop : tie.decreases-loop
 decreases-loop tape g tones₀ used a i₀ tones i = g.totp - i
@@ -20,13 +20,13 @@ alphabet-requires : tie.Need-alphabet-requires invariant-loop decreases-loop
 alphabet-requires c κs =
     let a = c.before.before.args in
     let p = c.before.before.requires in
-    (p.0.asp, p.2, pilot-inside a.tape.now a.g p.0.places p.1)
+    (p.0.asp, p.2, pilot_inside a.tape.now a.g p.0.places p.1)
 
 loop-holds : tie.Need-loop-init invariant-loop decreases-loop
 loop-holds c =
     let start = c.before.before.before in
     let a = start.args in
-    writing-starts (entryRow a.tape.now a.g) a.g.totp a.used a.tones.now start.requires.3
+    writing_starts (entry_row a.tape.now a.g) a.g.totp a.used a.tones.now start.requires.3
 
 cast-put-row : tie.Need-overflow-cast-put-row invariant-loop decreases-loop
 cast-put-row c =
@@ -61,9 +61,9 @@ loop-again c =
     let at_row = c.before.before.before in
     let loop = at_row.before.before.before.before.before in
     let a = loop.before.before.before.before.args in
-    writing-on (entryRow a.tape.now a.g) a.g.totp a.used a.tones.now loop.loop.tones loop.loop.i (omega arith)
+    writing_on (entry_row a.tape.now a.g) a.g.totp a.used a.tones.now loop.loop.tones loop.loop.i (omega arith)
     loop.loop.invariant _ (search rules)
-    (c.before.before.put-row.ensures ∙ ap (putGiven loop.loop.tones (a.used + loop.loop.i)) at_row.entry_row.ensures)
+    (c.before.before.put-row.ensures ∙ ap (put_given loop.loop.tones (a.used + loop.loop.i)) at_row.entry_row.ensures)
 
 same_length : tie.Need-same-length invariant-loop decreases-loop
 same_length c =
@@ -73,7 +73,7 @@ returns : tie.Need-returns invariant-loop decreases-loop
 returns c =
     let loop = c.before.before in
     let a = loop.before.before.before.before.args in
-    writing-over (entryRow a.tape.now a.g) a.g.totp a.used a.tones.now loop.loop.tones loop.loop.i (omega arith)
+    writing_over (entry_row a.tape.now a.g) a.g.totp a.used a.tones.now loop.loop.tones loop.loop.i (omega arith)
     loop.loop.invariant
 
 pub put-entries-spec : {M : Type 1} → statement M

@@ -2,14 +2,14 @@
 use borrow.Author.Rules.{rules}
 use Prim.Native.Nat.{◌-◌, ◌/◌}
 use native.Mathlib.Omega.{arith}
-use Rattle.load_general.specs.General.{pairRow}
-use Rattle.load_general.proofs.Symbols.{data-inside}
-use Rattle.load_general.proofs.Loops.{Writing, writing-starts, writing-given, writing-tone, writing-over}
+use Rattle.load_general.specs.General.{pair_row}
+use Rattle.load_general.proofs.Symbols.{data_inside}
+use Rattle.load_general.proofs.Loops.{Writing, writing_starts, writing_given, writing_tone, writing_over}
 use Rattle.load_general_rows.proofs.put_pairs.Statement.{statement}
 use Rattle.load_general_rows.proofs.put_pairs.Tie as tie
 
 abbrev invariant-loop : tie.invariant-loop
-invariant-loop tape g tones₀ used a n i₀ tones i = Writing (pairRow tape g) (g.totd / 2) used tones₀ tones i
+invariant-loop tape g tones₀ used a n i₀ tones i = Writing (pair_row tape g) (g.totd / 2) used tones₀ tones i
 
 abbrev decreases-loop : tie.decreases-loop
 decreases-loop tape g tones₀ used a n i₀ tones i = g.totd / 2 - i
@@ -18,7 +18,7 @@ alphabet-requires : tie.Need-alphabet-requires invariant-loop decreases-loop
 alphabet-requires c κs =
     let a = c.before.before.args in
     let p = c.before.before.requires in
-    (p.0.asd, p.2, data-inside a.tape.now a.g p.0.places p.1)
+    (p.0.asd, p.2, data_inside a.tape.now a.g p.0.places p.1)
 
 pairs-of-requires : tie.Need-pairs-of-requires invariant-loop decreases-loop
 pairs-of-requires c κs =
@@ -28,7 +28,7 @@ loop-holds : tie.Need-loop-init invariant-loop decreases-loop
 loop-holds c =
     let start = c.before.before.before.before in
     let a = start.args in
-    writing-starts (pairRow a.tape.now a.g) (a.g.totd / 2) a.used a.tones.now start.requires.5
+    writing_starts (pair_row a.tape.now a.g) (a.g.totd / 2) a.used a.tones.now start.requires.5
 
 cast-put-tone : tie.Need-overflow-cast-put-tone invariant-loop decreases-loop
 cast-put-tone c =
@@ -49,7 +49,7 @@ pair-tone-requires c κs =
       p.3 (omega (arith, e)),
       p.4,
       omega (arith, e),
-      writing-given (pairRow a.tape.now a.g) (a.g.totd / 2) a.used a.tones.now loop.loop.tones loop.loop.i
+      writing_given (pair_row a.tape.now a.g) (a.g.totd / 2) a.used a.tones.now loop.loop.tones loop.loop.i
           (omega (arith, e)) loop.loop.invariant,
     )
 
@@ -72,7 +72,7 @@ loop-again c =
     let pair-tone = c.before.before.before in
     let loop = pair-tone.before.before.before.before in
     let a = loop.before.before.before.before.before.args in
-    writing-tone (pairRow a.tape.now a.g) (a.g.totd / 2) a.used a.tones.now loop.loop.tones loop.loop.i
+    writing_tone (pair_row a.tape.now a.g) (a.g.totd / 2) a.used a.tones.now loop.loop.tones loop.loop.i
     (omega (arith, loop.before.pairs_of.ensures)) loop.loop.invariant _ pair-tone.pair-tone.result (search rules)
     pair-tone.pair-tone.ensures c.before.before.put-tone.ensures
 
@@ -83,7 +83,7 @@ same_length c =
 returns : tie.Need-returns invariant-loop decreases-loop
 returns c =
     let a = c.before.before.before.before.before.before.args in
-    writing-over (pairRow a.tape.now a.g) (a.g.totd / 2) a.used a.tones.now c.before.loop.tones c.before.loop.i
+    writing_over (pair_row a.tape.now a.g) (a.g.totd / 2) a.used a.tones.now c.before.loop.tones c.before.loop.i
     (omega (arith, c.before.before.pairs_of.ensures)) c.before.loop.invariant
 
 pub put-pairs-spec : {M : Type 1} → statement M

@@ -1,5 +1,5 @@
 -- `put_row` meets its contract. Assumes nothing.
-use Rattle.load_general.specs.Made.{putGiven}
+use Rattle.load_general.specs.Made.{put_given}
 use borrow.Author.Rules.{rules}
 use Rattle.load_general_rows.proofs.put_row.Statement.{statement}
 use Rattle.load_general_rows.proofs.put_row.Tie as tie
@@ -14,7 +14,7 @@ put-tone-requires : tie.Need-put-tone-requires
 put-tone-requires c κs = search rules
 
 returns : tie.Need-returns
-unfolding putGiven
+unfolding put_given
 returns c =
     rw c.enum_told.given.1
 
@@ -22,7 +22,7 @@ same_length : tie.Need-same-length
 same_length c = search rules
 
 returns-2 : tie.Need-returns-2
-unfolding putGiven
+unfolding put_given
 returns-2 c =
     rw c.before.before.before.before.before.r.given.1 c.before.before.put-tone.ensures
 

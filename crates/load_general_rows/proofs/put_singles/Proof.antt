@@ -2,14 +2,14 @@
 use borrow.Author.Rules.{rules}
 use Prim.Native.Nat.{◌-◌}
 use native.Mathlib.Omega.{arith}
-use Rattle.load_general.specs.General.{singleRow}
-use Rattle.load_general.proofs.Symbols.{data-inside}
-use Rattle.load_general.proofs.Loops.{Writing, writing-starts, writing-given, writing-tone, writing-over}
+use Rattle.load_general.specs.General.{single_row}
+use Rattle.load_general.proofs.Symbols.{data_inside}
+use Rattle.load_general.proofs.Loops.{Writing, writing_starts, writing_given, writing_tone, writing_over}
 use Rattle.load_general_rows.proofs.put_singles.Statement.{statement}
 use Rattle.load_general_rows.proofs.put_singles.Tie as tie
 
 abbrev invariant-loop : tie.invariant-loop
-invariant-loop tape g tones₀ used a i₀ tones i = Writing (singleRow tape g) g.totd used tones₀ tones i
+invariant-loop tape g tones₀ used a i₀ tones i = Writing (single_row tape g) g.totd used tones₀ tones i
 
 abbrev decreases-loop : tie.decreases-loop
 decreases-loop tape g tones₀ used a i₀ tones i = g.totd - i
@@ -18,13 +18,13 @@ alphabet-requires : tie.Need-alphabet-requires invariant-loop decreases-loop
 alphabet-requires c κs =
     let a = c.before.before.args in
     let p = c.before.before.requires in
-    (p.0.asd, p.2, data-inside a.tape.now a.g p.0.places p.1)
+    (p.0.asd, p.2, data_inside a.tape.now a.g p.0.places p.1)
 
 loop-holds : tie.Need-loop-init invariant-loop decreases-loop
 loop-holds c =
     let start = c.before.before.before in
     let a = start.args in
-    writing-starts (singleRow a.tape.now a.g) a.g.totd a.used a.tones.now start.requires.5
+    writing_starts (single_row a.tape.now a.g) a.g.totd a.used a.tones.now start.requires.5
 
 cast-put-tone : tie.Need-overflow-cast-put-tone invariant-loop decreases-loop
 cast-put-tone c =
@@ -44,7 +44,7 @@ single-tone-requires c κs =
       p.3,
       p.4,
       omega arith,
-      writing-given (singleRow a.tape.now a.g) a.g.totd a.used a.tones.now loop.loop.tones loop.loop.i
+      writing_given (single_row a.tape.now a.g) a.g.totd a.used a.tones.now loop.loop.tones loop.loop.i
           (omega arith) loop.loop.invariant,
     )
 
@@ -67,7 +67,7 @@ loop-again c =
     let single-tone = c.before.before.before in
     let loop = single-tone.before.before.before.before.before in
     let a = loop.before.before.before.before.args in
-    writing-tone (singleRow a.tape.now a.g) a.g.totd a.used a.tones.now loop.loop.tones loop.loop.i (omega arith)
+    writing_tone (single_row a.tape.now a.g) a.g.totd a.used a.tones.now loop.loop.tones loop.loop.i (omega arith)
     loop.loop.invariant _ single-tone.single-tone.result (search rules) single-tone.single-tone.ensures
     c.before.before.put-tone.ensures
 
@@ -79,7 +79,7 @@ returns : tie.Need-returns invariant-loop decreases-loop
 returns c =
     let loop = c.before.before in
     let a = loop.before.before.before.before.args in
-    writing-over (singleRow a.tape.now a.g) a.g.totd a.used a.tones.now loop.loop.tones loop.loop.i (omega arith)
+    writing_over (single_row a.tape.now a.g) a.g.totd a.used a.tones.now loop.loop.tones loop.loop.i (omega arith)
     loop.loop.invariant
 
 pub put-singles-spec : {M : Type 1} → statement M

@@ -1,7 +1,7 @@
 -- `room_for` meets its contract. Assumes nothing.
 use Rattle.load_general_rows.proofs.Answers.{none-fits}
-use Rattle.rows.specs.Rows.{tone, toneMost}
-use Rattle.rows.specs.Table.{capacityOf}
+use Rattle.rows.specs.Rows.{tone, tone_most}
+use Rattle.rows.specs.Table.{capacity_of}
 use native.Mathlib.Omega.{arith}
 use mathlib.Core.Path.{◌≡◌}
 use Prim.Native.Nat.{◌-◌}
@@ -19,7 +19,7 @@ returns c =
 returns-2 : tie.Need-returns-2
 returns-2 c =
     let a = c.before.before.before.args in
-    let e : capacityOf tone toneMost a.tones.now - a.used ≡ 0 = omega (arith, c.before.tone-capacity.ensures) in
+    let e : capacity_of tone tone_most a.tones.now - a.used ≡ 0 = omega (arith, c.before.tone-capacity.ensures) in
     rw e (none-fits a.rows)
 
 pub room-for-spec : {M : Type 1} → statement M

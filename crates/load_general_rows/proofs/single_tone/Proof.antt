@@ -1,7 +1,7 @@
 -- `single_tone` meets its contract. Assumes nothing.
-use Rattle.load_general.proofs.Given.{single-below, single-tone}
+use Rattle.load_general.proofs.Given.{single_below, single-tone}
 use native.Mathlib.Omega.{arith}
-use Rattle.load_general.proofs.Symbols.{single-bit}
+use Rattle.load_general.proofs.Symbols.{single_bit}
 use borrow.Author.Rules.{rules}
 use Rattle.load_general_rows.proofs.single_tone.Statement.{statement}
 use Rattle.load_general_rows.proofs.single_tone.Tie as tie
@@ -10,13 +10,13 @@ mul-number-at : tie.Need-overflow-mul-number-at
 mul-number-at c =
     let a = c.before.before.args in
     let p = c.before.before.requires in
-    omega (arith, single-bit a.i a.g.nb a.g.totd p.4 p.2, p.0.places.fits)
+    omega (arith, single_bit a.i a.g.nb a.g.totd p.4 p.2, p.0.places.fits)
 
 number-at-requires : tie.Need-number-at-requires
 number-at-requires c κs =
     let a = c.before.before.args in
     let p = c.before.before.requires in
-    (p.0, p.3, single-bit a.i a.g.nb a.g.totd p.4 p.2, omega arith)
+    (p.0, p.3, single_bit a.i a.g.nb a.g.totd p.4 p.2, omega arith)
 
 cast-y : tie.Need-overflow-cast-y
 cast-y c = search rules
@@ -28,7 +28,7 @@ element-copy-out-y : tie.Need-element-copy-out-y
 element-copy-out-y c =
     let a = c.before.before.before.args in
     let p = c.before.before.before.requires in
-    omega (arith, single-below a.tape.now a.g a.i p.5, c.number_at.ensures, p.0.asd)
+    omega (arith, single_below a.tape.now a.g a.i p.5, c.number_at.ensures, p.0.asd)
 
 array-read-one-cycle : tie.Need-array-read-one-cycle
 array-read-one-cycle c = search rules

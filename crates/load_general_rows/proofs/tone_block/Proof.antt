@@ -1,11 +1,11 @@
 -- `tone_block` meets its contract. Assumes nothing.
-use Rattle.rows.specs.Rows.{tone, toneMost}
-use Rattle.rows.specs.Table.{capacityOf}
+use Rattle.rows.specs.Rows.{tone, tone_most}
+use Rattle.rows.specs.Table.{capacity_of}
 use Prim.Native.Nat.{◌-◌, ◌≤◌}
-use Rattle.load_general_rows.proofs.Answers.{data-tones, toned-fits, toned-full}
+use Rattle.load_general_rows.proofs.Answers.{data_tones, toned-fits, toned-full}
 use Rattle.load_general.proofs.Parts.{told-rows, told-tones}
-use Rattle.load_general.specs.Made.{partTones}
-use Rattle.load_general.specs.General.{pilotOf, dataPart}
+use Rattle.load_general.specs.Made.{part_tones}
+use Rattle.load_general.specs.General.{pilot_of, data_part}
 use borrow.Author.Tests.{leb-true}
 use native.Mathlib.Omega.{arith}
 use mathlib.Core.Path.{sym, ◌∙◌}
@@ -24,8 +24,8 @@ put-pilot-requires : tie.Need-put-pilot-requires
 put-pilot-requires c κs =
     let a = c.before.before.before.before.before.before.args in
     let p = c.before.before.before.before.before.before.requires in
-    let q = pilotOf a.tape.now a.g in
-    let f : a.n + a.m ≤ capacityOf tone toneMost a.tones.now - a.used =
+    let q = pilot_of a.tape.now a.g in
+    let f : a.n + a.m ≤ capacity_of tone tone_most a.tones.now - a.used =
     leb-true _ _ (sym c.before.before.room_for.ensures ∙ c.before.if1.true) in
     (p.0, told-tones q p.1, omega (arith, (told-rows q p.1).1))
 
@@ -33,7 +33,7 @@ add-put-data : tie.Need-overflow-add-put-data
 add-put-data c =
     let if1 = c.before.before.before.before.before in
     let a = if1.before.before.before.before.before.args in
-    let f : a.n + a.m ≤ capacityOf tone toneMost a.tones.now - a.used =
+    let f : a.n + a.m ≤ capacity_of tone tone_most a.tones.now - a.used =
     leb-true _ _ (sym if1.before.room_for.ensures ∙ if1.if1.true) in
     omega arith
 
@@ -42,8 +42,8 @@ put-data-requires c κs =
     let if1 = c.before.before.before.before.before in
     let a = if1.before.before.before.before.before.args in
     let p = if1.before.before.before.before.before.requires in
-    let q = dataPart a.tape.now a.g in
-    let f : a.n + a.m ≤ capacityOf tone toneMost a.tones.now - a.used =
+    let q = data_part a.tape.now a.g in
+    let f : a.n + a.m ≤ capacity_of tone tone_most a.tones.now - a.used =
     leb-true _ _ (sym if1.before.room_for.ensures ∙ if1.if1.true) in
     (p.0, told-tones q p.2, omega (arith, (told-rows q p.2).1))
 
@@ -58,13 +58,13 @@ returns c =
     let s = a.tape.now in
     let g = a.g in
     let p = room_for.before.before.before.before.requires in
-    let q = told-rows (pilotOf s g) p.1 in
-    let d = told-rows (dataPart s g) p.2 in
+    let q = told-rows (pilot_of s g) p.1 in
+    let d = told-rows (data_part s g) p.2 in
     rw (
       c.before.before.put-data.ensures,
       put-pilot.put-pilot.ensures,
-      data-tones (partTones (pilotOf s g)) (partTones (dataPart s g)) d.0,
-    ) (toned-fits a.used a.tones.now (partTones (pilotOf s g)) (partTones (dataPart s g)) a.n a.m q.1 d.1
+      data_tones (part_tones (pilot_of s g)) (part_tones (data_part s g)) d.0,
+    ) (toned-fits a.used a.tones.now (part_tones (pilot_of s g)) (part_tones (data_part s g)) a.n a.m q.1 d.1
     (sym room_for.room_for.ensures ∙ put-pilot.before.before.if1.true))
 
 same-length-2 : tie.Need-same-length-2
@@ -76,10 +76,10 @@ returns-2 c =
     let s = a.tape.now in
     let g = a.g in
     let p = c.before.before.before.before.before.requires in
-    let q = told-rows (pilotOf s g) p.1 in
-    let d = told-rows (dataPart s g) p.2 in
-    rw (data-tones (partTones (pilotOf s g)) (partTones (dataPart s g)) d.0) (toned-full a.used a.tones.now
-    (partTones (pilotOf s g)) (partTones (dataPart s g)) a.n a.m q.1 d.1 (sym c.before.room_for.ensures ∙ c.if1.false))
+    let q = told-rows (pilot_of s g) p.1 in
+    let d = told-rows (data_part s g) p.2 in
+    rw (data_tones (part_tones (pilot_of s g)) (part_tones (data_part s g)) d.0) (toned-full a.used a.tones.now
+    (part_tones (pilot_of s g)) (part_tones (data_part s g)) a.n a.m q.1 d.1 (sym c.before.room_for.ensures ∙ c.if1.false))
 
 pub tone-block-spec : {M : Type 1} → statement M
 tone-block-spec =

@@ -1,8 +1,8 @@
 -- `with_pilot` meets its contract. Assumes nothing.
-use Rattle.load_general_rows.proofs.Answers.{pilot-data, data-refused, data-stop, done_refused, done-stop}
+use Rattle.load_general_rows.proofs.Answers.{pilot_data, data_refused, data_stop, done_refused, done-stop}
 use Rattle.load_general.proofs.Parts.{told-rows, told-refused, told-stop}
-use Rattle.load_general.specs.Made.{partTones}
-use Rattle.load_general.specs.General.{pilotOf, dataPart}
+use Rattle.load_general.specs.Made.{part_tones}
+use Rattle.load_general.specs.General.{pilot_of, data_part}
 use mathlib.Core.Path.{sym, ◌∙◌}
 use borrow.Author.Rules.{rules}
 use Rattle.load_general_rows.proofs.with_pilot.Statement.{statement}
@@ -36,9 +36,9 @@ enum-known-m c = search rules
 
 tone-block-requires : tie.Need-tone-block-requires
 tone-block-requires c κs =
-    let data-part = c.before.before.before.before in
-    let p = data-part.before.before.before.before.before.requires in
-    (p.0, p.1, sym data-part.data-part.ensures ∙ c.before.before.m.given.1)
+    let data_part_lem = c.before.before.before.before in
+    let p = data_part_lem.before.before.before.before.before.requires in
+    (p.0, p.1, sym data_part_lem.data-part.ensures ∙ c.before.before.m.given.1)
 
 returns-2 : tie.Need-returns-2
 returns-2 c =
@@ -47,11 +47,11 @@ returns-2 c =
     let a = start.args in
     let s = a.tape.now in
     let g = a.g in
-    let o = told-rows (pilotOf s g) start.requires.1 in
+    let o = told-rows (pilot_of s g) start.requires.1 in
     rw (
-      pilot-data s g (partTones (pilotOf s g)) o.0 (sym if1.before.ordinary.ensures ∙ if1.if1.false),
-      data-refused (partTones (pilotOf s g))
-          (told-refused (dataPart s g) (sym c.before.before.data-part.ensures ∙ c.enum_told.given.1)),
+      pilot_data s g (part_tones (pilot_of s g)) o.0 (sym if1.before.ordinary.ensures ∙ if1.if1.false),
+      data_refused (part_tones (pilot_of s g))
+          (told-refused (data_part s g) (sym c.before.before.data-part.ensures ∙ c.enum_told.given.1)),
     ) (done_refused a.used a.tones.now)
 
 returns-3 : tie.Need-returns-3
@@ -61,11 +61,11 @@ returns-3 c =
     let a = start.args in
     let s = a.tape.now in
     let g = a.g in
-    let o = told-rows (pilotOf s g) start.requires.1 in
+    let o = told-rows (pilot_of s g) start.requires.1 in
     rw (
-      pilot-data s g (partTones (pilotOf s g)) o.0 (sym if1.before.ordinary.ensures ∙ if1.if1.false),
-      data-stop (partTones (pilotOf s g))
-          (told-stop (dataPart s g) (sym c.before.before.data-part.ensures ∙ c.enum-told2.given.1)),
+      pilot_data s g (part_tones (pilot_of s g)) o.0 (sym if1.before.ordinary.ensures ∙ if1.if1.false),
+      data_stop (part_tones (pilot_of s g))
+          (told-stop (data_part s g) (sym c.before.before.data-part.ensures ∙ c.enum-told2.given.1)),
     ) (done-stop a.used a.tones.now)
 
 same-length-2 : tie.Need-same-length-2
@@ -78,8 +78,8 @@ returns-4 c =
     let a = start.args in
     let s = a.tape.now in
     let g = a.g in
-    let o = told-rows (pilotOf s g) start.requires.1 in
-    rw (pilot-data s g (partTones (pilotOf s g)) o.0 (sym if1.before.ordinary.ensures ∙ if1.if1.false))
+    let o = told-rows (pilot_of s g) start.requires.1 in
+    rw (pilot_data s g (part_tones (pilot_of s g)) o.0 (sym if1.before.ordinary.ensures ∙ if1.if1.false))
     c.before.before.tone-block.ensures
 
 pub with-pilot-spec : {M : Type 1} → statement M

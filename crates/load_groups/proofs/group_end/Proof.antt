@@ -1,8 +1,8 @@
 -- `group_end` meets its contract. Assumes nothing.
-use Rattle.load_state.proofs.Adds.{holds-paused}
-use Rattle.load_state.proofs.Laws.{holds-name}
+use Rattle.load_state.proofs.Adds.{holds_paused}
+use Rattle.load_state.proofs.Laws.{holds_name}
 use Rattle.load_state.specs.Holds.{goes}
-use Rattle.load_state.specs.Parser.{inGroup, endGroup}
+use Rattle.load_state.specs.Parser.{in_group, end_group}
 use mathlib.Core.Bool.{true, false}
 use mathlib.Core.Path.{◌≡◌, refl, sym, ◌∙◌}
 use native.Mathlib.Omega.{arith}
@@ -23,26 +23,26 @@ same_length : tie.Need-same-length
 same_length c = search rules
 
 returns : tie.Need-returns
-unfolding endGroup
+unfolding end_group
 returns c =
     λ B N tt t h.
     let g = c.before.before in
     let p = g.before.before.before in
-    let q : inGroup t.pending ≡ true = sym (rw h.pends at g.in_group.ensures) ∙ c.before.if1.true in
-    let k = holds-paused h (omega arith) (p.pause-last.ensures B t.blocks h.lenB h.nb h.roomB h.is_b) in
-    rw (q, c.with-pending.ensures) (goes (holds-name k refl))
+    let q : in_group t.pending ≡ true = sym (rw h.pends at g.in_group.ensures) ∙ c.before.if1.true in
+    let k = holds_paused h (omega arith) (p.pause-last.ensures B t.blocks h.len_b h.nb h.room_b h.is_b) in
+    rw (q, c.with-pending.ensures) (goes (holds_name k refl))
 
 same-length-2 : tie.Need-same-length-2
 same-length-2 c = search rules
 
 returns-2 : tie.Need-returns-2
-unfolding endGroup
+unfolding end_group
 returns-2 c =
     λ B N tt t h.
     let g = c.before in
     let p = g.before.before.before in
-    let q : inGroup t.pending ≡ false = sym (rw h.pends at g.in_group.ensures) ∙ c.if1.false in
-    rw q (goes (holds-paused h (omega arith) (p.pause-last.ensures B t.blocks h.lenB h.nb h.roomB h.is_b)))
+    let q : in_group t.pending ≡ false = sym (rw h.pends at g.in_group.ensures) ∙ c.if1.false in
+    rw q (goes (holds_paused h (omega arith) (p.pause-last.ensures B t.blocks h.len_b h.nb h.room_b h.is_b)))
 
 pub group-end-spec : {M : Type 1} → statement M
 group-end-spec =

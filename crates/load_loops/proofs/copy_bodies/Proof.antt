@@ -1,8 +1,8 @@
 -- `copy_bodies` meets its contract: at each turn a tape is held from which the bodies left give what all of them give. Assumes nothing.
-use Rattle.load_state.proofs.Copies.{Begins, begins, begins-rows, begins-length, body-turn, bodies-end}
-use Rattle.load_state.proofs.Laws.{Going, going-starts, going_on, going-no, going-ends}
-use Rattle.load_state.specs.Holds.{Holds, blockRoom}
-use Rattle.load_state.specs.Parser.{Parsed, copyRows, copies}
+use Rattle.load_state.proofs.Copies.{Begins, begins, begins_rows, begins_length, body_turn, bodies_end}
+use Rattle.load_state.proofs.Laws.{Going, going_starts, going_on, going_no, going_ends}
+use Rattle.load_state.specs.Holds.{Holds, block_room}
+use Rattle.load_state.specs.Parser.{Parsed, copy_rows, copies}
 use lib.Seq.{slice}
 use lib.ListN.{length}
 use mathlib.Core.List.{List}
@@ -17,15 +17,15 @@ abbrev invariant-loop : tie.invariant-loop
 invariant-loop blocks₀ start end times s₀ left₀ blocks s left =
     (length blocks ≡ length blocks₀)
     × ((B N : ℕ) (tt : List ℕ) (t : Parsed) → Holds B N s₀ blocks₀ tt t → end ≤ length t.blocks
-    → Going (Begins t.blocks) B N s blocks tt (copies (blockRoom B) left (slice start end t.blocks))
-    (copies (blockRoom B) times (slice start end t.blocks) t))
+    → Going (Begins t.blocks) B N s blocks tt (copies (block_room B) left (slice start end t.blocks))
+    (copies (block_room B) times (slice start end t.blocks) t))
 
 abbrev decreases-loop : tie.decreases-loop
 decreases-loop blocks₀ start end times s₀ left₀ blocks s left = left
 
 loop-holds : tie.Need-loop-init invariant-loop decreases-loop
 loop-holds c =
-    (refl, λ B N tt t h e. going-starts (begins t) h)
+    (refl, λ B N tt t h e. going_starts (begins t) h)
 
 copy-body-requires : tie.Need-copy-body-requires invariant-loop decreases-loop
 copy-body-requires c κs = search rules
@@ -46,11 +46,11 @@ returns c =
     let l = a.before.before.before in
     let p = l.before.before.args in
     let g = l.loop.invariant.1 B N tt t h e in
-    let m = blockRoom B in
-    going-no g (copyRows m (slice p.start p.end g.at.blocks))
+    let m = block_room B in
+    going_no g (copy_rows m (slice p.start p.end g.at.blocks))
     (copies m (l.loop.left - 1) (slice p.start p.end t.blocks))
-    (body-turn m l.loop.left p.start p.end g.known (omega arith) e)
-    (a.copy_body.ensures B N tt g.at g.holds (begins-length p.end g.known e)) c.before.k.given.1
+    (body_turn m l.loop.left p.start p.end g.known (omega arith) e)
+    (a.copy_body.ensures B N tt g.at g.holds (begins_length p.end g.known e)) c.before.k.given.1
 
 sub-left : tie.Need-overflow-sub-left invariant-loop decreases-loop
 sub-left c = search rules
@@ -66,12 +66,12 @@ loop-again c =
       omega arith,
       λ B N tt t h e.
           let g = l.loop.invariant.1 B N tt t h e in
-          let m = blockRoom B in
+          let m = block_room B in
           let rs = slice p.start p.end g.at.blocks in
-          going_on g (copyRows m rs) (copies m (l.loop.left - 1) (slice p.start p.end t.blocks))
-          (body-turn m l.loop.left p.start p.end g.known (omega arith) e)
-          (a.copy_body.ensures B N tt g.at g.holds (begins-length p.end g.known e)) c.before.next.given.1
-          (λ u q. begins-rows t.blocks m rs g.known q),
+          going_on g (copy_rows m rs) (copies m (l.loop.left - 1) (slice p.start p.end t.blocks))
+          (body_turn m l.loop.left p.start p.end g.known (omega arith) e)
+          (a.copy_body.ensures B N tt g.at g.holds (begins_length p.end g.known e)) c.before.next.given.1
+          (λ u q. begins_rows t.blocks m rs g.known q),
     )
 
 same-length-2 : tie.Need-same-length-2 invariant-loop decreases-loop
@@ -83,7 +83,7 @@ returns-2 c =
     let l = c.before in
     let p = l.before.before.args in
     let g = l.loop.invariant.1 B N tt t h e in
-    going-ends g (bodies-end (blockRoom B) l.loop.left (slice p.start p.end t.blocks) g.at (omega arith))
+    going_ends g (bodies_end (block_room B) l.loop.left (slice p.start p.end t.blocks) g.at (omega arith))
 
 pub copy-bodies-spec : {M : Type 1} → statement M
 copy-bodies-spec =

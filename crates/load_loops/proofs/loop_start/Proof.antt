@@ -1,6 +1,6 @@
 -- `loop_start` meets its contract. Assumes nothing.
-use Rattle.load_state.proofs.Laws.{holds-loop}
-use Rattle.load_state.specs.Parser.{openLoop}
+use Rattle.load_state.proofs.Laws.{holds_loop}
+use Rattle.load_state.specs.Parser.{open_loop}
 use Rattle.load_state.specs.Holds.{goes}
 use borrow.Author.Rules.{rules}
 use Rattle.load_loops.proofs.loop_start.Statement.{statement}
@@ -13,9 +13,9 @@ with-body-requires : tie.Need-with-body-requires
 with-body-requires c κs = search rules
 
 returns : tie.Need-returns
-unfolding openLoop
+unfolding open_loop
 returns c =
-    λ B N bt tt t h. rw c.with-body.ensures (goes (holds-loop h (rw (h.nb, h.loops) at c.before.loop-opened.ensures)))
+    λ B N bt tt t h. rw c.with-body.ensures (goes (holds_loop h (rw (h.nb, h.loops) at c.before.loop-opened.ensures)))
 
 pub loop-start-spec : {M : Type 1} → statement M
 loop-start-spec = tie.close (tie.spec loop-opened-requires with-body-requires returns)

@@ -1,6 +1,6 @@
 -- `repeat` meets its contract. Assumes nothing.
 use Rattle.load_state.proofs.Copies.{copies-none}
-use Rattle.load_state.specs.Holds.{blockRoom, goes}
+use Rattle.load_state.specs.Holds.{block_room, goes}
 use lib.Seq.{take_all}
 use lib.ListN.{length, drop_of_length-le}
 use native.Mathlib.Omega.{arith}
@@ -14,7 +14,7 @@ returns c =
     λ B N tt t h.
     let p = c.before.before.args in
     let k : length t.blocks ≤ p.start = omega arith in
-    rw (drop_of_length-le t.blocks k, copies-none (blockRoom B) p.times t) (goes h)
+    rw (drop_of_length-le t.blocks k, copies-none (block_room B) p.times t) (goes h)
 
 block-capacity-requires : tie.Need-block-capacity-requires
 block-capacity-requires c κs = search rules

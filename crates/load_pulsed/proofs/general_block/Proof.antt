@@ -8,9 +8,9 @@ use Rattle.rows.specs.declared.Block.{Block}
 use Rattle.rows.specs.declared.Tone.{Tone}
 use Rattle.load_state.specs.declared.State.{State}
 use Rattle.load_state.specs.Holds.{Holds}
-use Rattle.load_state.specs.Parser.{withTones}
+use Rattle.load_state.specs.Parser.{with_tones}
 use Rattle.play_entries.specs.Figures.{Owns, sounding}
-use Rattle.load_blocks.specs.Sounds.{ms, endsAfter, rowFor, row_of}
+use Rattle.load_blocks.specs.Sounds.{ms, ends_after, row_for, row_of}
 use Rattle.load_pulsed.proofs.Generals.{owns}
 use Rattle.load_pulsed.proofs.general_block.Statement.{statement}
 use Rattle.load_pulsed.proofs.general_block.Tie as tie
@@ -46,15 +46,15 @@ returns c =
     let a = row.before.before.before.before.args in
     λ B N ts t n e h.
     let made = row.data-row.result in
-    let r = rowFor a.origin a.s.tones (length ts) a.bits (endsAfter (ms a.pause)) 1 in
+    let r = row_for a.origin a.s.tones (length ts) a.bits (ends_after (ms a.pause)) 1 in
     let v : made ≡ r =
-    row.data-row.ensures ∙ ap (λ (i : ℕ). rowFor a.origin a.s.tones i a.bits (endsAfter (ms a.pause)) 1) (sym n) in
+    row.data-row.ensures ∙ ap (λ (i : ℕ). row_for a.origin a.s.tones i a.bits (ends_after (ms a.pause)) 1) (sym n) in
     let born : heard.sounding.result ≡ sounding a.tape.now ts r =
     subst (λ (y : Block). (us : List Tone) → Owns a.tones.now y us → heard.sounding.result ≡ sounding a.tape.now us y) v
-    heard.sounding.ensures ts (owns t.tones ts N r h.isT h.lenT h.roomT e refl) in
+    heard.sounding.ensures ts (owns t.tones ts N r h.is_t h.len_t h.room_t e refl) in
     rw (← born)
-    (add.add-block.ensures B N _ (withTones ts t)
-    (subst (λ (y : State). Holds B N y a.blocks.now a.tones.now (withTones ts t)) (sym used.with-used.ensures) h))
+    (add.add-block.ensures B N _ (with_tones ts t)
+    (subst (λ (y : State). Holds B N y a.blocks.now a.tones.now (with_tones ts t)) (sym used.with-used.ensures) h))
 
 pub general-block-spec : {M : Type 1} → statement M
 general-block-spec =

@@ -1,5 +1,5 @@
 -- `generalized_data_block` meets its contract. Assumes nothing.
-use Rattle.load_pulsed.proofs.Generals.{data-fits, tones-fit, general-no4, general-no5, general-stop, general-data, general-tones}
+use Rattle.load_pulsed.proofs.Generals.{data_fits, tones_fit, general_no4, general_no5, general_stop, general_data, general_tones}
 use native.Mathlib.Omega.{arith}
 use borrow.Author.Rules.{rules}
 use Rattle.load_pulsed.proofs.generalized_data_block.Statement.{statement}
@@ -37,7 +37,7 @@ general-block-requires c κs =
     let rows = c.before.before.before in
     let general = rows.before.before.before.before in
     let good = general.before.before.before.before.before in
-    omega (arith, data-fits general.general.ensures rows.rows.given.1, good.well-formed.1.0)
+    omega (arith, data_fits general.general.ensures rows.rows.given.1, good.well-formed.1.0)
 
 enum-known-rows-2 : tie.Need-enum-known-rows-2
 enum-known-rows-2 c = search rules
@@ -50,21 +50,21 @@ general-block-requires-2 c κs =
     let rows2 = c.before.before.before.before in
     let general = rows2.before.before.before.before in
     let good = general.before.before.before.before.before in
-    omega (arith, tones-fit general.general.ensures rows2.rows2.given.1, good.well-formed.1.0)
+    omega (arith, tones_fit general.general.ensures rows2.rows2.given.1, good.well-formed.1.0)
 
 same_length : tie.Need-same-length
 same_length c = search rules
 
 returns : tie.Need-returns
 returns c =
-    λ model B N t h. general-no4 h _ _ model _ c.before.before.before.before.general.ensures c.enum_told.given.1
+    λ model B N t h. general_no4 h _ _ model _ c.before.before.before.before.general.ensures c.enum_told.given.1
 
 same-length-2 : tie.Need-same-length-2
 same-length-2 c = search rules
 
 returns-2 : tie.Need-returns-2
 returns-2 c =
-    λ model B N t h. general-no5 h _ _ model _ c.before.before.before.before.general.ensures c.enum-told2.given.1
+    λ model B N t h. general_no5 h _ _ model _ c.before.before.before.before.general.ensures c.enum-told2.given.1
 
 same-length-3 : tie.Need-same-length-3
 same-length-3 c = search rules
@@ -77,7 +77,7 @@ returns-3 c =
     let told3 = c.before.before.before.before in
     let general = told3.before.before.before.before in
     λ model B N t h.
-    general-stop h _ _ model _ general.general.ensures told3.enum-told3.given.1
+    general_stop h _ _ model _ general.general.ensures told3.enum-told3.given.1
     (c.before.before.stop-block.ensures _ _ B N t h)
 
 same-length-5 : tie.Need-same-length-5
@@ -91,7 +91,7 @@ returns-4 c =
     let block = c.before.before in
     let rows = block.before.before.before.before in
     let general = rows.before.before.before.before in
-    λ model B N t h. general-data h _ _ model _ general.general.ensures rows.rows.given.1 general.general.auto.1.1.0
+    λ model B N t h. general_data h _ _ model _ general.general.ensures rows.rows.given.1 general.general.auto.1.1.0
     (λ ts n k. block.general-block.ensures B N ts t n h.nt k)
 
 same-length-7 : tie.Need-same-length-7
@@ -105,7 +105,7 @@ returns-5 c =
     let block = c.before.before in
     let rows2 = block.before.before.before.before.before in
     let general = rows2.before.before.before.before in
-    λ model B N t h. general-tones h _ _ model _ general.general.ensures rows2.rows2.given.1 general.general.auto.1.1.0
+    λ model B N t h. general_tones h _ _ model _ general.general.ensures rows2.rows2.given.1 general.general.auto.1.1.0
     (λ ts n k. rw block.before.no_bits.ensures at block.general-block2.ensures B N ts t n h.nt k)
 
 pub generalized-data-block-spec : {M : Type 1} → statement M

@@ -1,7 +1,7 @@
 -- `pulse_at` meets its contract. Assumes nothing.
-use Rattle.cut_fields.proofs.Runs.{field-there}
+use Rattle.cut_fields.proofs.Runs.{field_there}
 use Rattle.cut_fields.specs.Field.{number_at}
-use Rattle.load_blocks.specs.Blocks.{pulseAt}
+use Rattle.load_blocks.specs.Blocks.{pulse_at}
 use Prim.Native.Nat.{◌+◌, ◌*◌}
 use native.Mathlib.Omega.{arith}
 use borrow.Author.Rules.{rules}
@@ -21,10 +21,10 @@ cast-result : tie.Need-overflow-cast-result
 cast-result c = search rules
 
 returns : tie.Need-returns
-unfolding pulseAt number_at
+unfolding pulse_at number_at
 returns c =
     let a = c.before.before.before.args in
-    rw (c.before.field.ensures, field-there a.tape.now 2 (a.from + a.i * 2) (omega arith))
+    rw (c.before.field.ensures, field_there a.tape.now 2 (a.from + a.i * 2) (omega arith))
 
 pub pulse-at-spec : {M : Type 1} → statement M
 pulse-at-spec = tie.close (tie.spec mul-t5 add-t6 field-requires cast-result returns)

@@ -7,11 +7,11 @@ use borrow.Author.Rules.{rules}
 use Rattle.rows.specs.declared.Block.{Block}
 use Rattle.load_state.specs.Parser.{Parsed}
 use Rattle.load_state.specs.Holds.{Holds}
-use Rattle.load_state.proofs.Laws.{Going, going-starts, going_on, going-no, going-ends}
-use Rattle.load_blocks.specs.Sounds.{addSound, addSounds}
-use Rattle.load_blocks.specs.Blocks.{toneSound, pairSound, pairSounds}
+use Rattle.load_state.proofs.Laws.{Going, going_starts, going_on, going_no, going_ends}
+use Rattle.load_blocks.specs.Sounds.{add_sound, add_sounds}
+use Rattle.load_blocks.specs.Blocks.{tone_sound, pair_sound, pair_sounds}
 use Rattle.load_blocks.specs.Does.{lent_of}
-use Rattle.load_blocks.proofs.Laws.{Any, does-born, one-alone, pairs-more}
+use Rattle.load_blocks.proofs.Laws.{Any, does_born, one_alone, pairs_more}
 use Rattle.load_pulsed.proofs.pulse_blocks.Statement.{statement}
 use Rattle.load_pulsed.proofs.pulse_blocks.Tie as tie
 
@@ -23,15 +23,15 @@ abbrev invariant-loop : tie.invariant-loop
 invariant-loop tape blocks₀ tones₀ origin from n s₀ i₀ left₀ blocks tones s i left =
     (length blocks ≡ length blocks₀) × (length tones ≡ length tones₀) × (i + left * 2 ≡ n * 2)
     × ((B N : ℕ) (t : Parsed) → Holds B N s₀ blocks₀ tones₀ t
-    → Going Any B N s blocks tones (addSounds (lent_of B N) tape origin (pairSounds tape from i left))
-    (addSounds (lent_of B N) tape origin (pairSounds tape from 0 n) t))
+    → Going Any B N s blocks tones (add_sounds (lent_of B N) tape origin (pair_sounds tape from i left))
+    (add_sounds (lent_of B N) tape origin (pair_sounds tape from 0 n) t))
 
 abbrev decreases-loop : tie.decreases-loop
 decreases-loop tape blocks₀ tones₀ origin from n s₀ i₀ left₀ blocks tones s i left = left
 
 loop-holds : tie.Need-loop-init invariant-loop decreases-loop
 loop-holds c =
-    (refl, refl, omega arith, λ B N t h. going-starts tt h)
+    (refl, refl, omega arith, λ B N t h. going_starts tt h)
 
 pulse-at-requires : tie.Need-pulse-at-requires invariant-loop decreases-loop
 pulse-at-requires c κs = search rules
@@ -75,14 +75,14 @@ returns c =
     let a = loop-test.before.before.before.before.before.args in
     let l = loop-test.before.loop in
     let g = l.invariant.3 B N t h in
-    let f = addSound (lent_of B N) a.tape.now a.origin (pairSound a.tape.now a.from l.i) in
-    let born = does-born a.tape.now a.origin (toneSound _) bare-row.bare-row.ensures
-    (one-alone a.tape.now _ _ (ap size bare-row.bare-row.ensures) one-tone.before.before.tone-figure.ensures.0
+    let f = add_sound (lent_of B N) a.tape.now a.origin (pair_sound a.tape.now a.from l.i) in
+    let born = does_born a.tape.now a.origin (tone_sound _) bare-row.bare-row.ensures
+    (one_alone a.tape.now _ _ (ap size bare-row.bare-row.ensures) one-tone.before.before.tone-figure.ensures.0
     one-tone.before.with-sound.ensures) one-tone.one-tone.ensures in
     let told = rw (bare-row.before.before.pulse-at.ensures, bare-row.before.pulse-at2.ensures) at born in
     let gave = told B N g.at g.holds in
-    going-no g f (addSounds (lent_of B N) a.tape.now a.origin (pairSounds a.tape.now a.from (l.i + 2) (l.left - 1)))
-    (pairs-more (lent_of B N) a.origin a.tape.now a.from l.i l.left g.at loop-test.loop-test.true) gave
+    going_no g f (add_sounds (lent_of B N) a.tape.now a.origin (pair_sounds a.tape.now a.from (l.i + 2) (l.left - 1)))
+    (pairs_more (lent_of B N) a.origin a.tape.now a.from l.i l.left g.at loop-test.loop-test.true) gave
     c.before.k.given.1
 
 add-i : tie.Need-overflow-add-i invariant-loop decreases-loop
@@ -110,14 +110,14 @@ loop-again c =
       omega arith,
       λ B N t h.
           let g = l.invariant.3 B N t h in
-          let f = addSound (lent_of B N) a.tape.now a.origin (pairSound a.tape.now a.from l.i) in
-          let born = does-born a.tape.now a.origin (toneSound _) bare-row.bare-row.ensures
-          (one-alone a.tape.now _ _ (ap size bare-row.bare-row.ensures) one-tone.before.before.tone-figure.ensures.0
+          let f = add_sound (lent_of B N) a.tape.now a.origin (pair_sound a.tape.now a.from l.i) in
+          let born = does_born a.tape.now a.origin (tone_sound _) bare-row.bare-row.ensures
+          (one_alone a.tape.now _ _ (ap size bare-row.bare-row.ensures) one-tone.before.before.tone-figure.ensures.0
           one-tone.before.with-sound.ensures) one-tone.one-tone.ensures in
           let told = rw (bare-row.before.before.pulse-at.ensures, bare-row.before.pulse-at2.ensures) at born in
           let gave = told B N g.at g.holds in
-          going_on g f (addSounds (lent_of B N) a.tape.now a.origin (pairSounds a.tape.now a.from (l.i + 2) (l.left - 1)))
-          (pairs-more (lent_of B N) a.origin a.tape.now a.from l.i l.left g.at loop-test.loop-test.true) gave
+          going_on g f (add_sounds (lent_of B N) a.tape.now a.origin (pair_sounds a.tape.now a.from (l.i + 2) (l.left - 1)))
+          (pairs_more (lent_of B N) a.origin a.tape.now a.from l.i l.left g.at loop-test.loop-test.true) gave
           c.before.next.given.1 (λ u q. tt),
     )
 
@@ -128,11 +128,11 @@ same-length-4 : tie.Need-same-length-4 invariant-loop decreases-loop
 same-length-4 c = search rules
 
 returns-2 : tie.Need-returns-2 invariant-loop decreases-loop
-unfolding addSounds pairSounds
+unfolding add_sounds pair_sounds
 returns-2 c =
     λ B N t h.
     let z : c.before.loop.left ≡ 0 = omega arith in
-    going-ends (c.before.loop.invariant.3 B N t h) (rw z)
+    going_ends (c.before.loop.invariant.3 B N t h) (rw z)
 
 pub pulse-blocks-spec : {M : Type 1} → statement M
 pulse-blocks-spec =

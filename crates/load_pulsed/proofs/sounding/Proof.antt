@@ -3,8 +3,8 @@ use Prim.Native.Nat.{ℕ, ◌+◌}
 use native.Mathlib.Omega.{arith}
 use mathlib.Core.Path.{ap, ap₂, ◌∙◌}
 use borrow.Author.Rules.{rules}
-use Rattle.rows.specs.Rows.{withSound}
-use Rattle.play_entries.specs.Figures.{soundIn}
+use Rattle.rows.specs.Rows.{with_sound}
+use Rattle.play_entries.specs.Figures.{sound_in}
 use Rattle.load_pulsed.proofs.sounding.Statement.{statement}
 use Rattle.load_pulsed.proofs.sounding.Tie as tie
 
@@ -21,11 +21,11 @@ with-sound-requires : tie.Need-with-sound-requires
 with-sound-requires c κs = search rules
 
 returns : tie.Need-returns
-unfolding soundIn
+unfolding sound_in
 returns c =
     let figure = c.before in
     λ ts o. c.with-sound.ensures
-    ∙ ap (λ (n : ℕ). withSound n figure.before.before.before.before.args.r)
+    ∙ ap (λ (n : ℕ). with_sound n figure.before.before.before.before.args.r)
     (ap₂ (λ (x y : ℕ). x + y) (figure.before.tones-figure.ensures.0 ts o) figure.data-figure.ensures.0)
 
 pub sounding-spec : {M : Type 1} → statement M

@@ -1,10 +1,10 @@
 -- `name_blocks` meets its contract: each turn is one step of the pass. Assumes nothing.
-use Rattle.text_name.proofs.Selecting.{next, name-turn, name-all-pass}
-use Rattle.text_name.specs.Names.{nameOne}
-use Rattle.rows.proofs.Passes.{turnedRows, carried, turned-all}
+use Rattle.text_name.proofs.Selecting.{next, name_turn, name_all-pass}
+use Rattle.text_name.specs.Names.{name_one}
+use Rattle.rows.proofs.Passes.{turned_rows, carried, turned_all}
 use Rattle.rows.proofs.Whole.{block-whole}
 use Rattle.rows.proofs.Tables.{rows-length, over-rows}
-use Rattle.rows.specs.Table.{tableOver, rows_of}
+use Rattle.rows.specs.Table.{table_over, rows_of}
 use Rattle.rows.specs.Rows.{block}
 use lib.ListN.{length}
 use mathlib.Core.Bool.{false}
@@ -18,8 +18,8 @@ use Rattle.load_select.proofs.name_blocks.Tie as tie
 abbrev invariant-loop : tie.invariant-loop
 invariant-loop tape blocks₀ n prefixed₀ i₀ blocks prefixed i =
     (i ≤ n) × (length blocks ≡ length blocks₀)
-    × (prefixed ≡ carried (nameOne tape) (next tape) i false (rows_of block blocks₀ n))
-    × (blocks ≡ tableOver block (turnedRows (nameOne tape) (next tape) i false (rows_of block blocks₀ n)) blocks₀)
+    × (prefixed ≡ carried (name_one tape) (next tape) i false (rows_of block blocks₀ n))
+    × (blocks ≡ table_over block (turned_rows (name_one tape) (next tape) i false (rows_of block blocks₀ n)) blocks₀)
 
 abbrev decreases-loop : tie.decreases-loop
 decreases-loop tape blocks₀ n prefixed₀ i₀ blocks prefixed i = n - i
@@ -55,7 +55,7 @@ loop-again c =
     let l = block_at.before.before.before.loop in
     let rs = rows_of block a.blocks.now a.n in
     let h : l.i < length rs = rw (rows-length block a.n a.blocks.now) (omega arith) in
-    let w = name-turn a.tape.now l.i rs a.blocks.now h l.invariant.2 l.invariant.3 block_at.block_at.ensures
+    let w = name_turn a.tape.now l.i rs a.blocks.now h l.invariant.2 l.invariant.3 block_at.block_at.ensures
     name-row.before.before.is-header.ensures name-row.name-row.ensures c.before.before.put-block.ensures in
     (omega arith, omega arith, w.0, w.1)
 
@@ -70,8 +70,8 @@ returns c =
     let rs = rows_of block a.blocks.now a.n in
     l.invariant.3 ∙ rw (
       e,
-      turned-all (nameOne a.tape.now) (next a.tape.now) false rs a.n (rows-length block a.n a.blocks.now),
-      name-all-pass a.tape.now false rs,
+      turned_all (name_one a.tape.now) (next a.tape.now) false rs a.n (rows-length block a.n a.blocks.now),
+      name_all-pass a.tape.now false rs,
     )
 
 pub name-blocks-spec : {M : Type 1} → statement M

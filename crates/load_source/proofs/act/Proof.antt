@@ -2,8 +2,8 @@
 use Rattle.load_source.specs.Meaning.{deed_of}
 use Rattle.load_source.specs.Source.{act}
 use Rattle.load_blocks.specs.Deeds.{does}
-use Rattle.load_blocks.specs.Sounds.{addSounds}
-use Rattle.load_blocks.proofs.Laws.{does-one}
+use Rattle.load_blocks.specs.Sounds.{add_sounds}
+use Rattle.load_blocks.proofs.Laws.{does_one}
 use Rattle.load_state.specs.Holds.{goes}
 use native.Mathlib.Omega.{arith}
 use borrow.Author.Rules.{rules}
@@ -150,7 +150,7 @@ returns c =
     let standard-data-block = c.before.before.before.before in
     let is-header = standard-data-block.before.before.before in
     λ B N t h. rw (is-header.before.before.piece.given.1, ← is-header.is-header.ensures)
-    (does-one _ _ _ _ standard-data-block.standard-data-block.ensures B N t h)
+    (does_one _ _ _ _ standard-data-block.standard-data-block.ensures B N t h)
 
 same-length-3 : tie.Need-same-length-3
 same-length-3 c = search rules
@@ -163,7 +163,7 @@ unfolding act deed_of
 returns-2 c =
     let turbo-data-block = c.before.before.before.before in
     let piece2 = turbo-data-block.before.before.before.before in
-    λ B N t h. rw piece2.piece2.given.1 (does-one _ _ _ _ turbo-data-block.turbo-data-block.ensures B N t h)
+    λ B N t h. rw piece2.piece2.given.1 (does_one _ _ _ _ turbo-data-block.turbo-data-block.ensures B N t h)
 
 same-length-5 : tie.Need-same-length-5
 same-length-5 c = search rules
@@ -176,7 +176,7 @@ unfolding act deed_of
 returns-3 c =
     let pure-tone-block = c.before.before.before.before in
     let piece3 = pure-tone-block.before.before.before.before in
-    λ B N t h. rw piece3.piece3.given.1 (does-one _ _ _ _ (pure-tone-block.pure-tone-block.ensures _) B N t h)
+    λ B N t h. rw piece3.piece3.given.1 (does_one _ _ _ _ (pure-tone-block.pure-tone-block.ensures _) B N t h)
 
 same-length-7 : tie.Need-same-length-7
 same-length-7 c = search rules
@@ -202,7 +202,7 @@ unfolding act deed_of
 returns-5 c =
     let pure-data-block = c.before.before.before.before in
     let piece5 = pure-data-block.before.before.before.before in
-    λ B N t h. rw piece5.piece5.given.1 (does-one _ _ _ _ pure-data-block.pure-data-block.ensures B N t h)
+    λ B N t h. rw piece5.piece5.given.1 (does_one _ _ _ _ pure-data-block.pure-data-block.ensures B N t h)
 
 same-length-11 : tie.Need-same-length-11
 same-length-11 c = search rules
@@ -224,7 +224,7 @@ returns-7 : tie.Need-returns-7
 unfolding act deed_of
 returns-7 c =
     let piece7 = c.before.before.before.before.before in
-    λ B N t h. rw piece7.piece7.given.1 (does-one _ _ _ _ (c.before.before.pause-block.ensures _ _) B N t h)
+    λ B N t h. rw piece7.piece7.given.1 (does_one _ _ _ _ (c.before.before.pause-block.ensures _ _) B N t h)
 
 returns-8 : tie.Need-returns-8
 unfolding act deed_of does
@@ -266,27 +266,27 @@ returns-13 c =
     λ B N t h. rw c.before.before.piece11.given.1 (c.pend2.ensures B N _ _ t h)
 
 returns-14 : tie.Need-returns-14
-unfolding act deed_of does addSounds
+unfolding act deed_of does add_sounds
 returns-14 c =
     λ B N t h. rw c.enum-told3.given.1 (goes h)
 
 returns-15 : tie.Need-returns-15
-unfolding act deed_of does addSounds
+unfolding act deed_of does add_sounds
 returns-15 c =
     λ B N t h. rw c.enum-told4.given.1 (goes h)
 
 returns-16 : tie.Need-returns-16
-unfolding act deed_of does addSounds
+unfolding act deed_of does add_sounds
 returns-16 c =
     λ B N t h. rw c.enum-told5.given.1 (goes h)
 
 returns-17 : tie.Need-returns-17
-unfolding act deed_of does addSounds
+unfolding act deed_of does add_sounds
 returns-17 c =
     λ B N t h. rw c.enum-told6.given.1 (goes h)
 
 returns-18 : tie.Need-returns-18
-unfolding act deed_of does addSounds
+unfolding act deed_of does add_sounds
 returns-18 c =
     λ B N t h. rw c.enum-told7.given.1 (goes h)
 

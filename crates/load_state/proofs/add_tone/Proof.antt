@@ -1,9 +1,9 @@
 -- `add_tone` meets its contract. Assumes nothing.
-use Rattle.load_state.proofs.Adds.{row-full, row_fits, row-adds, holds-tone}
-use Rattle.load_state.specs.Holds.{toneRoom, goes, refuses}
-use Rattle.load_state.specs.Parser.{addTones}
-use Rattle.rows.specs.Table.{capacityOf}
-use Rattle.rows.specs.Rows.{tone, toneMost}
+use Rattle.load_state.proofs.Adds.{row_full, row_fits, row_adds, holds_tone}
+use Rattle.load_state.specs.Holds.{tone_room, goes, refuses}
+use Rattle.load_state.specs.Parser.{add_tones}
+use Rattle.rows.specs.Table.{capacity_of}
+use Rattle.rows.specs.Rows.{tone, tone_most}
 use borrow.Author.Tests.{le-leb, lt-leb, ltb-true}
 use mathlib.Core.Bool.{true}
 use lib.Dec.{ltb}
@@ -22,37 +22,37 @@ add-t12 : tie.Need-overflow-add-t12
 add-t12 c =
     let a = c.before.before.before in
     let p = a.before.before.before.args in
-    let q : ltb p.s.tones (capacityOf tone toneMost p.tones.now) ≡ true = sym a.append-tone.ensures.0 ∙ c.if1.true in
-    omega (arith, ltb-true p.s.tones (capacityOf tone toneMost p.tones.now) q)
+    let q : ltb p.s.tones (capacity_of tone tone_most p.tones.now) ≡ true = sym a.append-tone.ensures.0 ∙ c.if1.true in
+    omega (arith, ltb-true p.s.tones (capacity_of tone tone_most p.tones.now) q)
 
 same_length : tie.Need-same-length
 same_length c = search rules
 
 returns : tie.Need-returns
-unfolding addTones
+unfolding add_tones
 returns c =
     λ B N bt t h.
     let a = c.before.before.before in
     let p = a.before.before.before.args in
     let e = c.if1.true in
-    let k = row_fits tone toneMost p.tones.now t.tones N p.s.tones h.lenT h.nt a.append-tone.ensures.0 e in
-    let l : length t.tones + 1 ≤ toneRoom N = omega arith in
+    let k = row_fits tone tone_most p.tones.now t.tones N p.s.tones h.len_t h.nt a.append-tone.ensures.0 e in
+    let l : length t.tones + 1 ≤ tone_room N = omega arith in
     rw (le-leb _ _ l)
-    (goes (holds-tone h p.r k (omega arith) (row-adds tone toneMost p.tones.now t.tones N p.s.tones h.lenT h.nt
-    a.append-tone.ensures.0 p.r h.isT a.append-tone.ensures.1 e)))
+    (goes (holds_tone h p.r k (omega arith) (row_adds tone tone_most p.tones.now t.tones N p.s.tones h.len_t h.nt
+    a.append-tone.ensures.0 p.r h.is_t a.append-tone.ensures.1 e)))
 
 same-length-2 : tie.Need-same-length-2
 same-length-2 c = search rules
 
 returns-2 : tie.Need-returns-2
-unfolding addTones
+unfolding add_tones
 returns-2 c =
     λ B N bt t h.
     let a = c.before.before.before in
     let p = a.before.before.before.args in
-    let k : toneRoom N < length t.tones + 1 = omega (
+    let k : tone_room N < length t.tones + 1 = omega (
       arith,
-      row-full tone toneMost p.tones.now t.tones N p.s.tones h.lenT h.nt a.append-tone.ensures.0 c.if1.false,
+      row_full tone tone_most p.tones.now t.tones N p.s.tones h.len_t h.nt a.append-tone.ensures.0 c.if1.false,
     ) in
     rw (lt-leb _ _ k) refuses
 

@@ -1,6 +1,6 @@
 -- `stop_block` meets its contract. Assumes nothing.
 use Rattle.load_blocks.proofs.Laws.{does-silent}
-use Rattle.load_blocks.specs.Sounds.{endsInStop}
+use Rattle.load_blocks.specs.Sounds.{ends_in_stop}
 use borrow.Author.Rules.{rules}
 use Rattle.load_stops.proofs.stop_block.Statement.{statement}
 use Rattle.load_stops.proofs.stop_block.Tie as tie
@@ -17,7 +17,7 @@ same_length c = search rules
 returns : tie.Need-returns
 returns c =
     let n = c.before.before in
-    λ tape tt. does-silent tape _ endsInStop 1 n.before.stop-row.ensures (n.no-tone.ensures tt)
+    λ tape tt. does-silent tape _ ends_in_stop 1 n.before.stop-row.ensures (n.no-tone.ensures tt)
 
 pub stop-block-spec : {M : Type 1} → statement M
 stop-block-spec = tie.close (tie.spec stop-row-requires no-tone-requires same_length returns)

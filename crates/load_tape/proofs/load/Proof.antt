@@ -3,8 +3,8 @@ use mathlib.Core.Path.{ap}
 use lib.ListN.{length}
 use Rattle.load_blocks.specs.Does.{lent_of}
 use Rattle.load_source.specs.Source.{load_of}
-use Rattle.load_tape.specs.Load.{loadNamed}
-use Rattle.load_tape.proofs.Naming.{is-tape, named-room, named-leaves, named-refusal}
+use Rattle.load_tape.specs.Load.{load_named}
+use Rattle.load_tape.proofs.Naming.{is_tape, named_room, named-leaves, named_refusal}
 use native.Mathlib.Omega.{arith}
 use borrow.Author.Rules.{rules}
 use Rattle.load_tape.proofs.load.Statement.{statement}
@@ -21,7 +21,7 @@ name-blocks-requires c κs =
     let read = c.before.before.before.before.before.before.before.before in
     let a = read.before.before.before.before.before.before.args in
     let l = load_of (lent_of (length a.blocks.now) (length a.tones.now)) a.tape.now a.model in
-    omega (arith, named-room l read.read.ensures c.before.before.loaded.given.1)
+    omega (arith, named_room l read.read.ensures c.before.before.loaded.given.1)
 
 enum_told : tie.Need-enum-told
 enum_told c = search rules
@@ -36,7 +36,7 @@ same-length-2 : tie.Need-same-length-2
 same-length-2 c = search rules
 
 returns : tie.Need-returns
-unfolding loadNamed
+unfolding load_named
 returns c =
     let loaded = c.before.before.before.before.before in
     let read = loaded.before.before.before.before.before.before in
@@ -51,12 +51,12 @@ same-length-4 : tie.Need-same-length-4
 same-length-4 c = search rules
 
 returns-2 : tie.Need-returns-2
-unfolding loadNamed
+unfolding load_named
 returns-2 c =
     let read = c.before.before.before.before.before.before in
     let a = read.before.before.before.before.before.before.args in
     let l = load_of (lent_of (length a.blocks.now) (length a.tones.now)) a.tape.now a.model in
-    named-refusal a.tape.now l read.read.ensures (ap is-tape c.enum_told.given.1)
+    named_refusal a.tape.now l read.read.ensures (ap is_tape c.enum_told.given.1)
 
 same-length-5 : tie.Need-same-length-5
 same-length-5 c = search rules
@@ -65,13 +65,13 @@ same-length-6 : tie.Need-same-length-6
 same-length-6 c = search rules
 
 returns-3 : tie.Need-returns-3
-unfolding loadNamed
+unfolding load_named
 returns-3 c =
     let read = c.before.before.before.before.before.before.before in
     let a = read.before.before.before.before.before.before.args in
     let l = load_of (lent_of (length a.blocks.now) (length a.tones.now)) a.tape.now a.model in
     rw c.before.loaded2.given.1 at
-    (named-refusal a.tape.now l read.read.ensures (ap is-tape c.before.loaded2.given.1))
+    (named_refusal a.tape.now l read.read.ensures (ap is_tape c.before.loaded2.given.1))
 
 pub load_spec : {M : Type 1} → statement M
 load_spec =

@@ -1,6 +1,6 @@
 -- `load_tap` meets its contract. Assumes nothing.
 use lib.ListN.{length}
-use Rattle.load_tape.proofs.Leaving.{blanked, finds-tap, tap-leaves, tap-fails, tap-refuses, leaves-no, leaves-both}
+use Rattle.load_tape.proofs.Leaving.{blanked, finds_tap, tap_leaves, tap_fails, tap_refuses, leaves-no, leaves-both}
 use mathlib.Core.Path.{◌∙◌}
 use borrow.Author.Rules.{rules}
 use Rattle.load_tape.proofs.load_tap.Statement.{statement}
@@ -42,11 +42,11 @@ same-length-2 c = search rules
 
 returns : tie.Need-returns
 returns c =
-    let read-tap = c.before.before.before.before.before.before.before in
-    let blank2 = read-tap.before.before.before.before.before in
+    let read_tap_lem = c.before.before.before.before.before.before.before in
+    let blank2 = read_tap_lem.before.before.before.before.before in
     let blank = blank2.before.before.before.before in
     let a = blank.before.before.before.before.before.args in
-    tap-leaves (finds-tap blank.blank.auto.0 blank2.blank2.auto.0 a.tape.now read-tap.read-tap.ensures)
+    tap_leaves (finds_tap blank.blank.auto.0 blank2.blank2.auto.0 a.tape.now read_tap_lem.read-tap.ensures)
     a.tzx c.before.s.given.1
 
 same-length-3 : tie.Need-same-length-3
@@ -59,13 +59,13 @@ returns-2 : tie.Need-returns-2
 returns-2 c =
     let refuse-both = c.before.before.before.before in
     let f = refuse-both.before.before.before.before in
-    let read-tap = f.before.before.before.before.before.before in
-    let blank2 = read-tap.before.before.before.before.before in
+    let read_tap_lem = f.before.before.before.before.before.before in
+    let blank2 = read_tap_lem.before.before.before.before.before in
     let blank = blank2.before.before.before.before in
     let a = blank.before.before.before.before.before.args in
-    rw (tap-fails (finds-tap blank.blank.auto.0 blank2.blank2.auto.0 a.tape.now read-tap.read-tap.ensures)
-    a.tzx f.tap.given.1) (leaves-both (read-tap.read-tap.auto.1.0 ∙ blank.blank.auto.0)
-    (read-tap.read-tap.auto.1.1.0 ∙ blank2.blank2.auto.0) refuse-both.refuse-both.ensures)
+    rw (tap_fails (finds_tap blank.blank.auto.0 blank2.blank2.auto.0 a.tape.now read_tap_lem.read-tap.ensures)
+    a.tzx f.tap.given.1) (leaves-both (read_tap_lem.read-tap.auto.1.0 ∙ blank.blank.auto.0)
+    (read_tap_lem.read-tap.auto.1.1.0 ∙ blank2.blank2.auto.0) refuse-both.refuse-both.ensures)
 
 same-length-5 : tie.Need-same-length-5
 same-length-5 c = search rules
@@ -77,13 +77,13 @@ returns-3 : tie.Need-returns-3
 returns-3 c =
     let refuse = c.before.before.before.before in
     let k = refuse.before.before.before.before in
-    let read-tap = k.before.before.before.before.before.before in
-    let blank2 = read-tap.before.before.before.before.before in
+    let read_tap_lem = k.before.before.before.before.before.before in
+    let blank2 = read_tap_lem.before.before.before.before.before in
     let blank = blank2.before.before.before.before in
     let a = blank.before.before.before.before.before.args in
-    rw (tap-refuses (finds-tap blank.blank.auto.0 blank2.blank2.auto.0 a.tape.now read-tap.read-tap.ensures)
-    a.tzx k.k.given.1) (leaves-no (read-tap.read-tap.auto.1.0 ∙ blank.blank.auto.0)
-    (read-tap.read-tap.auto.1.1.0 ∙ blank2.blank2.auto.0) refuse.refuse.ensures)
+    rw (tap_refuses (finds_tap blank.blank.auto.0 blank2.blank2.auto.0 a.tape.now read_tap_lem.read-tap.ensures)
+    a.tzx k.k.given.1) (leaves-no (read_tap_lem.read-tap.auto.1.0 ∙ blank.blank.auto.0)
+    (read_tap_lem.read-tap.auto.1.1.0 ∙ blank2.blank2.auto.0) refuse.refuse.ensures)
 
 pub load-tap-spec : {M : Type 1} → statement M
 load-tap-spec =

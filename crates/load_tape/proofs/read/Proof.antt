@@ -1,7 +1,7 @@
 -- `read` meets its contract. Assumes nothing.
-use Rattle.load_tape.proofs.Leaving.{blanked, finds-tzx, tzx-leaves, tzx-fails, tzx-refuses, leaves-no, leaves-tap, load-reads}
+use Rattle.load_tape.proofs.Leaving.{blanked, finds_tzx, tzx-leaves, tzx-fails, tzx-refuses, leaves-no, leaves_tap, load_reads}
 use Rattle.load_blocks.specs.Does.{lent_of}
-use Rattle.load_source.specs.Source.{readTap, load_of}
+use Rattle.load_source.specs.Source.{read_tap, load_of}
 use borrow.Author.Tests.{le-leb, lt-leb, le-ltb, lt-ltb}
 use lib.ListN.{length}
 use mathlib.Core.Path.{◌∙◌}
@@ -79,15 +79,15 @@ same-length-6 c = search rules
 
 returns-3 : tie.Need-returns-3
 returns-3 c =
-    let read-tzx = c.before.before.before.before.before.before.before in
-    let blank2 = read-tzx.before.before.before.before.before in
+    let read_tzx_lem = c.before.before.before.before.before.before.before in
+    let blank2 = read_tzx_lem.before.before.before.before.before in
     let blank = blank2.before.before.before.before in
     let if1 = blank.before.before.before in
     let a = if1.before.before.before.before.args in
-    rw (load-reads (lent_of (length a.blocks.now) (length a.tones.now)) a.tape.now a.model
+    rw (load_reads (lent_of (length a.blocks.now) (length a.tones.now)) a.tape.now a.model
     (lt-leb 3 a.model if1.if1.false) (le-ltb 1048576 (length a.tape.now) blank.before.before.if2.false))
-    (tzx-leaves (finds-tzx blank.blank.auto.0 blank2.blank2.auto.0 a.tape.now a.model read-tzx.read-tzx.ensures)
-    (readTap (lent_of (length a.blocks.now) (length a.tones.now)) a.tape.now) c.before.s.given.1)
+    (tzx-leaves (finds_tzx blank.blank.auto.0 blank2.blank2.auto.0 a.tape.now a.model read_tzx_lem.read-tzx.ensures)
+    (read_tap (lent_of (length a.blocks.now) (length a.tones.now)) a.tape.now) c.before.s.given.1)
 
 same-length-7 : tie.Need-same-length-7
 same-length-7 c = search rules
@@ -99,17 +99,17 @@ returns-4 : tie.Need-returns-4
 returns-4 c =
     let load-tap = c.before.before.before.before in
     let f = load-tap.before.before.before.before in
-    let read-tzx = f.before.before.before.before.before.before in
-    let blank2 = read-tzx.before.before.before.before.before in
+    let read_tzx_lem = f.before.before.before.before.before.before in
+    let blank2 = read_tzx_lem.before.before.before.before.before in
     let blank = blank2.before.before.before.before in
     let if1 = blank.before.before.before in
     let a = if1.before.before.before.before.args in
-    rw (load-reads (lent_of (length a.blocks.now) (length a.tones.now)) a.tape.now a.model
+    rw (load_reads (lent_of (length a.blocks.now) (length a.tones.now)) a.tape.now a.model
     (lt-leb 3 a.model if1.if1.false) (le-ltb 1048576 (length a.tape.now) blank.before.before.if2.false)
-    ∙ tzx-fails (finds-tzx blank.blank.auto.0 blank2.blank2.auto.0 a.tape.now a.model read-tzx.read-tzx.ensures)
-    (readTap (lent_of (length a.blocks.now) (length a.tones.now)) a.tape.now) f.f.given.1)
-    (leaves-tap (read-tzx.read-tzx.auto.1.1.0 ∙ blank.blank.auto.0)
-    (read-tzx.read-tzx.auto.1.1.1.0 ∙ blank2.blank2.auto.0) a.tape.now _ load-tap.load-tap.ensures)
+    ∙ tzx-fails (finds_tzx blank.blank.auto.0 blank2.blank2.auto.0 a.tape.now a.model read_tzx_lem.read-tzx.ensures)
+    (read_tap (lent_of (length a.blocks.now) (length a.tones.now)) a.tape.now) f.f.given.1)
+    (leaves_tap (read_tzx_lem.read-tzx.auto.1.1.0 ∙ blank.blank.auto.0)
+    (read_tzx_lem.read-tzx.auto.1.1.1.0 ∙ blank2.blank2.auto.0) a.tape.now _ load-tap.load-tap.ensures)
 
 same-length-9 : tie.Need-same-length-9
 same-length-9 c = search rules
@@ -121,17 +121,17 @@ returns-5 : tie.Need-returns-5
 returns-5 c =
     let refuse3 = c.before.before.before.before in
     let j = refuse3.before.before.before.before in
-    let read-tzx = j.before.before.before.before.before.before in
-    let blank2 = read-tzx.before.before.before.before.before in
+    let read_tzx_lem = j.before.before.before.before.before.before in
+    let blank2 = read_tzx_lem.before.before.before.before.before in
     let blank = blank2.before.before.before.before in
     let if1 = blank.before.before.before in
     let a = if1.before.before.before.before.args in
-    rw (load-reads (lent_of (length a.blocks.now) (length a.tones.now)) a.tape.now a.model
+    rw (load_reads (lent_of (length a.blocks.now) (length a.tones.now)) a.tape.now a.model
     (lt-leb 3 a.model if1.if1.false) (le-ltb 1048576 (length a.tape.now) blank.before.before.if2.false)
-    ∙ tzx-refuses (finds-tzx blank.blank.auto.0 blank2.blank2.auto.0 a.tape.now a.model read-tzx.read-tzx.ensures)
-    (readTap (lent_of (length a.blocks.now) (length a.tones.now)) a.tape.now) j.j.given.1)
-    (leaves-no (read-tzx.read-tzx.auto.1.1.0 ∙ blank.blank.auto.0)
-    (read-tzx.read-tzx.auto.1.1.1.0 ∙ blank2.blank2.auto.0) refuse3.refuse3.ensures)
+    ∙ tzx-refuses (finds_tzx blank.blank.auto.0 blank2.blank2.auto.0 a.tape.now a.model read_tzx_lem.read-tzx.ensures)
+    (read_tap (lent_of (length a.blocks.now) (length a.tones.now)) a.tape.now) j.j.given.1)
+    (leaves-no (read_tzx_lem.read-tzx.auto.1.1.0 ∙ blank.blank.auto.0)
+    (read_tzx_lem.read-tzx.auto.1.1.1.0 ∙ blank2.blank2.auto.0) refuse3.refuse3.ensures)
 
 pub read_spec : {M : Type 1} → statement M
 read_spec =

@@ -1,5 +1,5 @@
 -- `refuse_both` meets its contract. Assumes nothing.
-use Rattle.load_tape.proofs.Leaving.{both-leave}
+use Rattle.load_tape.proofs.Leaving.{both_leave}
 use borrow.Author.Rules.{rules}
 use Rattle.load_tape.proofs.refuse_both.Statement.{statement}
 use Rattle.load_tape.proofs.refuse_both.Tie as tie
@@ -18,7 +18,7 @@ same-length-2 c = search rules
 
 returns : tie.Need-returns
 returns c =
-    both-leave c.before.before.before.before.before.before.blank.ensures c.before.before.blank2.ensures
+    both_leave c.before.before.before.before.before.before.blank.ensures c.before.before.blank2.ensures
 
 pub refuse-both-spec : {M : Type 1} → statement M
 refuse-both-spec =

@@ -1,5 +1,5 @@
 -- `pure_data_block` meets its contract. Assumes nothing.
-use Rattle.load_blocks.specs.Blocks.{pureTones, pureSound}
+use Rattle.load_blocks.specs.Blocks.{pure_tones, pure_sound}
 use borrow.Author.Rules.{rules}
 use Rattle.load_toned.proofs.pure_data_block.Statement.{statement}
 use Rattle.load_toned.proofs.pure_data_block.Tie as tie
@@ -17,7 +17,7 @@ same-length-2 : tie.Need-same-length-2
 same-length-2 c = search rules
 
 returns : tie.Need-returns
-unfolding pureTones pureSound
+unfolding pure_tones pure_sound
 returns c = c.before.before.before.before.data-block.ensures
 
 pub pure-data-block-spec : {M : Type 1} → statement M

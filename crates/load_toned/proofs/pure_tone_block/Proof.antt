@@ -4,8 +4,8 @@ use native.Mathlib.Omega.{arith}
 use borrow.Author.Tests.{eq-eqb, ne_eqb}
 use mathlib.Core.Path.{ap}
 use Rattle.rows.specs.declared.Block.{Block}
-use Rattle.load_blocks.proofs.Laws.{does-born, one-alone, two-alone}
-use Rattle.load_blocks.specs.Blocks.{pureToneTones, toneSound}
+use Rattle.load_blocks.proofs.Laws.{does_born, one_alone, two_alone}
+use Rattle.load_blocks.specs.Blocks.{pure_tone_tones, tone_sound}
 use borrow.Author.Rules.{rules}
 use Rattle.load_toned.proofs.pure_tone_block.Statement.{statement}
 use Rattle.load_toned.proofs.pure_tone_block.Tie as tie
@@ -36,15 +36,15 @@ same-length-2 : tie.Need-same-length-2
 same-length-2 c = search rules
 
 returns : tie.Need-returns
-unfolding pureToneTones
+unfolding pure_tone_tones
 returns c =
     let one = c.before.before.before.before in
     let made = one.before in
     let figure = made.before in
     let row = figure.before.before.before in
     λ tape. rw (eq-eqb _ _ row.before.if1.true)
-    (does-born tape _ (toneSound _) row.bare-row.ensures
-    (one-alone tape _ _ (ap size row.bare-row.ensures) figure.tone-figure.ensures.0 made.with-sound.ensures)
+    (does_born tape _ (tone_sound _) row.bare-row.ensures
+    (one_alone tape _ _ (ap size row.bare-row.ensures) figure.tone-figure.ensures.0 made.with-sound.ensures)
     one.one-tone.ensures)
 
 bare-row-requires-2 : tie.Need-bare-row-requires-2
@@ -72,15 +72,15 @@ same-length-4 : tie.Need-same-length-4
 same-length-4 c = search rules
 
 returns-2 : tie.Need-returns-2
-unfolding pureToneTones
+unfolding pure_tone_tones
 returns-2 c =
     let two = c.before.before.before.before in
     let made = two.before in
     let second = made.before.before.before in
     let row = second.before.before in
     λ tape. rw (ne_eqb _ _ row.before.if1.false)
-    (does-born tape _ (toneSound _) row.bare-row2.ensures
-    (two-alone tape _ _ _ (ap size row.bare-row2.ensures) second.before.tone-figure2.ensures.0 second.tone-figure3.ensures.0
+    (does_born tape _ (tone_sound _) row.bare-row2.ensures
+    (two_alone tape _ _ _ (ap size row.bare-row2.ensures) second.before.tone-figure2.ensures.0 second.tone-figure3.ensures.0
     made.with-sound2.ensures) two.two-tones.ensures)
 
 pub pure-tone-block-spec : {M : Type 1} → statement M

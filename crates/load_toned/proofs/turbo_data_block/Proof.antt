@@ -1,6 +1,6 @@
 -- `turbo_data_block` meets its contract. Assumes nothing.
 use native.Mathlib.Omega.{arith}
-use Rattle.load_blocks.specs.Blocks.{turboTones, turboSound}
+use Rattle.load_blocks.specs.Blocks.{turbo_tones, turbo_sound}
 use borrow.Author.Rules.{rules}
 use Rattle.load_toned.proofs.turbo_data_block.Statement.{statement}
 use Rattle.load_toned.proofs.turbo_data_block.Tie as tie
@@ -51,7 +51,7 @@ same-length-2 : tie.Need-same-length-2
 same-length-2 c = search rules
 
 returns : tie.Need-returns
-unfolding turboTones turboSound
+unfolding turbo_tones turbo_sound
 returns c = c.before.before.before.before.data-block.ensures
 
 pub turbo-data-block-spec : {M : Type 1} → statement M

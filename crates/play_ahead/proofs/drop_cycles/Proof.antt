@@ -3,11 +3,11 @@ use Prim.Native.Nat.{◌-◌, ◌*◌, ◌≤◌}
 use native.Mathlib.Omega.{arith}
 use native.Mathlib.Nat.{mul-le-mul}
 use mathlib.Core.Path.{refl, ap, ◌∙◌}
-use Rattle.rows.specs.Well.{wellTone}
+use Rattle.rows.specs.Well.{well_tone}
 use Rattle.rows.proofs.WellLaws.{tones-each}
-use Rattle.play_entries.specs.Entries.{cyclesOf}
-use Rattle.play_entries.proofs.Lent.{row-lent}
-use Rattle.play_entries.proofs.Valid.{in-tones}
+use Rattle.play_entries.specs.Entries.{cycles_of}
+use Rattle.play_entries.proofs.Lent.{row_lent}
+use Rattle.play_entries.proofs.Valid.{in_tones}
 use Rattle.play_steps.proofs.Facts as facts
 use Rattle.play_ahead.proofs.Cycles as cycles
 use borrow.Author.Rules.{rules}
@@ -18,7 +18,7 @@ row-tone-requires : tie.Need-row-tone-requires
 row-tone-requires c κs =
     let start = c.before.before in
     let a = start.args in
-    ((row-lent a.tape.now a.tones.now a.r start.requires.0).rows, (in-tones a.tones.now a.r refl start.requires.1).0)
+    ((row_lent a.tape.now a.tones.now a.r start.requires.0).rows, (in_tones a.tones.now a.r refl start.requires.1).0)
 
 drop-entry-requires : tie.Need-drop-entry-requires
 drop-entry-requires c κs = search rules
@@ -27,7 +27,7 @@ returns : tie.Need-returns
 returns c =
     let x = c.before.before.before in
     let a = x.before.before.before.args in
-    cycles.drops-first a.tape.now a.tones.now a.r a.i a.p a.d x.row-tone.result x.row-tone.ensures _
+    cycles.drops_first a.tape.now a.tones.now a.r a.i a.p a.d x.row-tone.result x.row-tone.ensures _
     c.before.if1.true c.drop-entry.ensures
 
 second-time-requires : tie.Need-second-time-requires
@@ -41,7 +41,7 @@ returns-2 c =
     let v = c.before.before in
     let x = v.before.before.before in
     let a = x.before.before.before.args in
-    cycles.drops-second a.tape.now a.tones.now a.r a.i a.p a.d x.row-tone.result x.row-tone.ensures _
+    cycles.drops_second a.tape.now a.tones.now a.r a.i a.p a.d x.row-tone.result x.row-tone.ensures _
     v.before.if1.false (omega (arith, c.before.if2.true, v.second-time.ensures)) c.drop-entry2.ensures
 
 cycles-of-requires : tie.Need-cycles-of-requires
@@ -54,10 +54,10 @@ sub-k c =
     let x = v.before.before.before in
     let s = x.before.before.before in
     let a = s.args in
-    let h = in-tones a.tones.now a.r refl s.requires.1 in
-    let g = row-lent a.tape.now a.tones.now a.r s.requires.0 in
+    let h = in_tones a.tones.now a.r refl s.requires.1 in
+    let g = row_lent a.tape.now a.tones.now a.r s.requires.0 in
     let l = facts.small_of a.tones.now a.r a.i x.row-tone.result x.row-tone.ensures g.each h.0 in
-    omega (arith, u.cycles-of.ensures, ap (cyclesOf a.r) x.row-tone.ensures, h.1)
+    omega (arith, u.cycles-of.ensures, ap (cycles_of a.r) x.row-tone.ensures, h.1)
 
 cycle-time-requires : tie.Need-cycle-time-requires
 cycle-time-requires c κs =
@@ -66,10 +66,10 @@ cycle-time-requires c κs =
     let x = v.before.before.before in
     let s = x.before.before.before in
     let a = s.args in
-    let h = in-tones a.tones.now a.r refl s.requires.1 in
-    let g = row-lent a.tape.now a.tones.now a.r s.requires.0 in
+    let h = in_tones a.tones.now a.r refl s.requires.1 in
+    let g = row_lent a.tape.now a.tones.now a.r s.requires.0 in
     let l = facts.small_of a.tones.now a.r a.i x.row-tone.result x.row-tone.ensures g.each h.0 in
-    ap wellTone x.row-tone.ensures ∙ tones-each a.tones.now a.r.tone a.r.tones a.i g.each h.0
+    ap well_tone x.row-tone.ensures ∙ tones-each a.tones.now a.r.tone a.r.tones a.i g.each h.0
 
 cycle-pulses-requires : tie.Need-cycle-pulses-requires
 cycle-pulses-requires c κs = search rules
@@ -84,8 +84,8 @@ cycle-from-requires c κs =
     let x = v.before.before.before in
     let s = x.before.before.before in
     let a = s.args in
-    let h = in-tones a.tones.now a.r refl s.requires.1 in
-    let g = row-lent a.tape.now a.tones.now a.r s.requires.0 in
+    let h = in_tones a.tones.now a.r refl s.requires.1 in
+    let g = row_lent a.tape.now a.tones.now a.r s.requires.0 in
     let l = facts.small_of a.tones.now a.r a.i x.row-tone.result x.row-tone.ensures g.each h.0 in
     (g.rows, h.0)
 
@@ -96,8 +96,8 @@ mul-step-to c =
     let x = v.before.before.before in
     let s = x.before.before.before in
     let a = s.args in
-    let h = in-tones a.tones.now a.r refl s.requires.1 in
-    let g = row-lent a.tape.now a.tones.now a.r s.requires.0 in
+    let h = in_tones a.tones.now a.r refl s.requires.1 in
+    let g = row_lent a.tape.now a.tones.now a.r s.requires.0 in
     let l = facts.small_of a.tones.now a.r a.i x.row-tone.result x.row-tone.ensures g.each h.0 in
     let y = c.before.before.cycle-time in
     let m : u.cycles-of.result - a.p ≤ 65535 = omega (arith, u.cycles-of.ensures, l.cycles) in
@@ -112,8 +112,8 @@ mul-step-to-2 c =
     let x = v.before.before.before in
     let s = x.before.before.before in
     let a = s.args in
-    let h = in-tones a.tones.now a.r refl s.requires.1 in
-    let g = row-lent a.tape.now a.tones.now a.r s.requires.0 in
+    let h = in_tones a.tones.now a.r refl s.requires.1 in
+    let g = row_lent a.tape.now a.tones.now a.r s.requires.0 in
     let l = facts.small_of a.tones.now a.r a.i x.row-tone.result x.row-tone.ensures g.each h.0 in
     let y = c.before.cycle-pulses in
     let m : u.cycles-of.result - a.p ≤ 65535 = omega (arith, u.cycles-of.ensures, l.cycles) in
@@ -131,13 +131,13 @@ returns-3 c =
     let x = v.before.before.before in
     let s = x.before.before.before in
     let a = s.args in
-    let h = in-tones a.tones.now a.r refl s.requires.1 in
-    let g = row-lent a.tape.now a.tones.now a.r s.requires.0 in
+    let h = in_tones a.tones.now a.r refl s.requires.1 in
+    let g = row_lent a.tape.now a.tones.now a.r s.requires.0 in
     let l = facts.small_of a.tones.now a.r a.i x.row-tone.result x.row-tone.ensures g.each h.0 in
     let q = c.before.before in
     c.step-to.ensures
     ∙ rw c.before.cycle-from.ensures
-    (cycles.drops-cycles a.tape.now a.tones.now a.r a.i a.p a.d x.row-tone.result x.row-tone.ensures
+    (cycles.drops_cycles a.tape.now a.tones.now a.r a.i a.p a.d x.row-tone.result x.row-tone.ensures
     u.cycles-of.result q.before.cycle-time.result q.cycle-pulses.result u.cycles-of.ensures
     q.before.cycle-time.ensures q.cycle-pulses.ensures v.before.if1.false
     (omega (arith, u.before.if2.false, v.second-time.ensures)))

@@ -1,5 +1,5 @@
 -- `drop_one` meets its contract. Assumes nothing.
-use Rattle.play_ahead.specs.Drops.{dropOne}
+use Rattle.play_ahead.specs.Drops.{drop_one}
 use borrow.Author.Tests.{le-leb, lt-leb}
 use mathlib.Core.Path.{◌∙◌}
 use borrow.Author.Rules.{rules}
@@ -13,7 +13,7 @@ one-step-requires : tie.Need-one-step-requires
 one-step-requires c κs = search rules
 
 returns : tie.Need-returns
-unfolding dropOne
+unfolding drop_one
 returns c =
     rw (c.before.before.before.length.given.1, le-leb _ _ c.before.if1.true) c.one-step.ensures
 
@@ -27,12 +27,12 @@ step-to-requires-2 : tie.Need-step-to-requires-2
 step-to-requires-2 c κs = search rules
 
 returns-2 : tie.Need-returns-2
-unfolding dropOne
+unfolding drop_one
 returns-2 c =
     c.step-to.ensures ∙ rw (c.before.before.before.length.given.1, lt-leb _ _ c.before.if1.false)
 
 returns-3 : tie.Need-returns-3
-unfolding dropOne
+unfolding drop_one
 returns-3 c =
     c.step-to2.ensures ∙ rw c.before.enum_told.given.1
 

@@ -1,16 +1,16 @@
 -- `assay` meets its contract. Assumes nothing.
-use Rattle.play_entries.proofs.Sourced.{source-levels}
-use Rattle.play_entries.specs.Places.{blockIn, hasEntry, lengthAt, remains, hasIn, lengthIn}
+use Rattle.play_entries.proofs.Sourced.{source_levels}
+use Rattle.play_entries.specs.Places.{block_in, has_entry, length_at, remains, has_in, length_in}
 use Rattle.rows.specs.declared.Block.{Block}
 use Rattle.law_base.proofs.Tests.{first}
 use mathlib.Core.Bool.{◌&&◌}
-use Rattle.play_deck.proofs.Assays.{ready_words, ready-well, assayed-over, assayed-past, assayed-bad, assayed-source}
-use Rattle.play_deck.proofs.Assays.{assayed-document, lending}
-use Rattle.play_deck.specs.Assay.{fineIf, verdictOf, readyRow}
+use Rattle.play_deck.proofs.Assays.{ready_words, ready_well, assayed_over, assayed_past, assayed_bad, assayed_source}
+use Rattle.play_deck.proofs.Assays.{assayed_document, lending}
+use Rattle.play_deck.specs.Assay.{fine_if, verdict_of, ready_row}
 use Rattle.play_deck.specs.declared.Check.{Check}
 use Rattle.play_walk.specs.declared.Position.{Position}
 use Rattle.play_voice.specs.Voice.{silence}
-use Rattle.play_entries.specs.Mounted.{tapeSize, tapeOf, wellRow}
+use Rattle.play_entries.specs.Mounted.{tape_size, tape_of, well_row}
 use Rattle.rows.proofs.Clauses.{failed, passed}
 use Rattle.law_pulses.specs.Play.{low}
 use mathlib.Core.Path.{sym, ap, ◌∙◌}
@@ -28,9 +28,9 @@ silent-requires c κs = search rules
 returns : tie.Need-returns
 returns c =
     let a = c.before.before.before.before.before.before.args in
-    let w = tapeOf a.tape.now a.tones.now a.blocks.now a.count in
+    let w = tape_of a.tape.now a.tones.now a.blocks.now a.count in
     let q : Position = a.pos in
-    assayed-over w q (omega (arith, c.before.before.block-capacity.ensures, c.before.if1.true)) c.silent.result
+    assayed_over w q (omega (arith, c.before.before.block-capacity.ensures, c.before.if1.true)) c.silent.result
     c.silent.ensures
 
 check-past-requires : tie.Need-check-past-requires
@@ -43,11 +43,11 @@ returns-2 : tie.Need-returns-2
 returns-2 c =
     let if1 = c.before.before.before in
     let a = if1.before.before.before.before.before.args in
-    let w = tapeOf a.tape.now a.tones.now a.blocks.now a.count in
+    let w = tape_of a.tape.now a.tones.now a.blocks.now a.count in
     let q : Position = a.pos in
-    assayed-past w q (omega (arith, if1.before.block-capacity.ensures, if1.if1.false)) c.before.before.if2.true
+    assayed_past w q (omega (arith, if1.before.block-capacity.ensures, if1.if1.false)) c.before.before.if2.true
     c.silent2.result
-    (c.silent2.ensures ∙ ap (λ (k : Check). verdictOf k low silence) c.before.check-past.ensures)
+    (c.silent2.ensures ∙ ap (λ (k : Check). verdict_of k low silence) c.before.check-past.ensures)
 
 block-at-requires : tie.Need-block-at-requires
 block-at-requires c κs = search rules
@@ -63,11 +63,11 @@ returns-3 c =
     let block_at = c.before.before.before in
     let block-capacity = block_at.before.before.before in
     let a = block-capacity.before.before.before.before.args in
-    let w = tapeOf a.tape.now a.tones.now a.blocks.now a.count in
+    let w = tape_of a.tape.now a.tones.now a.blocks.now a.count in
     let q : Position = a.pos in
-    assayed-bad w q (omega (arith, block-capacity.block-capacity.ensures, block_at.before.before.if1.false))
+    assayed_bad w q (omega (arith, block-capacity.block-capacity.ensures, block_at.before.before.if1.false))
     block_at.before.if2.false
-    (failed (c.before.before.row-ready.ensures ∙ ap (readyRow (tapeSize w.bytes) w.tones) block_at.block_at.ensures)
+    (failed (c.before.before.row-ready.ensures ∙ ap (ready_row (tape_size w.bytes) w.tones) block_at.block_at.ensures)
     c.before.if3.true) c.silent3.result c.silent3.ensures
 
 block-at-requires-2 : tie.Need-block-at-requires-2
@@ -77,9 +77,9 @@ has-left-requires : tie.Need-has-left-requires
 has-left-requires c κs =
     let block_at = c.before.before.before in
     let a = block_at.before.before.before.before.before.before.before.args in
-    let w = tapeOf a.tape.now a.tones.now a.blocks.now a.count in
-    ready_words (tapeSize w.bytes) w.tones c.block-at2.result
-    (ap (readyRow (tapeSize w.bytes) w.tones) (c.block-at2.ensures ∙ sym block_at.block_at.ensures)
+    let w = tape_of a.tape.now a.tones.now a.blocks.now a.count in
+    ready_words (tape_size w.bytes) w.tones c.block-at2.result
+    (ap (ready_row (tape_size w.bytes) w.tones) (c.block-at2.ensures ∙ sym block_at.block_at.ensures)
     ∙ passed c.before.before.row-ready.ensures c.before.if3.false)
 
 is-source-requires : tie.Need-is-source-requires
@@ -95,27 +95,27 @@ unheard-requires : tie.Need-unheard-requires
 unheard-requires c κs = search rules
 
 returns-4 : tie.Need-returns-4
-unfolding wellRow
+unfolding well_row
 returns-4 c =
     let if4 = c.before.before.before in
     let Has-left = if4.before.before in
-    let row-ready = Has-left.before.before.before in
-    let if1 = row-ready.before.before.before in
+    let row_ready = Has-left.before.before.before in
+    let if1 = row_ready.before.before.before in
     let a = if1.before.before.before.before.before.args in
-    let w = tapeOf a.tape.now a.tones.now a.blocks.now a.count in
+    let w = tape_of a.tape.now a.tones.now a.blocks.now a.count in
     let q : Position = a.pos in
-    let r = blockIn w q.block in
+    let r = block_in w q.block in
     let s = sym if4.before.is-source.ensures ∙ if4.if4.true in
-    let y = ap (readyRow (tapeSize w.bytes) w.tones) (sym row-ready.before.block_at.ensures)
-    ∙ passed row-ready.row-ready.ensures Has-left.before.before.if3.false in
+    let y = ap (ready_row (tape_size w.bytes) w.tones) (sym row_ready.before.block_at.ensures)
+    ∙ passed row_ready.row-ready.ensures Has-left.before.before.if3.false in
     let l = Has-left.Has-left.ensures
-    ∙ ap (λ (x : Block). hasEntry w.tones x q.phase && remains q.left (lengthAt w.bytes w.tones x q.phase))
+    ∙ ap (λ (x : Block). has_entry w.tones x q.phase && remains q.left (length_at w.bytes w.tones x q.phase))
     Has-left.before.block-at2.ensures in
-    assayed-source w q (omega (arith, if1.before.block-capacity.ensures, if1.if1.false)) row-ready.before.before.if2.false
-    (ready-well (tapeSize w.bytes) w.tones r s y) Has-left.Has-left.result (sym l)
-    c.before.mic.result (c.before.mic.ensures ∙ sym (source-levels w.tones 0 r s q.phase)) _
-    (ap (λ (k : Check). verdictOf k c.before.mic.result c.unheard.result) c.before.before.check-left.ensures
-    ∙ ap (verdictOf (fineIf Has-left.Has-left.result) c.before.mic.result) c.unheard.ensures)
+    assayed_source w q (omega (arith, if1.before.block-capacity.ensures, if1.if1.false)) row_ready.before.before.if2.false
+    (ready_well (tape_size w.bytes) w.tones r s y) Has-left.Has-left.result (sym l)
+    c.before.mic.result (c.before.mic.ensures ∙ sym (source_levels w.tones 0 r s q.phase)) _
+    (ap (λ (k : Check). verdict_of k c.before.mic.result c.unheard.result) c.before.before.check-left.ensures
+    ∙ ap (verdict_of (fine_if Has-left.Has-left.result) c.before.mic.result) c.unheard.ensures)
 
 assay-document-requires : tie.Need-assay-document-requires
 assay-document-requires c κs =
@@ -123,34 +123,34 @@ assay-document-requires c κs =
     let block_at = block-at2.before.before.before in
     let block-capacity = block_at.before.before.before in
     let a = block-capacity.before.before.before.before.args in
-    let w = tapeOf a.tape.now a.tones.now a.blocks.now a.count in
+    let w = tape_of a.tape.now a.tones.now a.blocks.now a.count in
     let q : Position = a.pos in
-    let y = ap (readyRow (tapeSize w.bytes) w.tones) (sym block_at.block_at.ensures)
+    let y = ap (ready_row (tape_size w.bytes) w.tones) (sym block_at.block_at.ensures)
     ∙ passed block-at2.before.before.row-ready.ensures block-at2.before.if3.false in
-    let e = ready_words (tapeSize w.bytes) w.tones (blockIn w q.block) y in
+    let e = ready_words (tape_size w.bytes) w.tones (block_in w q.block) y in
     let l = c.before.before.Has-left.ensures
-    ∙ ap (λ (x : Block). hasEntry w.tones x q.phase && remains q.left (lengthAt w.bytes w.tones x q.phase))
+    ∙ ap (λ (x : Block). has_entry w.tones x q.phase && remains q.left (length_at w.bytes w.tones x q.phase))
     block-at2.block-at2.ensures in (
       lending w q.block (omega (arith, block-capacity.block-capacity.ensures, block_at.before.before.if1.false))
           block_at.before.if2.false e,
-      λ h. first (hasIn w q.block q.phase) (remains q.left (lengthIn w q.block q.phase)) (sym l ∙ h),
+      λ h. first (has_in w q.block q.phase) (remains q.left (length_in w q.block q.phase)) (sym l ∙ h),
     )
 
 returns-5 : tie.Need-returns-5
 returns-5 c =
     let Has-left = c.before.before.before in
-    let row-ready = Has-left.before.before.before in
-    let if1 = row-ready.before.before.before in
+    let row_ready = Has-left.before.before.before in
+    let if1 = row_ready.before.before.before in
     let a = if1.before.before.before.before.before.args in
-    let w = tapeOf a.tape.now a.tones.now a.blocks.now a.count in
+    let w = tape_of a.tape.now a.tones.now a.blocks.now a.count in
     let q : Position = a.pos in
-    let y = ap (readyRow (tapeSize w.bytes) w.tones) (sym row-ready.before.block_at.ensures)
-    ∙ passed row-ready.row-ready.ensures Has-left.before.before.if3.false in
-    let e = ready_words (tapeSize w.bytes) w.tones (blockIn w q.block) y in
+    let y = ap (ready_row (tape_size w.bytes) w.tones) (sym row_ready.before.block_at.ensures)
+    ∙ passed row_ready.row-ready.ensures Has-left.before.before.if3.false in
+    let e = ready_words (tape_size w.bytes) w.tones (block_in w q.block) y in
     let l = Has-left.Has-left.ensures
-    ∙ ap (λ (x : Block). hasEntry w.tones x q.phase && remains q.left (lengthAt w.bytes w.tones x q.phase))
+    ∙ ap (λ (x : Block). has_entry w.tones x q.phase && remains q.left (length_at w.bytes w.tones x q.phase))
     Has-left.before.block-at2.ensures in
-    assayed-document w q (omega (arith, if1.before.block-capacity.ensures, if1.if1.false)) row-ready.before.before.if2.false e
+    assayed_document w q (omega (arith, if1.before.block-capacity.ensures, if1.if1.false)) row_ready.before.before.if2.false e
     Has-left.Has-left.result (sym l) c.assay-document.result c.assay-document.ensures
 
 pub assay-spec : {M : Type 1} → statement M

@@ -1,9 +1,9 @@
 -- `assay_after` meets its contract. Assumes nothing.
 use Rattle.play_deck.specs.Assay.{Assayed}
-use Rattle.play_deck.specs.Calls.{positionIn}
+use Rattle.play_deck.specs.Calls.{position_in}
 use Rattle.play_walk.specs.declared.Reached.{Reached}
 use Rattle.play_walk.specs.Heads.{Lands}
-use Rattle.play_entries.specs.Mounted.{tapeOf}
+use Rattle.play_entries.specs.Mounted.{tape_of}
 use mathlib.Core.Path.{sym, subst}
 use borrow.Author.Rules.{rules}
 use Rattle.play_deck.proofs.assay_after.Statement.{statement}
@@ -17,7 +17,7 @@ unfolding Lands
 assay-stand-requires c κs =
     let s = c.before.before.before.before.before.before.before in
     let a = s.args in
-    let w = tapeOf a.tape.now a.tones.now a.blocks.now a.count in
+    let w = tape_of a.tape.now a.tones.now a.blocks.now a.count in
     (subst (Lands w) c.before.r.given.1 s.requires.1, s.requires.0.told)
 
 enum-known-r-2 : tie.Need-enum-known-r-2
@@ -28,7 +28,7 @@ unfolding Lands
 assay-stand-requires-2 c κs =
     let s = c.before.before.before.before.before.before.before in
     let a = s.args in
-    let w = tapeOf a.tape.now a.tones.now a.blocks.now a.count in
+    let w = tape_of a.tape.now a.tones.now a.blocks.now a.count in
     (subst (Lands w) c.before.r2.given.1 s.requires.1, s.requires.0.told)
 
 enum-known-r-3 : tie.Need-enum-known-r-3
@@ -39,7 +39,7 @@ unfolding Lands
 assay-stand-requires-3 c κs =
     let s = c.before.before.before.before.before.before.before in
     let a = s.args in
-    let w = tapeOf a.tape.now a.tones.now a.blocks.now a.count in
+    let w = tape_of a.tape.now a.tones.now a.blocks.now a.count in
     (subst (Lands w) c.before.r3.given.1 s.requires.1, s.requires.0.told)
 
 enum_told : tie.Need-enum-told
@@ -49,47 +49,47 @@ enum-told-2 : tie.Need-enum-told-2
 enum-told-2 c = search rules
 
 returns : tie.Need-returns
-unfolding positionIn
+unfolding position_in
 returns c =
     let s = c.before.before.before.before.before.before.before.before in
     let a = s.args in
-    let w = tapeOf a.tape.now a.tones.now a.blocks.now a.count in
-    subst (λ (x : Reached). Assayed w (positionIn a.pos x) c.assay-stand.result)
+    let w = tape_of a.tape.now a.tones.now a.blocks.now a.count in
+    subst (λ (x : Reached). Assayed w (position_in a.pos x) c.assay-stand.result)
     (sym c.before.before.r.given.1) c.assay-stand.ensures
 
 returns-2 : tie.Need-returns-2
-unfolding positionIn
+unfolding position_in
 returns-2 c =
     let s = c.before.before.before.before.before.before.before.before in
     let a = s.args in
-    let w = tapeOf a.tape.now a.tones.now a.blocks.now a.count in
-    subst (λ (x : Reached). Assayed w (positionIn a.pos x) c.assay-stand2.result)
+    let w = tape_of a.tape.now a.tones.now a.blocks.now a.count in
+    subst (λ (x : Reached). Assayed w (position_in a.pos x) c.assay-stand2.result)
     (sym c.before.before.r2.given.1) c.assay-stand2.ensures
 
 returns-3 : tie.Need-returns-3
-unfolding positionIn
+unfolding position_in
 returns-3 c =
     let s = c.before.before.before.before.before.before.before.before in
     let a = s.args in
-    let w = tapeOf a.tape.now a.tones.now a.blocks.now a.count in
-    subst (λ (x : Reached). Assayed w (positionIn a.pos x) c.assay-stand3.result)
+    let w = tape_of a.tape.now a.tones.now a.blocks.now a.count in
+    subst (λ (x : Reached). Assayed w (position_in a.pos x) c.assay-stand3.result)
     (sym c.before.before.r3.given.1) c.assay-stand3.ensures
 
 returns-4 : tie.Need-returns-4
-unfolding positionIn
+unfolding position_in
 returns-4 c =
     let s = c.before.before.before.before.before.before in
     let a = s.args in
-    let w = tapeOf a.tape.now a.tones.now a.blocks.now a.count in
-    subst (λ (x : Reached). Assayed w (positionIn a.pos x) a.a) (sym c.enum_told.given.1) s.requires.0
+    let w = tape_of a.tape.now a.tones.now a.blocks.now a.count in
+    subst (λ (x : Reached). Assayed w (position_in a.pos x) a.a) (sym c.enum_told.given.1) s.requires.0
 
 returns-5 : tie.Need-returns-5
-unfolding positionIn
+unfolding position_in
 returns-5 c =
     let s = c.before.before.before.before.before.before in
     let a = s.args in
-    let w = tapeOf a.tape.now a.tones.now a.blocks.now a.count in
-    subst (λ (x : Reached). Assayed w (positionIn a.pos x) a.a) (sym c.enum-told2.given.1) s.requires.0
+    let w = tape_of a.tape.now a.tones.now a.blocks.now a.count in
+    subst (λ (x : Reached). Assayed w (position_in a.pos x) a.a) (sym c.enum-told2.given.1) s.requires.0
 
 pub assay-after-spec : {M : Type 1} → statement M
 assay-after-spec =

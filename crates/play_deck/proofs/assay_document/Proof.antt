@@ -1,9 +1,9 @@
 -- `assay_document` meets its contract. Assumes nothing.
-use Rattle.play_deck.proofs.Assays.{rows_of, told-heard, asks-judging, sounded-bad, sounded-not, sounded-fine}
+use Rattle.play_deck.proofs.Assays.{rows_of, told-heard, asks_judging, sounded-bad, sounded-not, sounded_fine}
 use Rattle.rows.proofs.Clauses.{failed, passed}
 use Rattle.rows.specs.declared.Block.{Block}
-use Rattle.rows.specs.Rows.{tone, toneMost}
-use Rattle.rows.specs.Table.{capacityOf}
+use Rattle.rows.specs.Rows.{tone, tone_most}
+use Rattle.rows.specs.Table.{capacity_of}
 use mathlib.Core.Path.{refl, sym, subst}
 use borrow.Author.Tests.{not-true, not-false}
 use Prim.Native.Nat.{◌+◌, ◌≤◌}
@@ -18,7 +18,7 @@ hear-requires : tie.Need-hear-requires
 hear-requires c κs =
     let start = c.before.before.before in
     let a = start.args in
-    subst (λ (r : Block). r.tone + r.tones ≤ capacityOf tone toneMost a.tones.now) (sym c.block_at.ensures)
+    subst (λ (r : Block). r.tone + r.tones ≤ capacity_of tone tone_most a.tones.now) (sym c.block_at.ensures)
     start.requires.0.rows
 
 block-at-requires-2 : tie.Need-block-at-requires-2
@@ -29,7 +29,7 @@ heard-well-requires c κs =
     let block_at = c.before.before in
     let start = block_at.before.before.before in
     let a = start.args in
-    asks-judging a.tones.now a.blocks.now a.b a.f start.requires.0 block_at.block_at.result block_at.block_at.ensures
+    asks_judging a.tones.now a.blocks.now a.b a.f start.requires.0 block_at.block_at.result block_at.block_at.ensures
     c.before.hear.result c.before.hear.ensures c.block-at2.result c.block-at2.ensures
 
 silent-requires : tie.Need-silent-requires
@@ -71,7 +71,7 @@ returns-3 c =
     let a = start.args in
     let t = told-heard a.tones.now a.blocks.now a.b a.f start.requires.0 hear.before.block_at.result
     hear.before.block_at.ensures hear.hear.result hear.hear.ensures in
-    sounded-fine a.tones.now a.blocks.now a.b a.f a.has _ (passed
+    sounded_fine a.tones.now a.blocks.now a.b a.f a.has _ (passed
     (rows_of a.tones.now heard-well.before.block-at2.ensures heard-well.heard-well.ensures) c.before.before.if1.false)
     (not-false a.has c.before.if2.false) _ c.level_in.ensures hear.hear.result t refl
 

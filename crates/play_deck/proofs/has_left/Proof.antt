@@ -1,5 +1,5 @@
 -- `has_left` meets its contract. Assumes nothing.
-use Rattle.play_deck.proofs.Assays.{words-lent}
+use Rattle.play_deck.proofs.Assays.{words_lent}
 use Rattle.rows.proofs.Clauses.{failed, passed}
 use borrow.Author.Rules.{rules}
 use Rattle.play_deck.proofs.has_left.Statement.{statement}
@@ -8,7 +8,7 @@ use Rattle.play_deck.proofs.has_left.Tie as tie
 has-entry-requires : tie.Need-has-entry-requires
 has-entry-requires c κs =
     let a = c.before.before.args in
-    (words-lent a.tape.now a.tones.now a.r c.before.before.requires).rows
+    (words_lent a.tape.now a.tones.now a.r c.before.before.requires).rows
 
 returns : tie.Need-returns
 returns c =
@@ -17,7 +17,7 @@ returns c =
 length-at-requires : tie.Need-length-at-requires
 length-at-requires c κs =
     let a = c.before.before.before.before.args in
-    let k = words-lent a.tape.now a.tones.now a.r c.before.before.before.before.requires in
+    let k = words_lent a.tape.now a.tones.now a.r c.before.before.before.before.requires in
     ((k.bytes, k.rows), (k.numbers, passed c.before.has-entry.ensures c.if1.false))
 
 may-remain-requires : tie.Need-may-remain-requires

@@ -2,7 +2,7 @@
 use borrow.Author.Rules.{rules}
 use native.Mathlib.Omega.{arith}
 use Rattle.play_deck.specs.Inside.{less_by}
-use Rattle.play_deck.proofs.Inside.{inside-less}
+use Rattle.play_deck.proofs.Inside.{inside_less}
 use Rattle.play_deck.proofs.less.Statement.{statement}
 use Rattle.play_deck.proofs.less.Tie as tie
 
@@ -12,7 +12,7 @@ enum-known-left c = search rules
 sub-t5 : tie.Need-overflow-sub-t5
 sub-t5 c =
     let s = c.before.before.before in
-    omega (arith, inside-less _ _ _ c.before.left.given.1 s.requires)
+    omega (arith, inside_less _ _ _ c.before.left.given.1 s.requires)
 
 enum_told : tie.Need-enum-told
 enum_told c = search rules

@@ -1,12 +1,12 @@
 -- `measure` meets its contract. Assumes nothing.
-use Rattle.play_deck.proofs.Inside.{inside-walk}
-use Rattle.play_deck.proofs.Assays.{fine-so, level-below}
-use Rattle.play_deck.proofs.Landing.{lands-stay, lands-inside}
-use Rattle.play_walk.proofs.Landing.{lands-ended}
+use Rattle.play_deck.proofs.Inside.{inside_walk}
+use Rattle.play_deck.proofs.Assays.{fine_so, level_below}
+use Rattle.play_deck.proofs.Landing.{lands_stay, lands_inside}
+use Rattle.play_walk.proofs.Landing.{lands_ended}
 use Rattle.play_walk.specs.Heads.{Lands}
 use Rattle.play_deck.proofs.Checks as checks
 use Rattle.play_walk.specs.declared.Position.{Position}
-use Rattle.play_entries.specs.Mounted.{tapeOf}
+use Rattle.play_entries.specs.Mounted.{tape_of}
 use native.Mathlib.Omega.{arith}
 use mathlib.Core.Path.{sym, subst, ◌∙◌}
 use mathlib.Core.Bool.{false}
@@ -22,10 +22,10 @@ returns : tie.Need-returns
 returns c =
     let a = c.before.before.before.before.before.args in
     let p = c.before.before.before.before.before.requires in
-    let w = tapeOf a.tape.now a.tones.now a.blocks.now a.count in
-    let fine = fine-so p.0 p.1 in
+    let w = tape_of a.tape.now a.tones.now a.blocks.now a.count in
+    let fine = fine_so p.0 p.1 in
     let e = c.stay.ensures w fine (p.0.level p.1) in
-    (rw (eq-eqb _ _ c.before.if1.true) e, subst (Lands w) (sym e) (lands-stay w a.pos fine))
+    (rw (eq-eqb _ _ c.before.if1.true) e, subst (Lands w) (sym e) (lands_stay w a.pos fine))
 
 ends-requires : tie.Need-ends-requires
 ends-requires c κs = search rules
@@ -35,11 +35,11 @@ returns-2 c =
     let if1 = c.before.before.before in
     let a = if1.before.before.before.before.args in
     let p = if1.before.before.before.before.requires in
-    let w = tapeOf a.tape.now a.tones.now a.blocks.now a.count in
+    let w = tape_of a.tape.now a.tones.now a.blocks.now a.count in
     let q : Position = a.pos in
-    let e = checks.past-ends w q (fine-so p.0 p.1) c.before.if2.true a.n (omega (arith, if1.if1.false)) in (
+    let e = checks.past-ends w q (fine_so p.0 p.1) c.before.if2.true a.n (omega (arith, if1.if1.false)) in (
       rw (ne_eqb _ _ if1.if1.false) (c.ends.ensures ∙ sym e),
-      lands-ended w a.count 0 false c.ends.ensures,
+      lands_ended w a.count 0 false c.ends.ensures,
     )
 
 ends-inside-requires : tie.Need-ends-inside-requires
@@ -54,20 +54,20 @@ returns-3 c =
     let if2 = c.before.before.before in
     let a = if2.before.before.before.before.before.before.args in
     let p = if2.before.before.before.before.before.before.requires in
-    let w = tapeOf a.tape.now a.tones.now a.blocks.now a.count in
+    let w = tape_of a.tape.now a.tones.now a.blocks.now a.count in
     let q : Position = a.pos in
-    let e = c.stand-inside.ensures w (level-below p.0 p.1 if2.if2.false) in
-    let y = checks.fine-below w q (fine-so p.0 p.1) if2.if2.false in
+    let e = c.stand-inside.ensures w (level_below p.0 p.1 if2.if2.false) in
+    let y = checks.fine_below w q (fine_so p.0 p.1) if2.if2.false in
     let i = sym c.before.before.ends-inside.ensures ∙ c.before.if3.true in
-    (rw (ne_eqb _ _ if2.before.before.if1.false) (e ∙ inside-walk w q a.n y i), lands-inside w q a.n y _ e i)
+    (rw (ne_eqb _ _ if2.before.before.if1.false) (e ∙ inside_walk w q a.n y i), lands_inside w q a.n y _ e i)
 
 walk-requires : tie.Need-walk-requires
 walk-requires c κs =
     let a = c.before.before.before.before.before.before.before.before.before.args in
     let p = c.before.before.before.before.before.before.before.before.before.requires in
-    let w = tapeOf a.tape.now a.tones.now a.blocks.now a.count in
+    let w = tape_of a.tape.now a.tones.now a.blocks.now a.count in
     let q : Position = a.pos in
-    (checks.fine-below w q (fine-so p.0 p.1) c.before.before.before.if2.false, p.0.told)
+    (checks.fine_below w q (fine_so p.0 p.1) c.before.before.before.if2.false, p.0.told)
 
 returns-4 : tie.Need-returns-4
 returns-4 c =

@@ -1,6 +1,6 @@
 -- `measured_by` meets its contract. Assumes nothing.
 use Rattle.play_walk.specs.Heads.{Lands}
-use Rattle.play_deck.specs.Deck.{unless, playMeasured}
+use Rattle.play_deck.specs.Deck.{unless, play_measured}
 use borrow.Author.Rules.{rules}
 use Rattle.play_deck.proofs.measured_by.Statement.{statement}
 use Rattle.play_deck.proofs.measured_by.Tie as tie
@@ -18,18 +18,18 @@ enum-told-3 : tie.Need-enum-told-3
 enum-told-3 c = search rules
 
 returns : tie.Need-returns
-unfolding playMeasured unless
+unfolding play_measured unless
 returns c =
     let s = c.before.before.before.before.before.before in
     (rw (← s.requires.check, c.before.enum_told.given.1) c.measure.ensures.0, c.measure.ensures.1)
 
 returns-2 : tie.Need-returns-2
-unfolding playMeasured unless Lands
+unfolding play_measured unless Lands
 returns-2 c =
     (rw (← c.before.before.before.before.before.requires.check, c.enum-told2.given.1), tt)
 
 returns-3 : tie.Need-returns-3
-unfolding playMeasured unless Lands
+unfolding play_measured unless Lands
 returns-3 c =
     (rw (← c.before.before.before.before.before.requires.check, c.enum-told3.given.1), tt)
 

@@ -1,5 +1,5 @@
 -- `stay` meets its contract. Assumes nothing.
-use Rattle.play_deck.proofs.Assays.{stays-still, stays-stopped}
+use Rattle.play_deck.proofs.Assays.{stays_still, stays-stopped}
 use borrow.Author.Rules.{rules}
 use Rattle.play_deck.proofs.stay.Statement.{statement}
 use Rattle.play_deck.proofs.stay.Tie as tie
@@ -13,7 +13,7 @@ enum-told-2 c = search rules
 returns : tie.Need-returns
 returns c =
     let a = c.before.before.args in
-    λ w fine l. stays-still w a.pos fine a.level l _ c.enum_told.given.1
+    λ w fine l. stays_still w a.pos fine a.level l _ c.enum_told.given.1
 
 returns-2 : tie.Need-returns-2
 returns-2 c =

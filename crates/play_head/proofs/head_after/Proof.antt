@@ -1,5 +1,5 @@
 -- `head_after` meets its contract. Assumes nothing.
-use Rattle.play_deck.specs.Deck.{headAfter}
+use Rattle.play_deck.specs.Deck.{head_after}
 use borrow.Author.Rules.{rules}
 use Rattle.play_head.proofs.head_after.Statement.{statement}
 use Rattle.play_head.proofs.head_after.Tie as tie
@@ -20,27 +20,27 @@ enum-told-2 : tie.Need-enum-told-2
 enum-told-2 c = search rules
 
 returns : tie.Need-returns
-unfolding headAfter
+unfolding head_after
 returns c =
     rw c.before.before.r.given.1
 
 returns-2 : tie.Need-returns-2
-unfolding headAfter
+unfolding head_after
 returns-2 c =
     rw c.before.before.r2.given.1
 
 returns-3 : tie.Need-returns-3
-unfolding headAfter
+unfolding head_after
 returns-3 c =
     rw c.before.before.r3.given.1
 
 returns-4 : tie.Need-returns-4
-unfolding headAfter
+unfolding head_after
 returns-4 c =
     rw c.enum_told.given.1
 
 returns-5 : tie.Need-returns-5
-unfolding headAfter
+unfolding head_after
 returns-5 c =
     rw c.enum-told2.given.1
 

@@ -1,5 +1,5 @@
 -- `play_mounted` meets its contract. Assumes nothing.
-use Rattle.play_deck.specs.Deck.{playMounted}
+use Rattle.play_deck.specs.Deck.{play_mounted}
 use borrow.Author.Rules.{rules}
 use Rattle.play_head.proofs.play_mounted.Statement.{statement}
 use Rattle.play_head.proofs.play_mounted.Tie as tie
@@ -11,7 +11,7 @@ head-after-requires : tie.Need-head-after-requires
 head-after-requires c κs = search rules
 
 returns : tie.Need-returns
-unfolding playMounted
+unfolding play_mounted
 returns c =
     rw (c.head-after.ensures, c.before.play-measured.ensures)
 

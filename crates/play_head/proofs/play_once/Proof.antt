@@ -47,11 +47,11 @@ use denote.Triple.Table.{entered, cited}
 use denote.Triple.Walked.{says, Stays, stay_dropped, walk_of, AllGo, Goes-dropped, Walks, ends_at, walked, walk_Meets}
 use denote.Exit.{yes}
 use denote.Signature.{plain, shr_slice_of}
-use Rattle.play_entries.specs.Mounted.{tapeOf}
+use Rattle.play_entries.specs.Mounted.{tape_of}
 use Rattle.play_walk.specs.declared.Reached.{Reached}
 use Rattle.play_walk.specs.contracts.Reached as S
 use Rattle.play_walk.proofs.Reached.TheLaws as S'
-use Rattle.play_deck.specs.Deck.{playMounted}
+use Rattle.play_deck.specs.Deck.{play_mounted}
 use Rattle.play_deck.specs.declared.Head.{Head}
 use Rattle.play_deck.specs.declared.Played.{Played}
 use Rattle.play_deck.specs.contracts.Head as T
@@ -149,7 +149,7 @@ module _ {M : Type 1} {𝓤 : Ura M} (𝓛 : Logic 𝓤) (at_mem : Memory → SP
       (((κ0, (κ1, (κ2, tt))), (q0, (q1, (q2, tt))), tt, a, vals), tt)
 
   abbrev found : Played
-  found = playMounted (tapeOf s0.now s1.now s2.now n3) h n5
+  found = play_mounted (tape_of s0.now s1.now s2.now n3) h n5
 
   -- the local l, lent for the lifetime ν under the name δ
   abbrev lent : ℕ → GName → MutBor Head

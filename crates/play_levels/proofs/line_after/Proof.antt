@@ -1,6 +1,6 @@
 -- `line_after` meets its contract. Assumes nothing.
 use borrow.Author.Tests.{eq-eqb, ne_eqb}
-use Rattle.play_levels.specs.Closed.{lineBefore, lineAfter}
+use Rattle.play_levels.specs.Closed.{line_before, line_after}
 use borrow.Author.Rules.{rules}
 use Rattle.play_levels.proofs.line_after.Statement.{statement}
 use Rattle.play_levels.proofs.line_after.Tie as tie
@@ -9,7 +9,7 @@ times-of-requires : tie.Need-times-of-requires
 times-of-requires c κs = search rules
 
 returns : tie.Need-returns
-unfolding lineBefore lineAfter
+unfolding line_before line_after
 returns c = rw (← c.before.times-of.ensures, eq-eqb _ _ c.if1.true)
 
 sub-first-level : tie.Need-overflow-sub-first-level
@@ -25,7 +25,7 @@ behind-requires : tie.Need-behind-requires
 behind-requires c κs = search rules
 
 returns-2 : tie.Need-returns-2
-unfolding lineBefore lineAfter
+unfolding line_before line_after
 returns-2 c =
     let n = c.before.before.before in
     rw (
@@ -40,7 +40,7 @@ behind-requires-2 : tie.Need-behind-requires-2
 behind-requires-2 c κs = search rules
 
 returns-3 : tie.Need-returns-3
-unfolding lineBefore lineAfter
+unfolding line_before line_after
 returns-3 c =
     let n = c.before.before.before in
     rw (

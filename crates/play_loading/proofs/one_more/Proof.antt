@@ -3,19 +3,19 @@ use native.Mathlib.Omega.{arith}
 use borrow.Author.Rules.{rules}
 use borrow.Author.Tests.{eq-eqb, ne_eqb}
 use Rattle.rows.proofs.WellLaws.{numbers-most}
-use Rattle.play_loading.specs.Sums.{oneMore}
+use Rattle.play_loading.specs.Sums.{one_more}
 use Rattle.play_loading.proofs.one_more.Statement.{statement}
 use Rattle.play_loading.proofs.one_more.Tie as tie
 
 returns : tie.Need-returns
-unfolding oneMore
+unfolding one_more
 returns c = rw c.if1.true
 
 end-with-requires : tie.Need-end-with-requires
 end-with-requires c κs = search rules
 
 returns-2 : tie.Need-returns-2
-unfolding oneMore
+unfolding one_more
 returns-2 c =
     let e = c.before.before in
     let s = e.before.before in
@@ -31,7 +31,7 @@ add-sum-2 c =
     omega (arith, n.pause (omega arith))
 
 returns-3 : tie.Need-returns-3
-unfolding oneMore
+unfolding one_more
 returns-3 c =
     let e = c.before.before.before.before.before in
     let s = e.before.before in

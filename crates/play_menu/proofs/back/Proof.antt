@@ -1,10 +1,10 @@
 -- `back` meets its contract. Assumes nothing.
 use Rattle.play_deck.proofs.Sourced.{back-bad, back_none, back-here, back_on}
-use Rattle.play_deck.specs.Deck.{backTo}
+use Rattle.play_deck.specs.Deck.{back_to}
 use Rattle.rows.proofs.Clauses.{failed, passed}
-use Rattle.play_entries.specs.Mounted.{wellRow}
+use Rattle.play_entries.specs.Mounted.{well_row}
 use Rattle.rows.specs.declared.Block.{Block}
-use Rattle.play_entries.specs.Mounted.{tapeOf}
+use Rattle.play_entries.specs.Mounted.{tape_of}
 use mathlib.Core.Path.{◌≡◌, refl, sym, ap, ◌∙◌}
 use native.Mathlib.Omega.{arith}
 use Prim.Native.Nat.{ℕ, ◌≤◌}
@@ -13,7 +13,7 @@ use Rattle.play_menu.proofs.back.Tie as tie
 
 abbrev invariant-loop : tie.invariant-loop
 invariant-loop tape tones blocks from b₀ b =
-    (b ≤ b₀) × ((n : ℕ) → backTo (tapeOf tape tones blocks n) b ≡ backTo (tapeOf tape tones blocks n) b₀)
+    (b ≤ b₀) × ((n : ℕ) → back_to (tape_of tape tones blocks n) b ≡ back_to (tape_of tape tones blocks n) b₀)
 
 abbrev decreases-loop : tie.decreases-loop
 decreases-loop tape tones blocks from b₀ b = b
@@ -29,19 +29,19 @@ row-well-requires c κs =
     omega (arith, L.invariant.0, s.requires)
 
 returns : tie.Need-returns invariant-loop decreases-loop
-unfolding wellRow
+unfolding well_row
 returns c =
     let a = c.before.before.before.before.before.before.args in
     let L = c.before.before.loop in
-    λ n. back-bad (tapeOf a.tape.now a.tones.now a.blocks.now n) L.b (failed c.before.row-well.ensures c.if1.true)
+    λ n. back-bad (tape_of a.tape.now a.tones.now a.blocks.now n) L.b (failed c.before.row-well.ensures c.if1.true)
     ∙ L.invariant.1 n
 
 returns-2 : tie.Need-returns-2 invariant-loop decreases-loop
-unfolding wellRow
+unfolding well_row
 returns-2 c =
     let a = c.before.before.before.before.before.before.before.args in
     let L = c.before.before.before.loop in
-    λ n. back_none (tapeOf a.tape.now a.tones.now a.blocks.now n) L.b
+    λ n. back_none (tape_of a.tape.now a.tones.now a.blocks.now n) L.b
     (passed c.before.before.row-well.ensures c.before.if1.false) c.if2.true
     ∙ L.invariant.1 n
 
@@ -52,12 +52,12 @@ block-at-requires c κs =
     omega (arith, L.invariant.0, s.requires)
 
 returns-3 : tie.Need-returns-3 invariant-loop decreases-loop
-unfolding wellRow
+unfolding well_row
 returns-3 c =
     let if2 = c.before.before.before in
     let a = if2.before.before.before.before.before.before.before.args in
     let L = if2.before.before.before.loop in
-    λ n. back-here (tapeOf a.tape.now a.tones.now a.blocks.now n) L.b
+    λ n. back-here (tape_of a.tape.now a.tones.now a.blocks.now n) L.b
     (passed if2.before.before.row-well.ensures if2.before.if1.false) if2.if2.false
     (sym (ap (λ (r : Block). r.selectable) c.before.before.block_at.ensures) ∙ c.if3.true)
     ∙ L.invariant.1 n
@@ -71,13 +71,13 @@ loop-less c =
     omega (arith, c.before.before.before.if2.false)
 
 loop-again : tie.Need-loop-preserved invariant-loop decreases-loop
-unfolding wellRow
+unfolding well_row
 loop-again c =
     let if2 = c.before.before.before in
     let a = if2.before.before.before.before.before.before.before.args in
     let L = if2.before.before.before.loop in (
       omega (arith, L.invariant.0),
-      λ n. back_on (tapeOf a.tape.now a.tones.now a.blocks.now n) L.b
+      λ n. back_on (tape_of a.tape.now a.tones.now a.blocks.now n) L.b
           (passed if2.before.before.row-well.ensures if2.before.if1.false) if2.if2.false
           (λ z. c.if3.false (ap (λ (r : Block). r.selectable) c.before.before.block_at.ensures ∙ z))
           ∙ L.invariant.1 n,

@@ -1,7 +1,7 @@
 -- `block` meets its contract. Assumes nothing.
 use Rattle.play_deck.proofs.Checks as checks
 use Rattle.play_deck.specs.Deck.{block_of}
-use Rattle.play_entries.specs.Mounted.{tapeOf}
+use Rattle.play_entries.specs.Mounted.{tape_of}
 use mathlib.Core.Path.{sym, ◌∙◌}
 use borrow.Author.Tests.{le-leb, lt-leb}
 use native.Mathlib.Omega.{arith}
@@ -24,8 +24,8 @@ back-requires : tie.Need-back-requires
 back-requires c κs =
     let judge = c.before.before.before in
     let a = judge.before.before.before.before.args in
-    let w = tapeOf a.tape.now a.tones.now a.blocks.now a.count in
-    let x = checks.fine-below w a.pos (sym judge.judge.ensures ∙ c.before.enum_told.given.1) c.if1.false in
+    let w = tape_of a.tape.now a.tones.now a.blocks.now a.count in
+    let x = checks.fine_below w a.pos (sym judge.judge.ensures ∙ c.before.enum_told.given.1) c.if1.false in
     omega (arith, x.lent, c.if1.false)
 
 enum-told-2 : tie.Need-enum-told-2

@@ -1,6 +1,6 @@
 -- `has_entry` meets its contract. Assumes nothing.
 use borrow.Author.Tests.{lt-ltb, le-ltb}
-use Rattle.play_entries.specs.Places.{hasEntry}
+use Rattle.play_entries.specs.Places.{has_entry}
 use borrow.Author.Rules.{rules}
 use Rattle.play_phases.proofs.has_entry.Statement.{statement}
 use Rattle.play_phases.proofs.has_entry.Tie as tie
@@ -33,33 +33,33 @@ enum-told-3 : tie.Need-enum-told-3
 enum-told-3 c = search rules
 
 returns : tie.Need-returns
-unfolding hasEntry
+unfolding has_entry
 returns c = rw c.enum_told.given.1
 
 returns-2 : tie.Need-returns-2
-unfolding hasEntry
+unfolding has_entry
 returns-2 c =
     let f = c.before.before.before.before.before in
     rw (f.f.given.1, lt-ltb _ _ c.before.before.if1.true, c.has-pulse.ensures, c.before.row-tone.ensures)
 
 returns-3 : tie.Need-returns-3
-unfolding hasEntry
+unfolding has_entry
 returns-3 c = rw (c.before.before.before.f.given.1, le-ltb _ _ c.if1.false)
 
 returns-4 : tie.Need-returns-4
-unfolding hasEntry
+unfolding has_entry
 returns-4 c = rw (c.before.before.before.before.f2.given.1, lt-ltb _ _ c.before.if2.true, c.bits_at.ensures)
 
 returns-5 : tie.Need-returns-5
-unfolding hasEntry
+unfolding has_entry
 returns-5 c = rw (c.before.before.before.f2.given.1, le-ltb _ _ c.if2.false)
 
 returns-6 : tie.Need-returns-6
-unfolding hasEntry
+unfolding has_entry
 returns-6 c = rw c.before.enum-told2.given.1 c.is-edged.ensures
 
 returns-7 : tie.Need-returns-7
-unfolding hasEntry
+unfolding has_entry
 returns-7 c = rw c.enum-told3.given.1
 
 pub has-entry-spec : {M : Type 1} → statement M

@@ -1,5 +1,5 @@
 -- `mic` meets its contract. Assumes nothing.
-use Rattle.play_entries.specs.Source.{levelOf}
+use Rattle.play_entries.specs.Source.{level_of}
 use borrow.Author.Rules.{rules}
 use Rattle.play_phases.proofs.mic.Statement.{statement}
 use Rattle.play_phases.proofs.mic.Tie as tie
@@ -20,23 +20,23 @@ enum-told-3 : tie.Need-enum-told-3
 enum-told-3 c = search rules
 
 returns : tie.Need-returns
-unfolding levelOf
+unfolding level_of
 returns c = rw c.enum_told.given.1
 
 returns-2 : tie.Need-returns-2
-unfolding levelOf
+unfolding level_of
 returns-2 c = rw c.before.f.given.1
 
 returns-3 : tie.Need-returns-3
-unfolding levelOf
+unfolding level_of
 returns-3 c = rw c.before.f2.given.1
 
 returns-4 : tie.Need-returns-4
-unfolding levelOf
+unfolding level_of
 returns-4 c = rw c.enum-told2.given.1
 
 returns-5 : tie.Need-returns-5
-unfolding levelOf
+unfolding level_of
 returns-5 c = rw c.enum-told3.given.1
 
 pub mic-spec : {M : Type 1} → statement M

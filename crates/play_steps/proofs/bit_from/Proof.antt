@@ -1,5 +1,5 @@
 -- `bit_from` meets its contract. Assumes nothing.
-use Rattle.play_steps.specs.Steps.{bitFrom}
+use Rattle.play_steps.specs.Steps.{bit_from}
 use borrow.Author.Tests.{lt-ltb, le-ltb}
 use borrow.Author.Rules.{rules}
 use Rattle.play_steps.proofs.bit_from.Statement.{statement}
@@ -9,7 +9,7 @@ bits-at-requires : tie.Need-bits-at-requires
 bits-at-requires c κs = search rules
 
 returns : tie.Need-returns
-unfolding bitFrom
+unfolding bit_from
 returns c =
     rw (← c.before.bits_at.ensures, lt-ltb _ _ c.if1.true)
 
@@ -20,7 +20,7 @@ data-from-requires : tie.Need-data-from-requires
 data-from-requires c κs = search rules
 
 returns-2 : tie.Need-returns-2
-unfolding bitFrom
+unfolding bit_from
 returns-2 c =
     rw (← c.before.before.bits_at.ensures, le-ltb _ _ c.before.if1.false) c.data-from.ensures
 

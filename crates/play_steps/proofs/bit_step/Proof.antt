@@ -1,6 +1,6 @@
 -- `bit_step` meets its contract. Assumes nothing.
-use Rattle.play_steps.specs.Steps.{oneStep}
-use Rattle.play_entries.proofs.Bounds.{bits-any}
+use Rattle.play_steps.specs.Steps.{one_step}
+use Rattle.play_entries.proofs.Bounds.{bits_any}
 use native.Mathlib.Omega.{arith}
 use mathlib.Core.Path.{◌∙◌}
 use borrow.Author.Rules.{rules}
@@ -10,7 +10,7 @@ use Rattle.play_steps.proofs.bit_step.Tie as tie
 add-bit-from : tie.Need-overflow-add-bit-from
 add-bit-from c =
     let a = c.before.args in
-    omega (arith, c.before.requires, bits-any a.r a.pos)
+    omega (arith, c.before.requires, bits_any a.r a.pos)
 
 bit-from-requires : tie.Need-bit-from-requires
 bit-from-requires c κs = search rules
@@ -19,7 +19,7 @@ step-to-requires : tie.Need-step-to-requires
 step-to-requires c κs = search rules
 
 returns : tie.Need-returns
-unfolding oneStep
+unfolding one_step
 returns c =
     λ tones. c.step-to.ensures ∙ rw (c.before.before.if1.true, c.before.bit-from.ensures)
 
@@ -27,7 +27,7 @@ step-to-requires-2 : tie.Need-step-to-requires-2
 step-to-requires-2 c κs = search rules
 
 returns-2 : tie.Need-returns-2
-unfolding oneStep
+unfolding one_step
 returns-2 c =
     λ tones. c.step-to2.ensures ∙ rw c.before.if1.false
 

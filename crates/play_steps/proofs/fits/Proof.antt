@@ -1,5 +1,5 @@
 -- `fits` meets its contract. Assumes nothing.
-use Rattle.play_steps.specs.Steps.{cyclesFitting}
+use Rattle.play_steps.specs.Steps.{cycles_fitting}
 use native.Mathlib.Omega.{arith}
 use borrow.Author.Tests.{eq-eqb, ne_eqb}
 use borrow.Author.Rules.{rules}
@@ -7,7 +7,7 @@ use Rattle.play_steps.proofs.fits.Statement.{statement}
 use Rattle.play_steps.proofs.fits.Tie as tie
 
 returns : tie.Need-returns
-unfolding cyclesFitting
+unfolding cycles_fitting
 returns c =
     rw (eq-eqb _ _ c.if1.true)
 
@@ -18,12 +18,12 @@ div-k : tie.Need-nonzero-div-k
 div-k c = search rules
 
 returns-2 : tie.Need-returns-2
-unfolding cyclesFitting
+unfolding cycles_fitting
 returns-2 c =
     rw (ne_eqb _ _ c.before.if1.false) (omega arith)
 
 returns-3 : tie.Need-returns-3
-unfolding cyclesFitting
+unfolding cycles_fitting
 returns-3 c =
     rw (ne_eqb _ _ c.before.if1.false) (omega arith)
 

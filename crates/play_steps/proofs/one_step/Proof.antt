@@ -1,7 +1,7 @@
 -- `one_step` meets its contract. Assumes nothing.
 use mathlib.Core.Path.{◌∙◌}
-use Rattle.play_entries.proofs.Valid.{in-tones, in-data}
-use Rattle.play_steps.specs.Steps.{oneStep}
+use Rattle.play_entries.proofs.Valid.{in_tones, in_data}
+use Rattle.play_steps.specs.Steps.{one_step}
 use borrow.Author.Rules.{rules}
 use Rattle.play_steps.proofs.one_step.Statement.{statement}
 use Rattle.play_steps.proofs.one_step.Tie as tie
@@ -22,7 +22,7 @@ tone-step-requires : tie.Need-tone-step-requires
 tone-step-requires c κs =
     let s = c.before.before.before.before in
     let a = s.args in
-    let h = in-tones a.tones.now a.r c.before.f.given.1 s.requires.1 in
+    let h = in_tones a.tones.now a.r c.before.f.given.1 s.requires.1 in
     ((s.requires.0, h.0), h.1)
 
 enum-known-f-2 : tie.Need-enum-known-f-2
@@ -32,7 +32,7 @@ bit-step-requires : tie.Need-bit-step-requires
 bit-step-requires c κs =
     let s = c.before.before.before.before in
     let a = s.args in
-    in-data a.tones.now a.r c.before.f2.given.1 s.requires.1
+    in_data a.tones.now a.r c.before.f2.given.1 s.requires.1
 
 enum-told-2 : tie.Need-enum-told-2
 enum-told-2 c = search rules
@@ -47,7 +47,7 @@ step-out-requires : tie.Need-step-out-requires
 step-out-requires c κs = search rules
 
 returns : tie.Need-returns
-unfolding oneStep
+unfolding one_step
 returns c =
     c.step-to.ensures ∙ rw (c.before.before.enum_told.given.1, c.before.tone-from.ensures)
 
@@ -61,11 +61,11 @@ returns-3 c =
     c.bit-step.ensures a.tones.now ∙ rw c.before.before.f2.given.1
 
 returns-4 : tie.Need-returns-4
-unfolding oneStep
+unfolding one_step
 returns-4 c = c.step-to2.ensures ∙ rw c.before.enum-told2.given.1
 
 returns-5 : tie.Need-returns-5
-unfolding oneStep
+unfolding one_step
 returns-5 c = c.step-out.ensures ∙ rw c.before.enum-told3.given.1
 
 pub one-step-spec : {M : Type 1} → statement M

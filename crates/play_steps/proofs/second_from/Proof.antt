@@ -1,6 +1,6 @@
 -- `second_from` meets its contract. Assumes nothing.
 use native.Mathlib.Omega.{arith}
-use Rattle.play_steps.specs.Steps.{secondFrom}
+use Rattle.play_steps.specs.Steps.{second_from}
 use Rattle.play_entries.proofs.Bounds.{cycles-most}
 use borrow.Author.Rules.{rules}
 use Rattle.play_steps.proofs.second_from.Statement.{statement}
@@ -16,11 +16,11 @@ cycle-from-requires : tie.Need-cycle-from-requires
 cycle-from-requires c κs = search rules
 
 returns : tie.Need-returns
-unfolding secondFrom
+unfolding second_from
 returns c = rw (← c.before.before.is-single.ensures, c.before.if1.true) c.cycle-from.ensures
 
 returns-2 : tie.Need-returns-2
-unfolding secondFrom
+unfolding second_from
 returns-2 c = rw (← c.before.is-single.ensures, c.if1.false)
 
 pub second-from-spec : {M : Type 1} → statement M

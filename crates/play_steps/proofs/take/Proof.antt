@@ -1,7 +1,7 @@
 -- `take` meets its contract. Assumes nothing.
 use Rattle.play_steps.proofs.Facts as facts
-use Rattle.play_entries.proofs.Valid.{in-tones, in-data}
-use Rattle.play_entries.proofs.Lent.{row-lent}
+use Rattle.play_entries.proofs.Valid.{in_tones, in_data}
+use Rattle.play_entries.proofs.Lent.{row_lent}
 use mathlib.Core.Path.{◌∙◌}
 use borrow.Author.Rules.{rules}
 use Rattle.play_steps.proofs.take.Statement.{statement}
@@ -14,7 +14,7 @@ take-entry-requires : tie.Need-take-entry-requires
 take-entry-requires c κs =
     let start = c.before.before.before.before in
     let a = start.args in
-    ((row-lent a.tape.now a.tones.now a.r start.requires.0).rows, start.requires.1.0)
+    ((row_lent a.tape.now a.tones.now a.r start.requires.0).rows, start.requires.1.0)
 
 enum-known-f : tie.Need-enum-known-f
 enum-known-f c = search rules
@@ -23,8 +23,8 @@ take-tone-requires : tie.Need-take-tone-requires
 take-tone-requires c κs =
     let start = c.before.before.before.before.before in
     let a = start.args in
-    let k = row-lent a.tape.now a.tones.now a.r start.requires.0 in
-    ((k.rows, k.each), (in-tones a.tones.now a.r c.before.f.given.1 start.requires.1.0, start.requires.1.1))
+    let k = row_lent a.tape.now a.tones.now a.r start.requires.0 in
+    ((k.rows, k.each), (in_tones a.tones.now a.r c.before.f.given.1 start.requires.1.0, start.requires.1.1))
 
 enum-known-f-2 : tie.Need-enum-known-f-2
 enum-known-f-2 c = search rules
@@ -33,8 +33,8 @@ take-bit-requires : tie.Need-take-bit-requires
 take-bit-requires c κs =
     let start = c.before.before.before.before.before in
     let a = start.args in
-    let k = row-lent a.tape.now a.tones.now a.r start.requires.0 in
-    (k.bytes, (in-data a.tones.now a.r c.before.f2.given.1 start.requires.1.0, k.numbers))
+    let k = row_lent a.tape.now a.tones.now a.r start.requires.0 in
+    (k.bytes, (in_data a.tones.now a.r c.before.f2.given.1 start.requires.1.0, k.numbers))
 
 enum-told-2 : tie.Need-enum-told-2
 enum-told-2 c = search rules
@@ -43,7 +43,7 @@ take-entry-requires-2 : tie.Need-take-entry-requires-2
 take-entry-requires-2 c κs =
     let start = c.before.before.before.before in
     let a = start.args in
-    ((row-lent a.tape.now a.tones.now a.r start.requires.0).rows, start.requires.1.0)
+    ((row_lent a.tape.now a.tones.now a.r start.requires.0).rows, start.requires.1.0)
 
 enum-told-3 : tie.Need-enum-told-3
 enum-told-3 c = search rules
@@ -52,13 +52,13 @@ take-entry-requires-3 : tie.Need-take-entry-requires-3
 take-entry-requires-3 c κs =
     let start = c.before.before.before.before in
     let a = start.args in
-    ((row-lent a.tape.now a.tones.now a.r start.requires.0).rows, start.requires.1.0)
+    ((row_lent a.tape.now a.tones.now a.r start.requires.0).rows, start.requires.1.0)
 
 returns : tie.Need-returns
 returns c =
     let a = c.before.before.before.before.before.args in
     c.take-entry.ensures
-    ∙ rw c.before.enum_told.given.1 (facts.takes-start a.tape.now a.tones.now a.r a.t a.d a.full)
+    ∙ rw c.before.enum_told.given.1 (facts.takes_start a.tape.now a.tones.now a.r a.t a.d a.full)
 
 returns-2 : tie.Need-returns-2
 returns-2 c =
@@ -74,13 +74,13 @@ returns-4 : tie.Need-returns-4
 returns-4 c =
     let a = c.before.before.before.before.before.args in
     c.take-entry2.ensures
-    ∙ rw c.before.enum-told2.given.1 (facts.takes-edge a.tape.now a.tones.now a.r a.t a.d a.full)
+    ∙ rw c.before.enum-told2.given.1 (facts.takes_edge a.tape.now a.tones.now a.r a.t a.d a.full)
 
 returns-5 : tie.Need-returns-5
 returns-5 c =
     let a = c.before.before.before.before.before.args in
     c.take-entry3.ensures
-    ∙ rw c.before.enum-told3.given.1 (facts.takes-pause a.tape.now a.tones.now a.r a.t a.d a.full)
+    ∙ rw c.before.enum-told3.given.1 (facts.takes_pause a.tape.now a.tones.now a.r a.t a.d a.full)
 
 pub take_spec : {M : Type 1} → statement M
 take_spec =

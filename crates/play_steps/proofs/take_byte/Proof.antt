@@ -1,6 +1,6 @@
 -- `take_byte` meets its contract. Assumes nothing.
-use Rattle.play_steps.specs.Steps.{byteTime, byteStep, takeByte}
-use Rattle.play_entries.proofs.Bounds.{bits_most, bits-some}
+use Rattle.play_steps.specs.Steps.{byte_time, byte_step, take_byte}
+use Rattle.play_entries.proofs.Bounds.{bits_most, bits_some}
 use borrow.Author.Tests.{lt-ltb, le-ltb}
 use native.Mathlib.Omega.{arith}
 use mathlib.Core.Path.{◌∙◌}
@@ -30,7 +30,7 @@ step-to-requires : tie.Need-step-to-requires
 step-to-requires c κs = search rules
 
 returns : tie.Need-returns
-unfolding takeByte byteStep byteTime
+unfolding take_byte byte_step byte_time
 returns c =
     let if1 = c.before.before.before in
     λ tones. c.step-to.ensures ∙ rw (
@@ -44,10 +44,10 @@ bit-step-requires : tie.Need-bit-step-requires
 bit-step-requires c κs =
     let s = c.before.before.before in
     let a = s.args in
-    (s.requires.0.1, bits-some a.r a.pos)
+    (s.requires.0.1, bits_some a.r a.pos)
 
 returns-2 : tie.Need-returns-2
-unfolding takeByte byteTime
+unfolding take_byte byte_time
 returns-2 c =
     λ tones. c.bit-step.ensures tones ∙ rw (← c.before.before.byte-time.ensures 0, le-ltb _ _ c.before.if1.false)
 

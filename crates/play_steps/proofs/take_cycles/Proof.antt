@@ -3,9 +3,9 @@ use Prim.Native.Nat.{ℕ, ◌-◌, ◌*◌, ◌≤◌}
 use native.Mathlib.Omega.{arith}
 use native.Mathlib.Nat.{mul-le-mul}
 use mathlib.Core.Path.{ap, ◌∙◌}
-use Rattle.rows.specs.Well.{wellTone}
+use Rattle.rows.specs.Well.{well_tone}
 use Rattle.rows.proofs.WellLaws.{tones-each}
-use Rattle.play_entries.specs.Entries.{cyclesOf}
+use Rattle.play_entries.specs.Entries.{cycles_of}
 use Rattle.play_steps.proofs.Facts as facts
 use borrow.Author.Rules.{rules}
 use Rattle.play_steps.proofs.take_cycles.Statement.{statement}
@@ -18,7 +18,7 @@ cycle-time-requires : tie.Need-cycle-time-requires
 cycle-time-requires c κs =
     let s = c.before.before in
     let a = s.args in
-    ap wellTone c.row-tone.ensures ∙ tones-each a.tones.now a.r.tone a.r.tones a.i s.requires.0.1 s.requires.1.0.0
+    ap well_tone c.row-tone.ensures ∙ tones-each a.tones.now a.r.tone a.r.tones a.i s.requires.0.1 s.requires.1.0.0
 
 cycles-of-requires : tie.Need-cycles-of-requires
 cycles-of-requires c κs = search rules
@@ -27,7 +27,7 @@ sub-fits : tie.Need-overflow-sub-fits
 sub-fits c =
     let x = c.before.before in
     let s = x.before.before in
-    omega (arith, c.cycles-of.ensures, ap (cyclesOf s.args.r) x.row-tone.ensures, s.requires.1.0.1)
+    omega (arith, c.cycles-of.ensures, ap (cycles_of s.args.r) x.row-tone.ensures, s.requires.1.0.1)
 
 fits-requires : tie.Need-fits-requires
 fits-requires c κs = search rules
@@ -50,7 +50,7 @@ add-cycle-from c =
       u.fits2.ensures,
       k.most,
       n.cycles-of.ensures,
-      ap (cyclesOf a.r) x.row-tone.ensures,
+      ap (cycles_of a.r) x.row-tone.ensures,
       l.cycles,
       s.requires.1.0.1,
     )

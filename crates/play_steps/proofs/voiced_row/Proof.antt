@@ -3,14 +3,14 @@ use Prim.Native.Nat.{◌-◌, ◌≤◌}
 use native.Mathlib.Omega.{arith}
 use mathlib.Core.Path.{◌≡◌, refl, ap, ◌∙◌}
 use borrow.Author.Rules.{rules}
-use Rattle.play_entries.specs.Entries.{cyclesOf}
-use Rattle.play_steps.specs.Steps.{toneFrom}
+use Rattle.play_entries.specs.Entries.{cycles_of}
+use Rattle.play_steps.specs.Steps.{tone_from}
 use Rattle.play_steps.proofs.Facts as facts
 use Rattle.play_steps.proofs.voiced_row.Statement.{statement}
 use Rattle.play_steps.proofs.voiced_row.Tie as tie
 
 abbrev invariant-loop : tie.invariant-loop
-invariant-loop tones r i j₀ j = (j ≤ r.tones) × (toneFrom tones r i ≡ toneFrom tones r j)
+invariant-loop tones r i j₀ j = (j ≤ r.tones) × (tone_from tones r i ≡ tone_from tones r j)
 
 abbrev decreases-loop : tie.decreases-loop
 decreases-loop tones r i j₀ j = r.tones - j
@@ -32,7 +32,7 @@ returns c =
     record {
       most = l.loop.invariant.0;
       same = l.loop.invariant.1;
-      some = λ h. omega (arith, c.if2.true, n.cycles-of.ensures, ap (cyclesOf r) n.before.row-tone.ensures);
+      some = λ h. omega (arith, c.if2.true, n.cycles-of.ensures, ap (cycles_of r) n.before.row-tone.ensures);
     }
 
 add-j : tie.Need-overflow-add-j invariant-loop decreases-loop
@@ -50,7 +50,7 @@ loop-again c =
       omega arith,
       l.loop.invariant.1
           ∙ facts.tone-past a.tones.now a.r l.loop.j t.if1.true
-          (omega (arith, c.if2.false, n.cycles-of.ensures, ap (cyclesOf a.r) n.before.row-tone.ensures)),
+          (omega (arith, c.if2.false, n.cycles-of.ensures, ap (cycles_of a.r) n.before.row-tone.ensures)),
     )
 
 returns-2 : tie.Need-returns-2 invariant-loop decreases-loop

@@ -2,7 +2,7 @@
 use native.Mathlib.Omega.{arith}
 use mathlib.Core.Path.{sym, ◌∙◌}
 use borrow.Author.Rules.{rules}
-use Rattle.play_entries.proofs.Runs.{few_ones, bits-time}
+use Rattle.play_entries.proofs.Runs.{few_ones, bits_time_lem}
 use Rattle.play_times.proofs.bits_time.Statement.{statement}
 use Rattle.play_times.proofs.bits_time.Tie as tie
 
@@ -27,7 +27,7 @@ returns : tie.Need-returns
 returns c =
     let s = c.before in
     λ b pos d. c.counted-time.ensures
-    ∙ sym (bits-time b s.args.r d pos s.args.v s.ranges.v.fits s.args.n s.requires.0.1)
+    ∙ sym (bits_time_lem b s.args.r d pos s.args.v s.ranges.v.fits s.args.n s.requires.0.1)
 
 pub bits-time-spec : {M : Type 1} → statement M
 bits-time-spec =

@@ -4,17 +4,17 @@ use native.Mathlib.Omega.{arith}
 use mathlib.Core.Path.{sym, ap, ap₂, ◌∙◌}
 use mathlib.Core.Bool.{false}
 use borrow.Author.Rules.{rules}
-use Rattle.play_entries.specs.Counted.{bitsTime}
+use Rattle.play_entries.specs.Counted.{bits_time}
 use Rattle.play_entries.specs.Entries.{data_of}
 use Rattle.play_entries.proofs.Bounds.{bytes-most-time}
-use Rattle.play_entries.proofs.Counted.{ones-most, data-counted, data-none}
+use Rattle.play_entries.proofs.Counted.{ones_most, data_counted, data_none}
 use Rattle.play_times.proofs.data_time.Statement.{statement}
 use Rattle.play_times.proofs.data_time.Tie as tie
 
 returns : tie.Need-returns
 returns c =
     let a = c.before.before.before.args in
-    λ b d. sym (data-none a.tape.now (λ i. (c.before.before.shared-slice-known.given i).fits) b a.r d c.if1.true)
+    λ b d. sym (data_none a.tape.now (λ i. (c.before.before.shared-slice-known.given i).fits) b a.r d c.if1.true)
 
 sub-last : tie.Need-overflow-sub-last
 sub-last c = search rules
@@ -37,7 +37,7 @@ counted-time-requires c κs =
         omega (
           arith,
           c.ones.ensures,
-          ones-most a.tape.now (λ i. (shared-slice-known.shared-slice-known.given i).fits) a.r.start (a.r.size - 1),
+          ones_most a.tape.now (λ i. (shared-slice-known.shared-slice-known.given i).fits) a.r.start (a.r.size - 1),
         ),
         omega arith,
       ),
@@ -54,8 +54,8 @@ add-result c =
     let s = shared-slice-known.before in
     let a = s.args in
     let n = a.r.size - 1 in
-    let k = c.before.counted-time.ensures ∙ ap (λ (k : ℕ). bitsTime a.r k (8 * n)) c.before.before.ones.ensures in
-    let e = data-counted a.tape.now (λ i. (shared-slice-known.shared-slice-known.given i).fits) 0 a.r false n (omega arith) in
+    let k = c.before.counted-time.ensures ∙ ap (λ (k : ℕ). bits_time a.r k (8 * n)) c.before.before.ones.ensures in
+    let e = data_counted a.tape.now (λ i. (shared-slice-known.shared-slice-known.given i).fits) 0 a.r false n (omega arith) in
     omega (arith, k, c.byte-time.ensures 0 false, e, bytes-most-time a.tape.now 0 a.r false a.r.size s.requires.1 (omega arith))
 
 returns-2 : tie.Need-returns-2
@@ -65,8 +65,8 @@ returns-2 c =
     let a = s.args in
     let n = a.r.size - 1 in
     λ b d. ap₂ (λ (x y : ℕ). x + y) (c.before.counted-time.ensures
-    ∙ ap (λ (k : ℕ). bitsTime a.r k (8 * n)) c.before.before.ones.ensures) (c.byte-time.ensures b d)
-    ∙ sym (data-counted a.tape.now (λ i. (shared-slice-known.shared-slice-known.given i).fits) b a.r d n (omega arith))
+    ∙ ap (λ (k : ℕ). bits_time a.r k (8 * n)) c.before.before.ones.ensures) (c.byte-time.ensures b d)
+    ∙ sym (data_counted a.tape.now (λ i. (shared-slice-known.shared-slice-known.given i).fits) b a.r d n (omega arith))
 
 pub data-time-spec : {M : Type 1} → statement M
 data-time-spec =

@@ -5,19 +5,19 @@ use native.Mathlib.Omega.{arith}
 use mathlib.Core.Path.{◌≡◌, refl}
 use lib.Count.{ones-le}
 use lib.ListN.{get_or}
-use Rattle.play_entries.specs.Counted.{onesFrom}
-use Rattle.play_entries.proofs.Counted.{ones-most}
+use Rattle.play_entries.specs.Counted.{ones_from}
+use Rattle.play_entries.proofs.Counted.{ones_most}
 use Rattle.play_times.proofs.ones.Statement.{statement}
 use Rattle.play_times.proofs.ones.Tie as tie
 
 abbrev invariant-loop : tie.invariant-loop
-invariant-loop tape from n sum₀ i₀ sum i = (i ≤ n) × (sum ≡ onesFrom tape from i)
+invariant-loop tape from n sum₀ i₀ sum i = (i ≤ n) × (sum ≡ ones_from tape from i)
 
 abbrev decreases-loop : tie.decreases-loop
 decreases-loop tape from n sum₀ i₀ sum i = n - i
 
 loop-holds : tie.Need-loop-init invariant-loop decreases-loop
-unfolding onesFrom
+unfolding ones_from
 loop-holds c = (omega arith, refl)
 
 add_at : tie.Need-overflow-add-at invariant-loop decreases-loop
@@ -34,7 +34,7 @@ add-sum c =
     omega (
       arith,
       l.invariant.1,
-      ones-most a.tape.now (λ j. (c.shared-slice-known.given j).fits) a.from l.i,
+      ones_most a.tape.now (λ j. (c.shared-slice-known.given j).fits) a.from l.i,
       ones-le 8 (get_or a.tape.now at 0) (c.shared-slice-known.given at).fits,
     )
 
@@ -45,7 +45,7 @@ loop-less : tie.Need-loop-smaller invariant-loop decreases-loop
 loop-less c = omega arith
 
 loop-again : tie.Need-loop-preserved invariant-loop decreases-loop
-unfolding onesFrom
+unfolding ones_from
 loop-again c = (omega arith, rw (add-one, c.before.before.loop.invariant.1))
 
 returns : tie.Need-returns invariant-loop decreases-loop

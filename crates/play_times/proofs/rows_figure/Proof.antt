@@ -2,14 +2,14 @@
 use Prim.Native.Nat.{◌+◌, ◌-◌, ◌≤◌}
 use native.Mathlib.Omega.{arith}
 use mathlib.Core.Path.{◌≡◌, ap, ◌∙◌}
-use Rattle.play_entries.specs.Figures.{toneFigure}
-use Rattle.play_entries.proofs.Figures.{figureFrom, from_next, from-none, from-most, owned}
+use Rattle.play_entries.specs.Figures.{tone_figure}
+use Rattle.play_entries.proofs.Figures.{figure_from, from_next, from_none, from_most, owned}
 use Rattle.play_times.proofs.rows_figure.Statement.{statement}
 use Rattle.play_times.proofs.rows_figure.Tie as tie
 
 abbrev invariant-loop : tie.invariant-loop
 invariant-loop tones r sum₀ i₀ sum i =
-    (i ≤ r.tones) × (sum + figureFrom tones r i (r.tones - i) ≡ figureFrom tones r 0 r.tones)
+    (i ≤ r.tones) × (sum + figure_from tones r i (r.tones - i) ≡ figure_from tones r 0 r.tones)
 
 abbrev decreases-loop : tie.decreases-loop
 decreases-loop tones r sum₀ i₀ sum i = r.tones - i
@@ -37,7 +37,7 @@ add-sum c =
     omega (
       arith,
       l.loop.invariant.1,
-      from-most t r 0 r.tones,
+      from_most t r 0 r.tones,
       c.tone-figure.ensures.1,
     )
 
@@ -52,7 +52,7 @@ loop-again c =
     let l = c.before.before.before.before in
     let a = l.before.before.args in
     let t = a.tones.now in
-    let e = c.tone-figure.ensures.0 ∙ ap (toneFigure a.r) c.before.row-tone.ensures in
+    let e = c.tone-figure.ensures.0 ∙ ap (tone_figure a.r) c.before.row-tone.ensures in
     (omega arith, omega (arith, l.loop.invariant.1, e, from_next t a.r l.loop.i a.r.tones c.before.before.if1.true))
 
 returns : tie.Need-returns invariant-loop decreases-loop
@@ -60,8 +60,8 @@ returns c =
     let l = c.before.before.loop in
     let a = c.before.before.before.before.args in
     let t = a.tones.now in
-    let z = from-none t a.r l.i a.r.tones c.if1.false in
-    (λ ts o. omega (arith, l.invariant.1, z, owned t a.r ts o), omega (arith, l.invariant.1, from-most t a.r 0 a.r.tones))
+    let z = from_none t a.r l.i a.r.tones c.if1.false in
+    (λ ts o. omega (arith, l.invariant.1, z, owned t a.r ts o), omega (arith, l.invariant.1, from_most t a.r 0 a.r.tones))
 
 pub rows-figure-spec : {M : Type 1} → statement M
 rows-figure-spec =

@@ -4,8 +4,8 @@ use native.Mathlib.Omega.{arith}
 use mathlib.Core.Path.{◌≡◌, sym}
 use borrow.Author.Rules.{rules}
 use Rattle.rows.proofs.Clauses.{failed, passed}
-use Rattle.play_entries.specs.Figures.{toneFigure}
-use Rattle.play_entries.proofs.Figures.{tone-figure, tone-none, tone-figure-most}
+use Rattle.play_entries.specs.Figures.{tone_figure}
+use Rattle.play_entries.proofs.Figures.{tone_figure_lem, tone-none, tone_figure-most}
 use Rattle.play_times.proofs.tone_figure.Statement.{statement}
 use Rattle.play_times.proofs.tone_figure.Tie as tie
 
@@ -27,19 +27,19 @@ mul-result : tie.Need-overflow-mul-result
 mul-result c =
     let w = c.before.before.before in
     let a = w.before.args in
-    let e : c.before.cycles-of.result * c.cycle-time.result ≡ toneFigure a.r a.t =
+    let e : c.before.cycles-of.result * c.cycle-time.result ≡ tone_figure a.r a.t =
     rw (c.before.cycles-of.ensures, c.cycle-time.ensures)
-    (sym (tone-figure a.r a.t (passed w.tone-well.ensures c.before.before.if1.false))) in
-    omega (arith, e, tone-figure-most a.r a.t)
+    (sym (tone_figure_lem a.r a.t (passed w.tone-well.ensures c.before.before.if1.false))) in
+    omega (arith, e, tone_figure-most a.r a.t)
 
 returns-2 : tie.Need-returns-2
 returns-2 c =
     let w = c.before.before.before in
     let a = w.before.args in
-    let e : c.before.cycles-of.result * c.cycle-time.result ≡ toneFigure a.r a.t =
+    let e : c.before.cycles-of.result * c.cycle-time.result ≡ tone_figure a.r a.t =
     rw (c.before.cycles-of.ensures, c.cycle-time.ensures)
-    (sym (tone-figure a.r a.t (passed w.tone-well.ensures c.before.before.if1.false))) in
-    (e, omega (arith, e, tone-figure-most a.r a.t))
+    (sym (tone_figure_lem a.r a.t (passed w.tone-well.ensures c.before.before.if1.false))) in
+    (e, omega (arith, e, tone_figure-most a.r a.t))
 
 pub tone-figure-spec : {M : Type 1} → statement M
 tone-figure-spec = tie.close (tie.spec tone-well-requires returns cycles-of-requires cycle-time-requires mul-result returns-2)

@@ -1,10 +1,10 @@
 -- `asks_played` meets its contract. Assumes nothing.
-use Rattle.play_levels.specs.Closed.{beginOf}
+use Rattle.play_levels.specs.Closed.{begin_of}
 use Rattle.rows.specs.declared.Tone.{Tone}
 use lib.Dec.{eqb}
 use mathlib.Core.Path.{ap, ◌∙◌}
-use Rattle.play_entries.proofs.Valid.{in-tones}
-use Rattle.play_voice.specs.Voice.{asksPlayed}
+use Rattle.play_entries.proofs.Valid.{in_tones}
+use Rattle.play_voice.specs.Voice.{asks_played}
 use borrow.Author.Rules.{rules}
 use Rattle.play_voice.proofs.asks_played.Statement.{statement}
 use Rattle.play_voice.proofs.asks_played.Tie as tie
@@ -18,7 +18,7 @@ enum-known-f c = search rules
 row-tone-requires : tie.Need-row-tone-requires
 row-tone-requires c κs =
     let s = c.before.before.before.before in
-    (s.requires.0, (in-tones s.args.tones.now s.args.r c.before.f.given.1 s.requires.1).0)
+    (s.requires.0, (in_tones s.args.tones.now s.args.r c.before.f.given.1 s.requires.1).0)
 
 begins-played-requires : tie.Need-begins-played-requires
 begins-played-requires c κs = search rules
@@ -33,28 +33,28 @@ enum-told-4 : tie.Need-enum-told-4
 enum-told-4 c = search rules
 
 returns : tie.Need-returns
-unfolding asksPlayed
+unfolding asks_played
 returns c =
     rw c.enum_told.given.1
 
 returns-2 : tie.Need-returns-2
-unfolding asksPlayed
+unfolding asks_played
 returns-2 c =
     let f = c.before.before.before in
-    rw f.f.given.1 (c.begins-played.ensures ∙ ap (λ (t : Tone). eqb (beginOf t) 1) c.before.row-tone.ensures)
+    rw f.f.given.1 (c.begins-played.ensures ∙ ap (λ (t : Tone). eqb (begin_of t) 1) c.before.row-tone.ensures)
 
 returns-3 : tie.Need-returns-3
-unfolding asksPlayed
+unfolding asks_played
 returns-3 c =
     rw c.enum-told2.given.1
 
 returns-4 : tie.Need-returns-4
-unfolding asksPlayed
+unfolding asks_played
 returns-4 c =
     rw c.enum-told3.given.1
 
 returns-5 : tie.Need-returns-5
-unfolding asksPlayed
+unfolding asks_played
 returns-5 c =
     rw c.enum-told4.given.1
 

@@ -1,6 +1,6 @@
 -- `document_level` meets its contract. Assumes nothing.
-use Rattle.play_voice.proofs.Levels.{below-most}
-use Rattle.rows_well.specs.Seen.{seenOf}
+use Rattle.play_voice.proofs.Levels.{below_most}
+use Rattle.rows_well.specs.Seen.{seen_of}
 use mathlib.Core.Path.{ap, ◌∙◌}
 use native.Mathlib.Omega.{arith}
 use borrow.Author.Rules.{rules}
@@ -14,13 +14,13 @@ seen-on-requires : tie.Need-seen-on-requires
 seen-on-requires c κs =
     let a = c.before.before.args in
     let p = c.before.before.requires in
-    ((p.0, omega (arith, c.rows-below.ensures, below-most a.tones.now a.r a.f p.1.0.1)), p.1.1)
+    ((p.0, omega (arith, c.rows-below.ensures, below_most a.tones.now a.r a.f p.1.0.1)), p.1.1)
 
 level-seen-requires : tie.Need-level-seen-requires
 level-seen-requires c κs =
     let a = c.before.before.before.args in
     let p = c.before.before.before.requires in
-    (p.0, (p.1.0, c.seen-on.ensures ∙ ap (seenOf a.tones.now a.r.tone) c.before.rows-below.ensures))
+    (p.0, (p.1.0, c.seen-on.ensures ∙ ap (seen_of a.tones.now a.r.tone) c.before.rows-below.ensures))
 
 returns : tie.Need-returns
 returns c = search rules

@@ -1,5 +1,5 @@
 -- `hear_on` meets its contract. Assumes nothing.
-use Rattle.play_voice.specs.Voice.{heardTo}
+use Rattle.play_voice.specs.Voice.{heard_to}
 use Rattle.rows_well.specs.declared.Seen.{Seen}
 use mathlib.Core.Path.{ap, ◌∙◌}
 use native.Mathlib.Omega.{arith}
@@ -25,7 +25,7 @@ returns c =
     let a = at_most.before.before.before.args in
     let k = at_most.at_most.ensures ∙ ap (λ (n : ℕ). min n a.r.tones) at_most.before.rows-below.ensures in
     ap (λ (s : Seen). record { block = a.b; rows = at_most.at_most.result; seen = s }) c.seen-on.ensures
-    ∙ ap (heardTo a.tones.now a.r a.b) k
+    ∙ ap (heard_to a.tones.now a.r a.b) k
 
 pub hear-on-spec : {M : Type 1} → statement M
 hear-on-spec =

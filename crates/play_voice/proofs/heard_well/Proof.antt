@@ -1,6 +1,6 @@
 -- `heard_well` meets its contract. Assumes nothing.
-use Rattle.rows_well.proofs.Gathered.{seen-wells, seen-on}
-use Rattle.rows_well.specs.Seen.{wellSeen}
+use Rattle.rows_well.proofs.Gathered.{seen_wells, seen_on}
+use Rattle.rows_well.specs.Seen.{well_seen}
 use mathlib.Core.Path.{ap, ◌∙◌}
 use borrow.Author.Rules.{rules}
 use Rattle.play_voice.proofs.heard_well.Statement.{statement}
@@ -23,9 +23,9 @@ returns c =
     let a = c.before.before.before.before.before.before.before.before.args in
     let p = c.before.before.before.before.before.before.before.before.requires in
     c.seen-well.ensures
-    ∙ ap wellSeen
-    (c.before.tones-seen.ensures ∙ seen-on a.tones.now a.h.seen a.r.tone a.h.rows a.r.tones p.1 p.0.1)
-    ∙ seen-wells a.tones.now a.r.tone a.r.tones
+    ∙ ap well_seen
+    (c.before.tones-seen.ensures ∙ seen_on a.tones.now a.h.seen a.r.tone a.h.rows a.r.tones p.1 p.0.1)
+    ∙ seen_wells a.tones.now a.r.tone a.r.tones
 
 pub heard-well-spec : {M : Type 1} → statement M
 heard-well-spec =

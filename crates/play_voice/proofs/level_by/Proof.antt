@@ -1,6 +1,6 @@
 -- `level_by` meets its contract. Assumes nothing.
-use Rattle.play_entries.proofs.Valid.{in-tones}
-use Rattle.play_voice.specs.Voice.{levelBy}
+use Rattle.play_entries.proofs.Valid.{in_tones}
+use Rattle.play_voice.specs.Voice.{level_by}
 use borrow.Author.Rules.{rules}
 use Rattle.play_voice.proofs.level_by.Statement.{statement}
 use Rattle.play_voice.proofs.level_by.Tie as tie
@@ -17,7 +17,7 @@ enum-known-f c = search rules
 row-tone-requires : tie.Need-row-tone-requires
 row-tone-requires c κs =
     let s = c.before.before.before.before in
-    (s.requires.0, (in-tones s.args.tones.now s.args.r c.before.f.given.1 s.requires.1).0)
+    (s.requires.0, (in_tones s.args.tones.now s.args.r c.before.f.given.1 s.requires.1).0)
 
 first-level-requires : tie.Need-first-level-requires
 first-level-requires c κs = search rules
@@ -41,28 +41,28 @@ pause-by-requires : tie.Need-pause-by-requires
 pause-by-requires c κs = search rules
 
 returns : tie.Need-returns
-unfolding levelBy
+unfolding level_by
 returns c =
     rw c.before.enum_told.given.1 c.start-level.ensures
 
 returns-2 : tie.Need-returns-2
-unfolding levelBy
+unfolding level_by
 returns-2 c =
     let f = c.before.before.before.before in
     rw (f.f.given.1, ← c.before.before.row-tone.ensures, ← c.before.first-level.ensures) c.flip.ensures
 
 returns-3 : tie.Need-returns-3
-unfolding levelBy
+unfolding level_by
 returns-3 c =
     rw c.before.before.f2.given.1 c.flip2.ensures
 
 returns-4 : tie.Need-returns-4
-unfolding levelBy
+unfolding level_by
 returns-4 c =
     rw c.enum-told2.given.1
 
 returns-5 : tie.Need-returns-5
-unfolding levelBy
+unfolding level_by
 returns-5 c =
     rw c.before.enum-told3.given.1 c.pause-by.ensures
 

@@ -1,7 +1,7 @@
 -- `level_in` meets its contract. Assumes nothing.
-use Rattle.play_voice.proofs.Levels.{asks-level}
-use Rattle.play_entries.proofs.Sourced.{source-levels}
-use Rattle.play_entries.specs.Places.{levelAt}
+use Rattle.play_voice.proofs.Levels.{asks_level}
+use Rattle.play_entries.proofs.Sourced.{source_levels}
+use Rattle.play_entries.specs.Places.{level_at}
 use Rattle.rows.specs.declared.Block.{Block}
 use Rattle.rows.specs.Rows.{block}
 use Rattle.rows.specs.Table.{get}
@@ -20,7 +20,7 @@ returns : tie.Need-returns
 returns c =
     let a = c.before.before.before.before.before.args in
     c.mic.ensures
-    ∙ sym (source-levels a.tones.now 0 (get block a.blocks.now a.b)
+    ∙ sym (source_levels a.tones.now 0 (get block a.blocks.now a.b)
     (sym c.before.before.is-source.ensures ∙ c.before.if1.true) a.f)
 
 block-at-requires : tie.Need-block-at-requires
@@ -30,13 +30,13 @@ document-level-requires : tie.Need-document-level-requires
 document-level-requires c κs =
     let a = c.before.before.before.before.before.args in
     let p = c.before.before.before.before.before.requires in
-    asks-level a.tones.now a.blocks.now a.b a.f a.h p.0 p.1
+    asks_level a.tones.now a.blocks.now a.b a.f a.h p.0 p.1
     (sym c.before.before.is-source.ensures ∙ c.before.if1.false) c.block_at.result c.block_at.ensures
 
 returns-2 : tie.Need-returns-2
 returns-2 c =
     let a = c.before.before.before.before.before.before.args in
-    c.document-level.ensures ∙ ap (λ (r : Block). levelAt a.tones.now r a.f) c.before.block_at.ensures
+    c.document-level.ensures ∙ ap (λ (r : Block). level_at a.tones.now r a.f) c.before.block_at.ensures
 
 pub level-in-spec : {M : Type 1} → statement M
 level-in-spec =

@@ -4,7 +4,7 @@ use native.Mathlib.Omega.{arith}
 use mathlib.Core.Path.{◌≡◌, ap, ◌∙◌}
 use borrow.Author.Rules.{rules}
 use Rattle.play_entries.specs.Entries.{line_at}
-use Rattle.play_entries.proofs.Lines.{line-none, line-next}
+use Rattle.play_entries.proofs.Lines.{line_none, line_next}
 use Rattle.play_voice.proofs.line_at.Statement.{statement}
 use Rattle.play_voice.proofs.line_at.Tie as tie
 
@@ -18,7 +18,7 @@ line-start-requires : tie.Need-line-start-requires invariant-loop decreases-loop
 line-start-requires c κs = search rules
 
 loop-holds : tie.Need-loop-init invariant-loop decreases-loop
-loop-holds c = (omega arith, line-none _ _ _ c.line-start.ensures)
+loop-holds c = (omega arith, line_none _ _ _ c.line-start.ensures)
 
 row-tone-requires : tie.Need-row-tone-requires invariant-loop decreases-loop
 row-tone-requires c κs = omega arith
@@ -35,7 +35,7 @@ loop-less c = omega arith
 loop-again : tie.Need-loop-preserved invariant-loop decreases-loop
 loop-again c =
     let loop = c.before.before.before in
-    (omega arith, line-next _ _ _ _ _ _ loop.loop.invariant.1 c.before.row-tone.ensures c.line_after.ensures)
+    (omega arith, line_next _ _ _ _ _ _ loop.loop.invariant.1 c.before.row-tone.ensures c.line_after.ensures)
 
 returns : tie.Need-returns invariant-loop decreases-loop
 returns c =

@@ -1,5 +1,5 @@
 -- `rows_below` meets its contract. Assumes nothing.
-use Rattle.play_voice.specs.Voice.{rowsBelow}
+use Rattle.play_voice.specs.Voice.{rows_below}
 use borrow.Author.Rules.{rules}
 use Rattle.play_voice.proofs.rows_below.Statement.{statement}
 use Rattle.play_voice.proofs.rows_below.Tie as tie
@@ -23,27 +23,27 @@ pause-below-requires : tie.Need-pause-below-requires
 pause-below-requires c κs = search rules
 
 returns : tie.Need-returns
-unfolding rowsBelow
+unfolding rows_below
 returns c =
     rw c.enum_told.given.1
 
 returns-2 : tie.Need-returns-2
-unfolding rowsBelow
+unfolding rows_below
 returns-2 c =
     rw c.before.f.given.1
 
 returns-3 : tie.Need-returns-3
-unfolding rowsBelow
+unfolding rows_below
 returns-3 c =
     rw c.enum-told2.given.1
 
 returns-4 : tie.Need-returns-4
-unfolding rowsBelow
+unfolding rows_below
 returns-4 c =
     rw c.enum-told3.given.1
 
 returns-5 : tie.Need-returns-5
-unfolding rowsBelow
+unfolding rows_below
 returns-5 c =
     rw c.before.enum-told4.given.1 c.pause-below.ensures
 

@@ -1,7 +1,7 @@
 -- `next_block` meets its contract. Assumes nothing.
 use borrow.Author.Tests.{eq-eqb, ne_eqb}
 use mathlib.Core.Path.{sym, ap, ◌∙◌}
-use Rattle.play_entries.specs.Mounted.{wellRow}
+use Rattle.play_entries.specs.Mounted.{well_row}
 use Rattle.play_walk.specs.declared.Next.TheVariants.{Left}
 use Rattle.play_walk.specs.Heads.{next_of}
 use borrow.Author.Rules.{rules}
@@ -32,13 +32,13 @@ row-well-requires : tie.Need-row-well-requires
 row-well-requires c κs = search rules
 
 returns-3 : tie.Need-returns-3
-unfolding next_of wellRow
+unfolding next_of well_row
 returns-3 c =
     let if1 = c.before.before.before in
     rw (ne_eqb _ _ if1.if1.false, ne_eqb _ _ c.before.before.if2.false, sym c.before.row-well.ensures ∙ c.if3.true)
 
 returns-4 : tie.Need-returns-4
-unfolding next_of wellRow
+unfolding next_of well_row
 returns-4 c =
     let if1 = c.before.before.before in
     rw (ne_eqb _ _ if1.if1.false, ne_eqb _ _ c.before.before.if2.false, sym c.before.row-well.ensures ∙ c.if3.false)

@@ -1,11 +1,11 @@
 -- `ends_run` meets its contract. Assumes nothing.
-use Rattle.prog_calls.specs.Trace.{endsRun}
+use Rattle.prog_calls.specs.Trace.{ends_run}
 use borrow.Author.Rules.{rules}
 use Rattle.prog_calls.proofs.ends_run.Statement.{statement}
 use Rattle.prog_calls.proofs.ends_run.Tie as tie
 
 returns : tie.Need-returns
-unfolding endsRun
+unfolding ends_run
 returns c =
     rw c.if1.true
 
@@ -16,7 +16,7 @@ is-end-requires : tie.Need-is-end-requires
 is-end-requires c κs = search rules
 
 returns-2 : tie.Need-returns-2
-unfolding endsRun
+unfolding ends_run
 returns-2 c =
     rw (c.before.before.if1.false, ← c.before.reached-in.ensures) c.is-end.ensures
 

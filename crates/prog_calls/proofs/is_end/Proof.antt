@@ -1,5 +1,5 @@
 -- `is_end` meets its contract. Assumes nothing.
-use Rattle.play_walk.specs.Heads.{endedIn}
+use Rattle.play_walk.specs.Heads.{ended_in}
 use borrow.Author.Rules.{rules}
 use Rattle.prog_calls.proofs.is_end.Statement.{statement}
 use Rattle.prog_calls.proofs.is_end.Tie as tie
@@ -20,27 +20,27 @@ enum-told-5 : tie.Need-enum-told-5
 enum-told-5 c = search rules
 
 returns : tie.Need-returns
-unfolding endedIn
+unfolding ended_in
 returns c =
     rw c.enum_told.given.1
 
 returns-2 : tie.Need-returns-2
-unfolding endedIn
+unfolding ended_in
 returns-2 c =
     rw c.enum-told2.given.1
 
 returns-3 : tie.Need-returns-3
-unfolding endedIn
+unfolding ended_in
 returns-3 c =
     rw c.enum-told3.given.1
 
 returns-4 : tie.Need-returns-4
-unfolding endedIn
+unfolding ended_in
 returns-4 c =
     rw c.enum-told4.given.1
 
 returns-5 : tie.Need-returns-5
-unfolding endedIn
+unfolding ended_in
 returns-5 c =
     rw c.enum-told5.given.1
 

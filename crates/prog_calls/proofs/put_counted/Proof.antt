@@ -1,8 +1,8 @@
 -- `put_counted` meets its contract. Assumes nothing.
 use mathlib.Core.Path.{ap}
-use Rattle.play_entries.specs.Mounted.{tapeOf}
+use Rattle.play_entries.specs.Mounted.{tape_of}
 use Rattle.play_walk.specs.Heads.{start_at}
-use Rattle.prog_calls.specs.Trace.{runText}
+use Rattle.prog_calls.specs.Trace.{run_text}
 use Rattle.prog_calls.proofs.Saying.{wrote_as}
 use borrow.Author.Rules.{rules}
 use Rattle.prog_calls.proofs.put_counted.Statement.{statement}
@@ -28,8 +28,8 @@ returns c =
     let run = c.before.before.before.before in
     let read = run.before.before.before.before.before.before in
     let a = read.before.before.before.before.before.before.before.before.before.args in
-    let w = tapeOf a.tape.now a.tones.now a.blocks.now a.count in
-    wrote_as (ap (runText a.decreases w (start_at a.from)) read.read-counts.ensures) run.put-run.ensures
+    let w = tape_of a.tape.now a.tones.now a.blocks.now a.count in
+    wrote_as (ap (run_text a.decreases w (start_at a.from)) read.read-counts.ensures) run.put-run.ensures
 
 pub put-counted-spec : {M : Type 1} → statement M
 put-counted-spec =

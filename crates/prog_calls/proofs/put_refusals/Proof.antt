@@ -1,16 +1,16 @@
 -- `put_refusals` meets its contract. Assumes nothing.
-use Rattle.text_out.specs.Out.{refusedLine}
+use Rattle.text_out.specs.Out.{refused_line}
 use Rattle.text_out.proofs.Writing.{same_len}
 use Prim.Native.Nat.{◌-◌, ◌≤◌, ◌<◌}
 use native.Mathlib.Omega.{arith}
 use Rattle.text_out.proofs.Loops.{Goes, goes_none, goes_on}
-use Rattle.prog_calls.proofs.Saying.{sameFrom, same_next, same_over, refused-most}
+use Rattle.prog_calls.proofs.Saying.{same_from, same_next, same_over, refused-most}
 use borrow.Author.Rules.{rules}
 use Rattle.prog_calls.proofs.put_refusals.Statement.{statement}
 use Rattle.prog_calls.proofs.put_refusals.Tie as tie
 
 abbrev invariant-loop : tie.invariant-loop
-invariant-loop out₀ k n at₀ i₀ out at i = (i ≤ n) × Goes (sameFrom (refusedLine k) n) 256 out₀ 0 i out at
+invariant-loop out₀ k n at₀ i₀ out at i = (i ≤ n) × Goes (same_from (refused_line k) n) 256 out₀ 0 i out at
 
 abbrev decreases-loop : tie.decreases-loop
 decreases-loop out₀ k n at₀ i₀ out at i = n - i
@@ -34,20 +34,20 @@ loop-again c =
     let L = put.before.before.before.loop in
     let a = put.before.before.before.before.before.args in
     let h : L.i < a.n = omega arith in
-    let line = same_next (refusedLine a.k) a.n L.i h in
+    let line = same_next (refused_line a.k) a.n L.i h in
     (omega arith, goes_on 1 L.invariant.1 line (omega (arith, refused-most a.k)) put.put-refusal.ensures)
 
 same_length : tie.Need-same-length invariant-loop decreases-loop
 same_length c =
     let L = c.before.loop in
     let a = c.before.before.before.args in
-    same_len (same_over (refusedLine a.k) a.n L.invariant.1 (omega arith))
+    same_len (same_over (refused_line a.k) a.n L.invariant.1 (omega arith))
 
 returns : tie.Need-returns invariant-loop decreases-loop
 returns c =
     let L = c.before.loop in
     let a = c.before.before.before.args in
-    same_over (refusedLine a.k) a.n L.invariant.1 (omega arith)
+    same_over (refused_line a.k) a.n L.invariant.1 (omega arith)
 
 pub put-refusals-spec : {M : Type 1} → statement M
 put-refusals-spec =

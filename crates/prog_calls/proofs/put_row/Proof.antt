@@ -1,5 +1,5 @@
 -- `put_row` meets its contract. Assumes nothing.
-use Rattle.prog_calls.specs.Inner.{lineIn}
+use Rattle.prog_calls.specs.Inner.{line_in}
 use borrow.Author.Rules.{rules}
 use Rattle.prog_calls.proofs.put_row.Statement.{statement}
 use Rattle.prog_calls.proofs.put_row.Tie as tie
@@ -20,7 +20,7 @@ same_length : tie.Need-same-length
 same_length c = search rules
 
 returns : tie.Need-returns
-unfolding lineIn
+unfolding line_in
 returns c =
     let put = c.before.before in
     let read = put.before in

@@ -3,7 +3,7 @@ use mathlib.Core.Path.{sym, ◌∙◌}
 use Rattle.text_out.proofs.Writing.{same_len}
 use Prim.Native.Nat.{◌-◌, ◌≤◌, ◌<◌}
 use native.Mathlib.Omega.{arith}
-use Rattle.play_entries.specs.Mounted.{tapeOf}
+use Rattle.play_entries.specs.Mounted.{tape_of}
 use Rattle.text_out.proofs.Loops.{Goes, goes_none, goes_over}
 use Rattle.prog_calls.proofs.Saying.{lines_from, no_line, rows_on, rows_end}
 use borrow.Author.Rules.{rules}
@@ -12,7 +12,7 @@ use Rattle.prog_calls.proofs.put_rows.Tie as tie
 
 abbrev invariant-loop : tie.invariant-loop
 invariant-loop tape tones blocks count measured answers n out₀ at₀ i₀ out at i =
-    (i ≤ n) × Goes (lines_from measured (tapeOf tape tones blocks count) answers n) 256 out₀ 0 i out at
+    (i ≤ n) × Goes (lines_from measured (tape_of tape tones blocks count) answers n) 256 out₀ 0 i out at
 
 abbrev decreases-loop : tie.decreases-loop
 decreases-loop tape tones blocks count measured answers n out₀ at₀ i₀ out at i = n - i
@@ -38,7 +38,7 @@ same_length c =
     let read = put.before.before in
     let L = read.before.before.loop in
     let a = read.before.before.before.before.before.before.before.before.args in
-    let w = tapeOf a.tape.now a.tones.now a.blocks.now a.count in
+    let w = tape_of a.tape.now a.tones.now a.blocks.now a.count in
     let h : L.i < a.n = omega arith in
     same_len
     (rows_end a.decreases w a.answers.now a.n L.i h read.answer_at.result read.answer_at.ensures L.invariant.1
@@ -50,7 +50,7 @@ returns c =
     let read = put.before.before in
     let L = read.before.before.loop in
     let a = read.before.before.before.before.before.before.before.before.args in
-    let w = tapeOf a.tape.now a.tones.now a.blocks.now a.count in
+    let w = tape_of a.tape.now a.tones.now a.blocks.now a.count in
     let h : L.i < a.n = omega arith in
     rows_end a.decreases w a.answers.now a.n L.i h read.answer_at.result read.answer_at.ensures L.invariant.1
     put.put-row.ensures (sym c.before.ends-run.ensures ∙ c.if1.true)
@@ -67,7 +67,7 @@ loop-again c =
     let read = put.before.before in
     let L = read.before.before.loop in
     let a = read.before.before.before.before.before.before.before.before.args in
-    let w = tapeOf a.tape.now a.tones.now a.blocks.now a.count in
+    let w = tape_of a.tape.now a.tones.now a.blocks.now a.count in
     let h : L.i < a.n = omega arith in
     let on = rows_on a.decreases w a.answers.now a.n L.i h read.answer_at.result read.answer_at.ensures L.invariant.1
     put.put-row.ensures (sym c.before.ends-run.ensures ∙ c.if1.false) in
@@ -77,14 +77,14 @@ same-length-2 : tie.Need-same-length-2 invariant-loop decreases-loop
 same-length-2 c =
     let L = c.before.loop in
     let a = c.before.before.before.before.before.before.before.args in
-    let w = tapeOf a.tape.now a.tones.now a.blocks.now a.count in
+    let w = tape_of a.tape.now a.tones.now a.blocks.now a.count in
     same_len (goes_over L.invariant.1 (no_line a.decreases w a.answers.now a.n L.i (omega arith)))
 
 returns-2 : tie.Need-returns-2 invariant-loop decreases-loop
 returns-2 c =
     let L = c.before.loop in
     let a = c.before.before.before.before.before.before.before.args in
-    let w = tapeOf a.tape.now a.tones.now a.blocks.now a.count in
+    let w = tape_of a.tape.now a.tones.now a.blocks.now a.count in
     goes_over L.invariant.1 (no_line a.decreases w a.answers.now a.n L.i (omega arith))
 
 pub put-rows-spec : {M : Type 1} → statement M

@@ -1,7 +1,7 @@
 -- `put_run` meets its contract. Assumes nothing.
-use Rattle.play_entries.specs.Mounted.{tapeOf}
+use Rattle.play_entries.specs.Mounted.{tape_of}
 use Rattle.play_walk.specs.Heads.{start_at}
-use Rattle.prog_calls.proofs.Runs.{refused-said, played-said}
+use Rattle.prog_calls.proofs.Runs.{refused_said, played_said}
 use Rattle.prog_calls.proofs.Saying.{wrote_as}
 use borrow.Author.Rules.{rules}
 use Rattle.prog_calls.proofs.put_run.Statement.{statement}
@@ -29,9 +29,9 @@ returns c =
     let new = play.before.before in
     let start = new.before.before.before.before.before.before.before in
     let a = start.args in
-    let w = tapeOf a.tape.now a.tones.now a.blocks.now a.count in
+    let w = tape_of a.tape.now a.tones.now a.blocks.now a.count in
     wrote_as
-    (refused-said a.decreases w new.new-at-block.result (start_at a.from) new.new-at-block.ensures a.counts.now
+    (refused_said a.decreases w new.new-at-block.result (start_at a.from) new.new-at-block.ensures a.counts.now
     a.answers.now play.play-run.result start.requires.0 play.play-run.ensures.0 if1.if1.true)
     c.before.before.put-refusals.ensures
 
@@ -51,9 +51,9 @@ returns-2 c =
     let new = play.before.before in
     let start = new.before.before.before.before.before.before.before in
     let a = start.args in
-    let w = tapeOf a.tape.now a.tones.now a.blocks.now a.count in
+    let w = tape_of a.tape.now a.tones.now a.blocks.now a.count in
     wrote_as
-    (played-said a.decreases w new.new-at-block.result (start_at a.from) new.new-at-block.ensures a.counts.now
+    (played_said a.decreases w new.new-at-block.result (start_at a.from) new.new-at-block.ensures a.counts.now
     a.answers.now play.play-run.result start.requires.0 play.play-run.ensures.0 _ if1.if1.false play.play-run.ensures.1)
     c.before.before.put-rows.ensures
 

@@ -7,19 +7,19 @@ use native.Mathlib.Omega.{arith}
 use mathlib.Core.Path.{◌≡◌, refl, sym, ap, ◌∙◌}
 use lib.ListN.{length, length-set, take, set}
 use borrow.Author.Rules.{rules}
-use Rattle.prog_calls.specs.Playback.{countsIn}
+use Rattle.prog_calls.specs.Playback.{counts_in}
 use Rattle.prog_calls.proofs.read_counts.Statement.{statement}
 use Rattle.prog_calls.proofs.read_counts.Tie as tie
 
 abbrev invariant-loop : tie.invariant-loop
 invariant-loop bytes counts₀ i₀ counts i =
-    (i ≤ length counts₀) × ((length counts ≡ length counts₀) × (take i counts ≡ countsIn bytes i))
+    (i ≤ length counts₀) × ((length counts ≡ length counts₀) × (take i counts ≡ counts_in bytes i))
 
 abbrev decreases-loop : tie.decreases-loop
 decreases-loop bytes counts₀ i₀ counts i = length counts₀ - i
 
 loop-holds : tie.Need-loop-init invariant-loop decreases-loop
-unfolding countsIn
+unfolding counts_in
 loop-holds c = (omega arith, (refl, refl))
 
 mul-number : tie.Need-overflow-mul-number invariant-loop decreases-loop
@@ -41,7 +41,7 @@ loop-less : tie.Need-loop-smaller invariant-loop decreases-loop
 loop-less c = omega arith
 
 loop-again : tie.Need-loop-preserved invariant-loop decreases-loop
-unfolding countsIn
+unfolding counts_in
 loop-again c =
     let a = c.before.before.before.before.before.args in
     let L = c.before.before.loop in
@@ -53,8 +53,8 @@ loop-again c =
         ap (λ (k : ℕ). take k (set L.counts L.i n.result)) (add-one L.i)
             ∙ take-suc-set L.counts L.i n.result h
             ∙ ap (λ (x : List ℕ). x ++ (n.result ∷ [])) L.invariant.1.1
-            ∙ ap (λ (x : ℕ). countsIn a.bytes.now L.i ++ (x ∷ [])) n.ensures
-            ∙ ap (countsIn a.bytes.now) (sym (add-one L.i)),
+            ∙ ap (λ (x : ℕ). counts_in a.bytes.now L.i ++ (x ∷ [])) n.ensures
+            ∙ ap (counts_in a.bytes.now) (sym (add-one L.i)),
       ),
     )
 
@@ -66,7 +66,7 @@ returns c =
     let L = c.before.loop in
     let n : length L.counts ≤ L.i = omega (arith, L.invariant.1.0) in
     let k : L.i ≡ length c.before.before.before.before.args.counts.now = omega (arith, L.invariant.0) in
-    sym (take_all L.i L.counts n) ∙ L.invariant.1.1 ∙ ap (countsIn c.before.before.before.before.args.bytes.now) k
+    sym (take_all L.i L.counts n) ∙ L.invariant.1.1 ∙ ap (counts_in c.before.before.before.before.args.bytes.now) k
 
 pub read-counts-spec : {M : Type 1} → statement M
 read-counts-spec =

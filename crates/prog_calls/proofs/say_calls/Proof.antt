@@ -5,12 +5,12 @@ use mathlib.Core.Path.{ap}
 use mathlib.Core.List.{List}
 use lib.Seq.{length-take-le}
 use Rattle.law_base.proofs.Parts.{take_counted}
-use Rattle.play_entries.specs.Mounted.{tapeOf}
+use Rattle.play_entries.specs.Mounted.{tape_of}
 use Rattle.play_walk.specs.Heads.{start_at}
-use Rattle.prog_calls.specs.Playback.{countsIn}
-use Rattle.prog_calls.specs.Trace.{runText}
+use Rattle.prog_calls.specs.Playback.{counts_in}
+use Rattle.prog_calls.specs.Trace.{run_text}
 use Rattle.prog_calls.proofs.Runs.{run-most}
-use Rattle.prog_calls.proofs.Saying.{wrote_as, prints, counts-length}
+use Rattle.prog_calls.proofs.Saying.{wrote_as, prints, counts_length}
 use borrow.Author.Rules.{rules}
 use Rattle.prog_calls.proofs.say_calls.Statement.{statement}
 use Rattle.prog_calls.proofs.say_calls.Tie as tie
@@ -45,12 +45,12 @@ returns c =
     let each = c.before.before.before.before.before.before.before.before in
     let start = each.before.before.before.before.before.before in
     let a = start.args in
-    let w = tapeOf a.tape.now a.tones.now a.blocks.now a.count in
+    let w = tape_of a.tape.now a.tones.now a.blocks.now a.count in
     let n = length-take-le a.calls each.no-counts.result (omega (arith, each.no-counts.ensures, start.requires.0)) in
-    let text : ℕ → List ℕ = λ k. runText a.decreases w (start_at a.from) (countsIn a.counts.now k) in
-    let most = run-most a.decreases w (start_at a.from) (countsIn a.counts.now a.calls) in
+    let text : ℕ → List ℕ = λ k. run_text a.decreases w (start_at a.from) (counts_in a.counts.now k) in
+    let most = run-most a.decreases w (start_at a.from) (counts_in a.counts.now a.calls) in
     prints (wrote_as (ap text n) c.before.before.before.before.put-counted.ensures)
-    (omega (arith, most, counts-length a.counts.now a.calls, start.requires.0, start.requires.1))
+    (omega (arith, most, counts_length a.counts.now a.calls, start.requires.0, start.requires.1))
 
 pub say-calls-spec : {M : Type 1} → statement M
 say-calls-spec =

@@ -1,7 +1,7 @@
 -- `say_described` meets its contract. Assumes nothing.
 use native.Mathlib.Omega.{arith}
 use mathlib.Core.Path.{sym, ◌∙◌}
-use Rattle.prog_calls.proofs.Describing.{described, text-long, text-tape}
+use Rattle.prog_calls.proofs.Describing.{described, text_long, text_tape}
 use borrow.Author.Rules.{rules}
 use Rattle.prog_calls.proofs.say_described.Statement.{statement}
 use Rattle.prog_calls.proofs.say_described.Tie as tie
@@ -44,7 +44,7 @@ returns c =
     let n = c.before.before.before.before.before.before in
     let a = n.before.before.before.args in
     let p = c.before.before.say-refused.ensures in
-    (p.0, p.1 ∙ sym (text-long a.input.now a.model n.number.result n.number.ensures (omega arith)))
+    (p.0, p.1 ∙ sym (text_long a.input.now a.model n.number.result n.number.ensures (omega arith)))
 
 number-requires-2 : tie.Need-number-requires-2
 number-requires-2 c κs = search rules
@@ -90,7 +90,7 @@ returns-2 c =
     let a = n.before.before.before.args in
     let p = c.before.before.say-tape.ensures in (
       p.0,
-      p.1 ∙ text-tape a.input.now a.model n.number.result n.number.ensures from.number2.result
+      p.1 ∙ text_tape a.input.now a.model n.number.result n.number.ensures from.number2.result
           from.number2.ensures (omega arith),
     )
 

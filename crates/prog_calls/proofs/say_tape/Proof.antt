@@ -1,6 +1,6 @@
 -- `say_tape` meets its contract. Assumes nothing.
 use mathlib.Core.Path.{◌∙◌}
-use Rattle.prog_calls.specs.Playback.{countsIn}
+use Rattle.prog_calls.specs.Playback.{counts_in}
 use Rattle.prog_calls.proofs.Describing.{text-run, text-unread, text-refused}
 use borrow.Author.Rules.{rules}
 use Rattle.prog_calls.proofs.say_tape.Statement.{statement}
@@ -47,7 +47,7 @@ returns c =
     let told = c.before.before.before.before.before.before.before in
     let load = told.before.before.before.before in
     let a = load.before.before.before.before.before.before.args in
-    let ns = countsIn a.counts.now a.calls in
+    let ns = counts_in a.counts.now a.calls in
     let p = c.before.before.say-calls.ensures in
     (p.0, p.1 ∙ text-run a.decreases a.model a.tape.now a.from ns load.load.ensures told.n.given.1)
 
@@ -59,7 +59,7 @@ returns-2 c =
     let told = c.before.before.before.before in
     let load = told.before.before.before.before in
     let a = load.before.before.before.before.before.before.args in
-    let ns = countsIn a.counts.now a.calls in
+    let ns = counts_in a.counts.now a.calls in
     let p = c.before.before.say-refused.ensures in
     (p.0, p.1 ∙ text-unread a.decreases a.model a.tape.now a.from ns load.load.ensures told.enum_told.given.1)
 
@@ -71,7 +71,7 @@ returns-3 c =
     let told = c.before.before.before.before.before in
     let load = told.before.before.before.before in
     let a = load.before.before.before.before.before.before.args in
-    let ns = countsIn a.counts.now a.calls in
+    let ns = counts_in a.counts.now a.calls in
     let p = c.before.before.say-refused2.ensures in
     (p.0, p.1 ∙ text-refused a.decreases a.model a.tape.now a.from ns load.load.ensures told.k.given.1)
 

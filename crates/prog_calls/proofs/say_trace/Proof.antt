@@ -2,7 +2,7 @@
 use native.Mathlib.Omega.{arith}
 use mathlib.Core.Path.{sym, ◌∙◌}
 use Rattle.rows.proofs.Clauses.{failed, passed}
-use Rattle.prog_calls.proofs.Describing.{text-none, text-model, text-undescribed, text-described}
+use Rattle.prog_calls.proofs.Describing.{text-none, text_model, text_undescribed, text_described}
 use borrow.Author.Rules.{rules}
 use Rattle.prog_calls.proofs.say_trace.Statement.{statement}
 use Rattle.prog_calls.proofs.say_trace.Tie as tie
@@ -36,7 +36,7 @@ returns-2 c =
     let m = if2.before in
     let s = m.before.before.before.before.before.args.input.now in
     let p = c.before.before.say-refused2.ensures in
-    (p.0, p.1 ∙ sym (text-model s m.model_of.result (omega arith) m.model_of.ensures if2.if2.true))
+    (p.0, p.1 ∙ sym (text_model s m.model_of.result (omega arith) m.model_of.ensures if2.if2.true))
 
 is-description-requires : tie.Need-is-description-requires
 is-description-requires c κs = search rules
@@ -55,7 +55,7 @@ returns-3 c =
     let s = m.before.before.before.before.before.args.input.now in
     let d = failed told.is-description.ensures c.before.before.before.before.if3.true in
     let p = c.before.before.say-refused3.ensures in
-    (p.0, p.1 ∙ sym (text-undescribed s m.model_of.result (omega arith) m.model_of.ensures if2.if2.false d))
+    (p.0, p.1 ∙ sym (text_undescribed s m.model_of.result (omega arith) m.model_of.ensures if2.if2.false d))
 
 say-described-requires : tie.Need-say-described-requires
 say-described-requires c κs =
@@ -74,7 +74,7 @@ returns-4 c =
     let s = m.before.before.before.before.before.args.input.now in
     let d = passed told.is-description.ensures c.before.before.before.before.if3.false in
     let p = c.before.before.say-described.ensures in
-    (p.0, p.1 ∙ sym (text-described s m.model_of.result (omega arith) m.model_of.ensures if2.if2.false d))
+    (p.0, p.1 ∙ sym (text_described s m.model_of.result (omega arith) m.model_of.ensures if2.if2.false d))
 
 pub say-trace-spec : {M : Type 1} → statement M
 say-trace-spec =

@@ -1,26 +1,26 @@
 -- `model_of` meets its contract: each arm is one model. Assumes nothing.
-use Rattle.prog_model.specs.Models.{modelOf}
+use Rattle.prog_model.specs.Models.{model_of}
 use borrow.Author.Tests.{ne_eqb}
 use Rattle.prog_model.proofs.model_of.Statement.{statement}
 use Rattle.prog_model.proofs.model_of.Tie as tie
 
 returns : tie.Need-returns
-unfolding modelOf
+unfolding model_of
 returns c =
     rw c.match.keys1
 
 returns-2 : tie.Need-returns-2
-unfolding modelOf
+unfolding model_of
 returns-2 c =
     rw c.match.keys2
 
 returns-3 : tie.Need-returns-3
-unfolding modelOf
+unfolding model_of
 returns-3 c =
     rw c.match.keys3
 
 returns-4 : tie.Need-returns-4
-unfolding modelOf
+unfolding model_of
 returns-4 c =
     rw (ne_eqb _ 0x34 c.match.rest.0.0.1, ne_eqb _ 0x31 c.match.rest.0.1, ne_eqb _ 0x33 c.match.rest.1)
 

@@ -1,7 +1,7 @@
 -- `put_first` meets its contract: a tape, or a refusal. Assumes nothing.
 use borrow.Author.Rules.{rules}
 use mathlib.Core.Path.{refl}
-use Rattle.prog_tape.specs.Lines.{firstLine, linesAfter}
+use Rattle.prog_tape.specs.Lines.{first_line, lines_after}
 use Rattle.prog_tape.proofs.put_first.Statement.{statement}
 use Rattle.prog_tape.proofs.put_first.Tie as tie
 
@@ -27,7 +27,7 @@ same_length : tie.Need-same-length
 same_length c = search rules
 
 returns : tie.Need-returns
-unfolding firstLine linesAfter
+unfolding first_line lines_after
 returns c =
     rw c.before.before.before.before.before.loaded.given.1 (c.before.before.put_count.ensures, refl)
 
@@ -35,7 +35,7 @@ same-length-2 : tie.Need-same-length-2
 same-length-2 c = search rules
 
 returns-2 : tie.Need-returns-2
-unfolding firstLine linesAfter
+unfolding first_line lines_after
 returns-2 c =
     rw c.before.before.before.before.enum_told.given.1 c.before.before.put-no.ensures
 
@@ -43,7 +43,7 @@ same-length-3 : tie.Need-same-length-3
 same-length-3 c = search rules
 
 returns-3 : tie.Need-returns-3
-unfolding firstLine linesAfter
+unfolding first_line lines_after
 returns-3 c =
     rw c.before.before.before.before.before.loaded2.given.1 c.before.before.put-no2.ensures
 

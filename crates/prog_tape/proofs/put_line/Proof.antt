@@ -4,8 +4,8 @@ use native.Mathlib.Omega.{arith}
 use mathlib.Core.Path.{subst}
 use Rattle.text_out.proofs.Writing.{then}
 use Rattle.text_name.specs.Names.{name_of}
-use Rattle.text_view.specs.View.{rowView}
-use Rattle.prog_tape.proofs.Room.{head-next, name-next, data-next, row_inside, line-written}
+use Rattle.text_view.specs.View.{row_view}
+use Rattle.prog_tape.proofs.Room.{head_next, name_next, data_next, row_inside, line_written}
 use Rattle.prog_tape.proofs.put_line.Statement.{statement}
 use Rattle.prog_tape.proofs.put_line.Tie as tie
 
@@ -17,7 +17,7 @@ put-name-requires c κs =
     let put-head = c.before.before.before in
     let start = put-head.before.before.before.before.before in
     let i = row_inside start.args.tape.now start.args.tones.now start.args.r start.requires.0 in
-    ((i.bytes, i.name), ((omega (arith, i.chars), start.requires.1), omega (arith, head-next _ _ _ _ _ _ put-head.put-head.ensures)))
+    ((i.bytes, i.name), ((omega (arith, i.chars), start.requires.1), omega (arith, head_next _ _ _ _ _ _ put-head.put-head.ensures)))
 
 put-data-requires : tie.Need-put-data-requires
 put-data-requires c κs =
@@ -30,8 +30,8 @@ put-data-requires c κs =
       omega (
         arith,
         start.requires.1,
-        head-next _ _ _ _ _ _ put-head.put-head.ensures,
-        name-next (name_of a.tape.now a.r) put-name.put-name.ensures,
+        head_next _ _ _ _ _ _ put-head.put-head.ensures,
+        name_next (name_of a.tape.now a.r) put-name.put-name.ensures,
       ),
     )
 
@@ -49,9 +49,9 @@ put-pulses-requires c κs =
           arith,
           start.requires.1,
           i.few,
-          head-next _ _ _ _ _ _ put-head.put-head.ensures,
-          name-next (name_of a.tape.now a.r) put-name.put-name.ensures,
-          data-next a.r.size a.r.start a.tape.now put-data.put-data.ensures,
+          head_next _ _ _ _ _ _ put-head.put-head.ensures,
+          name_next (name_of a.tape.now a.r) put-name.put-name.ensures,
+          data_next a.r.size a.r.start a.tape.now put-data.put-data.ensures,
         ),
         i.most,
       ),
@@ -66,7 +66,7 @@ returns c =
     let put-name = put-data.before.before.before.before in
     let put-head = put-name.before.before.before.before in
     let a = put-head.before.before.before.before.before.args in
-    line-written a.i (rowView a.tape.now a.tones.now a.r) put-head.put-head.ensures put-name.put-name.ensures
+    line_written a.i (row_view a.tape.now a.tones.now a.r) put-head.put-head.ensures put-name.put-name.ensures
     put-data.put-data.ensures c.before.before.put-pulses.ensures
 
 pub put-line-spec : {M : Type 1} → statement M

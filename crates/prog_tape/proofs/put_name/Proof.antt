@@ -1,7 +1,7 @@
 -- `put_name` meets its contract: the scratch bytes hold the whole name, so their part is the name. Assumes nothing.
 use borrow.Author.Rules.{rules}
 use native.Mathlib.Omega.{arith}
-use Rattle.text_listing.proofs.Showing.{name-part, part_length}
+use Rattle.text_listing.proofs.Showing.{name_part, part_length}
 use Rattle.prog_tape.proofs.put_name.Statement.{statement}
 use Rattle.prog_tape.proofs.put_name.Tie as tie
 
@@ -33,7 +33,7 @@ returns : tie.Need-returns
 returns c =
     let put-name = c.before.before.before.before.before.before in
     let start = put-name.before.before.before.before in
-    rw (name-part put-name.put-name.ensures (omega (arith, start.requires))) at c.before.before.put-hex.ensures
+    rw (name_part put-name.put-name.ensures (omega (arith, start.requires))) at c.before.before.put-hex.ensures
 
 pub put-name-spec : {M : Type 1} → statement M
 put-name-spec =

@@ -1,7 +1,7 @@
 -- `put_no` meets its contract. Assumes nothing.
 use borrow.Author.Rules.{rules}
 use mathlib.Core.Path.{refl}
-use Rattle.text_out.specs.Out.{refusedText, refusedLine}
+use Rattle.text_out.specs.Out.{refused_text, refused_line}
 use Rattle.prog_tape.proofs.put_no.Statement.{statement}
 use Rattle.prog_tape.proofs.put_no.Tie as tie
 
@@ -15,7 +15,7 @@ same_length : tie.Need-same-length
 same_length c = search rules
 
 returns : tie.Need-returns
-unfolding refusedLine refusedText
+unfolding refused_line refused_text
 returns c = (c.before.before.put-said.ensures, refl)
 
 pub put-no-spec : {M : Type 1} → statement M

@@ -2,8 +2,8 @@
 use borrow.Author.Rules.{rules}
 use native.Mathlib.Omega.{arith}
 use Rattle.text_out.proofs.Writing.{then, decimal-length}
-use Rattle.text_out.proofs.Writing.{wrote-fitted}
-use Rattle.prog_tape.proofs.Room.{said-most}
+use Rattle.text_out.proofs.Writing.{wrote_fitted}
+use Rattle.prog_tape.proofs.Room.{said_most}
 use Rattle.prog_tape.proofs.put_said.Statement.{statement}
 use Rattle.prog_tape.proofs.put_said.Tie as tie
 
@@ -34,8 +34,8 @@ returns c =
     let put-decimal = c.before.before.before.before.before.before in
     let put_all_lem = put-decimal.before.before.before.before in
     let start = put_all_lem.before.before.before.before in
-    wrote-fitted (then (then put_all_lem.put_all_lem.ensures put-decimal.put-decimal.ensures) c.before.before.put.ensures)
-    (omega (arith, start.requires, said-most start.args.word.now start.args.n start.requires.0))
+    wrote_fitted (then (then put_all_lem.put_all_lem.ensures put-decimal.put-decimal.ensures) c.before.before.put.ensures)
+    (omega (arith, start.requires, said_most start.args.word.now start.args.n start.requires.0))
 
 pub put-said-spec : {M : Type 1} → statement M
 put-said-spec =

@@ -2,7 +2,7 @@
 use borrow.Author.Rules.{rules}
 use native.Mathlib.Omega.{arith}
 use Rattle.text_out.proofs.Writing.{then}
-use Rattle.prog_unread.proofs.Lengths.{failure-length}
+use Rattle.prog_unread.proofs.Lengths.{failure_length}
 use Rattle.prog_unread.proofs.put_attempt.Statement.{statement}
 use Rattle.prog_unread.proofs.put_attempt.Tie as tie
 
@@ -22,7 +22,7 @@ put-requires c κs =
       start.requires,
       put_all_lem.put_all_lem.ensures.count,
       put-failure.put-failure.ensures.count,
-      failure-length start.args.f,
+      failure_length start.args.f,
     )
 
 same_length : tie.Need-same-length

@@ -2,8 +2,8 @@
 use borrow.Author.Rules.{rules}
 use native.Mathlib.Omega.{arith}
 use Rattle.text_out.proofs.Writing.{then}
-use Rattle.prog_unread.specs.Report.{failureText}
-use Rattle.prog_unread.proofs.Lengths.{piece-next}
+use Rattle.prog_unread.specs.Report.{failure_text}
+use Rattle.prog_unread.proofs.Lengths.{piece_next}
 use Rattle.prog_unread.proofs.put_failure.Statement.{statement}
 use Rattle.prog_unread.proofs.put_failure.Tie as tie
 
@@ -44,7 +44,7 @@ put-field-requires-2 : tie.Need-put-field-requires-2
 put-field-requires-2 c κs =
     let put-piece = c.before.before.before in
     let put-all3 = put-piece.before.before.before.before in
-    omega (arith, put-all3.put-all3.ensures.count, piece-next _ _ put-piece.put-piece.ensures)
+    omega (arith, put-all3.put-all3.ensures.count, piece_next _ _ put-piece.put-piece.ensures)
 
 enum-known-f-3 : tie.Need-enum-known-f-3
 enum-known-f-3 c = search rules
@@ -68,20 +68,20 @@ put-said-requires : tie.Need-put-said-requires
 put-said-requires c κs =
     let put-piece2 = c.before.before.before.before in
     let put-all4 = put-piece2.before.before.before.before in
-    (omega (arith, put-all4.put-all4.ensures.count, piece-next _ _ put-piece2.put-piece2.ensures), omega arith)
+    (omega (arith, put-all4.put-all4.ensures.count, piece_next _ _ put-piece2.put-piece2.ensures), omega arith)
 
 same_length : tie.Need-same-length
 same_length c = search rules
 
 returns : tie.Need-returns
-unfolding failureText
+unfolding failure_text
 returns c = rw c.before.before.before.before.before.enum_told.given.1 c.before.before.put_all_lem.ensures
 
 same-length-2 : tie.Need-same-length-2
 same-length-2 c = search rules
 
 returns-2 : tie.Need-returns-2
-unfolding failureText
+unfolding failure_text
 returns-2 c =
     let put-all2 = c.before.before.before.before.before.before in
     rw put-all2.before.before.before.before.f.given.1 (then put-all2.put-all2.ensures c.before.before.put-field.ensures)
@@ -90,7 +90,7 @@ same-length-3 : tie.Need-same-length-3
 same-length-3 c = search rules
 
 returns-3 : tie.Need-returns-3
-unfolding failureText
+unfolding failure_text
 returns-3 c =
     let put-piece = c.before.before.before.before.before.before in
     let put-all3 = put-piece.before.before.before.before in
@@ -101,7 +101,7 @@ same-length-4 : tie.Need-same-length-4
 same-length-4 c = search rules
 
 returns-4 : tie.Need-returns-4
-unfolding failureText
+unfolding failure_text
 returns-4 c =
     let put-piece2 = c.before.before.before.before.before.before.before in
     let put-all4 = put-piece2.before.before.before.before in

@@ -2,7 +2,7 @@
 use borrow.Author.Rules.{rules}
 use native.Mathlib.Omega.{arith}
 use Rattle.text_out.proofs.Writing.{then, decimal-length}
-use Rattle.prog_unread.specs.Report.{pieceText}
+use Rattle.prog_unread.specs.Report.{piece_text}
 use Rattle.prog_unread.proofs.put_piece.Statement.{statement}
 use Rattle.prog_unread.proofs.put_piece.Tie as tie
 
@@ -25,7 +25,7 @@ same_length : tie.Need-same-length
 same_length c = search rules
 
 returns : tie.Need-returns
-unfolding pieceText
+unfolding piece_text
 returns c =
     then c.before.before.before.before.before.before.before.put-said.ensures c.before.before.put-said2.ensures
 

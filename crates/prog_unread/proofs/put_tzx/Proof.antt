@@ -9,21 +9,21 @@ use Rattle.text_out.specs.Out.{ascii}
 use Rattle.load_source.specs.contracts.Failure.{the_type}
 use Rattle.load_source.specs.declared.Failure.{Failure}
 use Rattle.load_source.specs.declared.Failure.TheVariants.{BadSignature, Short, ShortPiece, Length}
-use Rattle.prog_unread.specs.Report.{failureText, tzxText}
+use Rattle.prog_unread.specs.Report.{failure_text, tzx_text}
 use Rattle.prog_unread.proofs.put_tzx.Statement.{statement}
 use Rattle.prog_unread.proofs.put_tzx.Tie as tie
 
 -- a field in no piece
-in_head : {p w : ℕ} (f : Failure) → f ≡ Short p w → tzxText f ≡ ascii "signature " ++ failureText f
-unfolding tzxText
+in_head : {p w : ℕ} (f : Failure) → f ≡ Short p w → tzx_text f ≡ ascii "signature " ++ failure_text f
+unfolding tzx_text
 in_head f e = rw e
 
 -- the failures but a field in no piece, by their numbers in the order of the enum
 abbrev others : List ℕ
 others = 0 ∷ 2 ∷ 3 ∷ []
 
-as-told : (f : Failure) → OneOf others (tag_of the_type f) → tzxText f ≡ failureText f
-unfolding tzxText
+as-told : (f : Failure) → OneOf others (tag_of the_type f) → tzx_text f ≡ failure_text f
+unfolding tzx_text
 as-told BadSignature k = refl
 as-told (Short p w) k = absurd (miss others 1 tt k)
 as-told (ShortPiece kind a p w) k = refl

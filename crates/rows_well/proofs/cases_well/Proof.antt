@@ -1,30 +1,30 @@
 -- `cases_well` meets its contract: each test decides its clause. Assumes nothing.
 use Rattle.std.proofs.Common.{rules, le-leb}
 use borrow.Author.Tests.{lt-leb}
-use Rattle.rows.specs.Well.{wellCases}
+use Rattle.rows.specs.Well.{well_cases}
 use Rattle.rows.proofs.Clauses.{passed, failed}
 use Rattle.rows_well.proofs.cases_well.Statement.{statement}
 use Rattle.rows_well.proofs.cases_well.Tie as tie
 
 returns : tie.Need-returns
-unfolding wellCases
+unfolding well_cases
 returns c = rw (lt-leb _ _ c.if1.true)
 
 returns-2 : tie.Need-returns-2
-unfolding wellCases
+unfolding well_cases
 returns-2 c = rw (le-leb _ _ c.before.before.if1.false, lt-leb _ _ c.if2.true)
 
 levels-well-requires : tie.Need-levels-well-requires
 levels-well-requires c κs = search rules
 
 returns-3 : tie.Need-returns-3
-unfolding wellCases
+unfolding well_cases
 returns-3 c =
     let f = c.before.before in
     rw (le-leb _ _ f.before.before.if1.false, le-leb _ _ f.if2.false, failed c.before.levels-well.ensures c.if3.true)
 
 returns-4 : tie.Need-returns-4
-unfolding wellCases
+unfolding well_cases
 returns-4 c =
     let l = c.before.before in
     let f = l.before.before in
@@ -36,7 +36,7 @@ returns-4 c =
     )
 
 returns-5 : tie.Need-returns-5
-unfolding wellCases
+unfolding well_cases
 returns-5 c =
     let n = c.before in
     let l = n.before.before in

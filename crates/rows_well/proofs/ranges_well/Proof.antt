@@ -1,6 +1,6 @@
 -- `ranges_well` meets its contract: each call decides its clause. Assumes nothing.
 use Rattle.std.proofs.Common.{rules}
-use Rattle.rows.specs.Well.{wellRanges}
+use Rattle.rows.specs.Well.{well_ranges}
 use Rattle.rows.proofs.Clauses.{failed, passed}
 use Rattle.rows_well.proofs.ranges_well.Statement.{statement}
 use Rattle.rows_well.proofs.ranges_well.Tie as tie
@@ -12,14 +12,14 @@ ranges-requires : tie.Need-ranges-requires
 ranges-requires c κs = search rules
 
 returns : tie.Need-returns
-unfolding wellRanges
+unfolding well_ranges
 returns c = rw (← c.before.before.tone-capacity.ensures, failed c.before.ranges.ensures c.if1.taken)
 
 ranges-requires-2 : tie.Need-ranges-requires-2
 ranges-requires-2 c κs = search rules
 
 returns-2 : tie.Need-returns-2
-unfolding wellRanges
+unfolding well_ranges
 returns-2 c =
     let t = c.before.before in
     rw (
@@ -32,7 +32,7 @@ ranges-requires-3 : tie.Need-ranges-requires-3
 ranges-requires-3 c κs = search rules
 
 returns-3 : tie.Need-returns-3
-unfolding wellRanges
+unfolding well_ranges
 returns-3 c =
     let d = c.before in
     let t = d.before.before in

@@ -1,18 +1,18 @@
 -- `tones_seen` meets its contract: what was seen up to row i. Assumes nothing.
 use Rattle.std.proofs.Common.{◌≡◌, ◌+◌, ◌-◌, ◌≤◌, sym, refl, ◌∙◌, ap₂, arith, rules}
-use Rattle.rows_well.specs.Seen.{seeingRow, seenFrom}
-use Rattle.rows_well.proofs.Gathered.{seen-turn}
+use Rattle.rows_well.specs.Seen.{seeing_row, seen_from}
+use Rattle.rows_well.proofs.Gathered.{seen_turn}
 use Rattle.rows_well.proofs.tones_seen.Statement.{statement}
 use Rattle.rows_well.proofs.tones_seen.Tie as tie
 
 abbrev invariant-loop : tie.invariant-loop
-invariant-loop tones from n s₀ i₀ left₀ s i left = (from ≤ i) × (i + left ≡ from + n) × (s ≡ seenFrom tones s₀ from (i - from))
+invariant-loop tones from n s₀ i₀ left₀ s i left = (from ≤ i) × (i + left ≡ from + n) × (s ≡ seen_from tones s₀ from (i - from))
 
 abbrev decreases-loop : tie.decreases-loop
 decreases-loop tones from n s₀ i₀ left₀ s i left = left
 
 loop-holds : tie.Need-loop-init invariant-loop decreases-loop
-unfolding seenFrom
+unfolding seen_from
 loop-holds c =
     let a = c.before.args in
     let z : a.from - a.from ≡ 0 = omega arith in
@@ -41,8 +41,8 @@ loop-again c =
       omega arith,
       omega arith,
       c.see.ensures
-          ∙ ap₂ seeingRow t.ensures l.invariant.2
-          ∙ sym (seen-turn a.tones.now a.past a.from l.i l.invariant.0),
+          ∙ ap₂ seeing_row t.ensures l.invariant.2
+          ∙ sym (seen_turn a.tones.now a.past a.from l.i l.invariant.0),
     )
 
 returns : tie.Need-returns invariant-loop decreases-loop

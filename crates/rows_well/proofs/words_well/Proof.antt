@@ -1,7 +1,7 @@
 -- `words_well` meets its contract: each call decides its clause. Assumes nothing.
 use Rattle.std.proofs.Common.{rules}
 use Rattle.rows.proofs.Clauses.{failed, passed}
-use Rattle.rows_well.specs.Words.{wellWords}
+use Rattle.rows_well.specs.Words.{well_words}
 use Rattle.rows_well.proofs.words_well.Statement.{statement}
 use Rattle.rows_well.proofs.words_well.Tie as tie
 
@@ -9,14 +9,14 @@ ranges-well-requires : tie.Need-ranges-well-requires
 ranges-well-requires c κs = search rules
 
 returns : tie.Need-returns
-unfolding wellWords
+unfolding well_words
 returns c = rw (failed c.before.ranges-well.ensures c.if1.true)
 
 numbers-well-requires : tie.Need-numbers-well-requires
 numbers-well-requires c κs = search rules
 
 returns-2 : tie.Need-returns-2
-unfolding wellWords
+unfolding well_words
 returns-2 c =
     let r = c.before.before in
     rw (passed r.before.ranges-well.ensures r.if1.false, failed c.before.numbers-well.ensures c.if2.true)
@@ -25,7 +25,7 @@ sound-well-requires : tie.Need-sound-well-requires
 sound-well-requires c κs = search rules
 
 returns-3 : tie.Need-returns-3
-unfolding wellWords
+unfolding well_words
 returns-3 c =
     let n = c.before.before in
     let r = n.before.before in
@@ -39,7 +39,7 @@ cases-well-requires : tie.Need-cases-well-requires
 cases-well-requires c κs = search rules
 
 returns-4 : tie.Need-returns-4
-unfolding wellWords
+unfolding well_words
 returns-4 c =
     let s = c.before in
     let n = s.before.before in

@@ -1,5 +1,5 @@
 -- `put_part` meets its contract: the flat table is the 256 texts one after the other, by one computation. Assumes nothing.
-use Rattle.text_codes.specs.Encoding.{table, flatTexts}
+use Rattle.text_codes.specs.Encoding.{table, flat_texts}
 use borrow.Author.Rules.{rules}
 use Rattle.text_codes.proofs.put_part.Statement.{statement}
 use Rattle.text_codes.proofs.put_part.Tie as tie
@@ -11,7 +11,7 @@ part-put-all-start : tie.Need-slice-bounds-put-all-start
 part-put-all-start c = search rules
 
 part-put-all-end : tie.Need-slice-bounds-put-all-end
-unfolding table flatTexts
+unfolding table flat_texts
 part-put-all-end c =
     c.before.before.before.requires.1
 
@@ -22,7 +22,7 @@ same_length : tie.Need-same-length
 same_length c = search rules
 
 returns : tie.Need-returns
-unfolding table flatTexts
+unfolding table flat_texts
 returns c =
     c.before.before.put_all_lem.ensures
 

@@ -3,9 +3,9 @@ use Prim.Native.Nat.{◌-◌}
 use native.Mathlib.Omega.{arith}
 use lib.ListN.{length}
 use Rattle.text_out.proofs.Writing.{same_len}
-use Rattle.text_out.proofs.Loops.{Spells, spells-none, spells-on, spells-over}
+use Rattle.text_out.proofs.Loops.{Spells, spells_none, spells_on, spells_over}
 use Rattle.text_codes.specs.Encoding.{encoded}
-use Rattle.text_codes.proofs.Codes.{code-length}
+use Rattle.text_codes.proofs.Codes.{code_length}
 use Rattle.text_codes.proofs.put_spelled.Statement.{statement}
 use Rattle.text_codes.proofs.put_spelled.Tie as tie
 
@@ -16,7 +16,7 @@ abbrev decreases-loop : tie.decreases-loop
 decreases-loop out₀ at s o₀ i₀ out o i = length s - i
 
 loop-holds : tie.Need-loop-init invariant-loop decreases-loop
-loop-holds c = spells-none
+loop-holds c = spells_none
 
 shared-slice-read-put-code : tie.Need-shared-slice-read-put-code invariant-loop decreases-loop
 shared-slice-read-put-code c = omega arith
@@ -33,13 +33,13 @@ loop-less c = omega arith
 loop-again : tie.Need-loop-preserved invariant-loop decreases-loop
 loop-again c =
     let t = c.before.before.before.before.before in
-    spells-on t.before.loop.invariant t.loop-test.true (code-length _) c.before.before.put-code.ensures
+    spells_on t.before.loop.invariant t.loop-test.true (code_length _) c.before.before.put-code.ensures
 
 same_length : tie.Need-same-length invariant-loop decreases-loop
-same_length c = same_len (spells-over c.before.loop.invariant c.loop-test.false)
+same_length c = same_len (spells_over c.before.loop.invariant c.loop-test.false)
 
 returns : tie.Need-returns invariant-loop decreases-loop
-returns c = spells-over c.before.loop.invariant c.loop-test.false
+returns c = spells_over c.before.loop.invariant c.loop-test.false
 
 pub put-spelled-spec : {M : Type 1} → statement M
 put-spelled-spec =

@@ -3,7 +3,7 @@ use native.Mathlib.Omega.{arith}
 use lib.Dec.{eqb}
 use borrow.Author.Rules.{rules}
 use Rattle.text_out.proofs.Writing.{then}
-use Rattle.text_listing.proofs.Texts.{decimal-long, mark-long}
+use Rattle.text_listing.proofs.Texts.{decimal_long, mark_long}
 use Rattle.text_listing.proofs.put_head.Statement.{statement}
 use Rattle.text_listing.proofs.put_head.Tie as tie
 
@@ -14,14 +14,14 @@ put-requires : tie.Need-put-requires
 put-requires c κs =
     let put-decimal = c.before.before.before in
     let a = put-decimal.before.before.before.args in
-    omega (arith, put-decimal.put-decimal.ensures.count, decimal-long a.i)
+    omega (arith, put-decimal.put-decimal.ensures.count, decimal_long a.i)
 
 put-mark-requires : tie.Need-put-mark-requires
 put-mark-requires c κs =
     let put = c.before.before.before in
     let put-decimal = put.before.before.before.before in
     let a = put-decimal.before.before.before.args in
-    omega (arith, put-decimal.put-decimal.ensures.count, decimal-long a.i, put.put.ensures.count)
+    omega (arith, put-decimal.put-decimal.ensures.count, decimal_long a.i, put.put.ensures.count)
 
 put-requires-2 : tie.Need-put-requires-2
 put-requires-2 c κs =
@@ -32,10 +32,10 @@ put-requires-2 c κs =
     omega (
       arith,
       put-decimal.put-decimal.ensures.count,
-      decimal-long a.i,
+      decimal_long a.i,
       put.put.ensures.count,
       put-mark.put-mark.ensures.count,
-      mark-long (eqb a.r.selectable 1),
+      mark_long (eqb a.r.selectable 1),
     )
 
 put-decimal-requires-2 : tie.Need-put-decimal-requires-2
@@ -48,10 +48,10 @@ put-decimal-requires-2 c κs =
     omega (
       arith,
       put-decimal.put-decimal.ensures.count,
-      decimal-long a.i,
+      decimal_long a.i,
       put.put.ensures.count,
       put-mark.put-mark.ensures.count,
-      mark-long (eqb a.r.selectable 1),
+      mark_long (eqb a.r.selectable 1),
       put2.put2.ensures.count,
     )
 
@@ -66,13 +66,13 @@ put-requires-3 c κs =
     omega (
       arith,
       put-decimal.put-decimal.ensures.count,
-      decimal-long a.i,
+      decimal_long a.i,
       put.put.ensures.count,
       put-mark.put-mark.ensures.count,
-      mark-long (eqb a.r.selectable 1),
+      mark_long (eqb a.r.selectable 1),
       put2.put2.ensures.count,
       put-decimal2.put-decimal2.ensures.count,
-      decimal-long a.r.size,
+      decimal_long a.r.size,
     )
 
 same_length : tie.Need-same-length

@@ -2,7 +2,7 @@
 use native.Mathlib.Omega.{arith}
 use borrow.Author.Tests.{eq-eqb, ne_eqb}
 use borrow.Author.Rules.{rules}
-use Rattle.text_listing.specs.Lines.{markText}
+use Rattle.text_listing.specs.Lines.{mark_text}
 use Rattle.text_listing.proofs.put_mark.Statement.{statement}
 use Rattle.text_listing.proofs.put_mark.Tie as tie
 
@@ -16,7 +16,7 @@ same_length : tie.Need-same-length
 same_length c = search rules
 
 returns : tie.Need-returns
-unfolding markText
+unfolding mark_text
 returns c =
     rw (eq-eqb c.before.before.before.before.before.before.args.selectable 1 (omega arith)) c.before.before.put.ensures
 
@@ -24,7 +24,7 @@ same-length-2 : tie.Need-same-length-2
 same-length-2 c = search rules
 
 returns-2 : tie.Need-returns-2
-unfolding markText
+unfolding mark_text
 returns-2 c =
     rw (ne_eqb c.before.before.before.before.before.before.args.selectable 1 (omega arith)) c.before.before.put2.ensures
 

@@ -8,13 +8,13 @@ use Rattle.text_out.proofs.Writing.{wrote_nothing, same_len}
 use Rattle.text_out.specs.Out.{Wrote}
 use Rattle.rows.specs.Table.{get}
 use Rattle.rows.specs.Rows.{block}
-use Rattle.play_entries.specs.Mounted.{tapeOf}
+use Rattle.play_entries.specs.Mounted.{tape_of}
 use Rattle.play_loading.specs.declared.Loading.{Loading}
-use Rattle.play_loading.specs.Sums.{oneMore, loadingAfter}
+use Rattle.play_loading.specs.Sums.{one_more, loading_after}
 use Rattle.play_loading.proofs.Summing.{after_next, after-whole}
 use Rattle.text_listing.proofs.Lines.{rows_fit}
 use Rattle.text_listing.proofs.Texts.{rows-most, rows_next}
-use Rattle.text_listing.specs.Lines.{rowsTextBy, rowsText}
+use Rattle.text_listing.specs.Lines.{rows_text_by, rows_text}
 use Rattle.text_listing.proofs.put_rows.Statement.{statement}
 use Rattle.text_listing.proofs.put_rows.Tie as tie
 
@@ -22,8 +22,8 @@ use Rattle.text_listing.proofs.put_rows.Tie as tie
 abbrev invariant-loop : tie.invariant-loop
 invariant-loop out₀ at tape blocks n s₀ i₀ out s i =
     (i ≤ n)
-    × (((tones : List ℕ) → Wrote out₀ at (rowsText (tapeOf tape tones blocks n) i) out s.at)
-    × ((tones : List ℕ) → s.load ≡ loadingAfter (tapeOf tape tones blocks n) i))
+    × (((tones : List ℕ) → Wrote out₀ at (rows_text (tape_of tape tones blocks n) i) out s.at)
+    × ((tones : List ℕ) → s.load ≡ loading_after (tape_of tape tones blocks n) i))
 
 abbrev decreases-loop : tie.decreases-loop
 decreases-loop out₀ at tape blocks n s₀ i₀ out s i = n - i
@@ -32,7 +32,7 @@ none-requires : tie.Need-none-requires invariant-loop decreases-loop
 none-requires c κs = search rules
 
 loop-holds : tie.Need-loop-init invariant-loop decreases-loop
-unfolding rowsTextBy loadingAfter
+unfolding rows_text_by loading_after
 loop-holds c = (omega arith, ((λ tones. wrote_nothing _ _), λ tones. c.none.ensures))
 
 put-row-requires : tie.Need-put-row-requires invariant-loop decreases-loop
@@ -61,8 +61,8 @@ loop-again c =
         (λ tones. rows_next _ _ (l.invariant.1.0 tones) (w.0 tones _)),
         λ tones.
             w.1
-            ∙ ap (λ (x : Loading). oneMore x (get block a.blocks.now l.i)) (l.invariant.1.1 tones)
-            ∙ after_next (tapeOf a.tape.now tones a.blocks.now a.n) l.i,
+            ∙ ap (λ (x : Loading). one_more x (get block a.blocks.now l.i)) (l.invariant.1.1 tones)
+            ∙ after_next (tape_of a.tape.now tones a.blocks.now a.n) l.i,
       ),
     )
 
@@ -76,8 +76,8 @@ returns c =
     let e : l.i ≡ a.n = omega arith in (
       λ tones. rw e at (l.invariant.1.0 tones),
       λ tones.
-          let w = tapeOf a.tape.now tones a.blocks.now a.n in
-          ap (λ (x : Loading). x.end) (l.invariant.1.1 tones ∙ ap (loadingAfter w) e) ∙ after-whole w,
+          let w = tape_of a.tape.now tones a.blocks.now a.n in
+          ap (λ (x : Loading). x.end) (l.invariant.1.1 tones ∙ ap (loading_after w) e) ∙ after-whole w,
     )
 
 pub put-rows-spec : {M : Type 1} → statement M

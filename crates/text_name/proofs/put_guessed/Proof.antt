@@ -1,5 +1,5 @@
 -- `put_guessed` meets its contract: a header has 19 bytes, so its name lies inside the tape. Assumes nothing.
-use Rattle.text_name.proofs.Naming.{header-size}
+use Rattle.text_name.proofs.Naming.{header_size}
 use native.Mathlib.Omega.{arith}
 use Rattle.text_name.specs.Names.{guessed}
 use mathlib.Core.Path.{sym, ◌∙◌}
@@ -13,7 +13,7 @@ is-header-requires c κs = search rules
 put-header-requires : tie.Need-put-header-requires
 put-header-requires c κs =
     let a = c.before.before.before.before.before.args in
-    let e = header-size a.tape.now a.r (sym c.before.before.is-header.ensures ∙ c.before.if1.true) in
+    let e = header_size a.tape.now a.r (sym c.before.before.is-header.ensures ∙ c.before.if1.true) in
     (omega (arith, e), omega arith)
 
 same_length : tie.Need-same-length

@@ -1,5 +1,5 @@
 -- `put_size` meets its contract: the number, then ` bytes`. Assumes nothing.
-use Rattle.text_name.specs.Names.{sizeName}
+use Rattle.text_name.specs.Names.{size_name}
 use Rattle.text_out.proofs.Writing.{then, decimal-length}
 use native.Mathlib.Omega.{arith}
 use borrow.Author.Rules.{rules}
@@ -24,7 +24,7 @@ same_length : tie.Need-same-length
 same_length c = search rules
 
 returns : tie.Need-returns
-unfolding sizeName
+unfolding size_name
 returns c =
     let put-decimal = c.before.before.before.before.before.before.before in
     rw (← put-decimal.before.size-shown.ensures) (then put-decimal.put-decimal.ensures c.before.before.put_all_lem.ensures)

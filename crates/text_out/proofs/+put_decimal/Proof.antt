@@ -1,7 +1,7 @@
 -- `put_decimal` meets its contract: the digits of n / 10, then the last one; n falls. Assumes nothing.
 use mathlib.Core.Path.{◌∙◌}
 use native.Mathlib.Omega.{arith}
-use Rattle.text_out.proofs.Writing.{decimal-length, as-digit, as-digits}
+use Rattle.text_out.proofs.Writing.{decimal-length, as_digit, as_digits}
 use Prim.Native.Nat.{ℕ, ◌<◌, ◌/◌}
 use borrow.Fn.Kinds.{In}
 use borrow.Fn.PlainCycle.{Measures, is, falls, and}
@@ -61,7 +61,7 @@ put-decimal-returns : (t : ℕ) → put-decimal-lts.Need-returns (
   put-decimal-below t,
   put-decimal.Post,
 ) (put-decimal-at t) put-decimal.Post
-put-decimal-returns t c = as-digit _ (omega arith) c.before.before.put.ensures
+put-decimal-returns t c = as_digit _ (omega arith) c.before.before.put.ensures
 
 put-decimal-put-decimal-requires : (t : ℕ) → put-decimal-lts.Need-put-decimal-requires (
   put_reads.Asked,
@@ -115,7 +115,7 @@ put-decimal-returns-2 : (t : ℕ) → put-decimal-lts.Need-returns-2 (
 ) (put-decimal-at t) put-decimal.Post
 put-decimal-returns-2 t c =
     let at-put-decimal = c.before.before.before.before.before.before in
-    as-digits _ (omega arith) (omega arith) at-put-decimal.put-decimal.ensures c.before.before.put2.ensures
+    as_digits _ (omega arith) (omega arith) at-put-decimal.put-decimal.ensures c.before.before.put2.ensures
 
 pub +put-decimal-spec : {M : Type 1} → statement M
 +put-decimal-spec = close μ-put-decimal λ t. put-decimal-lts.spec (

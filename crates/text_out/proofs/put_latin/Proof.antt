@@ -4,7 +4,7 @@ use native.Mathlib.Omega.{arith}
 use lib.ListN.{length}
 use Rattle.text_out.specs.Out.{latin1}
 use Rattle.text_out.proofs.Writing.{same_len, latin1-length}
-use Rattle.text_out.proofs.Loops.{Spells, spells-none, spells-on, spells-over}
+use Rattle.text_out.proofs.Loops.{Spells, spells_none, spells_on, spells_over}
 use Rattle.text_out.proofs.put_latin.Statement.{statement}
 use Rattle.text_out.proofs.put_latin.Tie as tie
 
@@ -15,7 +15,7 @@ abbrev decreases-loop : tie.decreases-loop
 decreases-loop out₀ at s o₀ i₀ out o i = length s - i
 
 loop-holds : tie.Need-loop-init invariant-loop decreases-loop
-loop-holds c = spells-none
+loop-holds c = spells_none
 
 shared-slice-read-put-latin1 : tie.Need-shared-slice-read-put-latin1 invariant-loop decreases-loop
 shared-slice-read-put-latin1 c = omega arith
@@ -32,13 +32,13 @@ loop-less c = omega arith
 loop-again : tie.Need-loop-preserved invariant-loop decreases-loop
 loop-again c =
     let t = c.before.before.before.before.before in
-    spells-on t.before.loop.invariant t.loop-test.true (latin1-length _) c.before.before.put-latin1.ensures
+    spells_on t.before.loop.invariant t.loop-test.true (latin1-length _) c.before.before.put-latin1.ensures
 
 same_length : tie.Need-same-length invariant-loop decreases-loop
-same_length c = same_len (spells-over c.before.loop.invariant c.loop-test.false)
+same_length c = same_len (spells_over c.before.loop.invariant c.loop-test.false)
 
 returns : tie.Need-returns invariant-loop decreases-loop
-returns c = spells-over c.before.loop.invariant c.loop-test.false
+returns c = spells_over c.before.loop.invariant c.loop-test.false
 
 pub put-latin-spec : {M : Type 1} → statement M
 put-latin-spec =

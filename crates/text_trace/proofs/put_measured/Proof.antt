@@ -1,5 +1,5 @@
 -- `put_measured` meets its contract. Assumes nothing.
-use Rattle.text_trace.specs.Lines.{measuredLine}
+use Rattle.text_trace.specs.Lines.{measured_line}
 use Rattle.text_out.proofs.Writing.{then}
 use borrow.Author.Rules.{rules}
 use Rattle.text_trace.proofs.put_measured.Statement.{statement}
@@ -57,7 +57,7 @@ same_length : tie.Need-same-length
 same_length c = search rules
 
 returns : tie.Need-returns
-unfolding measuredLine
+unfolding measured_line
 returns c =
     let put_all_lem = c.before.before.before.before.before.before in
     let answer = put_all_lem.before.before.before.before in
@@ -67,7 +67,7 @@ same-length-2 : tie.Need-same-length-2
 same-length-2 c = search rules
 
 returns-2 : tie.Need-returns-2
-unfolding measuredLine
+unfolding measured_line
 returns-2 c =
     let put-all2 = c.before.before.before.before.before.before in
     let answer2 = put-all2.before.before.before.before in
@@ -77,7 +77,7 @@ same-length-3 : tie.Need-same-length-3
 same-length-3 c = search rules
 
 returns-3 : tie.Need-returns-3
-unfolding measuredLine
+unfolding measured_line
 returns-3 c =
     let put-all3 = c.before.before.before.before.before.before in
     let answer3 = put-all3.before.before.before.before in
@@ -87,7 +87,7 @@ same-length-4 : tie.Need-same-length-4
 same-length-4 c = search rules
 
 returns-4 : tie.Need-returns-4
-unfolding measuredLine
+unfolding measured_line
 returns-4 c =
     rw c.before.before.before.before.enum_told.given.1 c.before.before.put-refusal.ensures
 
@@ -95,7 +95,7 @@ same-length-5 : tie.Need-same-length-5
 same-length-5 c = search rules
 
 returns-5 : tie.Need-returns-5
-unfolding measuredLine
+unfolding measured_line
 returns-5 c =
     rw c.before.before.before.before.enum-told2.given.1 c.before.before.put-refusal2.ensures
 

@@ -1,5 +1,5 @@
 -- `put_refusal` meets its contract. Assumes nothing.
-use Rattle.text_out.specs.Out.{refusedLine}
+use Rattle.text_out.specs.Out.{refused_line}
 use Rattle.text_trace.proofs.Lengths.{refused-length}
 use native.Mathlib.Omega.{arith}
 use Rattle.text_out.proofs.Writing.{then}
@@ -20,7 +20,7 @@ same_length : tie.Need-same-length
 same_length c = search rules
 
 returns : tie.Need-returns
-unfolding refusedLine
+unfolding refused_line
 returns c =
     then c.before.before.before.before.before.before.Put-refused.ensures c.before.before.put.ensures
 

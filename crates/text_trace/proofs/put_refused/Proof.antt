@@ -1,5 +1,5 @@
 -- `put_refused` meets its contract. Assumes nothing.
-use Rattle.text_out.specs.Out.{refusedText}
+use Rattle.text_out.specs.Out.{refused_text}
 use Rattle.text_out.proofs.Writing.{then}
 use borrow.Author.Rules.{rules}
 use Rattle.text_trace.proofs.put_refused.Statement.{statement}
@@ -18,7 +18,7 @@ same_length : tie.Need-same-length
 same_length c = search rules
 
 returns : tie.Need-returns
-unfolding refusedText
+unfolding refused_text
 returns c =
     then c.before.before.before.before.before.before.put_all_lem.ensures c.before.before.put-decimal.ensures
 

@@ -1,5 +1,5 @@
 -- `put_selected` meets its contract. Assumes nothing.
-use Rattle.text_trace.specs.Lines.{selectedText}
+use Rattle.text_trace.specs.Lines.{selected_text}
 use borrow.Author.Rules.{rules}
 use Rattle.text_trace.proofs.put_selected.Statement.{statement}
 use Rattle.text_trace.proofs.put_selected.Tie as tie
@@ -26,7 +26,7 @@ same_length : tie.Need-same-length
 same_length c = search rules
 
 returns : tie.Need-returns
-unfolding selectedText
+unfolding selected_text
 returns c =
     rw c.before.before.before.before.before.b.given.1 c.before.before.put-decimal.ensures
 
@@ -34,7 +34,7 @@ same-length-2 : tie.Need-same-length-2
 same-length-2 c = search rules
 
 returns-2 : tie.Need-returns-2
-unfolding selectedText
+unfolding selected_text
 returns-2 c =
     rw c.before.before.before.before.enum_told.given.1 c.before.before.Put-refused.ensures
 
@@ -42,7 +42,7 @@ same-length-3 : tie.Need-same-length-3
 same-length-3 c = search rules
 
 returns-3 : tie.Need-returns-3
-unfolding selectedText
+unfolding selected_text
 returns-3 c =
     rw c.before.before.before.before.enum-told2.given.1 c.before.before.put-refused2.ensures
 

@@ -1,7 +1,7 @@
 -- `put_shown` meets its contract. Assumes nothing.
-use Rattle.text_trace.specs.Lines.{standLine}
-use Rattle.text_trace.proofs.PlaceLengths.{place-length}
-use Rattle.text_trace.proofs.Lengths.{selected-length}
+use Rattle.text_trace.specs.Lines.{stand_line}
+use Rattle.text_trace.proofs.PlaceLengths.{place_length}
+use Rattle.text_trace.proofs.Lengths.{selected_length}
 use native.Mathlib.Omega.{arith}
 use Rattle.text_out.proofs.Writing.{then}
 use borrow.Author.Rules.{rules}
@@ -18,14 +18,14 @@ put-all-requires : tie.Need-put-all-requires
 put-all-requires c κs =
     let put-place = c.before.before.before.before in
     let a = put-place.before.before.before.args in
-    omega (arith, put-place.put-place.ensures.count, place-length a.s)
+    omega (arith, put-place.put-place.ensures.count, place_length a.s)
 
 put-selected-requires : tie.Need-put-selected-requires
 put-selected-requires c κs =
     let put_all_lem = c.before.before.before in
     let put-place = put_all_lem.before.before.before.before.before in
     let a = put-place.before.before.before.args in
-    omega (arith, put-place.put-place.ensures.count, place-length a.s, put_all_lem.put_all_lem.ensures.count)
+    omega (arith, put-place.put-place.ensures.count, place_length a.s, put_all_lem.put_all_lem.ensures.count)
 
 put-requires : tie.Need-put-requires
 put-requires c κs =
@@ -36,17 +36,17 @@ put-requires c κs =
     omega (
       arith,
       put-place.put-place.ensures.count,
-      place-length s.args.s,
+      place_length s.args.s,
       put_all_lem.put_all_lem.ensures.count,
       put-selected.put-selected.ensures.count,
-      selected-length s.args.b,
+      selected_length s.args.b,
     )
 
 same_length : tie.Need-same-length
 same_length c = search rules
 
 returns : tie.Need-returns
-unfolding standLine
+unfolding stand_line
 returns c =
     let put-selected = c.before.before.before.before.before.before in
     let put_all_lem = put-selected.before.before.before.before in

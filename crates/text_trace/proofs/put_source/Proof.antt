@@ -1,5 +1,5 @@
 -- `put_source` meets its contract. Assumes nothing.
-use Rattle.text_trace.specs.Lines.{sourceLine}
+use Rattle.text_trace.specs.Lines.{source_line}
 use borrow.Author.Rules.{rules}
 use Rattle.text_trace.proofs.put_source.Statement.{statement}
 use Rattle.text_trace.proofs.put_source.Tie as tie
@@ -41,7 +41,7 @@ same_length : tie.Need-same-length
 same_length c = search rules
 
 returns : tie.Need-returns
-unfolding sourceLine
+unfolding source_line
 returns c =
     rw c.before.before.before.before.before.answer.given.1 c.before.before.put-shown.ensures
 
@@ -49,7 +49,7 @@ same-length-2 : tie.Need-same-length-2
 same-length-2 c = search rules
 
 returns-2 : tie.Need-returns-2
-unfolding sourceLine
+unfolding source_line
 returns-2 c =
     rw c.before.before.before.before.before.answer2.given.1 c.before.before.put-shown2.ensures
 
@@ -57,7 +57,7 @@ same-length-3 : tie.Need-same-length-3
 same-length-3 c = search rules
 
 returns-3 : tie.Need-returns-3
-unfolding sourceLine
+unfolding source_line
 returns-3 c =
     rw c.before.before.before.before.before.enum_told.given.1 c.before.before.put_all_lem.ensures
 
@@ -65,7 +65,7 @@ same-length-4 : tie.Need-same-length-4
 same-length-4 c = search rules
 
 returns-4 : tie.Need-returns-4
-unfolding sourceLine
+unfolding source_line
 returns-4 c =
     rw c.before.before.before.before.enum-told2.given.1 c.before.before.put-refusal.ensures
 
@@ -73,7 +73,7 @@ same-length-5 : tie.Need-same-length-5
 same-length-5 c = search rules
 
 returns-5 : tie.Need-returns-5
-unfolding sourceLine
+unfolding source_line
 returns-5 c =
     rw c.before.before.before.before.enum-told3.given.1 c.before.before.put-refusal2.ensures
 

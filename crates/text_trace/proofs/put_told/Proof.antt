@@ -1,5 +1,5 @@
 -- `put_told` meets its contract. Assumes nothing.
-use Rattle.text_trace.specs.Lines.{passedLine}
+use Rattle.text_trace.specs.Lines.{passed_line}
 use Rattle.text_out.proofs.Writing.{decimal-length}
 use native.Mathlib.Omega.{arith}
 use Rattle.text_out.proofs.Writing.{then}
@@ -44,7 +44,7 @@ same_length : tie.Need-same-length
 same_length c = search rules
 
 returns : tie.Need-returns
-unfolding passedLine
+unfolding passed_line
 returns c =
     let put-all2 = c.before.before.before.before.before.before in
     let put-decimal = put-all2.before.before.before.before.before in

@@ -1,6 +1,6 @@
 -- `put_duration` meets its contract. Assumes nothing.
 use borrow.Author.Rules.{rules}
-use Rattle.text_value.specs.Values.{durationText}
+use Rattle.text_value.specs.Values.{duration_text}
 use Rattle.text_value.proofs.put_duration.Statement.{statement}
 use Rattle.text_value.proofs.put_duration.Tie as tie
 
@@ -14,7 +14,7 @@ same_length : tie.Need-same-length
 same_length c = search rules
 
 returns : tie.Need-returns
-unfolding durationText
+unfolding duration_text
 returns c = c.before.before.put-lasts.ensures
 
 pub put-duration-spec : {M : Type 1} → statement M

@@ -3,7 +3,7 @@ use Prim.Native.Nat.{◌-◌}
 use native.Mathlib.Omega.{arith}
 use lib.ListN.{length}
 use Rattle.text_out.proofs.Writing.{same_len}
-use Rattle.text_out.proofs.Loops.{Spells, spells-none, spells-on, spells-over}
+use Rattle.text_out.proofs.Loops.{Spells, spells_none, spells_on, spells_over}
 use Rattle.text_view.specs.Dump.{hex}
 use Rattle.text_view.proofs.Parts.{hex-length}
 use Rattle.text_view.proofs.put_hex.Statement.{statement}
@@ -16,7 +16,7 @@ abbrev decreases-loop : tie.decreases-loop
 decreases-loop out₀ at s o₀ i₀ out o i = length s - i
 
 loop-holds : tie.Need-loop-init invariant-loop decreases-loop
-loop-holds c = spells-none
+loop-holds c = spells_none
 
 shared-slice-read-put-byte : tie.Need-shared-slice-read-put-byte invariant-loop decreases-loop
 shared-slice-read-put-byte c = omega arith
@@ -33,13 +33,13 @@ loop-less c = omega arith
 loop-again : tie.Need-loop-preserved invariant-loop decreases-loop
 loop-again c =
     let t = c.before.before.before.before.before in
-    spells-on t.before.loop.invariant t.loop-test.true (hex-length _) c.before.before.put_byte.ensures
+    spells_on t.before.loop.invariant t.loop-test.true (hex-length _) c.before.before.put_byte.ensures
 
 same_length : tie.Need-same-length invariant-loop decreases-loop
-same_length c = same_len (spells-over c.before.loop.invariant c.loop-test.false)
+same_length c = same_len (spells_over c.before.loop.invariant c.loop-test.false)
 
 returns : tie.Need-returns invariant-loop decreases-loop
-returns c = spells-over c.before.loop.invariant c.loop-test.false
+returns c = spells_over c.before.loop.invariant c.loop-test.false
 
 pub put-hex-spec : {M : Type 1} → statement M
 put-hex-spec =

@@ -1,6 +1,6 @@
 -- `put_tone` meets its contract. Assumes nothing.
 use Rattle.text_out.proofs.Writing.{then, decimal-length}
-use Rattle.text_view.specs.Dump.{toneText}
+use Rattle.text_view.specs.Dump.{tone_text}
 use native.Mathlib.Omega.{arith}
 use borrow.Author.Rules.{rules}
 use Rattle.text_view.proofs.put_tone.Statement.{statement}
@@ -78,7 +78,7 @@ same_length : tie.Need-same-length
 same_length c = search rules
 
 returns : tie.Need-returns
-unfolding toneText
+unfolding tone_text
 returns c =
     let put-decimal3 = c.before.before.before.before.before.before in
     let put2 = put-decimal3.before.before.before.before in

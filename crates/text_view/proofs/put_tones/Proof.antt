@@ -1,7 +1,7 @@
 -- `put_tones` meets its contract. Assumes nothing.
-use Rattle.text_view.proofs.Parts.{tones-next, tones-length}
-use Rattle.text_view.specs.Dump.{tonesText}
-use Rattle.text_view.specs.View.{tonesFrom}
+use Rattle.text_view.proofs.Parts.{tones_next, tones-length}
+use Rattle.text_view.specs.Dump.{tones_text}
+use Rattle.text_view.specs.View.{tones_from}
 use Rattle.text_out.proofs.Writing.{wrote_nothing, then, same_len}
 use Rattle.text_out.specs.Out.{Wrote}
 use Prim.Native.Nat.{◌-◌, ◌≤◌}
@@ -11,13 +11,13 @@ use Rattle.text_view.proofs.put_tones.Statement.{statement}
 use Rattle.text_view.proofs.put_tones.Tie as tie
 
 abbrev invariant-loop : tie.invariant-loop
-invariant-loop out₀ at tones from n o₀ i₀ out o i = (i ≤ n) × Wrote out₀ at (tonesText (tonesFrom tones from i)) out o
+invariant-loop out₀ at tones from n o₀ i₀ out o i = (i ≤ n) × Wrote out₀ at (tones_text (tones_from tones from i)) out o
 
 abbrev decreases-loop : tie.decreases-loop
 decreases-loop out₀ at tones from n o₀ i₀ out o i = n - i
 
 loop-holds : tie.Need-loop-init invariant-loop decreases-loop
-unfolding tonesText tonesFrom
+unfolding tones_text tones_from
 loop-holds c =
     (omega arith, wrote_nothing _ _)
 
@@ -49,7 +49,7 @@ loop-again c =
     let loop = tone-at.before.before.before in
     let a = loop.before.before.before.args in (
       omega arith,
-      rw (tones-next a.tones.now a.from loop.loop.i, ← tone-at.tone-at.ensures)
+      rw (tones_next a.tones.now a.from loop.loop.i, ← tone-at.tone-at.ensures)
           (then loop.loop.invariant.1 c.before.before.put-tone.ensures),
     )
 

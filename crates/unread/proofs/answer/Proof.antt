@@ -1,7 +1,7 @@
 -- `answer` meets its contract: each return is one rule. Assumes nothing.
 use borrow.Author.Rules.{rules}
 use native.Mathlib.Omega.{arith}
-use Rattle.unread.proofs.Hearing.{says_none, says-tape}
+use Rattle.unread.proofs.Hearing.{says_none, says_tape}
 use Rattle.unread.proofs.answer.Statement.{statement}
 use Rattle.unread.proofs.answer.Tie as tie
 
@@ -48,7 +48,7 @@ returns-2 c =
     let say = c.before.before.before.before.before.before in
     let model_of = say.before.before.before.before.before in
     let start = model_of.before.before.before.before.before.before.before in
-    says-tape start.args.input.now (omega arith) start.requires.0.0 start.requires.0.1 model_of.model_of.ensures
+    says_tape start.args.input.now (omega arith) start.requires.0.0 start.requires.0.1 model_of.model_of.ensures
     say.say-unread.ensures.0
 
 pub answer-spec : {M : Type 1} → statement M

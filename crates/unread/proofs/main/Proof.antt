@@ -2,7 +2,7 @@
 use borrow.Author.Rules.{rules}
 use native.Mathlib.Omega.{arith}
 use mathlib.Core.Path.{sym}
-use Rattle.prog_unread.specs.Report.{fullBlocks, fullTones}
+use Rattle.prog_unread.specs.Report.{full_blocks, full_tones}
 use Rattle.law_base.proofs.Parts.{zeros-counted}
 use Rattle.unread.proofs.main.Statement.{statement}
 use Rattle.unread.proofs.main.Tie as tie
@@ -11,16 +11,16 @@ slice-aggregate-print : tie.Need-slice-aggregate-print
 slice-aggregate-print c = zeros-counted 1048578
 
 slice-aggregate-print-2 : tie.Need-slice-aggregate-print-2
-slice-aggregate-print-2 c = zeros-counted fullBlocks
+slice-aggregate-print-2 c = zeros-counted full_blocks
 
 slice-aggregate-print-3 : tie.Need-slice-aggregate-print-3
-slice-aggregate-print-3 c = zeros-counted fullTones
+slice-aggregate-print-3 c = zeros-counted full_tones
 
 slice-aggregate-print-4 : tie.Need-slice-aggregate-print-4
 slice-aggregate-print-4 c = search rules
 
 print-requires : tie.Need-print-requires
-print-requires c κs = ((sym (zeros-counted fullBlocks), sym (zeros-counted fullTones)), omega arith)
+print-requires c κs = ((sym (zeros-counted full_blocks), sym (zeros-counted full_tones)), omega arith)
 
 returns : tie.Need-returns
 returns c = search rules

@@ -1,7 +1,7 @@
 -- `print` meets its contract: what is said is the front of the bytes lent. Assumes nothing.
 use borrow.Author.Rules.{rules}
 use Rattle.law_base.proofs.Parts.{take_counted}
-use Rattle.text_out.proofs.Writing.{fitted-most}
+use Rattle.text_out.proofs.Writing.{fitted_most}
 use Rattle.unread.proofs.print.Statement.{statement}
 use Rattle.unread.proofs.print.Tie as tie
 
@@ -18,10 +18,10 @@ answer-requires : tie.Need-answer-requires
 answer-requires c κs = search rules
 
 slice-reshare-prefix-write-all : tie.Need-slice-reshare-prefix-write-all
-slice-reshare-prefix-write-all c = fitted-most c.before.before.before.before.before.before.answer.ensures
+slice-reshare-prefix-write-all c = fitted_most c.before.before.before.before.before.before.answer.ensures
 
 slice-aggregate-write-all : tie.Need-slice-aggregate-write-all
-slice-aggregate-write-all c = take_counted _ _ (fitted-most c.before.before.before.before.before.before.before.answer.ensures)
+slice-aggregate-write-all c = take_counted _ _ (fitted_most c.before.before.before.before.before.before.before.answer.ensures)
 
 write-all-requires : tie.Need-write-all-requires
 write-all-requires c κs = search rules

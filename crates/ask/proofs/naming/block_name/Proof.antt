@@ -1,9 +1,9 @@
 -- `block_name` meets its contract: the dry run tells the length, and the run is made where the name fits. Assumes nothing.
 use native.Mathlib.Omega.{arith}
 use borrow.Author.Rules.{rules}
-use Rattle.play_entries.specs.Mounted.{tapeOf}
+use Rattle.play_entries.specs.Mounted.{tape_of}
 use Rattle.ask.proofs.Refusals.{asked}
-use Rattle.ask.proofs.Named.{row_inside, name-refused, name-short, name-told}
+use Rattle.ask.proofs.Named.{row_inside, name_refused, name_short, name_told}
 use Rattle.ask.proofs.naming.block_name.Statement.{statement}
 use Rattle.ask.proofs.naming.block_name.Tie as tie
 
@@ -12,12 +12,12 @@ refusal-requires c κs = search rules
 
 returns : tie.Need-returns
 returns c =
-    name-refused _ _ _ _ c.before.refusal.ensures c.if1.true
+    name_refused _ _ _ _ c.before.refusal.ensures c.if1.true
 
 block-at-requires : tie.Need-block-at-requires
 block-at-requires c κs =
     let a = c.before.before.before.before.before.before.args in
-    let q = asked (tapeOf a.tape.now a.tones.now a.blocks.now a.count) a.i _ c.before.refusal.ensures
+    let q = asked (tape_of a.tape.now a.tones.now a.blocks.now a.count) a.i _ c.before.refusal.ensures
     c.if1.false in
     omega arith
 
@@ -27,7 +27,7 @@ slice-aggregate-put-name c = search rules
 put-name-requires : tie.Need-put-name-requires
 put-name-requires c κs =
     let a = c.before.before.before.before.before.before.before.before.args in
-    let w = tapeOf a.tape.now a.tones.now a.blocks.now a.count in
+    let w = tape_of a.tape.now a.tones.now a.blocks.now a.count in
     let q = asked w a.i _ c.before.before.before.refusal.ensures c.before.before.if1.false in
     let n = row_inside w a.i _ c.before.block_at.ensures q.well in
     ((n.body, n.name), omega (arith, n.short))
@@ -37,15 +37,15 @@ returns-2 c =
     let n = c.before.before in
     let if1 = n.before.before.before in
     let s = if1.before.before.before.before.before.before in
-    let w = tapeOf s.args.tape.now s.args.tones.now s.args.blocks.now s.args.count in
-    name-short w s.args.i _ if1.before.refusal.ensures if1.if1.false _ n.before.before.block_at.ensures
+    let w = tape_of s.args.tape.now s.args.tones.now s.args.blocks.now s.args.count in
+    name_short w s.args.i _ if1.before.refusal.ensures if1.if1.false _ n.before.before.block_at.ensures
     s.args.out.now n.put-name.ensures (omega arith)
 
 put-name-requires-2 : tie.Need-put-name-requires-2
 put-name-requires-2 c κs =
     let block_at = c.before.before.before.before.before in
     let a = block_at.before.before.before.before.before.before.before.args in
-    let w = tapeOf a.tape.now a.tones.now a.blocks.now a.count in
+    let w = tape_of a.tape.now a.tones.now a.blocks.now a.count in
     let q = asked w a.i _ block_at.before.before.refusal.ensures block_at.before.if1.false in
     let n = row_inside w a.i _ block_at.block_at.ensures q.well in
     ((n.body, n.name), omega (arith, n.short))
@@ -58,8 +58,8 @@ returns-3 c =
     let n = c.before.before.before.before.before.before in
     let if1 = n.before.before.before in
     let s = if1.before.before.before.before.before.before in
-    let w = tapeOf s.args.tape.now s.args.tones.now s.args.blocks.now s.args.count in
-    name-told w s.args.i _ if1.before.refusal.ensures if1.if1.false _ n.before.before.block_at.ensures
+    let w = tape_of s.args.tape.now s.args.tones.now s.args.blocks.now s.args.count in
+    name_told w s.args.i _ if1.before.refusal.ensures if1.if1.false _ n.before.before.block_at.ensures
     n.put-name.ensures c.before.before.put-name2.ensures (omega arith)
 
 pub block-name-spec : {M : Type 1} → statement M

@@ -6,18 +6,18 @@ use native.Mathlib.Omega.{arith}
 use lib.ListN.{length}
 use Rattle.load_state.specs.Parser.{empty}
 use Rattle.load_state.specs.Holds.{goes}
-use Rattle.cut_grammar.proofs.Cutting.{cut-forward}
-use Rattle.load_source.specs.Source.{tzxOf, tzxSee, foldFrom}
+use Rattle.cut_grammar.proofs.Cutting.{cut_forward}
+use Rattle.load_source.specs.Source.{tzx_of, tzx_see, fold_from}
 use Rattle.load_blocks.specs.Does.{lent_of}
-use Rattle.load_source.proofs.Rest.{Rest, rest-begins, rest_over, rest-bad, rest-refuses, rest-no, rest-on, tzx-stops, tzx-sees}
-use Rattle.load_source.proofs.Rest.{sees-piece, blank-holds, cut-fit}
+use Rattle.load_source.proofs.Rest.{Rest, rest_begins, rest_over, rest-bad, rest-refuses, rest-no, rest-on, tzx-stops, tzx_sees}
+use Rattle.load_source.proofs.Rest.{sees_piece, blank_holds, cut_fit}
 use Rattle.load_source.proofs.run.read_pieces.Statement.{statement}
 use Rattle.load_source.proofs.run.read_pieces.Tie as tie
 
 abbrev invariant-loop : tie.invariant-loop
 invariant-loop tape model blocks₀ tones₀ s₀ at₀ blocks tones s at =
-    let see = tzxSee (lent_of (length blocks₀) (length tones₀)) tape model in
-    Rest (length tape) see (length blocks₀) (length tones₀) at s blocks tones (foldFrom see (length tape) 10 empty)
+    let see = tzx_see (lent_of (length blocks₀) (length tones₀)) tape model in
+    Rest (length tape) see (length blocks₀) (length tones₀) at s blocks tones (fold_from see (length tape) 10 empty)
 
 abbrev decreases-loop : tie.decreases-loop
 decreases-loop tape model blocks₀ tones₀ s₀ at₀ blocks tones s at = length tape - at
@@ -30,8 +30,8 @@ loop-holds : tie.Need-loop-init invariant-loop decreases-loop
 loop-holds c =
     let a = c.before.before.before.before.args in
     let pre = c.before.before.before.before.requires in
-    rest-begins 10 (tzx-stops (lent_of (length a.blocks.now) (length a.tones.now)) a.tape.now a.model)
-    (blank-holds pre.0 pre.1 (c.new-state.ensures _ _))
+    rest_begins 10 (tzx-stops (lent_of (length a.blocks.now) (length a.tones.now)) a.tape.now a.model)
+    (blank_holds pre.0 pre.1 (c.new-state.ensures _ _))
 
 cut-requires : tie.Need-cut-requires invariant-loop decreases-loop
 cut-requires c κs =
@@ -43,18 +43,18 @@ enum_told c =
 
 same_length : tie.Need-same-length invariant-loop decreases-loop
 same_length c =
-    c.before.before.before.before.loop.invariant.holds.lenB
+    c.before.before.before.before.loop.invariant.holds.len_b
 
 same-length-2 : tie.Need-same-length-2 invariant-loop decreases-loop
 same-length-2 c =
-    c.before.before.before.before.loop.invariant.holds.lenT
+    c.before.before.before.before.loop.invariant.holds.len_t
 
 returns : tie.Need-returns invariant-loop decreases-loop
-unfolding tzxOf
+unfolding tzx_of
 returns c =
     let a = c.before.before.before.before.before.before.before.before.before.args in
     let l = c.before.before.before.before.loop in
-    rest_over l.invariant (tzx-sees (lent_of (length a.blocks.now) (length a.tones.now)) a.tape.now a.model l.at
+    rest_over l.invariant (tzx_sees (lent_of (length a.blocks.now) (length a.tones.now)) a.tape.now a.model l.at
     (sym c.enum_told.given.1 ∙ c.before.before.cut.ensures))
 
 enum-known-kind : tie.Need-enum-known-kind invariant-loop decreases-loop
@@ -67,7 +67,7 @@ act-requires c κs =
     let loop = kind.before.before.before.before in
     let shared-slice-known = loop.before.before.before.before in
     let a = shared-slice-known.before.args in
-    cut-fit a.tape.now loop.loop.at _ (λ i. (shared-slice-known.shared-slice-known.given i).fits)
+    cut_fit a.tape.now loop.loop.at _ (λ i. (shared-slice-known.shared-slice-known.given i).fits)
     (sym kind.before.before.cut.ensures ∙ kind.kind.given.1)
 
 enum-known-after : tie.Need-enum-known-after invariant-loop decreases-loop
@@ -79,7 +79,7 @@ loop-less c =
     let kind = c.before.before.before.before.before.before.before.before.before.before.before in
     let loop-test = kind.before.before.before in
     let a = loop-test.before.before.before.before.before.before.args in
-    let f = cut-forward a.tape.now loop-test.before.loop.at 255
+    let f = cut_forward a.tape.now loop-test.before.loop.at 255
     (sym kind.before.before.cut.ensures ∙ kind.kind.given.1) in
     omega (arith, f.0, loop-test.loop-test.true)
 
@@ -90,8 +90,8 @@ loop-again c =
     let a = kind.before.before.before.before.before.before.before.before.before.args in
     let l = kind.before.before.before.before.loop in
     let q = sym kind.kind.given.1 ∙ kind.before.before.cut.ensures in
-    rest-on l.invariant (sees-piece (lent_of (length a.blocks.now) (length a.tones.now)) a.tape.now a.model l.at q)
-    (act.act.ensures _ _ l.invariant.here l.invariant.holds) c.before.after.given.1 (cut-forward a.tape.now l.at 255 (sym q)).0
+    rest-on l.invariant (sees_piece (lent_of (length a.blocks.now) (length a.tones.now)) a.tape.now a.model l.at q)
+    (act.act.ensures _ _ l.invariant.here l.invariant.holds) c.before.after.given.1 (cut_forward a.tape.now l.at 255 (sym q)).0
 
 enum-known-k : tie.Need-enum-known-k invariant-loop decreases-loop
 enum-known-k c =
@@ -105,13 +105,13 @@ same-length-3 : tie.Need-same-length-3 invariant-loop decreases-loop
 same-length-3 c =
     let act = c.before.before.before.before.before.before.before.before in
     let loop = act.before.before.before.before.before.before.before.before in
-    act.act.auto.1.1.1.0 ∙ loop.loop.invariant.holds.lenB
+    act.act.auto.1.1.1.0 ∙ loop.loop.invariant.holds.len_b
 
 same-length-4 : tie.Need-same-length-4 invariant-loop decreases-loop
 same-length-4 c =
     let act = c.before.before.before.before.before.before.before.before in
     let loop = act.before.before.before.before.before.before.before.before in
-    act.act.auto.1.1.1.1.0 ∙ loop.loop.invariant.holds.lenT
+    act.act.auto.1.1.1.1.0 ∙ loop.loop.invariant.holds.len_t
 
 returns-2 : tie.Need-returns-2 invariant-loop decreases-loop
 returns-2 c =
@@ -120,7 +120,7 @@ returns-2 c =
     let a = kind.before.before.before.before.before.before.before.before.before.args in
     let l = kind.before.before.before.before.loop in
     let q = sym kind.kind.given.1 ∙ kind.before.before.cut.ensures in
-    rest-no l.invariant (sees-piece (lent_of (length a.blocks.now) (length a.tones.now)) a.tape.now a.model l.at q)
+    rest-no l.invariant (sees_piece (lent_of (length a.blocks.now) (length a.tones.now)) a.tape.now a.model l.at q)
     (act.act.ensures _ _ l.invariant.here l.invariant.holds) c.before.before.k.given.1 (c.halted.ensures _ _ _ _)
 
 enum-told-2 : tie.Need-enum-told-2 invariant-loop decreases-loop
@@ -136,11 +136,11 @@ loop-less-2 c =
     search rules
 
 loop-again-2 : tie.Need-loop-preserved-2 invariant-loop decreases-loop
-unfolding tzxOf
+unfolding tzx_of
 loop-again-2 c =
     let a = c.before.before.before.before.before.before.before.before.before.args in
     let l = c.before.before.before.before.loop in
-    rest-on l.invariant (tzx-sees (lent_of (length a.blocks.now) (length a.tones.now)) a.tape.now a.model l.at
+    rest-on l.invariant (tzx_sees (lent_of (length a.blocks.now) (length a.tones.now)) a.tape.now a.model l.at
     (sym c.enum-told2.given.1 ∙ c.before.before.cut.ensures)) (goes l.invariant.holds) refl (omega arith)
 
 enum-known-kind-2 : tie.Need-enum-known-kind-2 invariant-loop decreases-loop
@@ -149,19 +149,19 @@ enum-known-kind-2 c =
 
 same-length-5 : tie.Need-same-length-5 invariant-loop decreases-loop
 same-length-5 c =
-    c.before.before.before.before.before.loop.invariant.holds.lenB
+    c.before.before.before.before.before.loop.invariant.holds.len_b
 
 same-length-6 : tie.Need-same-length-6 invariant-loop decreases-loop
 same-length-6 c =
-    c.before.before.before.before.before.loop.invariant.holds.lenT
+    c.before.before.before.before.before.loop.invariant.holds.len_t
 
 returns-3 : tie.Need-returns-3 invariant-loop decreases-loop
-unfolding tzxOf
+unfolding tzx_of
 returns-3 c =
     let cut = c.before.before.before in
     let a = cut.before.before.before.before.before.before.before.args in
     let l = cut.before.before.loop in
-    rest-bad l.invariant (tzx-sees (lent_of (length a.blocks.now) (length a.tones.now)) a.tape.now a.model l.at
+    rest-bad l.invariant (tzx_sees (lent_of (length a.blocks.now) (length a.tones.now)) a.tape.now a.model l.at
     (sym c.before.kind2.given.1 ∙ cut.cut.ensures))
 
 enum-told-3 : tie.Need-enum-told-3 invariant-loop decreases-loop
@@ -170,27 +170,27 @@ enum-told-3 c =
 
 same-length-7 : tie.Need-same-length-7 invariant-loop decreases-loop
 same-length-7 c =
-    c.before.before.before.before.loop.invariant.holds.lenB
+    c.before.before.before.before.loop.invariant.holds.len_b
 
 same-length-8 : tie.Need-same-length-8 invariant-loop decreases-loop
 same-length-8 c =
-    c.before.before.before.before.loop.invariant.holds.lenT
+    c.before.before.before.before.loop.invariant.holds.len_t
 
 returns-4 : tie.Need-returns-4 invariant-loop decreases-loop
-unfolding tzxOf
+unfolding tzx_of
 returns-4 c =
     let a = c.before.before.before.before.before.before.before.before.before.args in
     let l = c.before.before.before.before.loop in
-    rest-refuses l.invariant (tzx-sees (lent_of (length a.blocks.now) (length a.tones.now)) a.tape.now a.model l.at
+    rest-refuses l.invariant (tzx_sees (lent_of (length a.blocks.now) (length a.tones.now)) a.tape.now a.model l.at
     (sym c.enum-told3.given.1 ∙ c.before.before.cut.ensures))
 
 same-length-9 : tie.Need-same-length-9 invariant-loop decreases-loop
 same-length-9 c =
-    c.before.loop.invariant.holds.lenB
+    c.before.loop.invariant.holds.len_b
 
 same-length-10 : tie.Need-same-length-10 invariant-loop decreases-loop
 same-length-10 c =
-    c.before.loop.invariant.holds.lenT
+    c.before.loop.invariant.holds.len_t
 
 returns-5 : tie.Need-returns-5 invariant-loop decreases-loop
 returns-5 c =

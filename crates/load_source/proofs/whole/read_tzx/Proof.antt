@@ -1,5 +1,5 @@
 -- `read_tzx` meets its contract. Assumes nothing.
-use Rattle.load_source.proofs.Judged.{done-room, judged-seven, judged-done, judged-failed, judged-refused, tzx-headed}
+use Rattle.load_source.proofs.Judged.{done_room, judged_seven, judged-done, judged-failed, judged-refused, tzx-headed}
 use Rattle.load_blocks.specs.Does.{lent_of}
 use Rattle.load_source.specs.Does.{fails}
 use Rattle.load_source.specs.Source.{headed}
@@ -23,7 +23,7 @@ enum-known-s c = search rules
 
 too-many-bits-requires : tie.Need-too-many-bits-requires
 too-many-bits-requires c κs =
-    done-room c.before.before.before.before.before.before.before.before.read-pieces.ensures c.before.before.s.given.1
+    done_room c.before.before.before.before.before.before.before.before.read-pieces.ensures c.before.before.s.given.1
 
 enum-known-f : tie.Need-enum-known-f
 enum-known-f c = search rules
@@ -52,7 +52,7 @@ returns c =
     let a = told.before.before.before.before.before.before.args in
     rw (tzx-headed (lent_of (length a.blocks.now) (length a.tones.now)) a.tape.now a.model
     (sym told.enum_told.given.1 ∙ told.before.before.head.ensures))
-    (judged-seven read-pieces.read-pieces.ensures s.s.given.1 c.before.too-many-bits.ensures c.if1.true)
+    (judged_seven read-pieces.read-pieces.ensures s.s.given.1 c.before.too-many-bits.ensures c.if1.true)
 
 same-length-3 : tie.Need-same-length-3
 same-length-3 c = search rules

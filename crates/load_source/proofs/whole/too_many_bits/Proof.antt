@@ -1,6 +1,6 @@
 -- `too_many_bits` meets its contract. Assumes nothing.
-use Rattle.load_source.proofs.Judged.{bits-turn, bits_none}
-use Rattle.load_source.specs.Source.{tooManyBits}
+use Rattle.load_source.proofs.Judged.{bits_turn, bits_none}
+use Rattle.load_source.specs.Source.{too_many_bits}
 use Rattle.rows.specs.Rows.{block}
 use Rattle.rows.specs.Table.{table_of}
 use Rattle.rows.specs.declared.Block.{Block}
@@ -16,7 +16,7 @@ use Rattle.load_source.proofs.whole.too_many_bits.Tie as tie
 abbrev invariant-loop : tie.invariant-loop
 invariant-loop blocks n i₀ i =
     (i ≤ n)
-    × ((B : ℕ) (rs : List Block) → n ≡ length rs → blocks ≡ table_of block rs B → tooManyBits (drop i rs) ≡ tooManyBits rs)
+    × ((B : ℕ) (rs : List Block) → n ≡ length rs → blocks ≡ table_of block rs B → too_many_bits (drop i rs) ≡ too_many_bits rs)
 
 abbrev decreases-loop : tie.decreases-loop
 decreases-loop blocks n i₀ i = n - i
@@ -35,7 +35,7 @@ too-many-requires c κs = search rules
 returns : tie.Need-returns invariant-loop decreases-loop
 returns c =
     let loop-test = c.before.before.before in
-    λ B rs k e. sym (rw c.if1.true at (bits-turn B rs loop-test.before.loop.i e (omega (arith, k, loop-test.loop-test.true))
+    λ B rs k e. sym (rw c.if1.true at (bits_turn B rs loop-test.before.loop.i e (omega (arith, k, loop-test.loop-test.true))
     c.before.before.block_at.ensures c.before.too_many.ensures))
     ∙ loop-test.before.loop.invariant.1 B rs k e
 
@@ -49,7 +49,7 @@ loop-again : tie.Need-loop-preserved invariant-loop decreases-loop
 loop-again c =
     let loop-test = c.before.before.before in (
       omega (arith, loop-test.loop-test.true),
-      λ B rs k e. sym (rw c.if1.false at (bits-turn B rs loop-test.before.loop.i e (omega (arith, k, loop-test.loop-test.true))
+      λ B rs k e. sym (rw c.if1.false at (bits_turn B rs loop-test.before.loop.i e (omega (arith, k, loop-test.loop-test.true))
           c.before.before.block_at.ensures c.before.too_many.ensures))
           ∙ loop-test.before.loop.invariant.1 B rs k e,
     )

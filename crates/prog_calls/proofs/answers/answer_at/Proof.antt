@@ -3,7 +3,7 @@ use Prim.Native.Nat.{ℕ, ◌*◌}
 use native.Mathlib.Nat.{add-sub_cancel_left}
 use mathlib.Core.Path.{ap, ◌∙◌}
 use lib.ListN.{take, drop}
-use Rattle.host_run.specs.Rows.{answerRow, decodeAnswer}
+use Rattle.host_run.specs.Rows.{answer_row, decode_answer}
 use borrow.Author.Rules.{rules}
 use Rattle.prog_calls.proofs.answers.answer_at.Statement.{statement}
 use Rattle.prog_calls.proofs.answers.answer_at.Tie as tie
@@ -31,9 +31,9 @@ row-from-requires c κs = search rules
 
 returns : tie.Need-returns
 returns c =
-    let W = answerRow.width in
+    let W = answer_row.width in
     let a = c.before.before.before.args in
-    c.row_from.ensures ∙ ap (λ (k : ℕ). decodeAnswer (take k (drop (a.i * W) a.t.now))) (add-sub_cancel_left (a.i * W) W)
+    c.row_from.ensures ∙ ap (λ (k : ℕ). decode_answer (take k (drop (a.i * W) a.t.now))) (add-sub_cancel_left (a.i * W) W)
 
 pub answer-at-spec : {M : Type 1} → statement M
 answer-at-spec =

@@ -1,5 +1,5 @@
 -- `place_in` meets its contract. Assumes nothing.
-use Rattle.prog_calls.specs.Answers.{orStart, place_in}
+use Rattle.prog_calls.specs.Answers.{or_start, place_in}
 use borrow.Author.Rules.{rules}
 use Rattle.prog_calls.proofs.answers.place_in.Statement.{statement}
 use Rattle.prog_calls.proofs.answers.place_in.Tie as tie
@@ -20,12 +20,12 @@ new-at-block-requires : tie.Need-new-at-block-requires
 new-at-block-requires c κs = search rules
 
 returns : tie.Need-returns
-unfolding place_in orStart
+unfolding place_in or_start
 returns c =
     rw (← c.before.before.before.position_from.ensures, c.before.q.given.1)
 
 returns-2 : tie.Need-returns-2
-unfolding place_in orStart
+unfolding place_in or_start
 returns-2 c =
     rw (← c.before.before.before.position_from.ensures, c.before.enum_told.given.1) c.new-at-block.ensures
 

@@ -2,8 +2,8 @@
 use native.Mathlib.Omega.{arith}
 use borrow.Author.Rules.{rules}
 use Rattle.text_out.proofs.Writing.{decimal-length, then}
-use Rattle.text_listing.proofs.PageTexts.{format-long}
-use Rattle.text_listing.specs.Page.{countText}
+use Rattle.text_listing.proofs.PageTexts.{format_long}
+use Rattle.text_listing.specs.Page.{count_text}
 use Rattle.text_listing.proofs.page.put_count.Statement.{statement}
 use Rattle.text_listing.proofs.page.put_count.Tie as tie
 
@@ -24,7 +24,7 @@ put-all-requires-2 c κs =
     let put-format = c.before.before.before.before in
     let put_all_lem = put-format.before.before.before.before in
     let start = put_all_lem.before.before.before.before in
-    omega (arith, start.requires, put_all_lem.put_all_lem.ensures.count, put-format.put-format.ensures.count, format-long start.args.format)
+    omega (arith, start.requires, put_all_lem.put_all_lem.ensures.count, put-format.put-format.ensures.count, format_long start.args.format)
 
 put-decimal-requires : tie.Need-put-decimal-requires
 put-decimal-requires c κs =
@@ -37,7 +37,7 @@ put-decimal-requires c κs =
       start.requires,
       put_all_lem.put_all_lem.ensures.count,
       put-format.put-format.ensures.count,
-      format-long start.args.format,
+      format_long start.args.format,
       put-all2.put-all2.ensures.count,
     )
 
@@ -53,7 +53,7 @@ put-requires c κs =
       start.requires,
       put_all_lem.put_all_lem.ensures.count,
       put-format.put-format.ensures.count,
-      format-long start.args.format,
+      format_long start.args.format,
       put-all2.put-all2.ensures.count,
       put-decimal.put-decimal.ensures.count,
       decimal-length start.args.n,
@@ -63,7 +63,7 @@ same_length : tie.Need-same-length
 same_length c = search rules
 
 returns : tie.Need-returns
-unfolding countText
+unfolding count_text
 returns c =
     let put-decimal = c.before.before.before.before.before.before in
     let put-all2 = put-decimal.before.before.before.before in

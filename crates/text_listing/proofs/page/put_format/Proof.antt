@@ -1,6 +1,6 @@
 -- `put_format` meets its contract: each arm is one format. Assumes nothing.
 use borrow.Author.Rules.{rules}
-use Rattle.text_listing.specs.Page.{formatText}
+use Rattle.text_listing.specs.Page.{format_text}
 use Rattle.text_listing.proofs.page.put_format.Statement.{statement}
 use Rattle.text_listing.proofs.page.put_format.Tie as tie
 
@@ -26,7 +26,7 @@ same_length : tie.Need-same-length
 same_length c = search rules
 
 returns : tie.Need-returns
-unfolding formatText
+unfolding format_text
 returns c =
     rw c.before.before.before.before.before.enum_told.given.1 c.before.before.put_all_lem.ensures
 
@@ -34,7 +34,7 @@ same-length-2 : tie.Need-same-length-2
 same-length-2 c = search rules
 
 returns-2 : tie.Need-returns-2
-unfolding formatText
+unfolding format_text
 returns-2 c =
     rw c.before.before.before.before.before.enum-told2.given.1 c.before.before.put-all2.ensures
 

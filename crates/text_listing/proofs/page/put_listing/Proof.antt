@@ -2,9 +2,9 @@
 use native.Mathlib.Omega.{arith}
 use mathlib.Core.List.{[]}
 use borrow.Author.Rules.{rules}
-use Rattle.play_entries.specs.Mounted.{tapeOf}
+use Rattle.play_entries.specs.Mounted.{tape_of}
 use Rattle.text_listing.proofs.Texts.{rows-most}
-use Rattle.text_listing.proofs.PageTexts.{model-long, count_long, listing-written}
+use Rattle.text_listing.proofs.PageTexts.{model_long, count_long, listing_written}
 use Rattle.text_listing.proofs.page.put_listing.Statement.{statement}
 use Rattle.text_listing.proofs.page.put_listing.Tie as tie
 
@@ -22,7 +22,7 @@ put-count-requires c κs =
     let put-model = c.before.before.before in
     let put_all_lem = put-model.before.before.before.before in
     let a = put_all_lem.before.before.before.before.before.before.args in
-    omega (arith, put_all_lem.put_all_lem.ensures.count, put-model.put-model.ensures.count, model-long a.model)
+    omega (arith, put_all_lem.put_all_lem.ensures.count, put-model.put-model.ensures.count, model_long a.model)
 
 put-rows-requires : tie.Need-put-rows-requires
 put-rows-requires c κs =
@@ -35,7 +35,7 @@ put-rows-requires c κs =
         arith,
         put_all_lem.put_all_lem.ensures.count,
         put-model.put-model.ensures.count,
-        model-long s.args.model,
+        model_long s.args.model,
         put_count.put_count.ensures.count,
         count_long s.args.format s.args.n,
       ),
@@ -53,7 +53,7 @@ put-total-requires c κs =
       arith,
       put_all_lem.put_all_lem.ensures.count,
       put-model.put-model.ensures.count,
-      model-long a.model,
+      model_long a.model,
       put_count.put_count.ensures.count,
       count_long a.format a.n,
       (put-rows.put-rows.ensures.0 []).count,
@@ -72,7 +72,7 @@ returns c =
     let a = put_all_lem.before.before.before.before.before.before.args in
     let w = c.before.before.before.before.before.before.put-rows in
     λ tones.
-    listing-written a.model a.format (tapeOf a.tape.now tones a.blocks.now a.n) w.result.load.end
+    listing_written a.model a.format (tape_of a.tape.now tones a.blocks.now a.n) w.result.load.end
     (w.ensures.1 tones) put_all_lem.put_all_lem.ensures put-model.put-model.ensures put_count.put_count.ensures
     (w.ensures.0 tones) c.before.before.put-total.ensures
 

@@ -2,7 +2,7 @@
 use native.Mathlib.Omega.{arith}
 use borrow.Author.Tests.{eq-eqb, ne_eqb}
 use borrow.Author.Rules.{rules}
-use Rattle.text_listing.specs.Page.{modelText}
+use Rattle.text_listing.specs.Page.{model_text}
 use Rattle.text_listing.proofs.page.put_model.Statement.{statement}
 use Rattle.text_listing.proofs.page.put_model.Tie as tie
 
@@ -16,7 +16,7 @@ same_length : tie.Need-same-length
 same_length c = search rules
 
 returns : tie.Need-returns
-unfolding modelText
+unfolding model_text
 returns c =
     let a = c.before.before.before.before.before.before.before.args in
     rw (eq-eqb a.model 0 (omega arith)) c.before.before.put_all_lem.ensures
@@ -31,7 +31,7 @@ same-length-2 : tie.Need-same-length-2
 same-length-2 c = search rules
 
 returns-2 : tie.Need-returns-2
-unfolding modelText
+unfolding model_text
 returns-2 c =
     let a = c.before.before.before.before.before.before.before.before.args in
     rw (ne_eqb a.model 0 (omega arith), eq-eqb a.model 1 (omega arith)) c.before.before.put-all2.ensures
@@ -46,7 +46,7 @@ same-length-3 : tie.Need-same-length-3
 same-length-3 c = search rules
 
 returns-3 : tie.Need-returns-3
-unfolding modelText
+unfolding model_text
 returns-3 c =
     let a = c.before.before.before.before.before.before.before.before.args in
     rw (ne_eqb a.model 0 (omega arith), ne_eqb a.model 1 (omega arith)) c.before.before.put-all3.ensures

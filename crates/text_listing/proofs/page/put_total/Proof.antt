@@ -2,7 +2,7 @@
 use native.Mathlib.Omega.{arith}
 use borrow.Author.Rules.{rules}
 use Rattle.text_out.proofs.Writing.{then, decimal-length}
-use Rattle.text_listing.specs.Page.{loadingText}
+use Rattle.text_listing.specs.Page.{loading_text}
 use Rattle.text_listing.proofs.page.put_total.Statement.{statement}
 use Rattle.text_listing.proofs.page.put_total.Tie as tie
 
@@ -26,7 +26,7 @@ same_length : tie.Need-same-length
 same_length c = search rules
 
 returns : tie.Need-returns
-unfolding loadingText
+unfolding loading_text
 returns c =
     let put-decimal = c.before.before.before.before.before.before in
     let put_all_lem = put-decimal.before.before.before.before in

@@ -4,7 +4,7 @@ use native.Mathlib.Omega.{arith}
 use lib.ListN.{length}
 use borrow.Author.Rules.{rules}
 use Rattle.text_out.proofs.Writing.{same_len}
-use Rattle.text_listing.proofs.Showing.{Shows, shows-none, shows-on, shows-over, width_some}
+use Rattle.text_listing.proofs.Showing.{Shows, shows_none, shows_on, shows_over, width_some}
 use Rattle.text_listing.proofs.shown.put_shown.Statement.{statement}
 use Rattle.text_listing.proofs.shown.put_shown.Tie as tie
 
@@ -16,7 +16,7 @@ decreases-loop out₀ at name o₀ i₀ out o i = length name - i
 
 loop-holds : tie.Need-loop-init invariant-loop decreases-loop
 loop-holds c =
-    shows-none _ _ _
+    shows_none _ _ _
 
 is-c1-requires : tie.Need-is-c1-requires invariant-loop decreases-loop
 is-c1-requires c κs =
@@ -45,7 +45,7 @@ add-i c =
     let t = p.before.before.before.before.before in
     let q = p.before.before.before.before.is-c1 in
     let b = p.before.shown-as.ensures in
-    let g = shows-on t.before.loop.invariant t.loop-test.true q.ensures b c.width_of_lem.ensures p.put.ensures in
+    let g = shows_on t.before.loop.invariant t.loop-test.true q.ensures b c.width_of_lem.ensures p.put.ensures in
     omega (arith, g.inside)
 
 loop-less : tie.Need-loop-smaller invariant-loop decreases-loop
@@ -54,7 +54,7 @@ loop-less c =
     let t = p.before.before.before.before.before in
     let q = p.before.before.before.before.is-c1 in
     let b = p.before.shown-as.ensures in
-    let g = shows-on t.before.loop.invariant t.loop-test.true q.ensures b c.width_of_lem.ensures p.put.ensures in
+    let g = shows_on t.before.loop.invariant t.loop-test.true q.ensures b c.width_of_lem.ensures p.put.ensures in
     omega (arith, g.inside, width_some q.result, c.width_of_lem.ensures)
 
 loop-again : tie.Need-loop-preserved invariant-loop decreases-loop
@@ -63,15 +63,15 @@ loop-again c =
     let t = p.before.before.before.before.before in
     let q = p.before.before.before.before.is-c1 in
     let b = p.before.shown-as.ensures in
-    shows-on t.before.loop.invariant t.loop-test.true q.ensures b c.width_of_lem.ensures p.put.ensures
+    shows_on t.before.loop.invariant t.loop-test.true q.ensures b c.width_of_lem.ensures p.put.ensures
 
 same_length : tie.Need-same-length invariant-loop decreases-loop
 same_length c =
-    same_len (shows-over c.before.loop.invariant (omega arith))
+    same_len (shows_over c.before.loop.invariant (omega arith))
 
 returns : tie.Need-returns invariant-loop decreases-loop
 returns c =
-    shows-over c.before.loop.invariant (omega arith)
+    shows_over c.before.loop.invariant (omega arith)
 
 pub put-shown-spec : {M : Type 1} → statement M
 put-shown-spec =

@@ -1,8 +1,8 @@
 -- `put_header` meets its contract: type, `: ` and name one after the other. Assumes nothing.
-use Rattle.text_name.proofs.Headers.{ten-bytes}
+use Rattle.text_name.proofs.Headers.{ten_bytes}
 use Prim.Native.Nat.{◌+◌}
 use lib.ListN.{get_or}
-use Rattle.text_name.proofs.Headers.{as-header, type-length}
+use Rattle.text_name.proofs.Headers.{as_header, type_length}
 use native.Mathlib.Omega.{arith}
 use borrow.Author.Rules.{rules}
 use Rattle.text_name.proofs.header.put_header.Statement.{statement}
@@ -23,7 +23,7 @@ slice-aggregate-put-all c = search rules
 put-all-requires : tie.Need-put-all-requires
 put-all-requires c κs =
     let a = c.before.before.before.before.before.before.before.before.before.args in
-    omega (arith, c.before.before.before.before.put-type.ensures.count, type-length (get_or a.tape.now (a.start + 1) 0))
+    omega (arith, c.before.before.before.before.put-type.ensures.count, type_length (get_or a.tape.now (a.start + 1) 0))
 
 add-put-spelled : tie.Need-overflow-add-put-spelled
 add-put-spelled c = search rules
@@ -47,10 +47,10 @@ put-spelled-requires c κs =
     let a = put-type.before.before.before.before.before.args in
     omega (
       arith,
-      ten-bytes a.tape.now a.start,
+      ten_bytes a.tape.now a.start,
       put_all_lem.put_all_lem.ensures.count,
       put-type.put-type.ensures.count,
-      type-length (get_or a.tape.now (a.start + 1) 0),
+      type_length (get_or a.tape.now (a.start + 1) 0),
     )
 
 same_length : tie.Need-same-length
@@ -60,7 +60,7 @@ returns : tie.Need-returns
 returns c =
     let put_all_lem = c.before.before.before.before.before.before.before in
     let put-type = put_all_lem.before.before.before.before.before in
-    as-header _ _ put-type.put-type.ensures put_all_lem.put_all_lem.ensures c.before.before.put-spelled.ensures
+    as_header _ _ put-type.put-type.ensures put_all_lem.put_all_lem.ensures c.before.before.put-spelled.ensures
 
 pub put-header-spec : {M : Type 1} → statement M
 put-header-spec =

@@ -1,6 +1,6 @@
 -- `put_type` meets its contract: each arm is one rule. Assumes nothing.
-use Rattle.text_name.proofs.Headers.{as-other}
-use Rattle.text_name.specs.Headers.{typeName}
+use Rattle.text_name.proofs.Headers.{as_other}
+use Rattle.text_name.specs.Headers.{type_name}
 use Rattle.text_out.proofs.Writing.{then}
 use mathlib.Core.Path.{◌≡◌}
 use mathlib.Core.Logic.{⊎_elim}
@@ -40,7 +40,7 @@ same_length : tie.Need-same-length
 same_length c = search rules
 
 returns : tie.Need-returns
-unfolding typeName
+unfolding type_name
 returns c =
     rw c.before.before.before.before.before.match.keys1 c.before.before.put_all_lem.ensures
 
@@ -48,7 +48,7 @@ same-length-2 : tie.Need-same-length-2
 same-length-2 c = search rules
 
 returns-2 : tie.Need-returns-2
-unfolding typeName
+unfolding type_name
 returns-2 c =
     rw c.before.before.before.before.before.match.keys2 c.before.before.put-all2.ensures
 
@@ -56,7 +56,7 @@ same-length-3 : tie.Need-same-length-3
 same-length-3 c = search rules
 
 returns-3 : tie.Need-returns-3
-unfolding typeName
+unfolding type_name
 returns-3 c =
     let r = c.before.before.before.before.before in
     let e : r.before.before.before.args.kind ≡ 3 = omega arith in
@@ -69,8 +69,8 @@ returns-4 : tie.Need-returns-4
 returns-4 c =
     let w = then c.before.before.before.before.before.before.put-all4.ensures c.before.before.put-decimal.ensures in
     ⊎_elim
-    (λ k. as-other _ (omega (arith, k.keys3)) (omega (arith, k.keys3)) (omega (arith, k.keys3)) w)
-    (λ k. as-other _ (omega (arith, k.1.left)) (omega (arith, k.1.left)) (omega (arith, k.1.left)) w)
+    (λ k. as_other _ (omega (arith, k.keys3)) (omega (arith, k.keys3)) (omega (arith, k.keys3)) w)
+    (λ k. as_other _ (omega (arith, k.1.left)) (omega (arith, k.1.left)) (omega (arith, k.1.left)) w)
     c.before.before.before.before.before.before.before.before.before.match.branch
 
 pub put-type-spec : {M : Type 1} → statement M

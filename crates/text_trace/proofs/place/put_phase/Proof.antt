@@ -1,5 +1,5 @@
 -- `put_phase` meets its contract. Assumes nothing.
-use Rattle.text_trace.specs.Places.{phaseText}
+use Rattle.text_trace.specs.Places.{phase_text}
 use Rattle.text_out.proofs.Writing.{then}
 use borrow.Author.Rules.{rules}
 use Rattle.text_trace.proofs.place.put_phase.Statement.{statement}
@@ -60,7 +60,7 @@ same_length : tie.Need-same-length
 same_length c = search rules
 
 returns : tie.Need-returns
-unfolding phaseText
+unfolding phase_text
 returns c =
     rw c.before.before.before.before.before.enum_told.given.1 c.before.before.put_all_lem.ensures
 
@@ -68,7 +68,7 @@ same-length-2 : tie.Need-same-length-2
 same-length-2 c = search rules
 
 returns-2 : tie.Need-returns-2
-unfolding phaseText
+unfolding phase_text
 returns-2 c =
     let put-all2 = c.before.before.before.before.before.before in
     let f = put-all2.before.before.before.before in
@@ -78,7 +78,7 @@ same-length-3 : tie.Need-same-length-3
 same-length-3 c = search rules
 
 returns-3 : tie.Need-returns-3
-unfolding phaseText
+unfolding phase_text
 returns-3 c =
     let put-all3 = c.before.before.before.before.before.before in
     let f2 = put-all3.before.before.before.before in
@@ -88,7 +88,7 @@ same-length-4 : tie.Need-same-length-4
 same-length-4 c = search rules
 
 returns-4 : tie.Need-returns-4
-unfolding phaseText
+unfolding phase_text
 returns-4 c =
     rw c.before.before.before.before.before.enum-told2.given.1 c.before.before.put-all4.ensures
 
@@ -96,7 +96,7 @@ same-length-5 : tie.Need-same-length-5
 same-length-5 c = search rules
 
 returns-5 : tie.Need-returns-5
-unfolding phaseText
+unfolding phase_text
 returns-5 c =
     rw c.before.before.before.before.before.enum-told3.given.1 c.before.before.put-all5.ensures
 

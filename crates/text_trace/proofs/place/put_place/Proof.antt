@@ -1,6 +1,6 @@
 -- `put_place` meets its contract. Assumes nothing.
-use Rattle.text_trace.specs.Places.{placeText}
-use Rattle.text_trace.proofs.PlaceLengths.{phase-length}
+use Rattle.text_trace.specs.Places.{place_text}
+use Rattle.text_trace.proofs.PlaceLengths.{phase_length}
 use Rattle.text_out.proofs.Writing.{decimal-length}
 use native.Mathlib.Omega.{arith}
 use Rattle.text_out.proofs.Writing.{then}
@@ -36,14 +36,14 @@ put-rest-requires c κs =
       decimal-length s.args.s.position.block,
       put.put.ensures.count,
       put-phase.put-phase.ensures.count,
-      phase-length s.args.s.position.phase,
+      phase_length s.args.s.position.phase,
     )
 
 same_length : tie.Need-same-length
 same_length c = search rules
 
 returns : tie.Need-returns
-unfolding placeText
+unfolding place_text
 returns c =
     let put-phase = c.before.before.before.before.before.before in
     let put = put-phase.before.before.before.before in

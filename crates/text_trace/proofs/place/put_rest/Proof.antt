@@ -1,6 +1,6 @@
 -- `put_rest` meets its contract. Assumes nothing.
-use Rattle.text_trace.specs.Places.{leftText}
-use Rattle.text_value.proofs.Lengths.{duration-length}
+use Rattle.text_trace.specs.Places.{left_text}
+use Rattle.text_value.proofs.Lengths.{duration_length}
 use native.Mathlib.Omega.{arith}
 use Rattle.text_out.proofs.Writing.{then}
 use borrow.Author.Rules.{rules}
@@ -24,7 +24,7 @@ put-all-requires-2 c κs =
     let put-duration = c.before.before.before.before in
     let put_all_lem = put-duration.before.before.before.before in
     let a = put_all_lem.before.before.before.before.args in
-    omega (arith, put_all_lem.put_all_lem.ensures.count, put-duration.put-duration.ensures.count, duration-length a.left)
+    omega (arith, put_all_lem.put_all_lem.ensures.count, put-duration.put-duration.ensures.count, duration_length a.left)
 
 put-flag-requires : tie.Need-put-flag-requires
 put-flag-requires c κs =
@@ -36,7 +36,7 @@ put-flag-requires c κs =
       arith,
       put_all_lem.put_all_lem.ensures.count,
       put-duration.put-duration.ensures.count,
-      duration-length a.left,
+      duration_length a.left,
       put-all2.put-all2.ensures.count,
     )
 
@@ -44,7 +44,7 @@ same_length : tie.Need-same-length
 same_length c = search rules
 
 returns : tie.Need-returns
-unfolding leftText
+unfolding left_text
 returns c =
     let put-all2 = c.before.before.before.before.before.before in
     let put-duration = put-all2.before.before.before.before.before in

@@ -1,6 +1,6 @@
 -- `put_bits` meets its contract. Assumes nothing.
 use Rattle.text_view.proofs.Parts.{field_next}
-use Rattle.text_view.specs.Dump.{bitsText}
+use Rattle.text_view.specs.Dump.{bits_text}
 use Rattle.text_out.proofs.Writing.{then}
 use native.Mathlib.Omega.{arith}
 use borrow.Author.Rules.{rules}
@@ -33,7 +33,7 @@ same_length : tie.Need-same-length
 same_length c = search rules
 
 returns : tie.Need-returns
-unfolding bitsText
+unfolding bits_text
 returns c =
     let put-field2 = c.before.before.before.before.before.before.before in
     let put-field = put-field2.before.before.before.before.before in

@@ -1,6 +1,6 @@
 -- `put_end` meets its contract. Assumes nothing.
-use Rattle.text_view.proofs.Parts.{pause-next}
-use Rattle.text_view.specs.Dump.{endText}
+use Rattle.text_view.proofs.Parts.{pause_next}
+use Rattle.text_view.specs.Dump.{end_text}
 use Rattle.text_out.proofs.Writing.{then}
 use native.Mathlib.Omega.{arith}
 use borrow.Author.Rules.{rules}
@@ -23,13 +23,13 @@ put-all-requires-2 : tie.Need-put-all-requires-2
 put-all-requires-2 c κs =
     let put-duration = c.before.before.before.before in
     let put_all_lem = put-duration.before.before.before.before in
-    omega (arith, put_all_lem.put_all_lem.ensures.count, pause-next _ put-duration.put-duration.ensures)
+    omega (arith, put_all_lem.put_all_lem.ensures.count, pause_next _ put-duration.put-duration.ensures)
 
 same_length : tie.Need-same-length
 same_length c = search rules
 
 returns : tie.Need-returns
-unfolding endText
+unfolding end_text
 returns c =
     let put-duration = c.before.before.before.before.before.before.before in
     let put_all_lem = put-duration.before.before.before.before in

@@ -1,6 +1,6 @@
 -- `put_mark` meets its contract. Assumes nothing.
-use Rattle.text_view.proofs.Parts.{decimal-next}
-use Rattle.text_view.specs.Dump.{selText}
+use Rattle.text_view.proofs.Parts.{decimal_next}
+use Rattle.text_view.specs.Dump.{sel_text}
 use Rattle.text_out.proofs.Writing.{then}
 use native.Mathlib.Omega.{arith}
 use borrow.Author.Rules.{rules}
@@ -15,19 +15,19 @@ slice-aggregate-put-all c = search rules
 
 put-all-requires : tie.Need-put-all-requires
 put-all-requires c κs =
-    omega (arith, decimal-next _ c.before.before.before.before.put-decimal.ensures)
+    omega (arith, decimal_next _ c.before.before.before.before.put-decimal.ensures)
 
 put-flag-requires : tie.Need-put-flag-requires
 put-flag-requires c κs =
     let put_all_lem = c.before.before.before in
     let put-decimal = put_all_lem.before.before.before.before.before in
-    omega (arith, decimal-next _ put-decimal.put-decimal.ensures, put_all_lem.put_all_lem.ensures.count)
+    omega (arith, decimal_next _ put-decimal.put-decimal.ensures, put_all_lem.put_all_lem.ensures.count)
 
 same_length : tie.Need-same-length
 same_length c = search rules
 
 returns : tie.Need-returns
-unfolding selText
+unfolding sel_text
 returns c =
     let put_all_lem = c.before.before.before.before.before.before in
     let put-decimal = put_all_lem.before.before.before.before.before in

@@ -1,4 +1,6 @@
 // The queries of a mounted tape: what each answers, its refusals, the count, and of a block its size, mark and time.
+#![tactic(auto)]
+
 mod loading;
 mod naming;
 
@@ -17,21 +19,21 @@ use refusals::{BAD_ROW, NO_BLOCK};
 use rows::{block_at, block_capacity};
 
 // A number, or the refusal's alone.
-#[derive(Drop)]
+#[derive(Clone, Copy)]
 pub enum Number {
     Is(u64),
     Refused(u32),
 }
 
 // A selectable mark, or the refusal's number alone.
-#[derive(Drop)]
+#[derive(Clone, Copy)]
 pub enum Mark {
     Is(bool),
     Refused(u32),
 }
 
 // What a block lasts, or the refusal's number alone.
-#[derive(Drop)]
+#[derive(Clone, Copy)]
 pub enum Time {
     Lasts(Duration),
     Refused(u32),

@@ -1,4 +1,6 @@
 // What stands after a kind byte: a function for each kind that has fields, but 19.
+#![tactic(auto)]
+
 ghost use Rattle.std.specs.Prelude.{◌≡◌};
 ghost use Rattle.cut_grammar.specs.Grammar.{texts_at, read_at};
 ghost use Rattle.cut_grammar.specs.Kinds.{kind10, kind11, kind12, kind13, kind14, kind20, kind21, kind24, kind_2a, kind30, kind31, info32};

@@ -1,4 +1,6 @@
 // What stands after the kind byte of 19: its numbers, its four tables, and the test of its data bits.
+#![tactic(auto)]
+
 ghost use Rattle.std.specs.Prelude.{◌≡◌, ◌-◌};
 ghost use Rattle.cut_grammar.specs.Grammar.{read_at, bits_of, or_full, held_if};
 ghost use Rattle.cut_grammar.specs.Kinds.{stream19, kind19};

@@ -1,18 +1,20 @@
 // Little-endian fields of a tape, read with a cursor that keeps the first field that came up short.
+#![tactic(auto)]
+
 ghost use Rattle.std.specs.Prelude.{◌≡◌, ◌+◌, ◌≤◌, length, leb};
 ghost use Rattle.cut_fields.specs.declared.Cursor.TheVariants.{At};
 ghost use Rattle.cut_fields.specs.Field.{le_at, number_at, field_at, place_of};
 ghost use Rattle.cut_fields.specs.Run.{Wholes, each_at, groups_at};
 
 // A place, or the place and the width of the first field in reading order that came up short.
-#[derive(Drop)]
+#[derive(Clone, Copy)]
 pub enum Cursor {
     At(u64),
     Short(u64, u64),
 }
 
 // A field's number, and the cursor past it.
-#[derive(Drop)]
+#[derive(Clone, Copy)]
 pub struct Read {
     pub value: u32,
     pub cursor: Cursor,

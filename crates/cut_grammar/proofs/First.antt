@@ -180,6 +180,9 @@ meets_first (short t h i) (this u) = (refl, (h, i))
 meets_first (short t h i) (later u m) = absurd (omega arith)
 meets_first (past t m) (this u) = absurd (omega arith)
 meets_first (past t m) (later u n) = meets_first m n
+meets_first {l = l} (ended {piece = piece} {p = p}) {f = f} x4 = elim x4 [ ]
+meets_first {l = l} (none {described = described}) {f = f} x5 = elim x5 [ ]
+meets_first {l = l} (wide {p = p}) {f = f} x6 = elim x6 [ ]
 
 first_not_there : {fs : List Field} {f : Field} → FirstShort fs f → NotAllThere f
 first_not_there (this t) = t
@@ -249,6 +252,7 @@ meets_there wide n = nil
 pub there_none : {fs : List Field} {f : Field} → AllThere fs → FirstShort fs f → ⊥
 there_none (cons h m) (this t) = omega arith
 there_none (cons h m) (later t n) = there_none m n
+there_none {f = f} nil x3 = elim x3 [ ]
 
 -- A PIECE THAT IS NOT SHORT HAS ALL ITS FIELDS
 pub piece_there : (s : List ℕ) (at full : ℕ) → at < length s → ((k p w : ℕ) → cut_at s at full ≡ taken.Short k p w → ⊥)

@@ -81,6 +81,7 @@ open_end (unknown described) o s p = no_field
 first_end : {l : ℕ} {fs : List Field} {f : Field} → EndAt l fs → FirstShort fs f → f.end ≡ l
 first_end (so m) (this t) = refl
 first_end (so m) (later t n) = first_end m n
+first_end {l = l} {f = f} no_field x3 = elim x3 [ ]
 
 -- of all rows of the grammar's table, 32's alone has a body of its own length
 data Row : ℕ → Layout → Type 0 where

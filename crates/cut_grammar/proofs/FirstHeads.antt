@@ -25,6 +25,7 @@ use Rattle.cut_grammar.proofs.CuttingTap.{tap_there, tap_lone, tap_end, tap_forw
 head_back : (s : List ℕ) {f : Field} → FirstShort (head_trace s) f → head_at s ≡ head.Short f.place f.width
 unfolding head_trace head_at
 head_back s (this t) = rw (lt-leb 10 (length s) (omega arith))
+head_back s {f = f} (later _ x8) = elim x8 [ ]
 
 head_short : (s : List ℕ) {p w : ℕ} → head_at s ≡ head.Short p w → (length s < 10) × ((p ≡ 0) × (w ≡ 10))
 unfolding head_at
@@ -95,6 +96,7 @@ tap_back : (s : List ℕ) (at : ℕ) → at + 1 < length s → {f : Field} → F
 unfolding tap_trace counted_trace
 tap_back s at h (this t) = absurd (omega arith)
 tap_back s at h (later t (this u)) = tap_data s at h u
+tap_back s at h {f = f} (later t (later _ x12)) = elim x12 [ ]
 
 -- A BLOCK OF A TAP IS SHORT EXACTLY AT THE FIRST OF ITS FIELDS THAT IS NOT ALL THERE, where two bytes or more are left
 pub tap_first : (s : List ℕ) (at p w : ℕ) → (tap_at s at ≡ tap.Short p w)

@@ -1,6 +1,8 @@
 // The grammar of a tape: what its head, a TZX piece and a TAP block are; what every piece is cut with;
 // the head and one TAP block cut out of the bytes.
 // What a reading makes of them is not here.
+#![tactic(auto)]
+
 ghost use Rattle.std.specs.Prelude.{◌≡◌, ◌≤◌, length};
 ghost use Rattle.cut_grammar.specs.Grammar.{counted_at, whole_at, sealed};
 ghost use Rattle.cut_grammar.specs.Cut.{signature, starts_at, head_at, tap_at};
@@ -8,7 +10,7 @@ ghost use Rattle.cut_grammar.specs.Cut.{signature, starts_at, head_at, tap_at};
 use cut_fields::{Cursor, field, pass, place};
 
 // What 11 holds.
-#[derive(Drop)]
+#[derive(Clone, Copy)]
 pub struct TurboData {
     pub pilot: u32,
     pub sync1: u32,
@@ -24,7 +26,7 @@ pub struct TurboData {
 
 // What 19 holds: its numbers, and the places of its four tables. The alphabets' sizes are `asp0` and `asd0` as they are written, `asp` and
 // `asd` as they are meant.
-#[derive(Drop)]
+#[derive(Clone, Copy)]
 pub struct GeneralizedData {
     pub length: u32,
     pub pause: u32,
@@ -45,7 +47,7 @@ pub struct GeneralizedData {
 }
 
 // One piece: its numbers as they are, and the places of what it holds; what neither code nor law reads is passed over and not kept.
-#[derive(Drop)]
+#[derive(Clone, Copy)]
 pub enum Piece {
     Standard {
         pause: u32,
@@ -98,7 +100,7 @@ pub enum Piece {
 
 // What stands after a kind byte: a whole piece and the place past it; a kind without a row here, and whether the format
 // describes it all the same; the first field that came up short; or a 19 whose data bits pass 32 bits, at the place of its data bytes.
-#[derive(Drop)]
+#[derive(Clone, Copy)]
 pub enum Body {
     Whole(Piece, u64),
     Unknown(bool),
@@ -107,7 +109,7 @@ pub enum Body {
 }
 
 // What stands at a place of a TZX.
-#[derive(Drop)]
+#[derive(Clone, Copy)]
 pub enum Taken {
     End,
     Whole {
@@ -132,7 +134,7 @@ pub enum Taken {
 }
 
 // What stands at a place of a TAP.
-#[derive(Drop)]
+#[derive(Clone, Copy)]
 pub enum TakenTap {
     End,
     Lone,
@@ -141,7 +143,7 @@ pub enum TakenTap {
 }
 
 // What a tape begins with.
-#[derive(Drop)]
+#[derive(Clone, Copy)]
 pub enum Heading {
     Version { major: u8, minor: u8 },
     BadSignature,
@@ -149,7 +151,7 @@ pub enum Heading {
 }
 
 // A length and as many bytes: their place, their number, and the cursor past them.
-#[derive(Drop)]
+#[derive(Clone, Copy)]
 pub struct Span {
     pub from: u64,
     pub size: u32,
@@ -180,7 +182,7 @@ pub fn whole(piece: Piece, c: Cursor) -> Body
 }
 
 // The numbers that 19 begins with, as they are written.
-#[derive(Drop)]
+#[derive(Clone, Copy)]
 pub struct GeneralHead {
     pub length: u32,
     pub pause: u32,

@@ -1,4 +1,6 @@
 // One piece of a TZX, cut out of the bytes: every kind from 0 to 255 has its row.
+#![tactic(auto)]
+
 ghost use Rattle.std.specs.Prelude.{◌≡◌};
 ghost use Rattle.cut_fields.specs.declared.Cursor.TheVariants.{At};
 ghost use Rattle.cut_grammar.specs.Grammar.{read_at};

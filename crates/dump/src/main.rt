@@ -1,4 +1,6 @@
 // Reads a model byte (`4`, `1`, `3`) and up to 65,535 tape bytes from standard input, and prints every block whole, or `refused n`.
+#![tactic(auto)]
+
 ghost use Rattle.std.specs.Prelude.{◌≡◌, List, [], ℕ, suc, ◌<◌, ◌≤◌, length, get_or, drop};
 ghost use Rattle.text_out.specs.Out.{Fitted};
 ghost use Rattle.load_source.specs.Source.{no};

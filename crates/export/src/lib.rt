@@ -1,4 +1,6 @@
 // Thin functions that a C host calls over tables of its own: include/glyvrask.h says what each takes and which words it answers.
+#![tactic(auto)]
+
 ghost use Rattle.std.specs.Prelude.{◌≡◌, not, ◌&&◌, List, eqb, ℕ, length};
 ghost use Rattle.play_entries.specs.Mounted.{tape_of};
 ghost use Rattle.play_walk.specs.Heads.{start_at};

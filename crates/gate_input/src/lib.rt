@@ -1,4 +1,6 @@
 // What the gate's programs read from standard input: numbers, bytes behind their count, words. Numbers are little-endian.
+#![tactic(auto)]
+
 ghost use Rattle.std.specs.Prelude.{◌≡◌, ◌≤◌, min, length};
 ghost use Rattle.cut_fields.specs.declared.Cursor.TheVariants.{At};
 ghost use Rattle.cut_fields.specs.Field.{field_at};

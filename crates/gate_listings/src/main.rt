@@ -1,5 +1,7 @@
 // Lists the tapes on standard input one after the other: 4 bytes give how many there are; each has a model's number (1 byte), the tape's
 // length (4 bytes), at most 65,536, and the tape. Numbers are little-endian.
+#![tactic(auto)]
+
 ghost use Rattle.std.specs.Prelude.{◌≤◌, length};
 
 use gate_input::{read_count, read_counted, read_number};

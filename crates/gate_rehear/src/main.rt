@@ -2,6 +2,8 @@
 // measured player) or `s` (the source's), how many block rows and tone rows (2 bytes each), the block that is started from (4 bytes), how
 // many calls (2 bytes, at most 1,000), the tape's length (4 bytes), each call's count (4 bytes),
 // the words of the block rows and of the tone rows (4 bytes each), and the tape. Numbers are little-endian.
+#![tactic(auto)]
+
 ghost use Rattle.std.specs.Prelude.{◌≤◌};
 
 use gate_input::{LARGEST, read_bytes, read_count, read_number, read_words};

@@ -2,6 +2,8 @@
 // (1 byte), what is lent of the block table and of the tone table (rows, 4 bytes, and words of a broken row, 1 byte, of each), the tape's
 // length (4 bytes), and the tape. Numbers are little-endian.
 // Rows are counted, not words, so that the input stays as it is when a row grows.
+#![tactic(auto)]
+
 ghost use Rattle.std.specs.Prelude.{◌+◌, ◌*◌, ◌≤◌, ◌<◌, length};
 
 use gate_input::{read_count, read_counted, read_number};

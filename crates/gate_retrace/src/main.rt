@@ -1,5 +1,7 @@
 // Prints the runs on standard input one after the other: 4 bytes give how many there are;
 // each has its length (4 bytes) and its description.
+#![tactic(auto)]
+
 use gate_input::{read_count, read_counted};
 use prog_calls::say_trace;
 

@@ -1,4 +1,6 @@
 // Each answer of the load, the queries and the players as words, told into a lent row.
+#![tactic(auto)]
+
 ghost use Rattle.std.specs.Prelude.{◌≡◌, ◌≤◌, length, get_or};
 ghost use Rattle.law_base.specs.Rules.{◌⇒◌, ◌∣◌};
 ghost use Rattle.refusals.specs.Refusals.{no_room, tape_bad};
@@ -175,7 +177,7 @@ fn format_number(f: Format) -> u64
 }
 
 // What an attempt to read met, as words; what its cause doesn't name is 0.
-#[derive(Drop)]
+#[derive(Clone, Copy)]
 pub struct Met {
     pub cause: u64,
     pub kind: u64,

@@ -1,4 +1,6 @@
 // A run of calls of either player, each from where the one before left the head, into a lent table: a row of ten words for each.
+#![tactic(auto)]
+
 ghost use Rattle.std.specs.Prelude.{◌≡◌, false, ◌+◌, ◌*◌, ◌<◌, ◌≤◌, eqb, length, drop};
 ghost use Rattle.play_entries.specs.declared.Duration.TheVariants.{T};
 ghost use Rattle.play_deck.specs.declared.Check.TheVariants.{Fine};
@@ -20,7 +22,7 @@ use refusals::{BAD_ROW, NO_POSITION, NO_ROOM};
 use rows::copy_in;
 
 // The words of a call's answer: how it came out, the entries passed, the level, and the position.
-#[derive(Drop)]
+#[derive(Clone, Copy)]
 pub struct AnswerRow {
     pub how: u64,
     pub passed: u64,
@@ -131,7 +133,7 @@ pub fn call_by(
 }
 
 // The call behind those that ended inside an entry, and what they left of it.
-#[derive(Drop)]
+#[derive(Clone, Copy)]
 struct Ran {
     next: usize,
     left: u64,
@@ -177,7 +179,7 @@ fn run_inside(counts: &[u32], answers: &mut [u64], from: usize, row: AnswerRow) 
 }
 
 // Where a run stands: the position, what it comes to, and the next call.
-#[derive(Drop)]
+#[derive(Clone, Copy)]
 struct Going {
     position: Position,
     finding: Finding,

@@ -1,4 +1,6 @@
 // Positions as words, and words as positions.
+#![tactic(auto)]
+
 ghost use Rattle.std.specs.Prelude.{◌≡◌};
 ghost use Rattle.play_entries.specs.declared.Phase.TheVariants.{Tones, Data};
 ghost use Rattle.host_words.specs.declared.Phased.TheVariants.{Is};
@@ -8,7 +10,7 @@ use play_entries::{Duration, Phase};
 use play_walk::Position;
 
 // The words of a phase.
-#[derive(Drop)]
+#[derive(Clone, Copy)]
 pub struct Spot {
     pub phase: u64,
     pub item: u64,
@@ -17,26 +19,26 @@ pub struct Spot {
 }
 
 // The words of a duration.
-#[derive(Drop)]
+#[derive(Clone, Copy)]
 pub struct Span {
     pub endless: u64,
     pub left: u64,
 }
 
 // What words name: a phase, a duration, a position, or none.
-#[derive(Drop)]
+#[derive(Clone, Copy)]
 pub enum Phased {
     Is(Phase),
     Not,
 }
 
-#[derive(Drop)]
+#[derive(Clone, Copy)]
 pub enum Spanned {
     Is(Duration),
     Not,
 }
 
-#[derive(Drop)]
+#[derive(Clone, Copy)]
 pub enum Placed {
     Is(Position),
     Not,

@@ -1,1 +1,2 @@
 // Theory alone: what several crates cite; definitions are in specs/, laws in proofs/.
+#![tactic(auto)]

@@ -1,1 +1,2 @@
 // Theory alone: what every load has is in proofs/.
+#![tactic(auto)]

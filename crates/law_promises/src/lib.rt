@@ -1,1 +1,2 @@
 // The promises about whole tapes, in one place: no code.
+#![tactic(auto)]

@@ -1,1 +1,2 @@
 // Theory alone: what TZX 1.20 gives one piece is in specs/, where the source reading keeps to it in proofs/.
+#![tactic(auto)]

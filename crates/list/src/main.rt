@@ -1,4 +1,6 @@
 // Lists the tape on standard input: `4`, `1` or `3`, then up to 65,535 bytes; prints the listing, or `refused n`.
+#![tactic(auto)]
+
 ghost use Rattle.std.specs.Prelude.{◌≡◌, ◌≤◌, length, take};
 ghost use Rattle.io.specs.Counts.{IsPrefixLen};
 ghost use Rattle.listing.specs.Printed.{printed_of};

@@ -1,4 +1,6 @@
 // The listing: a loaded tape as text, and the function that our catalogue host calls.
+#![tactic(auto)]
+
 ghost use Rattle.std.specs.Prelude.{◌≡◌, List, ℕ, ◌<◌, ◌≤◌, length};
 ghost use Rattle.play_entries.specs.Mounted.{tape_of};
 ghost use Rattle.text_out.specs.Out.{refused_line};

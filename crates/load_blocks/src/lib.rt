@@ -1,5 +1,7 @@
 // A block's row at its birth, and what adding one does: of any reading. The source reading's standard block.
 // The reading and the crates of the other blocks alone call it.
+#![tactic(auto)]
+
 ghost use Rattle.std.specs.Prelude.{◌≡◌, List, [], ◌∷◌, ℕ};
 ghost use Rattle.load_blocks.specs.Adds.{add_rows};
 ghost use Rattle.load_blocks.specs.Sounds.{no_bits, ends_after, ends_in_stop, row_for, add_sound};
@@ -12,14 +14,14 @@ use rows::{Block, Tone, with_sound};
 
 // Where a block comes from: its piece's kind, and where that piece stands in the tape.
 // What a row takes from outside its sound is a field here; no word has any of it yet.
-#[derive(Drop)]
+#[derive(Clone, Copy)]
 pub struct Origin {
     pub kind: u8,
     pub place: u64,
 }
 
 // Bits of data: where they stand in the tape, and how they sound.
-#[derive(Drop)]
+#[derive(Clone, Copy)]
 pub struct Bits {
     pub start: u64,
     pub size: u64,
@@ -29,7 +31,7 @@ pub struct Bits {
 }
 
 // What follows the sound: a pause, or the tape stops; and the case of name that this gives.
-#[derive(Drop)]
+#[derive(Clone, Copy)]
 pub struct Ending {
     pub pause: u64,
     pub endless: u64,

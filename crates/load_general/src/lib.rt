@@ -1,4 +1,6 @@
 // Generalised data (19) in the source reading: what a cut piece gives, and the reading of its symbols and of the numbers in its data.
+#![tactic(auto)]
+
 ghost use Rattle.std.specs.Prelude.{◌≡◌, ℕ, ◌+◌, ◌*◌, ◌-◌, ◌/◌, ◌%◌, ◌^◌, ◌≤◌, ◌<◌, length, get_or};
 ghost use Rattle.cut_fields.specs.Field.{le_at};
 ghost use Rattle.load_general.specs.declared.Row.{Row};
@@ -14,14 +16,14 @@ use rows::Tone;
 pub const SYMBOLS: usize = 255;
 
 // What a pilot entry, a data symbol or a pair of them gives: refusal 4, or a tone.
-#[derive(Drop)]
+#[derive(Clone, Copy)]
 pub enum Row {
     Refused,
     Gives(Tone),
 }
 
 // What a part of the piece comes to: refusal 4, a stop block, or so many rows.
-#[derive(Drop)]
+#[derive(Clone, Copy)]
 pub enum Judged {
     Refused,
     Stop,
@@ -29,7 +31,7 @@ pub enum Judged {
 }
 
 // What the piece comes to: refusal 4, more rows than remain, a stop block, a data block, or a block of tones alone.
-#[derive(Drop)]
+#[derive(Clone, Copy)]
 pub enum Made {
     Refused,
     Full,

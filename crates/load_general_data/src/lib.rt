@@ -1,4 +1,6 @@
 // The data part of a generalised piece (19): which symbols are given, and what the part comes to.
+#![tactic(auto)]
+
 ghost use Rattle.std.specs.Prelude.{◌≡◌, ◌&&◌, ◌/◌, ◌^◌, ◌<◌, leb, ltb, eqb};
 ghost use Rattle.load_general.specs.General.{single_row, pair_row, rows_from, singles_of, pairs_of, data_part};
 ghost use Rattle.load_general.specs.Made.{judged_of, is_given, is_tones};

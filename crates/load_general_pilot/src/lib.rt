@@ -1,4 +1,6 @@
 // The pilot part of a generalised piece (19): the row of each entry, and what the part comes to.
+#![tactic(auto)]
+
 ghost use Rattle.std.specs.Prelude.{◌≡◌, ◌||◌, ◌≤◌, ◌<◌, eqb};
 ghost use Rattle.load_general.specs.declared.Row.TheVariants.{Gives};
 ghost use Rattle.load_general.specs.General.{plain_tone, cycles, entry_row, rows_from, pilot_of};

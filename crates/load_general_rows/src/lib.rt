@@ -1,4 +1,6 @@
 // What a generalised piece (19) comes to, its rows put in the tone table.
+#![tactic(auto)]
+
 ghost use Rattle.std.specs.Prelude.{◌≡◌, true, ◌&&◌, ◌-◌, ◌/◌, ◌≤◌, ◌<◌, length, leb, ltb};
 ghost use Rattle.rows.specs.Table.{put_all, capacity_of};
 ghost use Rattle.rows.specs.Rows.{tone, tone_most};

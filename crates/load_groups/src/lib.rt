@@ -1,4 +1,6 @@
 // A group's start and end, and a text: what is pending, and the pause that a group's end gives the last block.
+#![tactic(auto)]
+
 ghost use Rattle.std.specs.Prelude.{◌≡◌, List, ℕ, ◌≤◌, length};
 ghost use Rattle.rows.specs.Table.{table_of};
 ghost use Rattle.rows.specs.Rows.{block};

@@ -1,4 +1,6 @@
 // The blocks of pieces that have their tones in the tape's bytes: pulses (13), generalised data (19). The reading alone calls them.
+#![tactic(auto)]
+
 ghost use Rattle.std.specs.Prelude.{◌≡◌, List, ℕ, ◌+◌, ◌*◌, ◌^◌, ◌≤◌, ◌<◌, length};
 ghost use Rattle.play_entries.specs.Figures.{Owns, sounding};
 ghost use Rattle.load_general.specs.General.{general_of};

@@ -1,4 +1,6 @@
 // The naming pass: which blocks stay selectable.
+#![tactic(auto)]
+
 ghost use Rattle.std.specs.Prelude.{◌≡◌, false, ◌*◌, ◌≤◌, length};
 ghost use Rattle.law_base.specs.Rules.{◌⇒◌, ◌∣◌};
 ghost use Rattle.rows.specs.Table.{step};

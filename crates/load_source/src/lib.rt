@@ -1,4 +1,6 @@
 // The source reading: what the Rust makes of each piece. Its definitions are of the whole run, over a TZX or a TAP.
+#![tactic(auto)]
+
 mod run;
 mod whole;
 
@@ -20,7 +22,7 @@ pub use whole::{read_tap, read_tzx};
 
 // Why a reading failed: a bad signature; the first field that came up short, in no piece (a head, a TAP) or in the piece of this kind,
 // whose kind byte stands at `at`; or such a piece, a 2A, has a length that is not 0.
-#[derive(Drop)]
+#[derive(Clone, Copy)]
 pub enum Failure {
     BadSignature,
     Short {
@@ -41,7 +43,7 @@ pub enum Failure {
 }
 
 // A reading's answer: the state at the end of the tape, a failure, or the refusal's number.
-#[derive(Drop)]
+#[derive(Clone, Copy)]
 pub enum Reading {
     Done(State),
     Failed(Failure),

@@ -1,6 +1,8 @@
 // The parser's state: pending name, open loop, blocks and tones so far; a row added to either table.
 // It knows no kinds and no places of pieces.
 // Every promise is of each tape that the state and the tables hold; code is safe for any state, so it minds the capacity by itself.
+#![tactic(auto)]
+
 ghost use Rattle.std.specs.Prelude.{◌≡◌, List, [], ◌∷◌, ℕ};
 ghost use Rattle.rows.specs.Table.{zeros};
 ghost use Rattle.load_state.specs.Parser.{Parsed, empty, renamed, named, used, add_tones, add_block};
@@ -10,7 +12,7 @@ use refusals::{BLOCKS_FULL, TONES_FULL};
 use rows::{Block, Tone, append_block, append_tone, with_mark, with_name};
 
 // The name that the next blocks take; a place in the tape and a length. The Rust's `GroupParse`.
-#[derive(Drop)]
+#[derive(Clone, Copy)]
 pub enum Pending {
     Nothing,
     First { text: u64, chars: u64 },
@@ -19,14 +21,14 @@ pub enum Pending {
 }
 
 // An open loop: the first block of its body, and how many further bodies its end appends.
-#[derive(Drop)]
+#[derive(Clone, Copy)]
 pub enum Loop {
     Closed,
     Open { start: u64, times: u32 },
 }
 
 // The Rust's `Parser`: how many rows of each table are used, and what is pending.
-#[derive(Drop)]
+#[derive(Clone, Copy)]
 pub struct State {
     pub blocks: u64,
     pub tones: u64,
@@ -35,14 +37,14 @@ pub struct State {
 }
 
 // Why a reading halts: a refusal's number; or the piece of this kind at this place, a 2A, has a length that is not 0: a failure.
-#[derive(Drop)]
+#[derive(Clone, Copy)]
 pub enum Halt {
     Refusal(u32),
     Length { kind: u8, at: u64, length: u32 },
 }
 
 // A step's answer: the next state, or why there is none.
-#[derive(Drop)]
+#[derive(Clone, Copy)]
 pub enum Step {
     On(State),
     No(Halt),

@@ -1,4 +1,6 @@
 // The blocks without tones: a pause (20), a stop, a stop on the 48K (2A). The reading, and a 19 that stops, alone call them.
+#![tactic(auto)]
+
 ghost use Rattle.std.specs.Prelude.{List, ℕ};
 ghost use Rattle.load_blocks.specs.Sounds.{add_sound};
 ghost use Rattle.load_blocks.specs.Blocks.{stop_sound, pause_sound};

@@ -1,4 +1,6 @@
 // The public load: a tape read as TZX, and where that fails as TAP, into the lent tables; then the naming pass.
+#![tactic(auto)]
+
 ghost use Rattle.std.specs.Prelude.{length};
 ghost use Rattle.load_source.specs.Source.{no, both_err, or_tap, read_tap, load_of};
 ghost use Rattle.load_blocks.specs.Does.{lent_of};
@@ -9,7 +11,7 @@ use load_source::{Failure, Reading, read_tap, read_tzx};
 use refusals::{BAD_MODEL, TAPE_LONG};
 use rows::blank;
 
-#[derive(Drop)]
+#[derive(Clone, Copy)]
 pub enum Format {
     Tap,
     Tzx,
@@ -17,7 +19,7 @@ pub enum Format {
 
 // A load's answer: the tape's format, how many blocks and tone rows it has; or refusal 3 with what the two attempts met; or any other
 // refusal's number alone.
-#[derive(Drop)]
+#[derive(Clone, Copy)]
 pub enum Loaded {
     Tape {
         format: Format,

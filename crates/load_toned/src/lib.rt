@@ -1,4 +1,6 @@
 // The blocks of pieces that have their tones in numbers: turbo data (11), a pure tone (12), pure data (14). The reading alone calls them.
+#![tactic(auto)]
+
 ghost use Rattle.std.specs.Prelude.{List, ℕ};
 ghost use Rattle.load_blocks.specs.Sounds.{ms, add_sound};
 ghost use Rattle.load_blocks.specs.Blocks.{turbo_sound, pure_sound, pure_tone_tones, tone_sound};

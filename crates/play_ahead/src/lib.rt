@@ -1,4 +1,6 @@
 // What the source's play drops as it walks.
+#![tactic(auto)]
+
 ghost use Rattle.std.specs.Prelude.{◌≡◌, true, false, ◌+◌, ◌≤◌};
 ghost use Rattle.rows.specs.Table.{capacity_of};
 ghost use Rattle.rows.specs.Rows.{tone, tone_most};

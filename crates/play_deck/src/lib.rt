@@ -1,4 +1,6 @@
 // The players of a mounted tape: the measured one and the source's.
+#![tactic(auto)]
+
 ghost use Rattle.std.specs.Prelude.{◌≡◌, true, ◌&&◌, eqb};
 ghost use Rattle.rows_well.specs.Words.{well_words};
 ghost use Rattle.law_pulses.specs.Play.{low};
@@ -22,7 +24,7 @@ use rows::{Block, block_at, block_capacity};
 use rows_well::{tones_well, words_well};
 
 // What the checks of a position come to.
-#[derive(Drop)]
+#[derive(Clone, Copy)]
 pub enum Check {
     Fine,
     NotValid,
@@ -90,7 +92,7 @@ fn row_ready(tape: &[u8], tones: &[u64], r: Block) -> bool
 }
 
 // What a position comes to: its checks; where they are fine the level there; and what was heard on the way.
-#[derive(Drop)]
+#[derive(Clone, Copy)]
 pub struct Finding {
     pub check: Check,
     pub level: bool,
@@ -460,7 +462,7 @@ pub fn assay_after(
 }
 
 // A position's block for a menu; or refusal 9, or 11.
-#[derive(Drop)]
+#[derive(Clone, Copy)]
 pub enum Selected {
     Block(u64),
     BadPosition,
@@ -468,13 +470,13 @@ pub enum Selected {
 }
 
 // The mounted head.
-#[derive(Drop)]
+#[derive(Clone, Copy)]
 pub struct Head {
     pub position: Position,
 }
 
 // A mounted head after a call, and the call's answer.
-#[derive(Drop)]
+#[derive(Clone, Copy)]
 pub struct Played {
     pub head: Head,
     pub answer: Reached,

@@ -1,4 +1,6 @@
 // The measured player over the mounted head, by value and lent.
+#![tactic(auto)]
+
 ghost use Rattle.std.specs.Prelude.{◌≡◌};
 ghost use Rattle.play_entries.specs.Mounted.{tape_of};
 ghost use Rattle.play_deck.specs.Deck.{head_after, play_mounted};

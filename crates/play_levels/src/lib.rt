@@ -1,4 +1,6 @@
 // The two levels that run along a tape in the document reading, and what a tone row does to them, by arithmetic.
+#![tactic(auto)]
+
 ghost use Rattle.std.specs.Prelude.{◌≡◌};
 ghost use Rattle.play_levels.specs.Voiced.{behind};
 ghost use Rattle.play_levels.specs.Closed.{is_one, times_of, turned, first_level, line_after};
@@ -6,7 +8,7 @@ ghost use Rattle.play_levels.specs.Closed.{is_one, times_of, turned, first_level
 use rows::Tone;
 
 // The level at which the next pulse is played, and the level last played.
-#[derive(Drop)]
+#[derive(Clone, Copy)]
 pub struct Line {
     pub current: bool,
     pub played: bool,

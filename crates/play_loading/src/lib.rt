@@ -1,4 +1,6 @@
 // Times by the rows' own words: what a row lasts, and the loading time, summed up a row at a time, for the queries and for the listing.
+#![tactic(auto)]
+
 ghost use Rattle.std.specs.Prelude.{◌≡◌, true, ◌^◌, ◌<◌};
 ghost use Rattle.rows.specs.Well.{well_numbers};
 ghost use Rattle.play_entries.specs.Stored.{row_lasts};
@@ -20,7 +22,7 @@ pub fn row_lasts(r: Block) -> Duration
 }
 
 // What is summed up so far: the T-states of all rows before the first stop, where the last sound ended, and whether a stop was met.
-#[derive(Drop)]
+#[derive(Clone, Copy)]
 pub struct Loading {
     pub sum: u64,
     pub end: u64,

@@ -1,4 +1,6 @@
 // The block that a position is shown under.
+#![tactic(auto)]
+
 ghost use Rattle.std.specs.Prelude.{◌≡◌, ℕ, ◌+◌, ◌*◌, ◌≤◌, length};
 ghost use Rattle.rows.specs.Rows.{block};
 ghost use Rattle.play_entries.specs.Mounted.{tape_of};

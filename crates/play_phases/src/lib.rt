@@ -1,4 +1,6 @@
 // A block's entries by their phases: which there are, how long each is; and whether a row is well formed.
+#![tactic(auto)]
+
 ghost use Rattle.std.specs.Prelude.{◌≡◌, true, false, not, ◌&&◌, ◌+◌, ◌*◌, ◌<◌, ◌≤◌, max, min, leb, ltb, length};
 ghost use Rattle.rows.specs.Table.{get, capacity_of};
 ghost use Rattle.rows.specs.Rows.{tone, block, tone_most};

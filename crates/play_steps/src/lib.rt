@@ -1,4 +1,6 @@
 // How far one step of a walk goes inside a block: behind an entry, a run of whole cycles, a data byte.
+#![tactic(auto)]
+
 ghost use Rattle.std.specs.Prelude.{◌≡◌, true, List, ℕ, ◌+◌, ◌<◌, ◌≤◌, length};
 ghost use Rattle.rows.specs.Table.{capacity_of};
 ghost use Rattle.rows.specs.Rows.{tone, tone_most};
@@ -16,7 +18,7 @@ use play_times::byte_time;
 use rows::{Block, Tone};
 
 // How a turn of a walk goes on: to this phase, or over the block; its T-states and entries.
-#[derive(Drop)]
+#[derive(Clone, Copy)]
 pub struct Step {
     pub phase: Phase,
     pub time: u64,

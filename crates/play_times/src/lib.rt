@@ -1,4 +1,6 @@
 // The times of tones and data, each a step a tone row and a data byte: what a row sounds, which a load writes in it.
+#![tactic(auto)]
+
 ghost use Rattle.std.specs.Prelude.{◌≡◌, true, List, ℕ, ◌+◌, ◌<◌, ◌≤◌, length};
 ghost use Rattle.law_pulses.specs.Play.{Level, time};
 ghost use Rattle.law_pulses.specs.Runs.{run};

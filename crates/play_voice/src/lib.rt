@@ -1,4 +1,6 @@
 // The levels of a block's entries: a source row's by the half, a document row's by the line that runs along its tone rows.
+#![tactic(auto)]
+
 ghost use Rattle.std.specs.Prelude.{◌≡◌, true, false, ◌+◌, ◌*◌, ◌<◌, ◌≤◌, min, eqb, length};
 ghost use Rattle.rows.specs.Table.{capacity_of};
 ghost use Rattle.rows.specs.Rows.{tone, block, tone_most};
@@ -19,7 +21,7 @@ use rows::{Block, Tone, block_at};
 use rows_well::{Seen, none_seen, seen_steady, seen_well, tones_seen};
 
 // What was seen of a block's first tone rows.
-#[derive(Drop)]
+#[derive(Clone, Copy)]
 pub struct Heard {
     pub block: u64,
     pub rows: u64,

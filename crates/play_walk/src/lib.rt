@@ -1,4 +1,6 @@
 // Positions, and the measured walk over a tape's entries, which both players stand on.
+#![tactic(auto)]
+
 ghost use Rattle.std.specs.Prelude.{◌≡◌, true, false, List, ℕ, ◌+◌, ◌≤◌};
 ghost use Rattle.rows.specs.Table.{capacity_of};
 ghost use Rattle.rows.specs.Rows.{block, block_most};
@@ -17,7 +19,7 @@ use play_voice::{Heard, level_in, start_level};
 use rows::{Block, block_at};
 
 // Where a head stands: its block, its entry there, and what is left of it; the Rust's `TapePos`.
-#[derive(Drop)]
+#[derive(Clone, Copy)]
 pub struct Position {
     pub block: u64,
     pub phase: Phase,
@@ -63,7 +65,7 @@ impl Position {
 }
 
 // Where a call leaves the head: its position, the entries passed and the level there.
-#[derive(Drop)]
+#[derive(Clone, Copy)]
 pub struct Stand {
     pub position: Position,
     pub passed: u64,
@@ -71,7 +73,7 @@ pub struct Stand {
 }
 
 // A player's answer: it stands, at an endless pause, or has ended; or refusal 9, or 11.
-#[derive(Drop)]
+#[derive(Clone, Copy)]
 pub enum Reached {
     At(Stand),
     Stopped(Stand),
@@ -160,7 +162,7 @@ pub fn ends(count: u64, passed: u64) -> Reached
 }
 
 // How a walk goes on behind a block: into the next one, or it has left.
-#[derive(Drop)]
+#[derive(Clone, Copy)]
 pub enum Next {
     Into,
     Left(Reached),

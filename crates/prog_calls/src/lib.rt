@@ -1,6 +1,8 @@
 // The text of a run of calls of a player, from its description. The description: a model byte (`4`, `1`, `3`), `m` (measured) or `s`
 // (the source's), a block number (4 bytes), how many calls (2 bytes, at most 1,000), each call's count (4 bytes), then the tape.
 // Numbers are little-endian.
+#![tactic(auto)]
+
 mod answers;
 
 ghost use Rattle.std.specs.Prelude.{◌≡◌, true, ◌+◌, ◌*◌, ◌^◌, ◌<◌, ◌≤◌, length};

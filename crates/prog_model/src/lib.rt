@@ -1,4 +1,6 @@
 // The model that a byte of a program's input names.
+#![tactic(auto)]
+
 ghost use Rattle.std.specs.Prelude.{◌≡◌};
 ghost use Rattle.prog_model.specs.Models.{model_of};
 

@@ -1,4 +1,6 @@
 // A loaded tape as text, a line at a time: 512 copies of a block of 48 KB are 50 MB of text, but each line fits bytes that are lent for it.
+#![tactic(auto)]
+
 ghost use Rattle.std.specs.Prelude.{◌≡◌, true, ◌++◌, ◌+◌, ◌*◌, ◌^◌, ◌<◌, ◌≤◌, length, take, drop};
 ghost use Rattle.rows.specs.Table.{get};
 ghost use Rattle.rows.specs.Rows.{block, tone};
@@ -21,7 +23,7 @@ use text_out::{put, put_all, put_decimal};
 use text_view::{put_head, put_hex, put_tones};
 
 // The first line's bytes, and how many lines follow.
-#[derive(Drop)]
+#[derive(Clone, Copy)]
 pub struct Opening {
     pub size: usize,
     pub more: u64,

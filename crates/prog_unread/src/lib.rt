@@ -1,4 +1,6 @@
 // A load's answer as text; of refusal 3, what the two attempts met.
+#![tactic(auto)]
+
 ghost use Rattle.std.specs.Prelude.{◌≡◌, ◌++◌, ◌+◌, ◌^◌, ◌<◌, ◌≤◌, length};
 ghost use Rattle.text_out.specs.Out.{ascii, decimal, Wrote, Fitted};
 ghost use Rattle.load_blocks.specs.Does.{lent_of};

@@ -1,5 +1,6 @@
 // THE NUMBERS FOR NO, each under its name: the number that code answers with.
 // README.md has what each means; include/glyvrask.h has them for C.
+#![tactic(auto)]
 
 // Model is not 0 (48K), 1 (128K), 2 (Plus3).
 pub const BAD_MODEL: u32 = 1;

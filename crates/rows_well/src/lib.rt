@@ -1,4 +1,6 @@
 // Which tone rows and block rows are well formed, and what a pass over tone rows tells beside it.
+#![tactic(auto)]
+
 ghost use Rattle.std.specs.Prelude.{◌≡◌, ◌+◌, ◌*◌, ◌≤◌, length};
 ghost use Rattle.rows.specs.Rows.{tone};
 ghost use Rattle.rows.specs.Well.{inside, well_tones, well_ranges, well_pause, well_last, well_numbers, well_sound, well_levels, well_cases, well_tone, well_block};
@@ -16,7 +18,7 @@ pub fn ranges(from: u64, n: u64, most: u64) -> bool
 }
 
 // What was seen of some tone rows: all their words, their waves and 4, their waves and 1, how often they turn a level.
-#[derive(Drop)]
+#[derive(Clone, Copy)]
 pub struct Seen {
     pub words: u64,
     pub tops: u64,

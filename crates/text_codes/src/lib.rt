@@ -1,4 +1,6 @@
 // The Spectrum's character codes as text, the Rust's `SPECTRUM_ENCODING`: flat bytes and where each code's text begins.
+#![tactic(auto)]
+
 ghost use Rattle.std.specs.Prelude.{◌≡◌, ◌+◌, ◌-◌, ◌*◌, ◌^◌, ◌≤◌, ◌<◌, length, take, drop, get_or};
 ghost use Rattle.text_out.specs.Out.{Wrote};
 ghost use Rattle.text_codes.specs.Encoding.{table, encoded, spelled, flat_texts, offsets};

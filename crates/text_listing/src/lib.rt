@@ -1,4 +1,6 @@
 // A listing's lines: a block's row as text, and all rows with the loading time.
+#![tactic(auto)]
+
 mod page;
 mod shown;
 
@@ -23,7 +25,7 @@ use text_out::{put, put_decimal};
 use text_value::put_lasts;
 
 // How far the rows are told: where their text ends, and what is summed up of the loading time.
-#[derive(Drop)]
+#[derive(Clone, Copy)]
 pub struct Told {
     pub at: usize,
     pub load: Loading,

@@ -1,4 +1,6 @@
 // A block's name as text; a header's is in `header`.
+#![tactic(auto)]
+
 mod header;
 
 ghost use Rattle.std.specs.Prelude.{◌≡◌, ◌+◌, ◌*◌, ◌^◌, ◌≤◌, ◌<◌, length, get_or};

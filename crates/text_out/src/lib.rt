@@ -1,4 +1,6 @@
 // Text into lent bytes: each writer clips at the end of `out` and counts on, so a dry run into no bytes gives the length.
+#![tactic(auto)]
+
 ghost use Rattle.std.specs.Prelude.{◌+◌, ◌*◌, ◌^◌, ◌<◌, [], ◌∷◌, length};
 ghost use Rattle.text_out.specs.Out.{Wrote, decimal, latin1, latin};
 

@@ -1,4 +1,6 @@
 // The text of a call's answer, a line each, as a trace prints it; where the head is left is in `place`.
+#![tactic(auto)]
+
 mod place;
 
 ghost use Rattle.std.specs.Prelude.{◌+◌, ◌^◌, ◌<◌};

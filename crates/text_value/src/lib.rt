@@ -1,4 +1,6 @@
 // Small values as text: a flag, a duration. Our crates alone call it: the place is far from overflow.
+#![tactic(auto)]
+
 ghost use Rattle.std.specs.Prelude.{◌+◌, ◌^◌, ◌<◌, ◌≤◌, length};
 ghost use Rattle.text_out.specs.Out.{Wrote};
 ghost use Rattle.text_value.specs.Values.{flag, lasts_text, duration_text};

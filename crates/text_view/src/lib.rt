@@ -1,5 +1,7 @@
 // The line that shows a view, part by part, each written into lent bytes: a program prints them one after the other.
 // Its numbers are in `figures`, what stands behind them is here. Our programs alone call them.
+#![tactic(auto)]
+
 mod figures;
 
 ghost use Rattle.std.specs.Prelude.{◌≡◌, ◌+◌, ◌*◌, ◌^◌, ◌<◌, ◌≤◌, length};

@@ -1,4 +1,6 @@
 // Reads a run's description and its tape from standard input, and prints a line for each call.
+#![tactic(auto)]
+
 use prog_calls::say_trace;
 
 // One byte more than a run may have, so that a longer tape is told; the answer decides everything.

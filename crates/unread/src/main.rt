@@ -1,5 +1,7 @@
 // Reads a model byte (`4`, `1`, `3`) and up to 1,048,576 tape bytes from standard input, and prints what a load answers: the format that
 // was read, or `refused n`; of refusal 3 also what both attempts met.
+#![tactic(auto)]
+
 ghost use Rattle.std.specs.Prelude.{◌≡◌, ◌≤◌, length};
 ghost use Rattle.text_out.specs.Out.{Fitted};
 ghost use Rattle.prog_unread.specs.Report.{full_blocks, full_tones};

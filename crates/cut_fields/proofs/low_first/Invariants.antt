@@ -1,0 +1,14 @@
+-- The loops of `low_first`.
+use borrow.Author.Rules.{rules}
+use Prim.Native.Nat.{◌≤◌, ◌<◌, ◌+◌, ◌-◌, ◌^◌}
+use mathlib.Core.Path.{◌≡◌, refl}
+use native.Mathlib.Omega.{arith}
+use Rattle.cut_fields.specs.Field.{le_at}
+use Rattle.cut_fields.proofs.Le.{le_more, le_step}
+use Rattle.cut_fields.proofs.low_first.Given as goal
+
+abbrev pub invariant-loop-left : goal.invariant-loop-left
+invariant-loop-left l = (l.left ≤ l.width) × (l.value ≡ le_at l.tape (l.at + l.left) (l.width - l.left))
+
+abbrev pub decreases-loop-left : goal.decreases-loop-left
+decreases-loop-left l = l.left

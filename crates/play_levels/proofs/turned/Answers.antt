@@ -1,0 +1,12 @@
+-- `turned` meets its contract. Assumes nothing.
+use borrow.Author.Tests.{eq-eqb, ne_eqb}
+use Rattle.play_levels.specs.Closed.{turned}
+use Rattle.play_levels.proofs.turned.Goals as goal
+
+pub returns-then-n-eq0 : goal.returns-then-n-eq0
+unfolding turned
+returns-then-n-eq0 c = rw (eq-eqb _ _ c.if-n-eq0.true)
+
+pub returns-else-n-eq0 : goal.returns-else-n-eq0
+unfolding turned
+returns-else-n-eq0 c = rw (ne_eqb _ _ c.if-n-eq0.false)

@@ -1,0 +1,33 @@
+-- `put_latin` meets its contract: each turn writes the text of one byte more. Assumes nothing.
+use Prim.Native.Nat.{◌-◌}
+use native.Mathlib.Omega.{arith}
+use lib.ListN.{length}
+use Rattle.text_out.specs.Out.{latin1}
+use Rattle.text_out.proofs.Writing.{same_len, latin1-length}
+use Rattle.text_out.proofs.Loops.{Spells, spells_none, spells_on, spells_over}
+use Rattle.text_out.proofs.put_latin.Goals as goal
+
+pub loop-i-init : goal.loop-i-init
+loop-i-init c = spells_none
+
+pub bounds-s-i : goal.bounds-s-i
+bounds-s-i c = omega arith
+
+pub put_latin1-o-requires : goal.put_latin1-o-requires
+put_latin1-o-requires c = omega (arith, c.loop-i.invariant.goes.few)
+
+pub overflow_add-i : goal.overflow_add-i
+overflow_add-i c = omega arith
+
+pub loop-i-smaller : goal.loop-i-smaller
+loop-i-smaller c = omega arith
+
+pub loop-i-preserved : goal.loop-i-preserved
+loop-i-preserved c =
+    spells_on c.loop-i.invariant c.loop-i-test.true (latin1-length _) c.put_latin1-o.ensures
+
+pub shape_of-out : goal.shape_of-out
+shape_of-out c = same_len (spells_over c.loop-i.invariant c.loop-i-test.false)
+
+pub returns : goal.returns
+returns c = spells_over c.loop-i.invariant c.loop-i-test.false

@@ -8,4 +8,4 @@ pub returns-then-b-lt128 : goal.returns-then-b-lt128
 returns-then-b-lt128 c = as_plain _ (omega arith) c.put.ensures
 
 pub returns : goal.returns
-returns c = as_high _ (omega arith) (then c.put_next.ensures c.put-2.ensures)
+returns c = as_high _ (omega arith) (then c.put-next.ensures c.put-2.ensures)

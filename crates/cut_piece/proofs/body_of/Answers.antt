@@ -4,20 +4,11 @@ use mathlib.Core.Path.{◌≡◌}
 use mathlib.Core.Bool.{◌||◌}
 use native.Mathlib.Omega.{arith}
 use Rattle.law_base.specs.Arms.{between}
-use Rattle.law_base.proofs.Arms.{lookup-none, between_in, between_below, between_above}
+use Rattle.law_base.proofs.Arms.{None, lookup-none, between_in, between_below, between_above}
 use Rattle.cut_grammar.specs.Grammar.{Layout, read_at, pass_at, unknown}
 use Rattle.cut_grammar.specs.Kinds.{kind22, kind25, kind_5a, kinds, kind_of}
 use borrow.Author.Rules.{rules}
 use Rattle.cut_piece.proofs.body_of.Goals as goal
-
--- the tests of a range begin below the keys that stand before it
-past-14 : (k : ℕ) → 0x10 ≤ k → (k ≡ 0x10 → ⊥) → (k ≡ 0x11 → ⊥) → (k ≡ 0x12 → ⊥) → (k ≡ 0x13 → ⊥)
-    → (k ≡ 0x14 → ⊥) → 0x15 ≤ k
-past-14 k h a b d e f = omega arith
-
-past-25 : (k : ℕ) → 0x20 ≤ k → (k ≡ 0x20 → ⊥) → (k ≡ 0x21 → ⊥) → (k ≡ 0x22 → ⊥) → (k ≡ 0x23 → ⊥)
-    → (k ≡ 0x24 → ⊥) → (k ≡ 0x25 → ⊥) → 0x26 ≤ k
-past-25 k h a b d e f g = omega arith
 
 -- a kind that no key has
 abbrev described : ℕ → Layout
@@ -49,7 +40,7 @@ returns-in-25 c = rw (c.general.ensures, c.in-25.is)
 
 pub returns-in-32 : goal.returns-in-32
 unfolding kind_of kinds
-returns-in-32 c = rw (c.pause.ensures, c.in_32.is)
+returns-in-32 c = rw (c.pause.ensures, c.in-32.is)
 
 pub returns-in-33 : goal.returns-in-33
 unfolding kind_of kinds
@@ -115,56 +106,33 @@ pub returns-in-21-to-24 : goal.returns-in-21-to-24
 unfolding kind_of kinds read_at
 returns-in-21-to-24 c =
     let k = c.args.kind in
-    rw (
-      lookup-none (kinds c.args.full) k (described k) c.in_default-1.rest,
-      between_in 0x15 0x18 k
-          (past-14 k c.if-kind-lt16.false c.in_default-1.rest.0.0.0.0.0.0.0.0.0.0.0.0.0.0.0.0.0.0.0.0.0.1
-          c.in_default-1.rest.0.0.0.0.0.0.0.0.0.0.0.0.0.0.0.0.0.0.0.0.1
-          c.in_default-1.rest.0.0.0.0.0.0.0.0.0.0.0.0.0.0.0.0.0.0.0.1
-          c.in_default-1.rest.0.0.0.0.0.0.0.0.0.0.0.0.0.0.0.0.0.0.1
-          c.in_default-1.rest.0.0.0.0.0.0.0.0.0.0.0.0.0.0.0.0.0.1) c.if-kind-lt25.true,
-    )
+    let none : None (kinds c.args.full) k = search rules in
+    rw (lookup-none (kinds c.args.full) k (described k) none, between_in 0x15 0x18 k (omega arith) (omega arith))
 
 pub returns-in-38-to-40 : goal.returns-in-38-to-40
 unfolding kind_of kinds read_at
 returns-in-38-to-40 c =
     let k = c.args.kind in
-    rw (
-      lookup-none (kinds c.args.full) k (described k) c.in_default-1.rest,
-      between_above 0x15 0x18 k (omega arith),
-      between_in 0x26 0x28 k (past-25 k c.if-kind-lt32.false c.in_default-1.rest.0.0.0.0.0.0.0.0.0.0.0.0.0.0.0.1
-          c.in_default-1.rest.0.0.0.0.0.0.0.0.0.0.0.0.0.0.1 c.in_default-1.rest.0.0.0.0.0.0.0.0.0.0.0.0.0.1
-          c.in_default-1.rest.0.0.0.0.0.0.0.0.0.0.0.0.1 c.in_default-1.rest.0.0.0.0.0.0.0.0.0.0.0.1
-          c.in_default-1.rest.0.0.0.0.0.0.0.0.0.0.1) c.if-kind-lt41.true,
-    )
+    let none : None (kinds c.args.full) k = search rules in
+    rw (lookup-none (kinds c.args.full) k (described k) none, between_above 0x15 0x18 k (omega arith), between_in 0x26 0x28 k (omega arith) (omega arith))
 
 pub returns-in_default : goal.returns-in_default
 unfolding kind_of kinds read_at
 returns-in_default c =
-    let a = c.args in
-    let k = a.kind in
-    rw (
-      lookup-none (kinds a.full) k (described k) c.in_default-1.rest,
-      between_below 0x15 0x18 k (omega arith),
-      between_below 0x26 0x28 k (omega arith),
-    )
+    let k = c.args.kind in
+    let none : None (kinds c.args.full) k = search rules in
+    rw (lookup-none (kinds c.args.full) k (described k) none, between_below 0x15 0x18 k (omega arith), between_below 0x26 0x28 k (omega arith))
 
 pub returns-in_default-2 : goal.returns-in_default-2
 unfolding kind_of kinds read_at
 returns-in_default-2 c =
     let k = c.args.kind in
-    rw (
-      lookup-none (kinds c.args.full) k (described k) c.in_default-1.rest,
-      between_above 0x15 0x18 k (omega arith),
-      between_below 0x26 0x28 k (omega arith),
-    )
+    let none : None (kinds c.args.full) k = search rules in
+    rw (lookup-none (kinds c.args.full) k (described k) none, between_above 0x15 0x18 k (omega arith), between_below 0x26 0x28 k (omega arith))
 
 pub returns-in_default-3 : goal.returns-in_default-3
 unfolding kind_of kinds read_at
 returns-in_default-3 c =
     let k = c.args.kind in
-    rw (
-      lookup-none (kinds c.args.full) k (described k) c.in_default-1.rest,
-      between_above 0x15 0x18 k (omega arith),
-      between_above 0x26 0x28 k (omega arith),
-    )
+    let none : None (kinds c.args.full) k = search rules in
+    rw (lookup-none (kinds c.args.full) k (described k) none, between_above 0x15 0x18 k (omega arith), between_above 0x26 0x28 k (omega arith))

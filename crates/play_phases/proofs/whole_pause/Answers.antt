@@ -1,0 +1,12 @@
+-- `whole_pause` meets its contract. Assumes nothing.
+use borrow.Author.Tests.{eq-eqb, ne_eqb}
+use Rattle.play_entries.specs.Entries.{whole_pause}
+use Rattle.play_phases.proofs.whole_pause.Goals as goal
+
+pub returns-then-r-eq1 : goal.returns-then-r-eq1
+unfolding whole_pause
+returns-then-r-eq1 c = rw (eq-eqb _ _ c.if-r-eq1.true)
+
+pub returns-else-r-eq1 : goal.returns-else-r-eq1
+unfolding whole_pause
+returns-else-r-eq1 c = rw (ne_eqb _ _ c.if-r-eq1.false)

@@ -1,0 +1,14 @@
+-- The loops of `alphabet`.
+use Prim.Native.Nat.{◌+◌, ◌*◌, ◌-◌, ◌≤◌}
+use mathlib.Core.Path.{◌≡◌, refl}
+use native.Mathlib.Omega.{arith}
+use lib.ListN.{length, length-set}
+use Rattle.load_general.specs.Held.{Kept}
+use Rattle.load_general.proofs.Symbols.{below, kept_more}
+use Rattle.load_general.proofs.alphabet.Given as goal
+
+abbrev pub invariant-loop-i : goal.invariant-loop-i
+invariant-loop-i l = (l.i ≤ l.n) × (length l.a ≡ 255) × Kept l.tape l.place l.pulses l.i l.a
+
+abbrev pub decreases-loop-i : goal.decreases-loop-i
+decreases-loop-i l = l.n - l.i

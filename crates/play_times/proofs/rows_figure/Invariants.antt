@@ -1,0 +1,13 @@
+-- The loops of `rows_figure`.
+use Prim.Native.Nat.{◌+◌, ◌-◌, ◌≤◌}
+use native.Mathlib.Omega.{arith}
+use mathlib.Core.Path.{◌≡◌, ap, ◌∙◌}
+use Rattle.play_entries.specs.Figures.{tone_figure}
+use Rattle.play_entries.proofs.Figures.{figure_from, from_next, from_none, from_most, owned}
+use Rattle.play_times.proofs.rows_figure.Given as goal
+
+abbrev pub invariant-loop-i : goal.invariant-loop-i
+invariant-loop-i l = (l.i ≤ l.r.tones) × (l.sum + figure_from l.tones l.r l.i (l.r.tones - l.i) ≡ figure_from l.tones l.r 0 l.r.tones)
+
+abbrev pub decreases-loop-i : goal.decreases-loop-i
+decreases-loop-i l = l.r.tones - l.i

@@ -47,8 +47,7 @@ fn misplaced(tape: &[u8], tones: &[u64], blocks: &[u64], count: u64, words: &[u6
 }
 
 // A load into the host's tables; answers the format, the blocks and the tone rows.
-#[unsafe(no_mangle)]
-pub extern "C" fn glyvrask_load(
+pub fn glyvrask_load(
     tape: &[u8],
     model: u32,
     blocks: &mut [u64],
@@ -74,8 +73,7 @@ pub extern "C" fn glyvrask_load(
 }
 
 // How many blocks the tape has.
-#[unsafe(no_mangle)]
-pub extern "C" fn glyvrask_len(blocks: &[u64], count: u64, answer: &mut [u64]) -> u32
+pub fn glyvrask_len(blocks: &[u64], count: u64, answer: &mut [u64]) -> u32
     ensures by_index { (bytes tones : List ℕ)
         → result ≡ number_of (of_number (len_of (tape_of bytes tones blocks.now count))) answer.old }
     ensures by_index_2 { (bytes tones : List ℕ)
@@ -85,8 +83,7 @@ pub extern "C" fn glyvrask_len(blocks: &[u64], count: u64, answer: &mut [u64]) -
 }
 
 // A block's name as UTF-8 into `out`; answers its length.
-#[unsafe(no_mangle)]
-pub extern "C" fn glyvrask_block_name(
+pub fn glyvrask_block_name(
     tape: &[u8],
     blocks: &[u64],
     tones: &[u64],
@@ -114,8 +111,7 @@ pub extern "C" fn glyvrask_block_name(
 }
 
 // A block's data size.
-#[unsafe(no_mangle)]
-pub extern "C" fn glyvrask_block_size(
+pub fn glyvrask_block_size(
     tape: &[u8],
     blocks: &[u64],
     tones: &[u64],
@@ -134,8 +130,7 @@ pub extern "C" fn glyvrask_block_size(
 }
 
 // Its selectable mark.
-#[unsafe(no_mangle)]
-pub extern "C" fn glyvrask_block_selectable(
+pub fn glyvrask_block_selectable(
     tape: &[u8],
     blocks: &[u64],
     tones: &[u64],
@@ -154,8 +149,7 @@ pub extern "C" fn glyvrask_block_selectable(
 }
 
 // What it lasts, with its pause.
-#[unsafe(no_mangle)]
-pub extern "C" fn glyvrask_block_time(
+pub fn glyvrask_block_time(
     tape: &[u8],
     blocks: &[u64],
     tones: &[u64],
@@ -174,8 +168,7 @@ pub extern "C" fn glyvrask_block_time(
 }
 
 // T-states of all entries up to the first stop or the end.
-#[unsafe(no_mangle)]
-pub extern "C" fn glyvrask_loading_time(
+pub fn glyvrask_loading_time(
     tape: &[u8],
     blocks: &[u64],
     tones: &[u64],
@@ -193,8 +186,7 @@ pub extern "C" fn glyvrask_loading_time(
 }
 
 // A block's start, as a position's words.
-#[unsafe(no_mangle)]
-pub extern "C" fn glyvrask_new_at_block(block: u64, answer: &mut [u64]) -> u32
+pub fn glyvrask_new_at_block(block: u64, answer: &mut [u64]) -> u32
     ensures value { result ≡ number_of (of_position (start_at block)) answer.old }
     ensures answer_after { answer.new ≡ values_of (of_position (start_at block)) answer.old }
 {
@@ -202,8 +194,7 @@ pub extern "C" fn glyvrask_new_at_block(block: u64, answer: &mut [u64]) -> u32
 }
 
 // The block that a position is shown under.
-#[unsafe(no_mangle)]
-pub extern "C" fn glyvrask_position_block(
+pub fn glyvrask_position_block(
     tape: &[u8],
     blocks: &[u64],
     tones: &[u64],
@@ -267,8 +258,7 @@ fn call_words(
 }
 
 // The source's play of n T-states.
-#[unsafe(no_mangle)]
-pub extern "C" fn glyvrask_play(
+pub fn glyvrask_play(
     tape: &[u8],
     blocks: &[u64],
     tones: &[u64],
@@ -291,8 +281,7 @@ pub extern "C" fn glyvrask_play(
 }
 
 // The measured player's call of n T-states.
-#[unsafe(no_mangle)]
-pub extern "C" fn glyvrask_play_measured(
+pub fn glyvrask_play_measured(
     tape: &[u8],
     blocks: &[u64],
     tones: &[u64],
@@ -348,8 +337,7 @@ fn move_head(
 }
 
 // A run of calls of the source's play (measured is 0) or of the measured player, a row of `answers` for each.
-#[unsafe(no_mangle)]
-pub extern "C" fn glyvrask_play_run(
+pub fn glyvrask_play_run(
     tape: &[u8],
     blocks: &[u64],
     tones: &[u64],
@@ -382,8 +370,7 @@ pub extern "C" fn glyvrask_play_run(
 }
 
 // The measured player's call of n T-states over a head that the host lends, whose words it moves; a refusal leaves them as they were.
-#[unsafe(no_mangle)]
-pub extern "C" fn glyvrask_play_head(
+pub fn glyvrask_play_head(
     tape: &[u8],
     blocks: &[u64],
     tones: &[u64],

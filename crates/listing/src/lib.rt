@@ -49,8 +49,7 @@ fn tell(out: &mut [u8], model: u32, format: Format, tape: &[u8], blocks: &[u64],
 }
 
 // The listing of a tape's bytes for a model; the text's length, or the refusal's number.
-#[unsafe(no_mangle)]
-pub extern "C" fn glyvrask_listing(tape: &[u8], model: u32, out: &mut [u8]) -> u32
+pub fn glyvrask_listing(tape: &[u8], model: u32, out: &mut [u8]) -> u32
     ensures value { result ≡ answer_to (listing_of tape.now model) out.old }
     ensures out_after { out.new ≡ bytes_after (listing_of tape.now model) out.old }
 {

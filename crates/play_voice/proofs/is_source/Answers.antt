@@ -1,0 +1,6 @@
+-- `is_source` meets its contract. Assumes nothing.
+use borrow.Author.Rules.{rules}
+use Rattle.play_voice.proofs.is_source.Goals as goal
+
+pub returns : goal.returns
+returns c = rw c.block_at-r.ensures

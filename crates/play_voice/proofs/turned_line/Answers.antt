@@ -1,0 +1,6 @@
+-- `turned_line` meets its contract. Assumes nothing.
+use borrow.Author.Rules.{rules}
+use Rattle.play_voice.proofs.turned_line.Goals as goal
+
+pub returns : goal.returns
+returns c = rw c.flip.ensures

@@ -1,0 +1,6 @@
+-- `unheard` meets its contract. Assumes nothing.
+use borrow.Author.Rules.{rules}
+use Rattle.play_voice.proofs.unheard.Goals as goal
+
+pub returns : goal.returns
+returns c = rw c.none_seen.ensures

@@ -42,9 +42,9 @@ module _ {A : Type 0} {P : A → Type 0} where
   all_append (cons x p) q = cons x (all_append p q)
 
   pub all_drop : {xs : List A} (n : ℕ) → All P xs → All P (drop n xs)
-  all_drop zero p = p
-  all_drop (suc n) nil = nil
-  all_drop (suc n) (cons x p) = all_drop n p
+  all_drop {xs} zero p = p
+  all_drop {xs} (suc n) nil = nil
+  all_drop {xs} (suc n) (cons {x = x'} {xs = ys} x p) = all_drop {xs = ys} n p
 
   pub all_also : {R : A → Type 0} {xs : List A} → ((x : A) → P x → R x) → All P xs → All R xs
   all_also f nil = nil
@@ -53,6 +53,7 @@ module _ {A : Type 0} {P : A → Type 0} where
   pub all_at : {x : A} {xs : List A} → All P xs → Memᴰ x xs → P x
   all_at (cons {x = y} h p) (Memᴰ.head e) = rw e h
   all_at (cons h p) (Memᴰ.tail m) = all_at p m
+  all_at nil x4 = elim x4 [ ]
 
   pub all_get : {xs : List A} → All P xs → (i : ℕ) (d : A) → i < length xs → P (get_or xs i d)
   all_get nil i d h = absurd (omega arith)

@@ -1,0 +1,15 @@
+-- The loops of `voiced_row`.
+use Prim.Native.Nat.{◌-◌, ◌≤◌}
+use native.Mathlib.Omega.{arith}
+use mathlib.Core.Path.{◌≡◌, refl, ap, ◌∙◌}
+use borrow.Author.Rules.{rules}
+use Rattle.play_entries.specs.Entries.{cycles_of}
+use Rattle.play_steps.specs.Steps.{tone_from}
+use Rattle.play_steps.proofs.Facts as facts
+use Rattle.play_steps.proofs.voiced_row.Given as goal
+
+abbrev pub invariant-loop-j : goal.invariant-loop-j
+invariant-loop-j l = (l.j ≤ l.r.tones) × (tone_from l.tones l.r l.i ≡ tone_from l.tones l.r l.j)
+
+abbrev pub decreases-loop-j : goal.decreases-loop-j
+decreases-loop-j l = l.r.tones - l.j

@@ -1,0 +1,24 @@
+-- `pause_last` meets its contract. Assumes nothing.
+use Rattle.load_state.proofs.Adds.{last_none, table-paused}
+use lib.ListN.{length}
+use mathlib.Core.Path.{◌≡◌}
+use native.Mathlib.Omega.{arith}
+use Prim.Native.Nat.{suc, ◌-◌}
+use borrow.Author.Rules.{rules}
+use Rattle.load_groups.proofs.pause_last.Goals as goal
+
+pub returns-then-n-eq0 : goal.returns-then-n-eq0
+returns-then-n-eq0 c = 
+    λ B rs len k room e.
+    let z : 0 ≡ length rs = omega arith in
+    rw (last_none rs z) e
+
+pub returns-then-i-block_capacity : goal.returns-then-i-block_capacity
+returns-then-i-block_capacity c = 
+    λ B rs len k room e.
+    let n = c.args.n in
+    let q : length rs ≡ suc (n - 1) = omega arith in
+    table-paused c.block_at.result rs B (n - 1) q e (rw (c.paused.ensures, c.block_at.ensures) at c.put_block.ensures)
+
+pub returns-else-i-block_capacity : goal.returns-else-i-block_capacity
+returns-else-i-block_capacity c = λ B rs len k room e. absurd (omega arith)

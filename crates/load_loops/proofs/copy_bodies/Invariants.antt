@@ -1,0 +1,22 @@
+-- The loops of `copy_bodies`.
+use Rattle.load_state.proofs.Copies.{Begins, begins, begins_rows, begins_length, body_turn, bodies_end}
+use Rattle.load_state.proofs.Laws.{Going, going_starts, going_on, going_no, going_ends}
+use Rattle.load_state.specs.Holds.{Holds, block_room}
+use Rattle.load_state.specs.Parser.{Parsed, copy_rows, copies}
+use lib.Seq.{slice}
+use lib.ListN.{length}
+use mathlib.Core.List.{List}
+use mathlib.Core.Path.{◌≡◌, refl}
+use native.Mathlib.Omega.{arith}
+use Prim.Native.Nat.{ℕ, ◌-◌, ◌≤◌}
+use borrow.Author.Rules.{rules}
+use Rattle.load_loops.proofs.copy_bodies.Given as goal
+
+abbrev pub invariant-loop-left : goal.invariant-loop-left
+invariant-loop-left l = (length l.blocks ≡ length l.initial.blocks)
+    × ((B N : ℕ) (tt : List ℕ) (t : Parsed) → Holds B N l.initial.s l.initial.blocks tt t → l.end ≤ length t.blocks
+    → Going (Begins t.blocks) B N l.s l.blocks tt (copies (block_room B) l.left (slice l.start l.end t.blocks))
+    (copies (block_room B) l.times (slice l.start l.end t.blocks) t))
+
+abbrev pub decreases-loop-left : goal.decreases-loop-left
+decreases-loop-left l = l.left

@@ -1,0 +1,6 @@
+-- `loop_opened` meets its contract. Assumes nothing.
+use borrow.Author.Rules.{rules}
+use Rattle.load_loops.proofs.loop_opened.Goals as goal
+
+pub returns-in-Closed : goal.returns-in-Closed
+returns-in-Closed c = rw c.in-Closed.is

@@ -15,7 +15,7 @@ pub take_tone-requires : goal.take_tone-requires
 take_tone-requires c =
     let a = c.args in
     let k = row_lent a.tape.now a.tones.now a.r c.requires.r_value in
-    record { tones_bound = k.rows; i_lt_tones = k.each; d_nonzero = (in_tones a.tones.now a.r c.in-Tones.is c.requires.f_value, c.requires.d_nonzero) }
+    record { tones_bound = (k.rows, k.each); i_lt_tones = in_tones a.tones.now a.r c.in-Tones.is c.requires.f_value; d_nonzero = c.requires.d_nonzero }
 
 pub take_bit-requires : goal.take_bit-requires
 take_bit-requires c =

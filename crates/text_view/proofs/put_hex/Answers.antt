@@ -1,0 +1,34 @@
+-- `put_hex` meets its contract: each turn writes the text of one byte more. Assumes nothing.
+use Prim.Native.Nat.{◌-◌}
+use native.Mathlib.Omega.{arith}
+use lib.ListN.{length}
+use Rattle.text_out.proofs.Writing.{same_len}
+use Rattle.text_out.proofs.Loops.{Spells, spells_none, spells_on, spells_over}
+use Rattle.text_view.specs.Dump.{hex}
+use Rattle.text_view.proofs.Parts.{hex-length}
+use Rattle.text_view.proofs.put_hex.Goals as goal
+
+pub loop-i-init : goal.loop-i-init
+loop-i-init c = spells_none
+
+pub bounds-s-i : goal.bounds-s-i
+bounds-s-i c = omega arith
+
+pub put_byte-o-requires : goal.put_byte-o-requires
+put_byte-o-requires c = omega (arith, c.loop-i.invariant.goes.few)
+
+pub overflow_add-i : goal.overflow_add-i
+overflow_add-i c = omega arith
+
+pub loop-i-smaller : goal.loop-i-smaller
+loop-i-smaller c = omega arith
+
+pub loop-i-preserved : goal.loop-i-preserved
+loop-i-preserved c =
+    spells_on c.loop-i.invariant c.loop-i-test.true (hex-length _) c.put_byte-o.ensures
+
+pub shape_of-out : goal.shape_of-out
+shape_of-out c = same_len (spells_over c.loop-i.invariant c.loop-i-test.false)
+
+pub returns : goal.returns
+returns c = spells_over c.loop-i.invariant c.loop-i-test.false

@@ -1,0 +1,6 @@
+-- `ends` meets its contract. Assumes nothing.
+use borrow.Author.Rules.{rules}
+use Rattle.play_walk.proofs.ends.Goals as goal
+
+pub returns : goal.returns
+returns c = rw c.new_at_block.ensures

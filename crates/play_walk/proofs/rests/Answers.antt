@@ -1,0 +1,6 @@
+-- `rests` meets its contract. Assumes nothing.
+use borrow.Author.Rules.{rules}
+use Rattle.play_walk.proofs.rests.Goals as goal
+
+pub returns : goal.returns
+returns c = rw c.new_at_block.ensures

@@ -1,0 +1,6 @@
+-- `stands` meets its contract. Assumes nothing.
+use borrow.Author.Rules.{rules}
+use Rattle.play_walk.proofs.stands.Goals as goal
+
+pub returns : goal.returns
+returns c = rw c.level_in.ensures

@@ -1,0 +1,6 @@
+-- `stops` meets its contract. Assumes nothing.
+use borrow.Author.Rules.{rules}
+use Rattle.play_walk.proofs.stops.Goals as goal
+
+pub returns : goal.returns
+returns c = rw c.level_in.ensures

@@ -1,0 +1,39 @@
+-- The loops of `ran_ahead`.
+use borrow.Author.Rules.{rules}
+use Rattle.play_entries.proofs.Lent.{row_lent}
+use Rattle.rows.proofs.Clauses.{failed, passed}
+use Prim.Native.Nat.{ℕ, ◌+◌, ◌-◌, ◌≤◌}
+use native.Mathlib.Omega.{arith}
+use mathlib.Core.Path.{◌≡◌, refl, sym, ap, ◌∙◌}
+use lib.ListN.{length}
+use Rattle.law_pulses.proofs.Ahead.{drops}
+use Rattle.play_entries.proofs.Follows.{list_out}
+use Rattle.play_walk.specs.declared.Position.{Position}
+use Rattle.play_entries.specs.Mounted.{well_row, first_bad, cut_to, tape_of}
+use Rattle.play_walk.proofs.Needed.{well_before, bad_there}
+use Rattle.play_walk.proofs.Turns.{cut_of, rows_of, on_has, on-first, asks, asks_has}
+use Rattle.play_ahead.proofs.Drops.{cur, cur_out, drops_nil, Off, off_first, off_start, start_cur, shed_goes, shed_less}
+use Rattle.play_ahead.proofs.Drops.{shed_rests, shed_off, dropped-stop, dropped-short, dropped-behind}
+use Rattle.play_ahead.proofs.ran_ahead.Given as goal
+
+abbrev pub invariant-entries : goal.invariant-entries
+invariant-entries l = (k : ℕ) → Off (tape_of l.tape l.tones l.blocks l.count) k l.block l.initial.phase l.initial.over l.d l.initial.sum
+    → (l.initial.sum + drops (cur (cut_to (tape_of l.tape l.tones l.blocks l.count) k) l.block l.initial.phase l.initial.over) l.d
+    ≡ l.sum + drops (cur (cut_to (tape_of l.tape l.tones l.blocks l.count) k) l.block l.phase l.over) l.d)
+    × Off (tape_of l.tape l.tones l.blocks l.count) k l.block l.phase l.over l.d l.sum
+
+abbrev pub decreases-entries : goal.decreases-entries
+decreases-entries l = length (cur (cut_to (tape_of l.tape l.tones l.blocks l.count) (l.block + 1)) l.block l.phase l.over)
+
+abbrev pub invariant-blocks-2 : goal.invariant-blocks-2
+invariant-blocks-2 l = (l.initial.sum
+    + drops (cur (cut_to (tape_of l.tape l.tones l.blocks l.count) (first_bad (tape_of l.tape l.tones l.blocks l.count) l.initial.block (l.count - l.initial.block))) l.initial.block
+    l.initial.phase l.initial.over) l.d
+    ≡ l.sum
+    + drops (cur
+    (cut_to (tape_of l.tape l.tones l.blocks l.count) (first_bad (tape_of l.tape l.tones l.blocks l.count) l.initial.block (l.count - l.initial.block))) l.block l.phase l.over) l.d)
+    × (Off (tape_of l.tape l.tones l.blocks l.count) (first_bad (tape_of l.tape l.tones l.blocks l.count) l.initial.block (l.count - l.initial.block)) l.block l.phase l.over l.d l.sum
+    × l.initial.block ≤ l.block)
+
+abbrev pub decreases-blocks-2 : goal.decreases-blocks-2
+decreases-blocks-2 l = l.count - l.block

@@ -1,0 +1,17 @@
+-- The loops of `back`.
+use Rattle.play_deck.proofs.Sourced.{back-bad, back_none, back-here, back_on}
+use Rattle.play_deck.specs.Deck.{back_to}
+use Rattle.rows.proofs.Clauses.{failed, passed}
+use Rattle.play_entries.specs.Mounted.{well_row}
+use Rattle.rows.specs.declared.Block.{Block}
+use Rattle.play_entries.specs.Mounted.{tape_of}
+use mathlib.Core.Path.{◌≡◌, refl, sym, ap, ◌∙◌}
+use native.Mathlib.Omega.{arith}
+use Prim.Native.Nat.{ℕ, ◌≤◌}
+use Rattle.play_menu.proofs.back.Given as goal
+
+abbrev pub invariant-loop-from : goal.invariant-loop-from
+invariant-loop-from l = (l.b ≤ l.initial.b) × ((n : ℕ) → back_to (tape_of l.tape l.tones l.blocks n) l.b ≡ back_to (tape_of l.tape l.tones l.blocks n) l.initial.b)
+
+abbrev pub decreases-loop-from : goal.decreases-loop-from
+decreases-loop-from l = l.b

@@ -1,6 +1,6 @@
 /* Glyvrask for C hosts: ZX Spectrum tape images read, listed and played over memory that the host lends.
  *
- * Two static libraries for x86-64 Linux: `rt staticlib listing` gives glyvrask_listing, `rt staticlib export` all the others.
+ * Two static libraries for x86-64 Linux: `host/build listing` gives glyvrask_listing, `host/build export` all the others.
  * None of these functions allocates, keeps anything between calls, or panics. Each has a proved contract with no condition but
  * these, which hold of any lent memory: a pointer is not null, also where its length is 0; words are aligned to 8 bytes; what is
  * written to overlaps nothing else that is lent in the same call. A length counts elements (bytes, or words of 64 bits).

@@ -18,7 +18,7 @@ shown() { # GUIDE
 # `ROOM CRATE` for each crate, by name: a line of the picture that is not set in is a room, and a crate where crates.txt has its name.
 rooms() { # CRATES.TXT
     sh docs/map "$1" | awk '
-        NR == FNR { sub(/:.*/, ""); listed[$0] = 1; next }
+        NR == FNR { sub(/[: ].*/, ""); listed[$0] = 1; next }
         NF == 0 { next }
         /^[^ ]/ { room = $1 }
         $1 in listed { print room, $1 }' "$1" - | LC_ALL=C sort -k 2
@@ -27,7 +27,7 @@ rooms() { # CRATES.TXT
 # `ROOM CRATE` for each row of a README's map: a room's name is bold, with words on what it is; it is a crate's too where crates.txt has it.
 mapped() { # README CRATES.TXT
     awk '
-        NR == FNR { sub(/:.*/, ""); listed[$0] = 1; next }
+        NR == FNR { sub(/[: ].*/, ""); listed[$0] = 1; next }
         /^## / { on = $0 == "## The crates" }
         !on || !/^\| / || /^\| crate \|/ { next }
         /^\| \*\*`[a-z0-9_]*`\*\* \| [^ |]/ { split($0, part, "`"); room = part[2]; if (room in listed) print room, room; next }

@@ -12,7 +12,7 @@ bad() { # WORDS
 
 # ---- the numbers and their names, `N NAME`; C's name of 1 is older than the others'
 sed -n 's/^pub const \([A-Z_]*\): u32 = \([0-9]*\);$/\2 \1/p' crates/refusals/src/lib.rt > "$room/code"
-sed -n 's/^\([a-z][A-Za-z]*\) = \([0-9]*\)$/\2 \1/p' crates/refusals/specs/Refusals.antt | sed 's/\([A-Z]\)/_\1/g' | tr a-z A-Z > "$room/definitions"
+sed -n 's/^\([a-z][a-z_]*\) = \([0-9]*\)$/\2 \1/p' crates/refusals/specs/Refusals.antt | tr a-z A-Z > "$room/definitions"
 sed -n '/GLYVRASK_OK = 0/,/};/s/^ *GLYVRASK_\([A-Z_]*\) = \([0-9]*\).*/\2 \1/p' include/glyvrask.h | sed '/^0 OK$/d; s/^1 MODEL$/1 BAD_MODEL/' > "$room/header"
 sed -n '/^## Numbers for no/,/^## The crates/s/^| \([0-9]*\) |.*/\1/p' README.md > "$room/readme"
 [ "$(wc -l < "$room/code")" -eq 11 ] || bad "crates/refusals/src/lib.rt doesn't have eleven numbers"
@@ -32,9 +32,9 @@ bare() { # FILE..
             if (code) sub(/(^|[ \t])\/\/.*$/, "", line)
             else sub(/(^|[ \t])--([ \t].*)?$/, "", line)
             gsub(/"[^"]*"/, "", line)
-            said = code ? line ~ /⌜/ : line !~ /^ *(use|unfolding) /
+            said = code ? line ~ /≡/ : line !~ /^ *(use|unfolding) /
             found = 0
-            if (line ~ /^use (refusals::|Rattle·refusals[.])/) names = 1
+            if (line ~ /^use (refusals::|Rattle[.]refusals[.])/) names = 1
             if (code) {
                 if (line ~ /(^| )fn [a-z]/) result = ""
                 if (line ~ /-> [A-Za-z0-9]+( \{)?$/) { result = line; sub(/.*-> /, "", result); sub(/ \{$/, "", result) }
@@ -42,8 +42,8 @@ bare() { # FILE..
                 if (names && result == "u32" && line ~ ("(^ *(return )?|=> |[{] )" n "(;|,| [}])?$")) found = 1
             }
             if (said) {
-                if (line ~ ("(^|[^A-Za-z0-9_-])([a-z]+[.])?(tell-)?(refused|Refused|refuse|refuses|refusal|refusedText|refusedLine|no|No) " n "([^0-9A-Za-z]|$)")) found = 1
-                if (line ~ ("(numberNo|markNo|timeNo|numberOf|numberFor|refusalOf|answerTo|loadNumber) .*≡ " n "([^0-9A-Za-z]|$)")) found = 1
+                if (line ~ ("(^|[^A-Za-z0-9_-])([a-z]+[.])?(tell_)?(refused|Refused|refuse|refuses|refusal|refused_text|refused_line|no|No) " n "([^0-9A-Za-z]|$)")) found = 1
+                if (line ~ ("(number_no|mark_no|time_no|number_of|number_for|refusal_of|answer_to|load_number) .*≡ " n "([^0-9A-Za-z]|$)")) found = 1
                 if (line ~ ("(overfull|fits) .*(⇒|∣) " n "([^0-9A-Za-z]|$)")) found = 1
                 if (line ~ ("(Between|Says|Sees|Tells) " n " " n "([^0-9A-Za-z]|$)")) found = 1
                 if (names && line ~ ("((^|[^A-Za-z0-9_])k ≡ " n "|(^|[^0-9])" n " ≡ k)([^0-9A-Za-z]|$)")) found = 1
@@ -63,18 +63,18 @@ fn refusal(count: u64) -> u32
         return 8;
         Reached::NotValid => 9,
         11
-    ensures { λ k. ⌜ k ≡ (fits words answer ⇒ 0 ∣ 10) ⌝ }
+    ensures { result ≡ (fits words answer ⇒ 0 ∣ 10) }
 CODE
 cat > "$room/bad.antt" <<'LAW'
-use Rattle·refusals.specs.Refusals.{tapeBad}
-orTap (failed f) = no 3
+use Rattle.refusals.specs.Refusals.{tape_bad}
+or_tap (failed f) = no 3
     ∣ ltb 65535 (length s) ⇒ refused 2
-walk-9 : numberOf walks ≡ 9 → ⊥
-lenOf w = overfull w ⇒ number.Refused 11 ∣ number.Is (w .count)
-numberOf a row = fits (a .values) row ⇒ a .no ∣ 10
-by-count true k row e = tell-refused 11 row
-    tap-no : readTap lent s ≡ refused k → Between 5 6 k → Given k
-    both-no : Errs (readTap lent s) → k ≡ 3 → Given k
+walk_9 : number_of walks ≡ 9 → ⊥
+len_of w = overfull w ⇒ number.Refused 11 ∣ number.Is w.count
+number_of a row = fits a.values row ⇒ a.no ∣ 10
+by_count true k row e = tell_refused 11 row
+    tap_no : read_tap lent s ≡ refused k → Between 5 6 k → Given k
+    both_no : Errs (read_tap lent s) → k ≡ 3 → Given k
 LAW
 cat > "$room/good.rt" <<'CODE'
 use refusals::NO_ROOM;
@@ -88,11 +88,11 @@ fn format_of(f: Format) -> u64
         Format::Tzx => 1,
 CODE
 cat > "$room/good.antt" <<'LAW'
-orTap (failed f) = no tapeBad -- refused 3
-selectedText = ascii "refused 9"
-no z = let y : _≡_ {A = ℕ} 1 0 = ap (λ (t : Bool). t ⇒ 0 ∣ 1) z in absurd (omega arith)
-refusal-8 : (refusalOf w i ≡ noBlock) ↔ PastCount w i
-bitsIn used size pos = eqb (pos + 1) size ⇒ used ∣ 8
+or_tap (failed f) = no tape_bad -- refused 3
+selected_text = ascii "refused 9"
+no z = let y : ◌≡◌ {A = ℕ} 1 0 = ap (λ (t : Bool). t ⇒ 0 ∣ 1) z in absurd (omega arith)
+refusal_8 : (refusal_of w i ≡ no_block) ↔ PastCount w i
+bits_in used size pos = eqb (pos + 1) size ⇒ used ∣ 8
 LAW
 [ "$(bare "$room/bad.rt" | wc -l)" -eq 8 ] || bad "the search misses a bare number in code: it finds $(bare "$room/bad.rt")"
 [ "$(bare "$room/bad.antt" | wc -l)" -eq 8 ] || bad "the search misses a bare number in a law: it finds $(bare "$room/bad.antt")"

@@ -288,41 +288,37 @@ fi
 
 unset GLYVRASK_BIN
 
-# building, over a stand-in kit for another processor: what is missing or older than its sources, and nothing else; through a link, from another folder
-root="$room/the root" kit="$room/the kit"
-mkdir -p "$root/crates/list/src" "$kit/docs" "$kit/on/other/toolchain/bin" "$kit/on/other/toolchain/lib" "$room/path"
+# building, over a stand-in for rt: what is missing or older than its sources, and nothing else; through a link, from another folder
+root="$room/the root"
+mkdir -p "$root/crates/list/src" "$root/crates/unread/src" "$room/path"
 cp "$here/glyvrask" "$root/glyvrask"
 ln -s "the root/glyvrask" "$room/link"
 script=$room/link
 echo 'list:' >"$root/crates.txt"
 : >"$root/crates/list/src/main.rt"
-cat >"$room/path/rt" <<END
+cat >"$room/path/rt" <<'END'
 #!/bin/sh
-case \$* in
-    doc) echo '$kit/docs/START-HERE.md' ;;
-    'check list' | 'check unread')
-        echo "rt: in \$(pwd)"
+case $* in
+    run)
+        name=$(basename "$(pwd)")
+        echo "rt: in $(pwd)"
+        echo 'rt: note: this is not shown'
         echo 'a note' >&2
-        mkdir -p target/bin
-        [ ! -f "made \$2" ] || cp "made \$2" "target/bin/\$2"
-        [ -f "target/bin/\$2" ] || printf '\\177ELF' >"target/bin/\$2"
-        [ ! -f "no \$2" ] || exit 1
+        mkdir -p out
+        cp "../../made $name" "out/$name"
+        chmod +x "out/$name"
+        [ ! -f "../../no $name" ] || exit 1
         ;;
     *) exit 2 ;;
 esac
 END
-printf '#!/bin/sh\necho other\n' >"$room/path/uname"
-cat >"$kit/on/other/toolchain/bin/qemu-x86_64" <<'END'
-#!/bin/sh
-for w; do printf '%s\n' "${w##*/}${QEMU_LOG:-}"; done
-END
-chmod +x "$room/path/rt" "$room/path/uname" "$kit/on/other/toolchain/bin/qemu-x86_64"
+chmod +x "$room/path/rt"
+printf '#!/bin/sh\necho the list\n' >"$root/made list"
 old=$PATH
 PATH=$room/path:$PATH
-QEMU_LOG=all
-export QEMU_LOG
-ran="ld-linux-x86-64.so.2${nl}--library-path${nl}lib${nl}list"
-building="glyvrask: building list (proved first; this takes some minutes once)${nl}rt: in $(cd "$root" && pwd -P)"
+ran='the list'
+at=$(cd "$root" && pwd -P)
+building="glyvrask: building list (proved first; this takes some minutes once)${nl}rt: in $at/crates/list"
 says 0 "$ran" "$building" list 48K 'a tape.tzx'
 says 0 "$ran" '' list 48K 'a tape.tzx'
 touch -t 203001010000 "$root/crates/list/src/main.rt"
@@ -330,7 +326,11 @@ says 0 "$ran" "$building" list 48K 'a tape.tzx'
 touch "$root/crates/list/src/main.rt"
 says 0 "$ran" "$building" list 48K 'a tape.tzx'
 says 0 "$ran" '' list 48K 'a tape.tzx'
-rm "$root/target/bin/list"
+# what rt leaves beside the sources makes no program older
+mkdir -p "$root/crates/unread/out"
+touch -t 203001010000 "$root/crates/unread/out/other" "$root/crates/unread/out"
+says 0 "$ran" '' list 48K 'a tape.tzx'
+rm "$root/crates/list/out/list"
 GLYVRASK_BUILD=no
 export GLYVRASK_BUILD
 fails 3 'list is not built' list 48K 'a tape.tzx'
@@ -342,17 +342,17 @@ case $(cat "$room/err") in
     "$building${nl}glyvrask: list could not be built; the lines above say why"*) ;;
     *) bad "a failed build says: $(cat "$room/err")" ;;
 esac
-[ ! -f "$root/target/bin/list" ] || bad 'a program that failed its check is kept'
+[ ! -f "$root/crates/list/out/list" ] || bad 'a program that failed its check is kept'
+grep -q 'a note' "$root/target/log/list" || bad 'what rt said of a failed build is not kept'
 
 # unread is built when it is needed, behind the refusal; where it can't be, also right behind another that was built, the refusal stands
 rm "$root/no list"
 printf '#!/bin/sh\necho refused 3\n' >"$root/made list"
 printf '#!/bin/sh\nprintf "refused 3\\ntzx signature bad\\ntap short place 2 width 65535\\n"\n' >"$root/made unread"
-chmod +x "$root/made list" "$root/made unread"
-building_unread="glyvrask: building unread (proved first; this takes some minutes once)${nl}rt: in $(cd "$root" && pwd -P)"
+building_unread="glyvrask: building unread (proved first; this takes some minutes once)${nl}rt: in $at/crates/unread"
 : >"$root/no unread"
 says 1 '' "$building$nl$refused3$nl$building_unread" list 48K "$tape"
-[ ! -f "$root/target/bin/unread" ] || bad 'an unread that failed its check is kept'
+[ ! -f "$root/crates/unread/out/unread" ] || bad 'an unread that failed its check is kept'
 GLYVRASK_BUILD=no
 export GLYVRASK_BUILD
 says 1 '' "$refused3" list 48K "$tape"
@@ -365,7 +365,6 @@ says 1 '' "$refused3$nl$building_unread$nl$words" list 48K "$tape"
 says 1 '' "$refused3$nl$words" list 48K "$tape"
 PATH=$old
 script=
-unset QEMU_LOG
 
 # the committed samples are what tapes/make makes
 mkdir "$room/tapes"

@@ -4,7 +4,7 @@ set -eu
 cd "$(dirname "$0")/../.."
 . host/kit.sh
 host/build
-for name in list dump trace; do [ -x "target/bin/$name" ] || rt check "$name"; done
+for name in list dump trace; do need_program "$name"; done
 room=$(mktemp -d)
 trap 'rm -rf "$room"' EXIT
 
@@ -35,7 +35,7 @@ seen=0
 # alike WAY PROGRAM: both print the same of the input
 alike() {
     run_host "$room/header" "$1" < "$room/in" > "$room/got" || { cat "$room/got"; exit 1; }
-    run_host "target/bin/$2" < "$room/in" > "$room/wanted"
+    run_host "crates/$2/out/$2" < "$room/in" > "$room/wanted"
     cmp "$room/got" "$room/wanted" || { echo "header.sh: $1 of $file"; exit 1; }
     seen=$((seen + 1))
 }

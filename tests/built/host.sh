@@ -4,7 +4,7 @@ set -eu
 cd "$(dirname "$0")/../.."
 . host/kit.sh
 host/build listing
-[ -x target/bin/list ] || rt check list
+need_program list
 room=$(mktemp -d)
 trap 'rm -rf "$room"' EXIT
 link_host "$room/refusals" host/refusals.c target/staticlib/liblisting.a
@@ -18,7 +18,7 @@ while IFS= read -r file; do
         # the program's model byte is the first letter of the model's name, or 3
         case $model in Plus3) first=3 ;; *) first=${model%"${model#?}"} ;; esac
         { printf %s "$first"; cat "$file"; } > "$room/in"
-        run_host target/bin/list < "$room/in" > "$room/wanted"
+        run_host crates/list/out/list < "$room/in" > "$room/wanted"
         run_host "$room/list" "$model" "$file" < /dev/null > "$room/got"
         cmp "$room/got" "$room/wanted" || { echo "host.sh: $file on a $model"; exit 1; }
         seen=$((seen + 1))

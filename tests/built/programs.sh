@@ -17,7 +17,7 @@ tap() { # LENGTH-BYTES SIZE
 
 # The program's answer to an input begins with this line.
 says() { # PROGRAM INPUT LINE
-    run_host "target/bin/$1" < "$room/$2" > "$room/out"
+    run_host "crates/$1/out/$1" < "$room/$2" > "$room/out"
     [ "$(head -n 1 "$room/out")" = "$3" ] || {
         echo "programs.sh: $1 of $2 says '$(head -n 1 "$room/out")' and not '$3'"
         exit 1
@@ -26,7 +26,7 @@ says() { # PROGRAM INPUT LINE
 }
 
 for program in list dump trace unread; do
-    [ -x "target/bin/$program" ] || rt check "$program"
+    need_program "$program"
 done
 tap '\375\377' 65533 > "$room/full"
 tap '\376\377' 65534 > "$room/over"
@@ -80,7 +80,7 @@ for more in x xx xxx; do
     says unread in-more 'refused 2'
 done
 for run in run-full long-run-full; do
-    run_host target/bin/trace < "$room/$run" > "$room/out"
+    run_host crates/trace/out/trace < "$room/$run" > "$room/out"
     case $(head -n 1 "$room/out") in refused*) echo "programs.sh: trace of $run is refused"; exit 1 ;; esac
     seen=$((seen + 1))
 done

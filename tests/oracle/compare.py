@@ -5,9 +5,8 @@
     tests/oracle/compare.py listings ORACLE [N [SEED]]    listings, byte by byte (program `gate_listings`)
 
 ORACLE is the folder with the oracle's `build` and `corpus.py`. N tapes (50,000 unless given) are made, a thousand from each seed from SEED on, over the three models;
-`rt check gate_replay gate_listings` builds the programs. Prints what was compared; ends with status 1 at the first difference.
+`rt run gate_replay` and `rt run gate_listings` build the programs, and so does ./test. Prints what was compared; ends with status 1 at the first difference.
 """
-import os
 import struct
 import subprocess
 import sys
@@ -18,12 +17,8 @@ ROOT = Path(__file__).resolve().parents[2]
 
 
 def program(name):
-    """How a program of ours is run here: under the kit's loader, and on another processor its emulator."""
-    kit = Path(subprocess.run(["rt", "doc"], check=True, stdout=subprocess.PIPE, text=True).stdout.strip()).parents[1]
-    tools = kit / "on" / os.uname().machine / "toolchain"
-    emulator = tools / "bin" / "qemu-x86_64"
-    words = [emulator] if emulator.exists() else []
-    return [*words, tools / "lib" / "ld-linux-x86-64.so.2", "--library-path", tools / "lib", ROOT / "target" / "bin" / name]
+    """A program of ours, as rt left it."""
+    return [ROOT / "crates" / name / "out" / name]
 
 
 def loads(oracle, tapes):

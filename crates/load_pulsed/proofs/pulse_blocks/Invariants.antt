@@ -1,0 +1,24 @@
+-- The loops of `pulse_blocks`.
+use Prim.Native.Nat.{ℕ, ◌+◌, ◌*◌, ◌-◌}
+use mathlib.Core.Path.{◌≡◌, refl, ap}
+use native.Mathlib.Omega.{arith}
+use lib.ListN.{length}
+use borrow.Author.Rules.{rules}
+use Rattle.rows.specs.declared.Block.{Block}
+use Rattle.load_state.specs.Parser.{Parsed}
+use Rattle.load_state.specs.Holds.{Holds}
+use Rattle.load_state.proofs.Laws.{Going, going_starts, going_on, going_no, going_ends}
+use Rattle.load_blocks.specs.Sounds.{add_sound, add_sounds}
+use Rattle.load_blocks.specs.Blocks.{tone_sound, pair_sound, pair_sounds}
+use Rattle.load_blocks.specs.Does.{lent_of}
+use Rattle.load_blocks.proofs.Laws.{Any, does_born, one_alone, pairs_more}
+use Rattle.load_pulsed.proofs.pulse_blocks.Given as goal
+
+abbrev pub invariant-loop-left : goal.invariant-loop-left
+invariant-loop-left l = (length l.blocks ≡ length l.initial.blocks) × (length l.tones ≡ length l.initial.tones) × (l.i + l.left * 2 ≡ l.n * 2)
+    × ((B N : ℕ) (t : Parsed) → Holds B N l.initial.s l.initial.blocks l.initial.tones t
+    → Going Any B N l.s l.blocks l.tones (add_sounds (lent_of B N) l.tape l.origin (pair_sounds l.tape l.from l.i l.left))
+    (add_sounds (lent_of B N) l.tape l.origin (pair_sounds l.tape l.from 0 l.n) t))
+
+abbrev pub decreases-loop-left : goal.decreases-loop-left
+decreases-loop-left l = l.left

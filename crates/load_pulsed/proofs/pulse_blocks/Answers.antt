@@ -38,7 +38,7 @@ returns-in-No c =
 
 pub overflow_add-i-in-loop-left : goal.overflow_add-i-in-loop-left
 overflow_add-i-in-loop-left c = 
-    omega (arith, c.well-formed.0, c.requires, c.loop-left.invariant.2, c.loop-left-test.true)
+    omega arith
 
 pub loop-left-preserved : goal.loop-left-preserved
 loop-left-preserved c = 

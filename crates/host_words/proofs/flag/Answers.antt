@@ -1,0 +1,11 @@
+-- `flag` meets its contract: a flag is 0 or 1. Assumes nothing.
+use Rattle.host_words.specs.Words.{flag_of}
+use Rattle.host_words.proofs.flag.Goals as goal
+
+pub returns-then-b : goal.returns-then-b
+unfolding flag_of
+returns-then-b c = rw c.if-b.true
+
+pub returns-else-b : goal.returns-else-b
+unfolding flag_of
+returns-else-b c = rw c.if-b.false

@@ -1,0 +1,19 @@
+-- The loops of `whole.read_tap`.
+use borrow.Author.Rules.{rules}
+use mathlib.Core.Path.{sym, ◌∙◌}
+use Prim.Native.Nat.{◌-◌}
+use native.Mathlib.Omega.{arith}
+use lib.ListN.{length}
+use Rattle.load_state.specs.Parser.{empty}
+use Rattle.cut_grammar.proofs.CuttingTap.{tap_forward}
+use Rattle.load_source.specs.Source.{tap_of, tap_see, fold_from, read_tap}
+use Rattle.load_blocks.specs.Does.{lent_of}
+use Rattle.load_source.proofs.Rest.{Rest, rest_begins, rest_over, rest-bad, rest-no, rest-on, tap_stops, tap_sees, blank_holds}
+use Rattle.load_source.proofs.whole.read_tap.Given as goal
+
+abbrev pub invariant-loop-at : goal.invariant-loop-at
+invariant-loop-at l = let see = tap_see (lent_of (length l.initial.blocks) (length l.initial.tones)) l.tape in
+    Rest (length l.tape) see (length l.initial.blocks) (length l.initial.tones) l.at l.s l.blocks l.tones (fold_from see (length l.tape) 0 empty)
+
+abbrev pub decreases-loop-at : goal.decreases-loop-at
+decreases-loop-at l = length l.tape - l.at

@@ -1,0 +1,24 @@
+-- `position_in` meets its contract. Assumes nothing.
+use Rattle.play_deck.specs.Calls.{position_in}
+use borrow.Author.Rules.{rules}
+use Rattle.host_run.proofs.position_in.Goals as goal
+
+pub returns-in-At : goal.returns-in-At
+unfolding position_in
+returns-in-At c = rw c.in-At.is
+
+pub returns-in-Stopped : goal.returns-in-Stopped
+unfolding position_in
+returns-in-Stopped c = rw c.in-Stopped.is
+
+pub returns-in-Ended : goal.returns-in-Ended
+unfolding position_in
+returns-in-Ended c = rw c.in-Ended.is
+
+pub returns-in-NotValid : goal.returns-in-NotValid
+unfolding position_in
+returns-in-NotValid c = rw c.in-NotValid.is
+
+pub returns-in-NotFormed : goal.returns-in-NotFormed
+unfolding position_in
+returns-in-NotFormed c = rw c.in-NotFormed.is

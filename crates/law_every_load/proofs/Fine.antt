@@ -245,3 +245,4 @@ module _ (s : List ℕ) (b : Bytes s) where
 
   pub tap_fine : {origin : Origin} (d : Sound) → OfPiece (tap_table s) d origin → FineSound s d
   tap_fine d (of f (Memᴰ.head e)) = rw e (standard_fine _ _ _ _ f.range.inside (pause_small _))
+  tap_fine d (of {at = at} {piece = piece} f (Memᴰ.tail x6)) = elim x6 [ ]

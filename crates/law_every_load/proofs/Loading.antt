@@ -162,6 +162,8 @@ answered : {K L M : Parsed → Type 0} {a : Load} {t : Parsed} → ((u : Parsed)
     → Answers K L a → Reads a t → M t
 answered f g (tzx h) as_tzx = f _ h
 answered f g (tapped h) as_tap = g _ h
+answered {K = K} {L = L} {M = M} {t = t} f g both x5 = elim x5 [ ]
+answered {K = K} {L = L} {M = M} {t = t} f g (no {j = j}) x6 = elim x6 [ ]
 
 -- THE INDUCTION: where a TZX's pieces keep K, a TAP's blocks keep L, and each gives M, every tape that a load reads has M
 module _ {K L M : Parsed → Type 0} (lent : Lent) (s : List ℕ) (model : ℕ) {t : Parsed} where

@@ -98,6 +98,7 @@ eight-lasts s =
 tap_eight : {s : List ℕ} → Births (tap_table s) Eight
 unfolding standard_sound row_of
 tap_eight origin d tone (of f (Memᴰ.head e)) = rw e refl
+tap_eight {s = s} _ d tone (of {at = at} {piece = piece} f (Memᴰ.tail x6)) = elim x6 [ ]
 
 eight_bits : {all : List Tone} (r : Block) → RowOver Eight all r → FewBits r
 eight_bits r h n = omega (arith, h.has)

@@ -5,7 +5,7 @@
     tests/oracle/compare.py listings ORACLE [N [SEED]]    listings, byte by byte (program `gate_listings`)
 
 ORACLE is the folder with the oracle's `build` and `corpus.py`. N tapes (50,000 unless given) are made, a thousand from each seed from SEED on, over the three models;
-`rt run gate_replay` and `rt run gate_listings` build the programs, and so does ./test. Prints what was compared; ends with status 1 at the first difference.
+`rt run` in crates/gate_replay and in crates/gate_listings builds the programs, and so does ./test. Prints what was compared; ends with status 1 at the first difference.
 """
 import struct
 import subprocess

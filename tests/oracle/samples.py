@@ -1,7 +1,7 @@
 #!/usr/bin/env python3
 """Holds our answers on published sample tapes (the test folder of libspectrum) to the Rust's, which samples.txt records by checksum.
 
-    tests/oracle/samples.py            fetch the tapes, run `dump` on each (`rt run dump` builds it), compare
+    tests/oracle/samples.py            fetch the tapes, run `dump` on each (`rt run` in crates/dump builds it), compare
     tests/oracle/samples.py ORACLE     fetch the tapes and write samples.txt anew from the Rust's answers
 
 A line of samples.txt: tape, its SHA-256, model, the SHA-256 of the answer.

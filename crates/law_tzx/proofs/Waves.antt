@@ -114,4 +114,4 @@ data_same s off one last from (suc n) e =
     let b = other (eqb (suc n) 0) (between 1 8 last) e (ne_eqb (suc n) 0 (omega arith)) in
     let l : 1 ≤ last = leb-true 1 last (first (leb 1 last) (leb last 8) b) in
     let q : max 1 last ≡ last = omega arith in
-    rw q
+    ap (λ (u : ℕ). data_pulses s off one u from (suc n)) q

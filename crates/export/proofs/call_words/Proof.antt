@@ -18,7 +18,7 @@ tell-inside-requires c κs =
     let a = s.args in
     let w = tape_of a.tape.now a.tones.now a.blocks.now a.count in
     let x = c.before.before in
-    let t = passed_inside a.decreases w a.position.now a.pos a.n x.before.assay.result s.requires x.before.assay.ensures
+    let t = passed_inside a.measured w a.position.now a.pos a.n x.before.assay.result s.requires x.before.assay.ensures
     (sym x.is-inside.ensures ∙ c.before.if1.true) in
     (t.seven, t.less)
 
@@ -31,7 +31,7 @@ returns c =
     let a = s.args in
     let w = tape_of a.tape.now a.tones.now a.blocks.now a.count in
     let x = c.before.before.before.before.before in
-    let t = passed_inside a.decreases w a.position.now a.pos a.n x.before.assay.result s.requires x.before.assay.ensures
+    let t = passed_inside a.measured w a.position.now a.pos a.n x.before.assay.result s.requires x.before.assay.ensures
     (sym x.is-inside.ensures ∙ c.before.before.before.before.if1.true) in
     let told = c.before.before.tell-inside.ensures in
     (told.0 ∙ sym (t.number a.answer.now), told.1 ∙ sym (t.values a.answer.now))

@@ -29,7 +29,7 @@ returns c =
     let read = run.before.before.before.before.before.before in
     let a = read.before.before.before.before.before.before.before.before.before.args in
     let w = tape_of a.tape.now a.tones.now a.blocks.now a.count in
-    wrote_as (ap (run_text a.decreases w (start_at a.from)) read.read-counts.ensures) run.put-run.ensures
+    wrote_as (ap (run_text a.measured w (start_at a.from)) read.read-counts.ensures) run.put-run.ensures
 
 pub put-counted-spec : {M : Type 1} → statement M
 put-counted-spec =

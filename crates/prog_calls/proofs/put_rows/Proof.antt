@@ -41,7 +41,7 @@ same_length c =
     let w = tape_of a.tape.now a.tones.now a.blocks.now a.count in
     let h : L.i < a.n = omega arith in
     same_len
-    (rows_end a.decreases w a.answers.now a.n L.i h read.answer_at.result read.answer_at.ensures L.invariant.1
+    (rows_end a.measured w a.answers.now a.n L.i h read.answer_at.result read.answer_at.ensures L.invariant.1
     put.put-row.ensures (sym c.before.ends-run.ensures ∙ c.if1.true))
 
 returns : tie.Need-returns invariant-loop decreases-loop
@@ -52,7 +52,7 @@ returns c =
     let a = read.before.before.before.before.before.before.before.before.args in
     let w = tape_of a.tape.now a.tones.now a.blocks.now a.count in
     let h : L.i < a.n = omega arith in
-    rows_end a.decreases w a.answers.now a.n L.i h read.answer_at.result read.answer_at.ensures L.invariant.1
+    rows_end a.measured w a.answers.now a.n L.i h read.answer_at.result read.answer_at.ensures L.invariant.1
     put.put-row.ensures (sym c.before.ends-run.ensures ∙ c.if1.true)
 
 add-i : tie.Need-overflow-add-i invariant-loop decreases-loop
@@ -69,7 +69,7 @@ loop-again c =
     let a = read.before.before.before.before.before.before.before.before.args in
     let w = tape_of a.tape.now a.tones.now a.blocks.now a.count in
     let h : L.i < a.n = omega arith in
-    let on = rows_on a.decreases w a.answers.now a.n L.i h read.answer_at.result read.answer_at.ensures L.invariant.1
+    let on = rows_on a.measured w a.answers.now a.n L.i h read.answer_at.result read.answer_at.ensures L.invariant.1
     put.put-row.ensures (sym c.before.ends-run.ensures ∙ c.if1.false) in
     (omega arith, on)
 
@@ -78,14 +78,14 @@ same-length-2 c =
     let L = c.before.loop in
     let a = c.before.before.before.before.before.before.before.args in
     let w = tape_of a.tape.now a.tones.now a.blocks.now a.count in
-    same_len (goes_over L.invariant.1 (no_line a.decreases w a.answers.now a.n L.i (omega arith)))
+    same_len (goes_over L.invariant.1 (no_line a.measured w a.answers.now a.n L.i (omega arith)))
 
 returns-2 : tie.Need-returns-2 invariant-loop decreases-loop
 returns-2 c =
     let L = c.before.loop in
     let a = c.before.before.before.before.before.before.before.args in
     let w = tape_of a.tape.now a.tones.now a.blocks.now a.count in
-    goes_over L.invariant.1 (no_line a.decreases w a.answers.now a.n L.i (omega arith))
+    goes_over L.invariant.1 (no_line a.measured w a.answers.now a.n L.i (omega arith))
 
 pub put-rows-spec : {M : Type 1} → statement M
 put-rows-spec =

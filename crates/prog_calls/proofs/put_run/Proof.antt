@@ -31,7 +31,7 @@ returns c =
     let a = start.args in
     let w = tape_of a.tape.now a.tones.now a.blocks.now a.count in
     wrote_as
-    (refused_said a.decreases w new.new-at-block.result (start_at a.from) new.new-at-block.ensures a.counts.now
+    (refused_said a.measured w new.new-at-block.result (start_at a.from) new.new-at-block.ensures a.counts.now
     a.answers.now play.play-run.result start.requires.0 play.play-run.ensures.0 if1.if1.true)
     c.before.before.put-refusals.ensures
 
@@ -53,7 +53,7 @@ returns-2 c =
     let a = start.args in
     let w = tape_of a.tape.now a.tones.now a.blocks.now a.count in
     wrote_as
-    (played_said a.decreases w new.new-at-block.result (start_at a.from) new.new-at-block.ensures a.counts.now
+    (played_said a.measured w new.new-at-block.result (start_at a.from) new.new-at-block.ensures a.counts.now
     a.answers.now play.play-run.result start.requires.0 play.play-run.ensures.0 _ if1.if1.false play.play-run.ensures.1)
     c.before.before.put-rows.ensures
 

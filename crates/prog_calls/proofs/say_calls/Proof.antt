@@ -47,8 +47,8 @@ returns c =
     let a = start.args in
     let w = tape_of a.tape.now a.tones.now a.blocks.now a.count in
     let n = length-take-le a.calls each.no-counts.result (omega (arith, each.no-counts.ensures, start.requires.0)) in
-    let text : ℕ → List ℕ = λ k. run_text a.decreases w (start_at a.from) (counts_in a.counts.now k) in
-    let most = run-most a.decreases w (start_at a.from) (counts_in a.counts.now a.calls) in
+    let text : ℕ → List ℕ = λ k. run_text a.measured w (start_at a.from) (counts_in a.counts.now k) in
+    let most = run-most a.measured w (start_at a.from) (counts_in a.counts.now a.calls) in
     prints (wrote_as (ap text n) c.before.before.before.before.put-counted.ensures)
     (omega (arith, most, counts_length a.counts.now a.calls, start.requires.0, start.requires.1))
 

@@ -49,7 +49,7 @@ returns c =
     let a = load.before.before.before.before.before.before.args in
     let ns = counts_in a.counts.now a.calls in
     let p = c.before.before.say-calls.ensures in
-    (p.0, p.1 ∙ text-run a.decreases a.model a.tape.now a.from ns load.load.ensures told.n.given.1)
+    (p.0, p.1 ∙ text-run a.measured a.model a.tape.now a.from ns load.load.ensures told.n.given.1)
 
 same-length-2 : tie.Need-same-length-2
 same-length-2 c = search rules
@@ -61,7 +61,7 @@ returns-2 c =
     let a = load.before.before.before.before.before.before.args in
     let ns = counts_in a.counts.now a.calls in
     let p = c.before.before.say-refused.ensures in
-    (p.0, p.1 ∙ text-unread a.decreases a.model a.tape.now a.from ns load.load.ensures told.enum_told.given.1)
+    (p.0, p.1 ∙ text-unread a.measured a.model a.tape.now a.from ns load.load.ensures told.enum_told.given.1)
 
 same-length-3 : tie.Need-same-length-3
 same-length-3 c = search rules
@@ -73,7 +73,7 @@ returns-3 c =
     let a = load.before.before.before.before.before.before.args in
     let ns = counts_in a.counts.now a.calls in
     let p = c.before.before.say-refused2.ensures in
-    (p.0, p.1 ∙ text-refused a.decreases a.model a.tape.now a.from ns load.load.ensures told.k.given.1)
+    (p.0, p.1 ∙ text-refused a.measured a.model a.tape.now a.from ns load.load.ensures told.k.given.1)
 
 pub say-tape-spec : {M : Type 1} → statement M
 say-tape-spec =

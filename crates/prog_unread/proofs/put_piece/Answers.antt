@@ -1,0 +1,15 @@
+-- `put_piece` meets its contract: a word and a number, twice. Assumes nothing.
+use borrow.Author.Rules.{rules}
+use native.Mathlib.Omega.{arith}
+use Rattle.text_out.proofs.Writing.{then, decimal-length}
+use Rattle.prog_unread.specs.Report.{piece_text}
+use Rattle.prog_unread.proofs.put_piece.Goals as goal
+
+pub put_said-requires : goal.put_said-requires
+put_said-requires c = 
+    let a = c.args in
+    (omega (arith, c.put_said-a.ensures.count, decimal-length a.kind), omega arith)
+
+pub returns : goal.returns
+unfolding piece_text
+returns c = then c.put_said-a.ensures c.put_said.ensures

@@ -1,0 +1,14 @@
+-- `tell_mark` meets its contract: the mark as a word, or the refusal. Assumes nothing.
+use Rattle.host_answers.specs.Answers.{number_of, values_of, of_mark}
+use Rattle.host_answers.proofs.Telling.{tell_refused}
+use borrow.Author.Rules.{rules}
+use Rattle.host_answers.proofs.tell_mark.Goals as goal
+
+pub returns-in-Is : goal.returns-in-Is
+unfolding number_of values_of of_mark
+returns-in-Is c =
+    rw (c.in-Is.is, ← c.flag.ensures) c.tell.ensures
+
+pub returns-in-Refused : goal.returns-in-Refused
+unfolding of_mark
+returns-in-Refused c = rw c.in-Refused.is (tell_refused _ _)

@@ -1,0 +1,13 @@
+-- `tell_number` meets its contract: the number as a word, or the refusal. Assumes nothing.
+use Rattle.host_answers.specs.Answers.{number_of, values_of, of_number}
+use Rattle.host_answers.proofs.Telling.{tell_refused}
+use borrow.Author.Rules.{rules}
+use Rattle.host_answers.proofs.tell_number.Goals as goal
+
+pub returns-in-Is : goal.returns-in-Is
+unfolding number_of values_of of_number
+returns-in-Is c = rw c.in-Is.is c.tell.ensures
+
+pub returns-in-Refused : goal.returns-in-Refused
+unfolding of_number
+returns-in-Refused c = rw c.in-Refused.is (tell_refused _ _)

@@ -15,4 +15,6 @@ returns-in-Unread c = rw c.in-Unread.is c.tell_both.ensures
 
 pub returns-in-Refused : goal.returns-in-Refused
 unfolding of_loaded
-returns-in-Refused c = rw c.in-Refused.is (tell_refused _ _)
+returns-in-Refused c =
+    let h = tell_refused c.in-Refused.k c.args.answer.now in
+    rw c.in-Refused.is (record { value = h.0; answer_after = h.1 })

@@ -11,4 +11,6 @@ returns-in-Is c =
 
 pub returns-in-Refused : goal.returns-in-Refused
 unfolding of_mark
-returns-in-Refused c = rw c.in-Refused.is (tell_refused _ _)
+returns-in-Refused c =
+    let h = tell_refused c.in-Refused.k c.args.answer.now in
+    rw c.in-Refused.is (record { value = h.0; answer_after = h.1 })

@@ -1,6 +1,7 @@
 -- `tell_reached` meets its contract: how the player stands, or the refusal. Assumes nothing.
 use Rattle.host_answers.specs.Answers.{number_of, values_of, of_reached}
 use Rattle.host_answers.proofs.Telling.{tell_refused}
+use Rattle.refusals.specs.Refusals.{bad_row, no_position}
 use borrow.Author.Rules.{rules}
 use Rattle.host_answers.proofs.tell_reached.Goals as goal
 
@@ -18,8 +19,12 @@ returns-in-Ended c = rw c.in-Ended.is c.tell_stand-in-Ended.ensures
 
 pub returns-in-NotValid : goal.returns-in-NotValid
 unfolding of_reached
-returns-in-NotValid c = rw c.in-NotValid.is (tell_refused _ _)
+returns-in-NotValid c =
+    let h = tell_refused no_position c.args.answer.now in
+    rw c.in-NotValid.is (record { value = h.0; answer_after = h.1 })
 
 pub returns-in-NotFormed : goal.returns-in-NotFormed
 unfolding of_reached
-returns-in-NotFormed c = rw c.in-NotFormed.is (tell_refused _ _)
+returns-in-NotFormed c =
+    let h = tell_refused bad_row c.args.answer.now in
+    rw c.in-NotFormed.is (record { value = h.0; answer_after = h.1 })

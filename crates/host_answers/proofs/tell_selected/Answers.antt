@@ -1,6 +1,7 @@
 -- `tell_selected` meets its contract: the block as a word, or the refusal. Assumes nothing.
 use Rattle.host_answers.specs.Answers.{number_of, values_of, of_selected}
 use Rattle.host_answers.proofs.Telling.{tell_refused}
+use Rattle.refusals.specs.Refusals.{bad_row, no_position}
 use borrow.Author.Rules.{rules}
 use Rattle.host_answers.proofs.tell_selected.Goals as goal
 
@@ -10,8 +11,12 @@ returns-in-Block c = rw c.in-Block.is c.tell.ensures
 
 pub returns-in-BadPosition : goal.returns-in-BadPosition
 unfolding of_selected
-returns-in-BadPosition c = rw c.in-BadPosition.is (tell_refused _ _)
+returns-in-BadPosition c =
+    let h = tell_refused no_position c.args.answer.now in
+    rw c.in-BadPosition.is (record { value = h.0; answer_after = h.1 })
 
 pub returns-in-BadRow : goal.returns-in-BadRow
 unfolding of_selected
-returns-in-BadRow c = rw c.in-BadRow.is (tell_refused _ _)
+returns-in-BadRow c =
+    let h = tell_refused bad_row c.args.answer.now in
+    rw c.in-BadRow.is (record { value = h.0; answer_after = h.1 })

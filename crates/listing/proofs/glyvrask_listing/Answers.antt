@@ -1,0 +1,51 @@
+-- `glyvrask_listing` meets its contract: the refusals in their order, else the load's tables are ready and their text is told.
+use native.Mathlib.Omega.{arith}
+use mathlib.Core.Path.{refl}
+use borrow.Author.Rules.{rules}
+use Rattle.load_tape.specs.Load.{refusal_no}
+use Rattle.listing.proofs.Mounting.{leaves-told, lent_words, load_ready, no_model, too_long, load_refused, load_told}
+use Rattle.listing.proofs.glyvrask_listing.Goals as goal
+
+pub returns-then-model-ge3 : goal.returns-then-model-ge3
+returns-then-model-ge3 c = let h = no_model _ _ _ (omega arith) in
+    record { value = h.0; out_after = h.1 }
+
+pub returns-then-tape-gt65535 : goal.returns-then-tape-gt65535
+returns-then-tape-gt65535 c =
+    let h = too_long _ _ _ (omega arith) (omega arith) in
+    record { value = h.0; out_after = h.1 }
+
+pub slice_bounds-load-end : goal.slice_bounds-load-end
+slice_bounds-load-end c = refl
+
+pub slice_bounds-load-end-2 : goal.slice_bounds-load-end-2
+slice_bounds-load-end-2 c = refl
+
+pub tell-requires : goal.tell-requires
+tell-requires c =
+    let a = c.args in
+    load_ready a.tape.now a.model (λ i. (c.type_inv.tape i).fits)
+    (leaves-told (lent_words a.tape.now a.model c.load.ensures) c.in-Tape.is)
+
+pub returns-in-Tape : goal.returns-in-Tape
+returns-in-Tape c =
+    let a = c.args in
+    let h = load_told a.tape.now a.model (omega arith) (omega arith) a.out.now
+    (leaves-told (lent_words a.tape.now a.model c.load.ensures) c.in-Tape.is) (c.tell.ensures.by_index, c.tell.ensures.by_index_2) in
+    record { value = h.0; out_after = h.1 }
+
+pub returns-in-Unread : goal.returns-in-Unread
+unfolding refusal_no
+returns-in-Unread c =
+    let a = c.args in
+    let h = load_refused a.tape.now a.model (omega arith) (omega arith) a.out.now
+    (leaves-told (lent_words a.tape.now a.model c.load.ensures) c.in-Unread.is) refl in
+    record { value = h.0; out_after = h.1 }
+
+pub returns-in-Refused : goal.returns-in-Refused
+unfolding refusal_no
+returns-in-Refused c =
+    let a = c.args in
+    let h = load_refused a.tape.now a.model (omega arith) (omega arith) a.out.now
+    (leaves-told (lent_words a.tape.now a.model c.load.ensures) c.in-Refused.is) refl in
+    record { value = h.0; out_after = h.1 }

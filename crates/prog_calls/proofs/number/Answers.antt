@@ -1,0 +1,6 @@
+-- `number` meets its contract. Assumes nothing.
+use borrow.Author.Rules.{rules}
+use Rattle.prog_calls.proofs.number.Goals as goal
+
+pub returns : goal.returns
+returns c = rw c.field-read.ensures

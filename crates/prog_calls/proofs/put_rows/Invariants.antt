@@ -1,0 +1,16 @@
+-- The loops of `put_rows`.
+use mathlib.Core.Path.{sym, ◌∙◌}
+use Rattle.text_out.proofs.Writing.{same_len}
+use Prim.Native.Nat.{◌-◌, ◌≤◌, ◌<◌}
+use native.Mathlib.Omega.{arith}
+use Rattle.play_entries.specs.Mounted.{tape_of}
+use Rattle.text_out.proofs.Loops.{Goes, goes_none, goes_over}
+use Rattle.prog_calls.proofs.Saying.{lines_from, no_line, rows_on, rows_end}
+use borrow.Author.Rules.{rules}
+use Rattle.prog_calls.proofs.put_rows.Given as goal
+
+abbrev pub invariant-loop-i : goal.invariant-loop-i
+invariant-loop-i l = (l.i ≤ l.n) × Goes (lines_from l.measured (tape_of l.tape l.tones l.blocks l.count) l.answers l.n) 256 l.initial.out 0 l.i l.out l.at
+
+abbrev pub decreases-loop-i : goal.decreases-loop-i
+decreases-loop-i l = l.n - l.i

@@ -3,7 +3,6 @@ use Prim.Native.Nat.{◌-◌, ◌/◌}
 use mathlib.Core.Path.{sym, ◌∙◌}
 use Rattle.load_general.proofs.Given.{every-pair}
 use native.Mathlib.Omega.{arith}
-use Rattle.rows.proofs.Clauses.{failed, passed}
 use Rattle.load_general.specs.General.{pair_row}
 use Rattle.load_general.proofs.Loops.{Judging, judging_starts, judging_refused, judging_on, judging_over}
 use Rattle.load_general_data.proofs.pairs_given.Goals as goal
@@ -34,7 +33,7 @@ pub returns-then-not-pair_given : goal.returns-then-not-pair_given
 returns-then-not-pair_given c = 
     let a = c.args in
     judging_refused (pair_row a.tape.now a.g) (a.g.totd / 2) c.loop-i.i (omega (arith, c.pairs_of-n.ensures))
-    c.loop-i.invariant (failed c.pair_given.ensures c.if-not-pair_given.true-raw)
+    c.loop-i.invariant (sym c.pair_given.ensures ∙ c.if-not-pair_given.true)
 
 pub overflow_add-i : goal.overflow_add-i
 overflow_add-i c = omega (arith, c.pairs_of-n.ensures)
@@ -46,7 +45,7 @@ pub loop-i-preserved : goal.loop-i-preserved
 loop-i-preserved c = 
     let a = c.args in
     judging_on (pair_row a.tape.now a.g) (a.g.totd / 2) c.loop-i.i (omega (arith, c.pairs_of-n.ensures))
-    c.loop-i.invariant (passed c.pair_given.ensures c.if-not-pair_given.false-raw)
+    c.loop-i.invariant (sym c.pair_given.ensures ∙ c.if-not-pair_given.false)
 
 pub returns : goal.returns
 returns c = 

@@ -3,7 +3,6 @@ use mathlib.Core.Path.{sym, ◌∙◌}
 use Rattle.load_general.proofs.Given.{every-single}
 use Prim.Native.Nat.{◌-◌}
 use native.Mathlib.Omega.{arith}
-use Rattle.rows.proofs.Clauses.{failed, passed}
 use Rattle.load_general.specs.General.{single_row}
 use Rattle.load_general.proofs.Loops.{Judging, judging_starts, judging_refused, judging_on, judging_over}
 use Rattle.load_general_data.proofs.singles_given.Goals as goal
@@ -28,7 +27,7 @@ pub returns-then-not-single_given : goal.returns-then-not-single_given
 returns-then-not-single_given c = 
     let a = c.args in
     judging_refused (single_row a.tape.now a.g) a.g.totd c.loop-i.i (omega arith) c.loop-i.invariant
-    (failed c.single_given.ensures c.if-not-single_given.true-raw)
+    (sym c.single_given.ensures ∙ c.if-not-single_given.true)
 
 pub overflow_add-i : goal.overflow_add-i
 overflow_add-i c = omega arith
@@ -40,7 +39,7 @@ pub loop-i-preserved : goal.loop-i-preserved
 loop-i-preserved c = 
     let a = c.args in
     judging_on (single_row a.tape.now a.g) a.g.totd c.loop-i.i (omega arith) c.loop-i.invariant
-    (passed c.single_given.ensures c.if-not-single_given.false-raw)
+    (sym c.single_given.ensures ∙ c.if-not-single_given.false)
 
 pub returns : goal.returns
 returns c = 

@@ -2,7 +2,7 @@
 use Rattle.load_general.proofs.Symbols.{pilot_inside}
 use Prim.Native.Nat.{◌-◌}
 use native.Mathlib.Omega.{arith}
-use Rattle.rows.proofs.Clauses.{failed, passed}
+use mathlib.Core.Path.{sym, ◌∙◌}
 use Rattle.load_general.specs.General.{entry_row}
 use Rattle.load_general.proofs.Loops.{Judging, judging_starts, judging_refused, judging_on, judging_over}
 use Rattle.load_general_pilot.proofs.entries_given.Goals as goal
@@ -25,7 +25,7 @@ pub returns-then-not-is_given : goal.returns-then-not-is_given
 returns-then-not-is_given c = 
     let a = c.args in
     judging_refused (entry_row a.tape.now a.g) a.g.totp c.loop-i.i (omega arith) c.loop-i.invariant
-    (rw (← c.entry_row.ensures) (failed c.is_given.ensures c.if-not-is_given.true-raw))
+    (rw (← c.entry_row.ensures) (sym c.is_given.ensures ∙ c.if-not-is_given.true))
 
 pub overflow_add-i : goal.overflow_add-i
 overflow_add-i c = omega arith
@@ -37,7 +37,7 @@ pub loop-i-preserved : goal.loop-i-preserved
 loop-i-preserved c = 
     let a = c.args in
     judging_on (entry_row a.tape.now a.g) a.g.totp c.loop-i.i (omega arith) c.loop-i.invariant
-    (rw (← c.entry_row.ensures) (passed c.is_given.ensures c.if-not-is_given.false-raw))
+    (rw (← c.entry_row.ensures) (sym c.is_given.ensures ∙ c.if-not-is_given.false))
 
 pub returns : goal.returns
 returns c = 

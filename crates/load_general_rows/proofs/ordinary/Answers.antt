@@ -1,7 +1,7 @@
 -- `ordinary` meets its contract. Assumes nothing.
 use Rattle.load_general.proofs.Symbols.{two_inside, symbol-back}
 use Rattle.load_general.specs.General.{ordinary}
-use Rattle.rows.proofs.Clauses.{failed, passed}
+use mathlib.Core.Path.{sym, ◌∙◌}
 use borrow.Author.Tests.{eq-eqb, ne_eqb, lt-ltb, le-ltb}
 use native.Mathlib.Omega.{arith}
 use borrow.Author.Rules.{rules}
@@ -40,7 +40,7 @@ returns-then-not-equal_halves c =
       eq-eqb _ _ c.if-g-ne2.false,
       eq-eqb _ _ c.if-g-ne2-2.false,
       ← symbol-back c.symbol.ensures,
-      failed c.equal_halves.ensures c.if-not-equal_halves.true-raw,
+      sym c.equal_halves.ensures ∙ c.if-not-equal_halves.true,
     )
 
 pub symbol-requires-2 : goal.symbol-requires-2
@@ -63,6 +63,6 @@ returns c =
       eq-eqb _ _ c.if-g-ne2.false,
       eq-eqb _ _ c.if-g-ne2-2.false,
       ← symbol-back c.symbol.ensures,
-      passed c.equal_halves.ensures c.if-not-equal_halves.false-raw,
+      sym c.equal_halves.ensures ∙ c.if-not-equal_halves.false,
       ← symbol-back c.symbol-2.ensures,
     ) c.equal_halves-2.ensures

@@ -1,4 +1,4 @@
-# Sourced by bench/run where the machine is no x86-64: Debian's rustc-web with its libraries of amd64, unpacked below target/cross (nothing is installed), and the kit's linker and
+# For an older kit, which ran elsewhere too and had an emulator. Sourced by bench/run where the machine is no x86-64: Debian's rustc-web with its libraries of amd64, unpacked below target/cross (nothing is installed), and the kit's linker and
 # emulator, so that the Rust and ours are code of the same processor and run under the same emulator.
 # cross_rustc                     the folder whose `rustc` compiles for x86-64
 # cross_run PROGRAM ARGUMENT..    runs what it compiled

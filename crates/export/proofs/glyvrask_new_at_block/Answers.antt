@@ -1,0 +1,6 @@
+-- `glyvrask_new_at_block` meets its contract: the start told. Assumes nothing.
+use borrow.Author.Rules.{rules}
+use Rattle.export.proofs.glyvrask_new_at_block.Goals as goal
+
+pub returns : goal.returns
+returns c = rw (← c.new_at_block.ensures) c.tell_position.ensures

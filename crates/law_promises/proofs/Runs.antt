@@ -62,7 +62,7 @@ module _ {size : ℕ} {see : ℕ → See} (b : Bounded size see) where
   step n e d = rw (e, d)
 
   -- and a run that comes to where r is due answers r
-  came : (n : ℕ) {r : Verdict} {at : ℕ} {t : Parsed} → size ≤ at + n → Comes see (Due see r) at t → fold_from see n at t ≡ r
+  came : {r : Verdict} (n : ℕ) {at : ℕ} {t : Parsed} → size ≤ at + n → Comes see (Due see r) at t → fold_from see n at t ≡ r
   came n h (here {at = at} {t = t} d) = turn n at t h ∙ due_seen (fold_from see (n - 1)) d
   came n h (past {at = at} {next = next} {does = does} {t = t} e d c) =
       turn n at t h ∙ step (n - 1) e d ∙ came (n - 1) (omega (arith, b.moves at next does e)) c

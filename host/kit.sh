@@ -18,5 +18,5 @@ run_host() {
 
 # need_program NAME: builds a program that is not there, as crates/NAME/out/NAME
 need_program() {
-    [ -x "crates/$1/out/$1" ] || rt run "$1" < /dev/null
+    [ -x "crates/$1/out/$1" ] || (cd "crates/$1" && rt run) < /dev/null
 }

@@ -16,6 +16,7 @@ use cut_fields::{Cursor, pass};
 use cut_grammar::{Body, Piece, Taken, whole};
 
 // What stands after a kind byte, from a place on: every kind from 0 to 255 has its row.
+#[tactic(auto, using(crate::proofs::Described::read_described))]
 fn body_of(tape: &[u8], kind: u8, from: u64, full: u32) -> Body
     ensures { result ≡ read_at (kind_of full kind) tape.now (At from) }
 {

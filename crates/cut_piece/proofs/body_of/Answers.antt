@@ -1,6 +1,5 @@
 -- `body_of` meets its contract. Assumes nothing.
-use Prim.Native.Nat.{ℕ, ◌≤◌}
-use mathlib.Core.Path.{◌≡◌}
+use Prim.Native.Nat.{ℕ}
 use mathlib.Core.Bool.{◌||◌}
 use native.Mathlib.Omega.{arith}
 use Rattle.law_base.specs.Arms.{between}
@@ -108,13 +107,6 @@ returns-in-21-to-24 c =
     let k = c.args.kind in
     let none : None (kinds c.args.full) k = search rules in
     rw (lookup-none (kinds c.args.full) k (described k) none, between_in 0x15 0x18 k (omega arith) (omega arith))
-
-pub returns-in-38-to-40 : goal.returns-in-38-to-40
-unfolding kind_of kinds read_at
-returns-in-38-to-40 c =
-    let k = c.args.kind in
-    let none : None (kinds c.args.full) k = search rules in
-    rw (lookup-none (kinds c.args.full) k (described k) none, between_above 0x15 0x18 k (omega arith), between_in 0x26 0x28 k (omega arith) (omega arith))
 
 pub returns-in_default : goal.returns-in_default
 unfolding kind_of kinds read_at

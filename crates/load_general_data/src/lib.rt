@@ -103,6 +103,7 @@ fn pairs_part(tape: &[u8], g: GeneralizedData) -> Judged
 }
 
 // What the data part comes to where it is no ordinary data block; its callers know the piece to be one of this tape.
+#[tactic(auto, using(crate::proofs::Wide::wide_refused))]
 pub fn data_part(tape: &[u8], g: GeneralizedData) -> Judged
     requires { Held tape.now g }
     ensures { result ≡ judged_of (data_part tape.now g) }

@@ -29,6 +29,7 @@ pub fn stop_block(s: State, blocks: &mut [u64], origin: Origin) -> Step
 }
 
 // 2A of a length: an error but for 0; then a stop block on the 48K, nothing on the others.
+#[tactic(auto, using(crate::proofs::On48::stops_on_48))]
 pub fn stop_on_48(model: u32, s: State, blocks: &mut [u64], origin: Origin, length: u32) -> Step
     ensures { (tape tt : List ℕ)
         → Does (λ lent. does lent tape model origin (stop48_deed length)) s result blocks.old tt blocks.new tt }

@@ -2,26 +2,12 @@
 use borrow.Author.Tests.{eq-eqb, ne_eqb}
 use native.Mathlib.Omega.{arith}
 use Rattle.load_state.specs.Holds.{goes, refuses}
-use Rattle.load_blocks.specs.Blocks.{stop_sound}
 use Rattle.load_blocks.specs.Deeds.{does, stop48_deed}
-use Rattle.load_blocks.specs.Does.{lent_of}
-use Rattle.load_blocks.proofs.Laws.{one_sound}
-use borrow.Author.Rules.{rules}
 use Rattle.load_stops.proofs.stop_on_48.Goals as goal
 
 pub returns-then-length-ne0 : goal.returns-then-length-ne0
 unfolding does stop48_deed
 returns-then-length-ne0 c = λ tape tt B N t h. rw (ne_eqb c.args.length 0 (λ e. omega arith)) refuses
-
-pub returns-then-model-eq0 : goal.returns-then-model-eq0
-unfolding does stop48_deed
-returns-then-model-eq0 c = 
-    let a = c.args in
-    λ tape tt B N t h. rw (
-      eq-eqb a.length 0 (omega arith),
-      eq-eqb a.model 0 (omega arith),
-      one_sound (lent_of B N) tape a.origin stop_sound t,
-    ) (c.stop_block.ensures tape tt B N t h)
 
 pub returns : goal.returns
 unfolding does stop48_deed

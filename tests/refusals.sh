@@ -32,7 +32,7 @@ bare() { # FILE..
             if (code) sub(/(^|[ \t])\/\/.*$/, "", line)
             else sub(/(^|[ \t])--([ \t].*)?$/, "", line)
             gsub(/"[^"]*"/, "", line)
-            said = code ? line ~ /≡/ : line !~ /^ *(use|unfolding) /
+            said = code ? line ~ /(≡|^ *(requires|ensures) )/ : line !~ /^ *(use|unfolding) /
             found = 0
             if (line ~ /^use (refusals::|Rattle[.]refusals[.])/) names = 1
             if (code) {

@@ -1,10 +1,12 @@
 -- What each outcome of the two readings leaves of a load, and that a load leaves one thing. Assumes nothing.
-use Prim.Native.Nat.{ℕ}
+use Prim.Native.Nat.{ℕ, ◌<◌, ◌≤◌}
+use borrow.Author.Tests.{le-leb, lt-leb, lt-ltb}
 use mathlib.Core.Path.{◌≡◌, refl, sym, ap, subst, ◌∙◌}
 use mathlib.Core.Bool.{false}
 use mathlib.Core.List.{List}
 use lib.ListN.{length, length-replicate}
 use lib.Dec.{leb, ltb}
+use Rattle.refusals.specs.Refusals.{bad_model, tape_long}
 use Rattle.rows.specs.Table.{zeros}
 use Rattle.load_state.specs.declared.State.{State}
 use Rattle.load_source.specs.declared.Failure.{Failure}
@@ -69,6 +71,15 @@ module _ {B N : ℕ} {r : Reading} {bt tt : List ℕ} {o : Verdict} (f : Finds B
   unfolding or_else
   tzx-refuses other e = rw (found_refused f e)
 
+-- a check that fails
+pub load_of_model : (lent : Lent) (s : List ℕ) (model : ℕ) → 3 ≤ model → load_of lent s model ≡ no bad_model
+unfolding load_of
+load_of_model lent s model h = rw (le-leb 3 model h)
+
+pub load_of_long : (lent : Lent) (s : List ℕ) (model : ℕ) → model < 3 → 1048576 < length s → load_of lent s model ≡ no tape_long
+unfolding load_of
+load_of_long lent s model h h' = rw (lt-leb 3 model h, lt-ltb 1048576 (length s) h')
+
 -- both checks passed
 pub load_reads : (lent : Lent) (s : List ℕ) (model : ℕ) → leb 3 model ≡ false → ltb 1048576 (length s) ≡ false
     → load_of lent s model ≡ or_else (read_tzx lent s model) (read_tap lent s)
@@ -93,7 +104,3 @@ module _ {B N B' N' : ℕ} (b : B ≡ B') (n : N ≡ N') where
 
   pub leaves-both : {f g : Failure} {a : Loaded} {bt tt : List ℕ} → Leaves B N (both_err f g) a bt tt → Leaves B' N' (both_err f g) a bt tt
   leaves-both {f} {g} {a} {bt} {tt} l = moved (λ x y. Leaves x y (both_err f g) a bt tt) l
-
-  pub leaves_tap : (s : List ℕ) (f : Failure) {a : Loaded} {bt tt : List ℕ} → Leaves B N (or_tap f (read_tap (lent_of B N) s)) a bt tt
-      → Leaves B' N' (or_tap f (read_tap (lent_of B' N') s)) a bt tt
-  leaves_tap s f {a} {bt} {tt} l = moved (λ x y. Leaves x y (or_tap f (read_tap (lent_of x y) s)) a bt tt) l

@@ -75,6 +75,7 @@ fn load_tap(tape: &[u8], blocks: &mut [u64], tones: &mut [u64], tzx: Failure) ->
 }
 
 // The bytes read, before the naming pass.
+#[tactic(auto, using(crate::proofs::Leaving::load_of_model, crate::proofs::Leaving::load_of_long))]
 fn read(tape: &[u8], model: u32, blocks: &mut [u64], tones: &mut [u64]) -> Loaded
     ensures { Leaves (length blocks.old) (length tones.old)
         (load_of (lent_of (length blocks.old) (length tones.old)) tape.now model) result blocks.new

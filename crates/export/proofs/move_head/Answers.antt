@@ -36,6 +36,6 @@ returns c =
     record {
       value = c.tell_position.ensures.value ∙ held.0 ∙ sym z ∙ k;
       head_after = c.tell_position.ensures.answer_after ∙ held.1 ∙ ap (λ (y : Played). out.told (words_of y.head.position) a.head.now) c.play_once-p.ensures
-            ∙ sym (moved_so w a.pos a.n a.answer.now a.head.now k z);
+          ∙ sym (moved_so w a.pos a.n a.answer.now a.head.now k z);
       answer_after = c.tell_reached-k.ensures.answer_after ∙ ap (λ (r : Reached). values_of (of_reached r) a.answer.now) e;
     }

@@ -18,9 +18,12 @@ slice_bounds-write_all-end-2 c = take_counted _ _ (fitted_most c.begin-opening.e
 pub block_line-k-requires : goal.block_line-k-requires
 block_line-k-requires c =
     let a = c.args in
-    record { ready_line = (line_left (length a.blocks.now) (length a.tones.now) a.tape.now a.model
+    record {
+      ready_line = (line_left (length a.blocks.now) (length a.tones.now) a.tape.now a.model
           (λ j. (c.type_inv.tape j).fits) c.begin-opening.ensures.blocks c.begin-opening.ensures.tones c.loop-i.i
-          (omega (arith, c.begin-opening.ensures.more))).ready; tones_in_bounds = omega arith }
+          (omega (arith, c.begin-opening.ensures.more))).ready;
+      tones_in_bounds = omega arith;
+    }
 
 pub slice_bounds-write_all-end-in-loop-i : goal.slice_bounds-write_all-end-in-loop-i
 slice_bounds-write_all-end-in-loop-i c = fitted_most c.block_line-k.ensures

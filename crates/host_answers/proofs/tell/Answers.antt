@@ -25,8 +25,7 @@ loop-j-smaller c = omega arith
 
 pub loop-j-preserved : goal.loop-j-preserved
 loop-j-preserved c =
-    let a = c.args in
-    (
+    let a = c.args in (
       omega arith,
       tell_turn a.words.now a.answer.now c.loop-j.answer c.loop-j.j c.loop-j.invariant.1 (omega arith) (omega arith),
       simp length-set (omega arith),

@@ -42,8 +42,7 @@ say_tape-requires c =
 
 pub returns : goal.returns
 returns c =
-    let a = c.args in
-    (
+    let a = c.args in (
       c.say_tape.ensures.0,
       c.say_tape.ensures.1 ∙ text_tape a.input.now a.model c.number-calls.result c.number-calls.ensures c.number-from.result
           c.number-from.ensures (omega arith),

@@ -16,17 +16,22 @@ put_name-b-requires c =
 pub put_data-c-requires : goal.put_data-c-requires
 put_data-c-requires c =
     let a = c.args in
-    let i = row_inside a.tape.now a.tones.now a.r c.requires.r_value in record { size_in_bounds = (i.bytes, omega (arith, i.few)); at_bound = omega (
+    let i = row_inside a.tape.now a.tones.now a.r c.requires.r_value in record {
+      size_in_bounds = (i.bytes, omega (arith, i.few));
+      at_bound = omega (
         arith,
         c.requires.r_len_bound,
         head_next _ _ _ _ _ _ c.put_head-a.ensures,
         name_next (name_of a.tape.now a.r) c.put_name-b.ensures,
-      ) }
+      );
+    }
 
 pub put_pulses-requires : goal.put_pulses-requires
 put_pulses-requires c =
     let a = c.args in
-    let i = row_inside a.tape.now a.tones.now a.r c.requires.r_value in record { width_in_bounds = i.rows; at_bound = (
+    let i = row_inside a.tape.now a.tones.now a.r c.requires.r_value in record {
+      width_in_bounds = i.rows;
+      at_bound = (
         omega (
           arith,
           c.requires.r_len_bound,
@@ -36,7 +41,8 @@ put_pulses-requires c =
           data_next a.r.size a.r.start a.tape.now c.put_data-c.ensures,
         ),
         i.most,
-      ) }
+      );
+    }
 
 pub returns : goal.returns
 returns c =

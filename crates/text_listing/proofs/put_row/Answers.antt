@@ -31,5 +31,8 @@ one_more-load-requires c =
 pub returns : goal.returns
 returns c =
     let a = c.args in
-    record { by_index = λ tones n.
-          row_written a.tape.now tones a.blocks.now n a.i _ _ c.block_at-r.ensures c.row_lasts.ensures c.put_head-a.ensures c.put_tail-b.ensures; load_value = c.one_more-load.ensures ∙ ap (one_more a.s.load) c.block_at-r.ensures }
+    record {
+      by_index = λ tones n.
+          row_written a.tape.now tones a.blocks.now n a.i _ _ c.block_at-r.ensures c.row_lasts.ensures c.put_head-a.ensures c.put_tail-b.ensures;
+      load_value = c.one_more-load.ensures ∙ ap (one_more a.s.load) c.block_at-r.ensures;
+    }

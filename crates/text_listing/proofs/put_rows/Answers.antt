@@ -37,8 +37,7 @@ loop-i-smaller c = omega arith
 
 pub loop-i-preserved : goal.loop-i-preserved
 loop-i-preserved c =
-    let a = c.args in
-    (
+    let a = c.args in (
       omega arith,
       (
         (λ tones. rows_next _ _ (c.loop-i.invariant.1.0 tones) (c.put_row-s.ensures.by_index tones _)),
@@ -55,6 +54,9 @@ shape_of-out c = same_len (c.loop-i.invariant.1.0 [])
 pub returns : goal.returns
 returns c =
     let a = c.args in
-    let e : c.loop-i.i ≡ a.n = omega arith in record { by_index = λ tones. rw e at (c.loop-i.invariant.1.0 tones); by_index_2 = λ tones.
+    let e : c.loop-i.i ≡ a.n = omega arith in record {
+      by_index = λ tones. rw e at (c.loop-i.invariant.1.0 tones);
+      by_index_2 = λ tones.
           let w = tape_of a.tape.now tones a.blocks.now a.n in
-          ap (λ (x : Loading). x.end) (c.loop-i.invariant.1.1 tones ∙ ap (loading_after w) e) ∙ after-whole w }
+          ap (λ (x : Loading). x.end) (c.loop-i.invariant.1.1 tones ∙ ap (loading_after w) e) ∙ after-whole w;
+    }

@@ -14,14 +14,17 @@ put_count-c-requires c =
 
 pub put_rows-s-requires : goal.put_rows-s-requires
 put_rows-s-requires c =
-    record { ready = c.requires; at_bound = omega (
+    record {
+      ready = c.requires;
+      at_bound = omega (
         arith,
         c.put_all-a.ensures.count,
         c.put_model-b.ensures.count,
         model_long c.args.model,
         c.put_count-c.ensures.count,
         count_long c.args.format c.args.n,
-      ) }
+      );
+    }
 
 pub put_total-requires : goal.put_total-requires
 put_total-requires c =

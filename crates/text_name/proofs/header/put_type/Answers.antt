@@ -25,6 +25,6 @@ pub returns-in-2 : goal.returns-in-2
 returns-in-2 c =
     let w = then c.put_all-next.ensures c.put_decimal.ensures in
     elim c.in-2-1.branch [
-      in-2-1 k ↦ as_other _ (omega arith) (omega arith) (omega arith) w
-    | in_default+else-kind-lt4 k ↦ as_other _ (omega arith) (omega arith) (omega arith) w
+      | in-2-1 k ↦ as_other _ (omega arith) (omega arith) (omega arith) w
+      | in_default+else-kind-lt4 k ↦ as_other _ (omega arith) (omega arith) (omega arith) w
     ]

@@ -9,7 +9,6 @@ use lib.ListN.{length, take, length-take}
 use lib.Dec.{leb}
 use Rattle.law_base.specs.Rules.{◌⇒◌, ◌∣◌}
 use Rattle.cut_fields.specs.Field.{number_at}
-use Rattle.cut_grammar.specs.declared.Body.TheVariants.{Short}
 use Rattle.cut_grammar.specs.declared.Taken.TheVariants as taken
 use Rattle.cut_grammar.specs.Grammar.{Passed, bytes, fields, groups, texts, Layout, number, counted, here, pass, within, fitting}
 use Rattle.cut_grammar.specs.Grammar.{whole, unknown}

@@ -3,7 +3,7 @@ use Prim.Native.Nat.{ℕ, ◌+◌, ◌≤◌, ◌<◌}
 use mathlib.Core.Path.{◌≡◌, sym, ◌∙◌}
 use mathlib.Core.Bool.{Bool, true, false}
 use mathlib.Core.List.{List}
-use mathlib.Core.Logic.{◌↔◌, ◌⊎◌, ⊎_elim}
+use mathlib.Core.Logic.{◌↔◌, ⊎_elim}
 use native.Mathlib.Omega.{arith}
 use lib.ListN.{length, get_or}
 use borrow.Author.Tests.{le-leb, lt-leb}
@@ -11,10 +11,8 @@ use Rattle.law_base.specs.Rules.{◌⇒◌, ◌∣◌}
 use Rattle.law_base.proofs.Numbers.{lt_or_ge}
 use Rattle.cut_fields.specs.Field.{number_at, place_of}
 use Rattle.cut_fields.proofs.Runs.{field_there, field-short}
-use Rattle.cut_grammar.specs.declared.Body.TheVariants.{Short}
 use Rattle.cut_grammar.specs.declared.TakenTap.TheVariants as tap
 use Rattle.cut_grammar.specs.declared.Heading.TheVariants as head
-use Rattle.cut_grammar.specs.Grammar.{bytes}
 use Rattle.cut_grammar.specs.Grammar.{counted_at}
 use Rattle.cut_grammar.specs.Cut.{signature, starts_at, head_at, tap_block, tap_at}
 use Rattle.cut_grammar.specs.Trace.{Field, counted_trace, head_trace}

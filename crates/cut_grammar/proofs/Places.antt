@@ -21,7 +21,7 @@ use Rattle.cut_grammar.specs.declared.GeneralizedData.{GeneralizedData}
 use Rattle.cut_grammar.specs.declared.Piece.{Piece}
 use Rattle.cut_grammar.specs.declared.Piece.TheVariants as piece
 use Rattle.cut_grammar.specs.declared.Body.{Body}
-use Rattle.cut_grammar.specs.declared.Body.TheVariants.{Whole, Short, Overflow}
+use Rattle.cut_grammar.specs.declared.Body.TheVariants.{Whole, Overflow}
 use Rattle.cut_grammar.specs.declared.Taken.TheVariants as taken
 use Rattle.cut_grammar.specs.Grammar.{Layout, pass_at, whole_at, fitting_at, read_at, bits_of, or_full, held_if}
 use Rattle.cut_grammar.specs.Kinds.{kind13, stream19, kind19, kind_2a}

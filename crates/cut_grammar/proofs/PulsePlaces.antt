@@ -14,7 +14,7 @@ use Rattle.cut_fields.proofs.Runs.{each_stood}
 use Rattle.cut_grammar.specs.declared.Piece.{Piece}
 use Rattle.cut_grammar.specs.declared.Piece.TheVariants as piece
 use Rattle.cut_grammar.specs.declared.Body.{Body}
-use Rattle.cut_grammar.specs.declared.Body.TheVariants.{Whole, Short}
+use Rattle.cut_grammar.specs.declared.Body.TheVariants.{Whole}
 use Rattle.cut_grammar.specs.declared.Taken.TheVariants as taken
 use Rattle.cut_grammar.specs.Grammar.{Layout, pass_at, whole_at, read_at}
 use Rattle.cut_grammar.specs.Kinds.{kind13, stream19, kind19, kind_2a}

@@ -11,7 +11,6 @@ use lib.ListN.{length}
 use lib.Dec.{eqb}
 use Rattle.law_base.specs.Rules.{◌⇒◌, ◌∣◌}
 use Rattle.cut_fields.proofs.Le.{le_small}
-use Rattle.rows.specs.declared.Tone.{Tone}
 use Rattle.rows.specs.Well.{Halves}
 use Rattle.cut_grammar.specs.declared.GeneralizedData.{GeneralizedData}
 use Rattle.cut_grammar.specs.declared.Piece.{Piece}
@@ -25,7 +24,7 @@ use Rattle.load_state.specs.Kept.{All, nil, cons}
 use Rattle.load_blocks.specs.declared.Origin.{Origin}
 use Rattle.load_general.specs.General.{plain_tone}
 use Rattle.load_blocks.specs.Sounds.{Sound, ms}
-use Rattle.load_blocks.specs.Blocks.{standard_header, standard_cycles, standard_tones, standard_pause, standard_sound, turbo_tones, turbo_sound}
+use Rattle.load_blocks.specs.Blocks.{standard_cycles, standard_tones, standard_pause, standard_sound, turbo_tones, turbo_sound}
 use Rattle.load_blocks.specs.Blocks.{pure_tone_tones, pulse_at, pair_sound, pair_sounds, pure_tones, pure_sound, stop_sound}
 use Rattle.load_blocks.specs.Blocks.{silent_sound, pause_sound}
 use Rattle.load_blocks.specs.Deeds.{Deed, adds, adds48, errs, general_deed, stop48_deed, sounds_of, brings}

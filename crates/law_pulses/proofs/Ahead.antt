@@ -12,7 +12,7 @@ use Rattle.law_base.proofs.Numbers.{lt_or_ge}
 use Rattle.law_base.specs.Rules.{◌⇒◌, ◌∣◌}
 use Rattle.law_pulses.specs.Play.{Level, Entry, pulse, endless, rest, over}
 use Rattle.law_pulses.proofs.Steps.{rest-zero, rest-here, rest-past, over_zero, over-pulse}
-use Rattle.law_pulses.specs.Source.{Turned, turned_to, after, turn, turns, sourced}
+use Rattle.law_pulses.specs.Source.{Turned, turned_to, after, turn, turns}
 
 module _ {A : Type 0} where
   -- what is dropped once an entry is finished, with d left

@@ -4,7 +4,7 @@ use mathlib.Core.List.{List, [], ◌∷◌, ◌++◌}
 use Prim.Native.Nat.{ℕ, ◌+◌, ◌-◌, ◌<◌}
 use native.Mathlib.Omega.{arith}
 use Rattle.law_pulses.specs.Play.{Entry, pulse, endless, rest, over, time, comes_to, Finite}
-use Rattle.law_pulses.proofs.Steps.{rest-nil, rest-zero, rest-here, rest-past, rest_ways}
+use Rattle.law_pulses.proofs.Steps.{rest-past}
 
 module _ {A : Type 0} where
   pub time_append : (xs ys : List (Entry A)) → Finite xs → time (xs ++ ys) ≡ time xs + time ys

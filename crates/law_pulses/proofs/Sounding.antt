@@ -10,7 +10,7 @@ use native.Mathlib.Omega.{arith}
 use lib.Dec.{ltb}
 use borrow.Author.Tests.{lt-ltb, le-ltb}
 use Rattle.law_base.specs.Rules.{◌⇒◌, ◌∣◌}
-use Rattle.law_pulses.specs.Play.{Level, Entry, pulse, endless, rest, time, Finite}
+use Rattle.law_pulses.specs.Play.{Entry, pulse, endless, rest, time, Finite}
 use Rattle.law_pulses.specs.Runs.{run}
 use Rattle.law_pulses.specs.Sounding.{ends_at, sounding_time, Silent, LastSounds, SoundsUpTo, SilentRest}
 use Rattle.law_pulses.proofs.Steps.{rest-nil, rest-stop, rest_ways}

@@ -17,8 +17,8 @@ use Rattle.load_state.specs.declared.Pending.TheVariants.{Nothing}
 use Rattle.load_state.specs.declared.Loop.{Loop}
 use Rattle.load_state.specs.declared.Halt.TheVariants.{Refusal}
 use Rattle.load_state.specs.declared.Loop.TheVariants.{Closed, Open}
-use Rattle.load_state.specs.Parser.{Parsed, empty, with_tones, with_block, with_pending, with_body, opened, Out, on, no, ◌⟫◌, named}
-use Rattle.load_state.specs.Parser.{in_group, last_paused, nameless, add_tones, add_block, pend, end_group, open_loop, copy_rows, copies}
+use Rattle.load_state.specs.Parser.{Parsed, empty, with_block, with_pending, with_body, opened, Out, on, no, ◌⟫◌, named}
+use Rattle.load_state.specs.Parser.{in_group, last_paused, nameless, add_block, pend, end_group, open_loop, copy_rows, copies}
 use Rattle.load_state.specs.Parser.{closed, close_loop}
 use Rattle.load_state.specs.Kept.{Sure, sure, none, All, nil, cons, with_blocks, Steps, Lasting, KeptSoFar}
 

@@ -10,7 +10,7 @@ use mathlib.Core.Logic.{⊎_elim}
 use mathlib.Core.List.{List, [], ◌∷◌}
 use lib.ListN.{length, length-append}
 use Rattle.law_base.proofs.Numbers.{lt_or_ge}
-use Rattle.law_pulses.specs.Play.{Level, Entry, pulse, time}
+use Rattle.law_pulses.specs.Play.{Level, Entry, pulse}
 use Rattle.law_pulses.proofs.Ahead.{drops, drops_here, drops_past}
 use Rattle.law_pulses.proofs.Dropped.{Within, drops_run, run-within}
 use Rattle.rows.specs.declared.Tone.{Tone}

@@ -1,6 +1,6 @@
 -- WHAT AN ANSWER HOLDS: where it leaves the head, the entries it counts, its level, whether it is the end; one answer is permitted.
 -- Assumes nothing.
-use Prim.Native.Nat.{ℕ, ◌-◌}
+use Prim.Native.Nat.{ℕ}
 use mathlib.Core.Path.{◌≡◌, refl}
 use Rattle.law_pulses.specs.Play.{Status, standing, stopped, ended, Answer, counted_on}
 use Rattle.law_pulses.specs.Source.{is_ended}

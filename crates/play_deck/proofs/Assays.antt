@@ -1,5 +1,5 @@
 -- WHAT A POSITION COMES TO, way by way: the checks from what the code found out, and the level there. Assumes nothing.
-use Prim.Native.Nat.{ℕ, zero, ◌+◌, ◌*◌, ◌≤◌, ◌<◌, min}
+use Prim.Native.Nat.{ℕ, ◌+◌, ◌≤◌, ◌<◌, min}
 use native.Mathlib.Omega.{arith}
 use borrow.Author.Tests.{lt-ltb, le-ltb}
 use mathlib.Core.Path.{◌≡◌, refl, sym, ap, subst, ◌∙◌}
@@ -16,18 +16,17 @@ use Rattle.rows.specs.Rows.{tone, tone_most, block, block_most}
 use Rattle.rows.specs.Well.{well_tones, well_numbers, well_block}
 use Rattle.rows.specs.declared.Block.{Block}
 use Rattle.rows.proofs.WellLaws.{ranges_inside}
-use Rattle.rows_well.specs.Seen.{unseen, seen_from, seen_of}
+use Rattle.rows_well.specs.Seen.{seen_from, seen_of}
 use Rattle.rows_well.specs.Words.{well_words}
 use Rattle.rows_well.proofs.WordsLaws.{words_tones, words_clauses}
 use Rattle.play_entries.specs.declared.Phase.{Phase}
 use Rattle.play_entries.specs.declared.Duration.TheVariants.{T, Endless}
 use Rattle.play_entries.specs.Entries.{is_source}
-use Rattle.play_entries.specs.Places.{Tape, block_in, has_entry, length_at, remains, level_at, level_in, has_in, length_in}
+use Rattle.play_entries.specs.Places.{Tape, block_in, has_entry, length_at, remains, level_at, level_in}
 use Rattle.play_entries.specs.Mounted.{tape_size, well_row}
 use Rattle.play_voice.specs.declared.Heard.{Heard}
 use Rattle.play_voice.specs.Voice.{rows_below, silence, heard_to, ToldSeen, row_at}
 use Rattle.play_walk.specs.declared.Position.{Position}
-use Rattle.play_walk.specs.declared.Reached.{Reached}
 use Rattle.play_walk.specs.declared.Reached.TheVariants.{At, Stopped}
 use Rattle.play_walk.specs.Heads.{stand}
 use Rattle.play_deck.specs.declared.Check.{Check}

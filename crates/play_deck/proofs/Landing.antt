@@ -5,20 +5,17 @@ use borrow.Author.Tests.{lt-ltb}
 use mathlib.Core.Path.{◌≡◌, refl, sym, ap, subst, ◌∙◌}
 use mathlib.Core.Bool.{Bool, true, false}
 use mathlib.Core.Logic.{⊎_elim}
-use mathlib.Core.List.{List}
 use lib.ListN.{length}
 use Rattle.law_base.specs.Rules.{◌⇒◌, ◌∣◌}
 use Rattle.law_base.proofs.Numbers.{lt_or_ge}
-use Rattle.law_pulses.specs.Play.{Level, low}
 use Rattle.rows.specs.Rows.{tone, tone_most, block}
 use Rattle.rows.specs.Table.{capacity_of}
 use Rattle.rows.specs.declared.Block.{Block}
 use Rattle.rows_well.specs.Seen.{seen_of}
-use Rattle.play_entries.specs.declared.Phase.{Phase}
 use Rattle.play_entries.specs.declared.Duration.{Duration}
 use Rattle.play_entries.specs.declared.Duration.TheVariants.{T, Endless}
 use Rattle.play_entries.specs.Places.{Tape, block_in, level_in, is_start}
-use Rattle.play_entries.specs.Mounted.{well_row, tape_size}
+use Rattle.play_entries.specs.Mounted.{well_row}
 use Rattle.play_entries.proofs.Lent.{row_lent}
 use Rattle.play_entries.proofs.Valid.{below_stands}
 use Rattle.play_voice.specs.declared.Heard.{Heard}
@@ -27,12 +24,12 @@ use Rattle.play_walk.specs.declared.Position.{Position}
 use Rattle.play_walk.specs.declared.Stand.{Stand}
 use Rattle.play_walk.specs.declared.Reached.{Reached}
 use Rattle.play_walk.specs.declared.Reached.TheVariants.{At}
-use Rattle.play_walk.specs.Heads.{placed, stand, Walkable, GoesOn, Landed, Lands}
-use Rattle.play_walk.proofs.Landing.{walkable_less, lands_at, lands_stopped, lands_start}
+use Rattle.play_walk.specs.Heads.{placed, stand, Walkable, GoesOn, Lands}
+use Rattle.play_walk.proofs.Landing.{walkable_less, lands_at, lands_stopped}
 use Rattle.play_deck.specs.declared.Check.TheVariants.{Fine}
 use Rattle.play_deck.specs.declared.Finding.{Finding}
 use Rattle.play_deck.specs.Deck.{judged, stays}
-use Rattle.play_deck.specs.Assay.{verdict_of, level_there, Assayed}
+use Rattle.play_deck.specs.Assay.{verdict_of, Assayed}
 use Rattle.play_deck.specs.Inside.{ends_inside, less_by, in_place}
 use Rattle.play_deck.proofs.Checks.{judged_fine, fine_below, fine_start, stays_at, stays-past, stays-endless}
 use Rattle.play_deck.proofs.Inside.{inside_less}

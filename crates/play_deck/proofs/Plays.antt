@@ -13,7 +13,6 @@ use native.Mathlib.Nat.{eq-zero-or-pos}
 use lib.ListN.{length}
 use Rattle.law_pulses.proofs.Steps.{over_zero, over-rest}
 use Rattle.law_pulses.proofs.Demand.{status-over, conserved, any_cut, demanded}
-use Rattle.rows.specs.Rows.{block}
 use Rattle.play_entries.specs.declared.Phase.{Phase}
 use Rattle.play_entries.specs.Entries.{Label}
 use Rattle.play_entries.specs.Places.{Tape, block_in, level_at, head_of, left_of}

@@ -9,7 +9,6 @@ use mathlib.Core.List.{List, [], ◌∷◌}
 use Rattle.law_pulses.specs.Play.{Entry, answer, calls, Positive}
 use Rattle.law_pulses.specs.Source.{Outcome, source, dropped, sources, heard, ShortCalls, Agrees}
 use Rattle.law_pulses.proofs.Agreement.{source-heard, agrees, agrees_short}
-use Rattle.rows.specs.Rows.{block}
 use Rattle.play_entries.specs.Entries.{Label}
 use Rattle.play_entries.specs.Places.{Tape}
 use Rattle.play_walk.specs.declared.Position.{Position}

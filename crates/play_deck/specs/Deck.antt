@@ -2,7 +2,7 @@
 use Rattle.std.specs.Prelude.{ℕ, zero, suc, ◌-◌, Bool, not, ◌&&◌, List, ltb, leb, eqb, length}
 use Rattle.law_base.specs.Rules.{◌⇒◌, ◌∣◌}
 use Rattle.refusals.specs.Refusals.{no_position, bad_row}
-use Rattle.law_pulses.specs.Play.{low, Entry, ended, Answer, made, status_here, answer}
+use Rattle.law_pulses.specs.Play.{low, Entry, ended, Answer, made, status_here}
 use Rattle.law_pulses.specs.Source.{source}
 use Rattle.play_entries.specs.Entries.{Label}
 use Rattle.play_entries.specs.Places.{Tape, block_in, is_start, is_none, valid}

@@ -15,7 +15,6 @@ use Rattle.law_pulses.specs.Runs.{run}
 use Rattle.law_pulses.proofs.Runs.{run-time-most}
 use Rattle.rows.specs.declared.Tone.{Tone}
 use Rattle.rows.specs.declared.Block.{Block}
-use Rattle.rows.specs.Rows.{tone}
 use Rattle.rows.specs.Well.{well_tone, well_tones, well_numbers, well_block}
 use Rattle.rows.proofs.WellLaws.{block_clauses, ranges_inside, numbers-most, tone-most, tones-each}
 use Rattle.play_levels.specs.Closed.{pulses_of, times_of}

@@ -1,5 +1,5 @@
 -- A DOCUMENT ROW'S ENTRIES ARE ITS SIGNALS VOICED ONE BY ONE, and the line behind it is the stepwise line. Assumes nothing.
-use Prim.Native.Nat.{ℕ, ◌+◌, ◌-◌, ◌<◌, min}
+use Prim.Native.Nat.{ℕ, ◌+◌, ◌-◌, min}
 use native.Mathlib.Omega.{arith}
 use native.Mathlib.Numerals.{add-one}
 use borrow.Author.Tests.{ne_eqb, eqb-true}
@@ -8,20 +8,20 @@ use mathlib.Core.Bool.{Bool, true, false, not, ◌||◌, not-not}
 use mathlib.Core.List.{List, [], ◌∷◌, ◌++◌, append_assoc}
 use lib.Dec.{eqb}
 use Rattle.law_base.specs.Rules.{◌⇒◌, ◌∣◌}
-use Rattle.law_pulses.specs.Play.{Level, low, Entry, pulse, endless}
+use Rattle.law_pulses.specs.Play.{Level, low, Entry, pulse}
 use Rattle.law_pulses.specs.Runs.{run}
 use Rattle.rows.specs.declared.Block.{Block}
 use Rattle.play_levels.specs.declared.Line.{Line}
-use Rattle.play_levels.specs.Voiced.{Signal, tick, silence, halt, Bare, lined, quiet, sounded, line_by, voiced, line_past, lots, bare_of}
+use Rattle.play_levels.specs.Voiced.{silence, halt, Bare, lined, quiet, sounded, line_by, voiced, line_past, lots}
 use Rattle.play_levels.specs.Voiced.{bare, Voices}
 use Rattle.play_levels.specs.Closed.{times_of, first_level, tone_signals, wave_entries}
 use Rattle.play_levels.proofs.Voices.{run-same, voices_as, voices_by, voices_join, voices_run, voices_steady}
 use Rattle.play_levels.proofs.Tone.{tone_voices}
-use Rattle.play_entries.specs.declared.Phase.TheVariants.{Start, Tones, Data, Edge, Pause}
+use Rattle.play_entries.specs.declared.Phase.TheVariants.{Start, Tones, Edge, Pause}
 use Rattle.play_entries.specs.declared.Duration.TheVariants.{T, Endless}
 use Rattle.play_entries.specs.Entries.{Label, label_at, entry_of, tone_at, is_source, cycles_of, is_single, line_start, line_at, start_level}
-use Rattle.play_entries.specs.Entries.{cycle_level, bit_level, edged, cycle_of, tone_of, row_entries, tones_of, bits_at, bit_of, half_of}
-use Rattle.play_entries.specs.Entries.{bit_entries, byte_of, byte_at, byte_entries, data_of, edge_of, pause_of, pause_level}
+use Rattle.play_entries.specs.Entries.{cycle_level, bit_level, edged, cycle_of, tone_of, row_entries, tones_of, bits_at}
+use Rattle.play_entries.specs.Entries.{bit_entries, byte_of, byte_at, byte_entries, data_of, pause_of, pause_level}
 use Rattle.play_entries.specs.Entries.{sound_of, entries_of}
 use Rattle.play_entries.specs.Signals.{bit_signals, byte_signals, end_signal, signals_of, steady, line_data, line_behind}
 use Rattle.play_entries.proofs.Bounds.{bits_some}

@@ -6,15 +6,15 @@ use native.Mathlib.Numerals.{add-one}
 use borrow.Author.Tests.{eq-eqb, ne_eqb}
 use mathlib.Core.Path.{◌≡◌, refl, sym, ap, subst, ◌∙◌}
 use mathlib.Core.Bool.{Bool, true, false, not, not-not}
-use mathlib.Core.List.{[], ◌∷◌, ◌++◌}
+use mathlib.Core.List.{[], ◌∷◌}
 use lib.Dec.{eqb}
 use Rattle.law_base.specs.Rules.{◌⇒◌, ◌∣◌}
 use Rattle.law_pulses.specs.Play.{Level, low, high, pulse}
 use Rattle.law_pulses.specs.Runs.{run}
 use Rattle.rows.specs.declared.Tone.{Tone}
 use Rattle.play_levels.specs.declared.Line.{Line}
-use Rattle.play_levels.specs.Voiced.{Signal, tick, behind, voice, sounded, line_by, voiced, line_past, lots, bare, Voices}
-use Rattle.play_levels.specs.Closed.{begin_of, pulses_of, is_one, times_of, second_signal, wave_signals, tone_signals, turned, first_level}
+use Rattle.play_levels.specs.Voiced.{tick, behind, voice, sounded, line_by, voiced, line_past, lots, bare, Voices}
+use Rattle.play_levels.specs.Closed.{begin_of, pulses_of, is_one, times_of, second_signal, tone_signals, turned, first_level}
 use Rattle.play_levels.specs.Closed.{last_level, line_before, line_after, wave_item}
 use Rattle.play_levels.proofs.Voices.{voices_none, voices_by, voices_run}
 

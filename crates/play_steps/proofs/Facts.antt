@@ -10,7 +10,6 @@ use Rattle.law_base.specs.Rules.{◌⇒◌, ◌∣◌}
 use mathlib.Core.List.{List}
 use Rattle.rows.specs.declared.Tone.{Tone}
 use Rattle.rows.specs.declared.Block.{Block}
-use Rattle.rows.specs.Rows.{tone}
 use Rattle.rows.specs.Well.{well_tones}
 use Rattle.rows.proofs.WellLaws.{tone-most, tones-each}
 use Rattle.play_entries.specs.declared.Phase.{Phase}

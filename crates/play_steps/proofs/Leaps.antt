@@ -14,7 +14,6 @@ use Rattle.law_pulses.proofs.Joined.{time_append}
 use Rattle.law_pulses.proofs.Lead.{Leads, lead_pulse, lead_run, lead_as}
 use Rattle.law_pulses.specs.Runs.{run}
 use Rattle.law_pulses.proofs.Runs.{run_split, run_next, run_length, run_finite, run-time}
-use Rattle.rows.specs.declared.Tone.{Tone}
 use Rattle.rows.specs.declared.Block.{Block}
 use Rattle.play_entries.specs.declared.Phase.{Phase}
 use Rattle.play_entries.specs.declared.Phase.TheVariants.{Start, Tones, Data, Edge, Pause}

@@ -1,12 +1,12 @@
 -- THE LEVEL OF A DOCUMENT ROW'S ENTRY is the level by the line behind the rows below it. Assumes nothing.
-use Prim.Native.Nat.{ℕ, zero, ◌+◌, ◌≤◌, ◌<◌}
+use Prim.Native.Nat.{ℕ, ◌+◌, ◌≤◌}
 use native.Mathlib.Omega.{arith}
 use mathlib.Core.Path.{◌≡◌, refl, sym, ap, subst, ◌∙◌}
 use mathlib.Core.Bool.{Bool, true, false}
 use mathlib.Core.List.{List}
 use lib.Dec.{eqb}
 use Rattle.law_base.specs.Rules.{◌⇒◌, ◌∣◌}
-use Rattle.law_pulses.specs.Play.{Level, low, high}
+use Rattle.law_pulses.specs.Play.{low, high}
 use Rattle.rows.specs.Table.{capacity_of}
 use Rattle.rows.specs.Rows.{tone, tone_most}
 use Rattle.rows.specs.declared.Block.{Block}
@@ -16,7 +16,7 @@ use Rattle.play_levels.specs.declared.Line.{Line}
 use Rattle.play_levels.specs.Closed.{begin_of, is_one, turned, flipped, first_level}
 use Rattle.play_entries.specs.declared.Phase.{Phase}
 use Rattle.play_entries.specs.declared.Phase.TheVariants.{Start, Tones, Data, Edge, Pause}
-use Rattle.play_entries.specs.Entries.{tone_at, is_source, line_at, start_level, cycle_level, bit_level, pause_level}
+use Rattle.play_entries.specs.Entries.{tone_at, is_source, line_at, cycle_level, bit_level, pause_level}
 use Rattle.play_entries.specs.Places.{has_entry, level_at}
 use Rattle.play_entries.proofs.Valid.{tone-entry}
 use Rattle.play_voice.specs.Voice.{rows_below, level_by, asks_played, turned_line, ToldSeen, row_at, Standing}

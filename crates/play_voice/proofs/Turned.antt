@@ -1,27 +1,24 @@
 -- THE CURRENT LEVEL BEHIND ROWS OF BEGIN 0 is the level before them, turned as often as their gathered turns are odd. Assumes nothing.
-use Prim.Native.Nat.{ℕ, zero, suc, ◌+◌, ◌-◌, ◌/◌, ◌%◌, ◌^◌, ◌≤◌, ◌<◌}
+use Prim.Native.Nat.{ℕ, zero, suc, ◌+◌, ◌-◌, ◌%◌, ◌≤◌}
 use native.Mathlib.Omega.{arith}
 use native.Mathlib.Decide.{ℕ_discrete}
 use borrow.Author.Tests.{eq-eqb, ne_eqb}
-use mathlib.Core.Path.{◌≡◌, refl, sym, ap, ap₂, subst, ◌∙◌}
+use mathlib.Core.Path.{◌≡◌, refl, sym, ap, subst, ◌∙◌}
 use mathlib.Core.Bool.{Bool, true, false, not, not-not}
 use mathlib.Core.List.{List}
-use lib.Bits.{bit_and, bit_xor, and_mask, and_mod, and_zero_r, xor_mod, xor_add_and}
+use lib.Bits.{bit_and, bit_xor, and_mask, and_mod, and_zero_r, xor_add_and}
 use lib.Dec.{eqb}
 use Rattle.law_base.specs.Rules.{◌⇒◌, ◌∣◌}
 use Rattle.law_pulses.specs.Play.{Level}
-use Rattle.rows.specs.Table.{get}
-use Rattle.rows.specs.Rows.{tone}
 use Rattle.rows.specs.declared.Tone.{Tone}
 use Rattle.rows.specs.declared.Block.{Block}
-use Rattle.rows_well.specs.declared.Seen.{Seen}
-use Rattle.rows_well.specs.Seen.{unseen, seeing_row, seen_from, seen_of, steady_seen}
+use Rattle.rows_well.specs.Seen.{seen_from, seen_of, steady_seen}
 use Rattle.rows_well.proofs.Gathered.{steady_more}
 use Rattle.play_levels.specs.declared.Line.{Line}
 use Rattle.play_levels.specs.Voiced.{behind}
-use Rattle.play_levels.specs.Closed.{is_one, times_of, turned, flipped, first_level, line_before, line_after}
+use Rattle.play_levels.specs.Closed.{times_of, turned, flipped, first_level, line_before, line_after}
 use Rattle.play_levels.proofs.Tone.{turned_next}
-use Rattle.play_entries.specs.Entries.{tone_at, line_start, line_at}
+use Rattle.play_entries.specs.Entries.{tone_at, line_at}
 
 -- odd, as the code tests it
 abbrev pub odd : ℕ → Bool

@@ -1,25 +1,24 @@
 -- WHERE A CALL LEAVES THE HEAD inside a block, the next call may go on without judging. Assumes nothing.
-use Prim.Native.Nat.{ℕ, ◌+◌, ◌≤◌, ◌<◌}
+use Prim.Native.Nat.{ℕ, ◌≤◌, ◌<◌}
 use native.Mathlib.Omega.{arith}
-use mathlib.Core.Path.{◌≡◌, refl, sym, ap, subst, ◌∙◌}
+use mathlib.Core.Path.{◌≡◌, refl, sym, ap, subst}
 use mathlib.Core.Bool.{Bool, true, false}
 use lib.Dec.{eqb}
 use Rattle.law_base.specs.Rules.{◌⇒◌, ◌∣◌}
-use Rattle.law_pulses.specs.Play.{Level, Status, standing, stopped, ended}
+use Rattle.law_pulses.specs.Play.{Level}
 use Rattle.rows.specs.Table.{capacity_of}
 use Rattle.rows.specs.Rows.{block, block_most}
 use Rattle.play_entries.specs.declared.Phase.{Phase}
 use Rattle.play_entries.specs.declared.Duration.{Duration}
 use Rattle.play_entries.specs.declared.Duration.TheVariants.{T}
-use Rattle.play_entries.specs.Places.{Tape, level_in, is_start}
+use Rattle.play_entries.specs.Places.{Tape, level_in}
 use Rattle.play_entries.specs.Mounted.{well_row, cut_to}
 use Rattle.play_entries.proofs.Valid.{stands-valid, below_stands, remains_less}
 use Rattle.play_walk.specs.declared.Position.{Position}
-use Rattle.play_walk.specs.declared.Stand.{Stand}
 use Rattle.play_walk.specs.declared.Reached.{Reached}
-use Rattle.play_walk.specs.declared.Reached.TheVariants.{At, Stopped, Ended, NotValid, NotFormed}
-use Rattle.play_walk.specs.declared.Next.TheVariants.{Into, Left}
-use Rattle.play_walk.specs.Heads.{placed, start_at, stand, not_reached, rest_level, told_as, next_of, Walkable, Landed, Lands}
+use Rattle.play_walk.specs.declared.Reached.TheVariants.{At, Stopped, Ended}
+use Rattle.play_walk.specs.declared.Next.TheVariants.{Left}
+use Rattle.play_walk.specs.Heads.{placed, start_at, stand, rest_level, next_of, Walkable, Landed, Lands}
 use Rattle.play_walk.proofs.Needed.{WellUpTo}
 use Rattle.play_walk.proofs.Turns.{On, left_by}
 

@@ -1,7 +1,7 @@
 -- WHAT A PASS GATHERS DECIDES: the rows are well formed exactly where the bits gathered are within their limits. Assumes nothing.
 use Rattle.std.proofs.Common.{◌≡◌, ℕ, zero, suc, ◌+◌, ◌-◌, ◌%◌, ◌^◌, ◌<◌, ◌≤◌, Bool, true, false, ◌&&◌, leb, List, sym, refl, ap, ◌∙◌, ap₂, add-zero, add_assoc, add-suc, arith, le-leb, leb-true}
 use mathlib.Core.Bool.{and-true, and_assoc}
-use lib.Bits.{bit_and, bit_or, bit_xor, and_le_l, and_le_r, or_lt, or_add_and}
+use lib.Bits.{bit_or, and_le_l, and_le_r, or_lt, or_add_and}
 use Rattle.law_base.proofs.Tests.{first, second}
 use Rattle.rows.specs.Table.{get}
 use Rattle.rows.specs.Rows.{tone}

@@ -1,20 +1,15 @@
 -- What a well-formed row gives the writers of names, and how long a name is. Assumes nothing.
 use mathlib.Core.Path.{◌≡◌}
-use mathlib.Core.Bool.{true, ◌&&◌}
+use mathlib.Core.Bool.{true}
 use mathlib.Core.List.{List}
 use Prim.Native.Nat.{ℕ, ◌+◌, ◌≤◌}
 use lib.ListN.{get_or}
 use lib.Dec.{eqb}
-use borrow.Author.Tests.{eqb-true, leb-true}
-use Rattle.law_base.proofs.Tests.{first, second}
-use Rattle.text_out.specs.Out.{latin1}
-use Rattle.text_out.proofs.Writing.{decimal-length, latin1-length, each-length}
+use borrow.Author.Tests.{eqb-true}
+use Rattle.law_base.proofs.Tests.{first}
 use Rattle.rows.specs.declared.Block.{Block}
-use Rattle.rows.specs.Table.{capacity_of}
-use Rattle.rows.specs.Rows.{tone, tone_most}
-use Rattle.rows.specs.Well.{inside, well_ranges, well_numbers, well_cases, well_tones, well_block}
-use Rattle.text_name.proofs.Headers.{either, header_length}
-use Rattle.text_name.specs.Names.{is_header, size_shown, size_name, guessed, name_of}
+use Rattle.rows.specs.Well.{well_block}
+use Rattle.text_name.specs.Names.{is_header}
 use Rattle.rows.proofs.WellLaws.{block_clauses}
 use Rattle.rows.proofs.WellLaws.{ranges_inside}
 

@@ -2,7 +2,6 @@
 use native.Mathlib.Omega.{arith}
 use mathlib.Core.Path.{ap}
 use lib.Dec.{eqb}
-use borrow.Author.Rules.{rules}
 use Rattle.rows.specs.declared.Block.{Block}
 use Rattle.play_entries.specs.Mounted.{tape_of}
 use Rattle.ask.specs.declared.Mark.TheVariants.{Is}

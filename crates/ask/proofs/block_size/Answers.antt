@@ -1,7 +1,6 @@
 -- `block_size` meets its contract: the refusal, or the row's data size. Assumes nothing.
 use native.Mathlib.Omega.{arith}
 use mathlib.Core.Path.{ap}
-use borrow.Author.Rules.{rules}
 use Rattle.rows.specs.declared.Block.{Block}
 use Rattle.play_entries.specs.Mounted.{tape_of}
 use Rattle.ask.specs.declared.Number.TheVariants.{Is}

@@ -1,7 +1,6 @@
 -- `block_time` meets its contract: the refusal, or what the well-formed row lasts by its words. Assumes nothing.
 use native.Mathlib.Omega.{arith}
 use mathlib.Core.Path.{sym, subst, ap, ◌∙◌}
-use borrow.Author.Rules.{rules}
 use Rattle.play_entries.specs.Stored.{row_lasts}
 use Rattle.play_entries.specs.Mounted.{tape_of}
 use Rattle.ask.specs.declared.Time.TheVariants.{Lasts}

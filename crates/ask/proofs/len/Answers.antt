@@ -1,6 +1,5 @@
 -- `len` meets its contract, whatever the bytes and tones are. Assumes nothing.
 use mathlib.Core.Path.{sym, ◌∙◌}
-use borrow.Author.Rules.{rules}
 use Rattle.ask.specs.Queries.{len_of}
 use Rattle.ask.proofs.len.Goals as goal
 

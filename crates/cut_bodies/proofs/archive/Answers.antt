@@ -4,7 +4,6 @@ use Rattle.cut_grammar.specs.Kinds.{kind32}
 use Rattle.cut_fields.proofs.Runs.{field-inside}
 use lib.Seq.{length-take-le}
 use mathlib.Core.Path.{sym, ◌∙◌}
-use borrow.Author.Rules.{rules}
 use Rattle.cut_bodies.proofs.archive.Goals as goal
 
 pub slice_bounds-inside-end : goal.slice_bounds-inside-end

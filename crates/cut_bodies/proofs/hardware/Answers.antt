@@ -1,7 +1,6 @@
 -- `hardware` meets its contract. Assumes nothing.
 use Rattle.cut_grammar.specs.Grammar.{read_at, pass_at}
 use Rattle.cut_grammar.specs.Kinds.{kind33}
-use borrow.Author.Rules.{rules}
 use Rattle.cut_bodies.proofs.hardware.Goals as goal
 
 pub returns : goal.returns

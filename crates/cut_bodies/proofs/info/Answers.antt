@@ -1,7 +1,6 @@
 -- `info` meets its contract. Assumes nothing.
 use Rattle.cut_grammar.specs.Grammar.{read_at, pass_at}
 use Rattle.cut_grammar.specs.Kinds.{info32}
-use borrow.Author.Rules.{rules}
 use Rattle.cut_bodies.proofs.info.Goals as goal
 
 pub returns : goal.returns

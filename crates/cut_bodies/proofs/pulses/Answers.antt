@@ -1,7 +1,6 @@
 -- `pulses` meets its contract. Assumes nothing.
 use Rattle.cut_grammar.specs.Grammar.{read_at, pass_at}
 use Rattle.cut_grammar.specs.Kinds.{kind13}
-use borrow.Author.Rules.{rules}
 use Rattle.cut_bodies.proofs.pulses.Goals as goal
 
 pub returns : goal.returns

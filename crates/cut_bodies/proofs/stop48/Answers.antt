@@ -1,7 +1,6 @@
 -- `stop48` meets its contract. Assumes nothing.
 use Rattle.cut_grammar.specs.Grammar.{read_at, pass_at}
 use Rattle.cut_grammar.specs.Kinds.{kind_2a}
-use borrow.Author.Rules.{rules}
 use Rattle.cut_bodies.proofs.stop48.Goals as goal
 
 pub returns : goal.returns

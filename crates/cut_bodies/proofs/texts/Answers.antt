@@ -2,7 +2,6 @@
 use Rattle.cut_fields.specs.Run.{times}
 use Rattle.cut_grammar.proofs.Turns.{texts_more}
 use Rattle.cut_grammar.specs.Grammar.{texts_at}
-use borrow.Author.Rules.{rules}
 use native.Mathlib.Omega.{arith}
 use mathlib.Core.Path.{◌≡◌, refl, sym, ◌∙◌}
 use Rattle.cut_bodies.proofs.texts.Goals as goal

@@ -1,10 +1,6 @@
 -- The loops of `texts`.
-use Rattle.cut_fields.specs.Run.{times}
-use Rattle.cut_grammar.proofs.Turns.{texts_more}
 use Rattle.cut_grammar.specs.Grammar.{texts_at}
-use borrow.Author.Rules.{rules}
-use native.Mathlib.Omega.{arith}
-use mathlib.Core.Path.{◌≡◌, refl, sym, ◌∙◌}
+use mathlib.Core.Path.{◌≡◌}
 use Rattle.cut_bodies.proofs.texts.Given as goal
 
 abbrev pub invariant-loop-left : goal.invariant-loop-left

@@ -1,10 +1,9 @@
 -- `binary_digits` meets its contract. Assumes nothing.
 use Rattle.cut_grammar.proofs.Turns.{digits-zero, digits_more}
 use Rattle.cut_grammar.specs.Grammar.{binary_digits}
-use borrow.Author.Rules.{rules}
 use native.Mathlib.Omega.{arith}
 use mathlib.Core.Path.{◌≡◌, sym, ◌∙◌}
-use Prim.Native.Nat.{◌≤◌, ◌+◌, ◌-◌}
+use Prim.Native.Nat.{◌-◌}
 use Rattle.cut_body19.proofs.digits.Goals as goal
 
 pub loop-k-init : goal.loop-k-init

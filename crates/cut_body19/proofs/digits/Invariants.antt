@@ -1,9 +1,6 @@
 -- The loops of `digits`.
-use Rattle.cut_grammar.proofs.Turns.{digits-zero, digits_more}
 use Rattle.cut_grammar.specs.Grammar.{binary_digits}
-use borrow.Author.Rules.{rules}
-use native.Mathlib.Omega.{arith}
-use mathlib.Core.Path.{◌≡◌, sym, ◌∙◌}
+use mathlib.Core.Path.{◌≡◌}
 use Prim.Native.Nat.{◌≤◌, ◌+◌, ◌-◌}
 use Rattle.cut_body19.proofs.digits.Given as goal
 

@@ -1,6 +1,5 @@
 -- `general_head` meets its contract. Assumes nothing.
 use Rattle.cut_grammar.specs.Steps.{head19}
-use borrow.Author.Rules.{rules}
 use Rattle.cut_body19.proofs.general_head.Goals as goal
 
 pub returns : goal.returns

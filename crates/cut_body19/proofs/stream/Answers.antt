@@ -3,7 +3,6 @@ use Rattle.cut_fields.proofs.Runs.{each-stopped, stopped}
 use Rattle.cut_grammar.specs.Kinds.{stream19}
 use Rattle.cut_grammar.specs.Grammar.{read_at, pass_at, whole_at, fitting_at}
 use borrow.Author.Tests.{le-leb, lt-leb}
-use borrow.Author.Rules.{rules}
 use Rattle.cut_body19.proofs.stream.Goals as goal
 
 pub returns-then-bits-le4294967295 : goal.returns-then-bits-le4294967295

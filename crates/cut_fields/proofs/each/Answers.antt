@@ -1,7 +1,6 @@
 -- `each` meets its contract. Assumes nothing.
 use mathlib.Core.Path.{sym}
 use Rattle.cut_fields.proofs.Runs.{each-short, each_all, each-stopped, stopped}
-use borrow.Author.Rules.{rules}
 use Rattle.cut_fields.proofs.each.Goals as goal
 
 pub returns-then-whole-n : goal.returns-then-whole-n

@@ -1,10 +1,7 @@
 -- The loops of `low_first`.
-use borrow.Author.Rules.{rules}
-use Prim.Native.Nat.{◌≤◌, ◌<◌, ◌+◌, ◌-◌, ◌^◌}
-use mathlib.Core.Path.{◌≡◌, refl}
-use native.Mathlib.Omega.{arith}
+use Prim.Native.Nat.{◌≤◌, ◌+◌, ◌-◌}
+use mathlib.Core.Path.{◌≡◌}
 use Rattle.cut_fields.specs.Field.{le_at}
-use Rattle.cut_fields.proofs.Le.{le_more, le_step}
 use Rattle.cut_fields.proofs.low_first.Given as goal
 
 abbrev pub invariant-loop-left : goal.invariant-loop-left

@@ -1,7 +1,6 @@
 -- `number` meets its contract. Assumes nothing.
 use borrow.Author.Tests.{le-leb, lt-leb}
 use Rattle.cut_fields.specs.Field.{number_at}
-use borrow.Author.Rules.{rules}
 use Rattle.cut_fields.proofs.number.Goals as goal
 
 pub returns-then-width-le4 : goal.returns-then-width-le4

@@ -5,7 +5,6 @@ use lib.ListN.{length}
 use mathlib.Core.Path.{sym, ◌∙◌}
 use Prim.Native.Nat.{◌+◌}
 use Rattle.cut_fields.specs.Field.{field_at}
-use borrow.Author.Rules.{rules}
 use Rattle.cut_fields.proofs.pass.Goals as goal
 
 pub overflow_add-result : goal.overflow_add-result

@@ -1,6 +1,5 @@
 -- `place` meets its contract. Assumes nothing.
 use Rattle.cut_fields.specs.Field.{place_of}
-use borrow.Author.Rules.{rules}
 use Rattle.cut_fields.proofs.place.Goals as goal
 
 pub returns-in-At : goal.returns-in-At

@@ -1,7 +1,6 @@
 -- `wholes` meets its contract. Assumes nothing.
 use Rattle.cut_fields.proofs.Runs.{wholes_none, wholes_empty, wholes_all, wholes_some}
 use native.Mathlib.Omega.{arith}
-use borrow.Author.Rules.{rules}
 use Rattle.cut_fields.proofs.wholes.Goals as goal
 
 pub returns-then-end-at : goal.returns-then-end-at

@@ -1,6 +1,5 @@
 -- `counted` meets its contract. Assumes nothing.
 use Rattle.cut_grammar.specs.Grammar.{counted_at}
-use borrow.Author.Rules.{rules}
 use Rattle.cut_grammar.proofs.counted.Goals as goal
 
 pub returns : goal.returns

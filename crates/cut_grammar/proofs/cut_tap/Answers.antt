@@ -1,7 +1,6 @@
 -- `cut_tap` meets its contract. Assumes nothing.
 use Rattle.cut_grammar.specs.Cut.{tap_at, tap_block}
 use borrow.Author.Tests.{le-leb, lt-leb, eq-eqb, ne_eqb}
-use borrow.Author.Rules.{rules}
 use Rattle.cut_grammar.proofs.cut_tap.Goals as goal
 
 pub returns-then-end-at : goal.returns-then-end-at

@@ -2,7 +2,6 @@
 use Rattle.cut_grammar.specs.Cut.{head_at}
 use borrow.Author.Tests.{le-leb, lt-leb}
 use mathlib.Core.Path.{sym, ◌∙◌}
-use borrow.Author.Rules.{rules}
 use Rattle.cut_grammar.proofs.head.Goals as goal
 
 pub returns-then-tape-lt10 : goal.returns-then-tape-lt10

@@ -1,6 +1,5 @@
 -- `sealed` meets its contract. Assumes nothing.
 use Rattle.cut_grammar.specs.Grammar.{sealed}
-use borrow.Author.Rules.{rules}
 use Rattle.cut_grammar.proofs.sealed.Goals as goal
 
 pub returns-in-Whole : goal.returns-in-Whole

@@ -2,11 +2,8 @@
 use borrow.Author.Tests.{eq-eqb, ne_eqb}
 use Rattle.cut_grammar.proofs.Turns.{starts_more}
 use Rattle.cut_grammar.specs.Cut.{starts_at, signature}
-use lib.ListN.{drop}
-use borrow.Author.Rules.{rules}
 use native.Mathlib.Omega.{arith}
 use mathlib.Core.Path.{◌≡◌, refl, sym, ◌∙◌}
-use Prim.Native.Nat.{◌≤◌, ◌-◌}
 use Rattle.cut_grammar.proofs.signed.Goals as goal
 
 pub loop-i-init : goal.loop-i-init

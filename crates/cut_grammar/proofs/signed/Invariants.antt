@@ -1,11 +1,7 @@
 -- The loops of `signed`.
-use borrow.Author.Tests.{eq-eqb, ne_eqb}
-use Rattle.cut_grammar.proofs.Turns.{starts_more}
 use Rattle.cut_grammar.specs.Cut.{starts_at, signature}
 use lib.ListN.{drop}
-use borrow.Author.Rules.{rules}
-use native.Mathlib.Omega.{arith}
-use mathlib.Core.Path.{◌≡◌, refl, sym, ◌∙◌}
+use mathlib.Core.Path.{◌≡◌}
 use Prim.Native.Nat.{◌≤◌, ◌-◌}
 use Rattle.cut_grammar.proofs.signed.Given as goal
 

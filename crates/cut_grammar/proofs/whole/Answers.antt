@@ -1,6 +1,5 @@
 -- `whole` meets its contract. Assumes nothing.
 use Rattle.cut_grammar.specs.Grammar.{whole_at}
-use borrow.Author.Rules.{rules}
 use Rattle.cut_grammar.proofs.whole.Goals as goal
 
 pub returns-in-At : goal.returns-in-At

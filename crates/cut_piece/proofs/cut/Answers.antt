@@ -1,7 +1,6 @@
 -- `cut` meets its contract. Assumes nothing.
 use Rattle.cut_grammar.specs.Cut.{cut_at}
 use borrow.Author.Tests.{le-leb, lt-leb}
-use borrow.Author.Rules.{rules}
 use Rattle.cut_piece.proofs.cut.Goals as goal
 
 pub returns-then-tape-at : goal.returns-then-tape-at

@@ -1,6 +1,5 @@
 -- `taken_as` meets its contract. Assumes nothing.
 use Rattle.cut_grammar.specs.Cut.{taken_as}
-use borrow.Author.Rules.{rules}
 use Rattle.cut_piece.proofs.named.Goals as goal
 
 pub returns-in-Whole : goal.returns-in-Whole

@@ -1,5 +1,4 @@
 -- `number_up_to` meets its contract. Assumes nothing.
-use borrow.Author.Rules.{rules}
 use native.Mathlib.Omega.{arith}
 use mathlib.Core.Path.{ap}
 use Rattle.cut_fields.specs.declared.Read.{Read}

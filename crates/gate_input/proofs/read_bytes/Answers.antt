@@ -1,5 +1,4 @@
 -- `read_bytes` meets its contract. Assumes nothing.
-use borrow.Author.Rules.{rules}
 use Rattle.law_base.proofs.Parts.{take_counted}
 use native.Mathlib.Omega.{arith}
 use Rattle.gate_input.proofs.read_bytes.Goals as goal

@@ -1,9 +1,6 @@
 -- `read_words` meets its contract. Assumes nothing.
-use borrow.Author.Rules.{rules}
 use native.Mathlib.Omega.{arith}
-use Prim.Native.Nat.{◌-◌}
-use lib.ListN.{length, length-set}
-use mathlib.Core.Path.{◌≡◌}
+use lib.ListN.{length-set}
 use Rattle.gate_input.proofs.read_words.Goals as goal
 
 pub loop-i-smaller : goal.loop-i-smaller

@@ -1,8 +1,6 @@
 -- The loops of `read_words`.
-use borrow.Author.Rules.{rules}
-use native.Mathlib.Omega.{arith}
 use Prim.Native.Nat.{◌-◌}
-use lib.ListN.{length, length-set}
+use lib.ListN.{length}
 use mathlib.Core.Path.{◌≡◌}
 use Rattle.gate_input.proofs.read_words.Given as goal
 

@@ -1,7 +1,6 @@
 -- `phase_from` meets its contract: each number has its phase. Assumes nothing.
 use borrow.Author.Tests.{ne_eqb, eq-eqb}
 use Rattle.host_words.specs.Words.{phase_from}
-use borrow.Author.Rules.{rules}
 use Rattle.host_words.proofs.phase_from.Goals as goal
 
 pub returns-then-f-eq0 : goal.returns-then-f-eq0

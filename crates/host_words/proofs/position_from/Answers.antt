@@ -2,7 +2,6 @@
 use mathlib.Core.Path.{◌∙◌}
 use borrow.Author.Tests.{lt-ltb, le-ltb}
 use Rattle.host_words.specs.Words.{position_from}
-use borrow.Author.Rules.{rules}
 use Rattle.host_words.proofs.position_from.Goals as goal
 
 pub returns-then-words-lt7 : goal.returns-then-words-lt7

@@ -1,6 +1,5 @@
 -- `span_of` meets its contract: T-states, or the flag. Assumes nothing.
 use Rattle.host_words.specs.Words.{span_of}
-use borrow.Author.Rules.{rules}
 use Rattle.host_words.proofs.span_of.Goals as goal
 
 pub returns-in-T : goal.returns-in-T

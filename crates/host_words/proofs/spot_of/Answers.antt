@@ -1,6 +1,5 @@
 -- `spot_of` meets its contract: each phase has its number, and words that it does not use are 0. Assumes nothing.
 use Rattle.host_words.specs.Words.{spot_of}
-use borrow.Author.Rules.{rules}
 use Rattle.host_words.proofs.spot_of.Goals as goal
 
 pub returns-in-Start : goal.returns-in-Start

@@ -1,6 +1,5 @@
 -- `with_span` meets its contract: both name something, or none is named. Assumes nothing.
 use Rattle.host_words.specs.Words.{joined}
-use borrow.Author.Rules.{rules}
 use Rattle.host_words.proofs.with_span.Goals as goal
 
 pub returns-in-Is : goal.returns-in-Is

@@ -1,6 +1,5 @@
 -- `enough` meets its contract: the most by the rows' number, or the length that the dry run tells. Assumes nothing.
 use native.Mathlib.Omega.{arith}
-use borrow.Author.Rules.{rules}
 use Rattle.text_out.proofs.Writing.{wrote_counted}
 use Rattle.text_listing.proofs.PageTexts.{text-rows}
 use Rattle.listing.proofs.enough.Goals as goal

@@ -1,7 +1,6 @@
 -- `glyvrask_listing` meets its contract: the refusals in their order, else the load's tables are ready and their text is told.
 use native.Mathlib.Omega.{arith}
 use mathlib.Core.Path.{refl}
-use borrow.Author.Rules.{rules}
 use Rattle.load_tape.specs.Load.{refusal_no}
 use Rattle.listing.proofs.Mounting.{leaves-told, lent_words, load_ready, no_model, too_long, load_refused, load_told}
 use Rattle.listing.proofs.glyvrask_listing.Goals as goal

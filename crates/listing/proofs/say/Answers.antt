@@ -1,6 +1,5 @@
 -- `say` meets its contract: a number below 32 is the load's refusal, and another the text's length. Assumes nothing.
 use native.Mathlib.Omega.{arith}
-use borrow.Author.Rules.{rules}
 use Rattle.listing.proofs.Saying.{say_refusal, say_text}
 use Rattle.listing.proofs.say.Goals as goal
 

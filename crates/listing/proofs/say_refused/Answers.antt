@@ -1,6 +1,5 @@
 -- `say_refused` meets its contract: three writes into bytes that have room. Assumes nothing.
 use native.Mathlib.Omega.{arith}
-use borrow.Author.Rules.{rules}
 use Rattle.text_out.specs.Out.{refused_text, refused_line}
 use Rattle.text_out.proofs.Writing.{then}
 use Rattle.listing.proofs.Saying.{refused-most, says_written}

@@ -3,7 +3,6 @@ use Prim.Native.Nat.{ℕ, ◌<◌}
 use native.Mathlib.Omega.{arith}
 use mathlib.Core.List.{List, []}
 use lib.ListN.{length}
-use borrow.Author.Rules.{rules}
 use Rattle.play_entries.specs.Mounted.{tape_of}
 use Rattle.text_out.proofs.Writing.{wrote_counted}
 use Rattle.text_listing.specs.Page.{listing_text}

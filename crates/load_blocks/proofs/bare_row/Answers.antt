@@ -1,5 +1,4 @@
 -- `bare_row` meets its contract. Assumes nothing.
-use borrow.Author.Rules.{rules}
 use Rattle.load_blocks.proofs.bare_row.Goals as goal
 
 pub returns : goal.returns

@@ -2,7 +2,6 @@
 use lib.ListN.{get_or-eq_default}
 use borrow.Author.Tests.{eq-eqb, ne_eqb}
 use Rattle.load_blocks.specs.Blocks.{standard_header}
-use borrow.Author.Rules.{rules}
 use Rattle.load_blocks.proofs.is_header.Goals as goal
 
 pub returns-then-size-eq0 : goal.returns-then-size-eq0
@@ -15,5 +14,5 @@ returns-then-start-tape c = rw (ne_eqb _ _ c.if-size-eq0.false)
 
 pub returns-else-start-tape : goal.returns-else-start-tape
 unfolding standard_header
-returns-else-start-tape c = 
+returns-else-start-tape c =
     rw (ne_eqb _ _ c.if-size-eq0.false, get_or-eq_default c.args.tape.now 0 c.if-start-tape.false)

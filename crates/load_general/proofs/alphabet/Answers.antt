@@ -1,9 +1,8 @@
 -- `alphabet` meets its contract: the first i symbols are kept. Assumes nothing.
-use Prim.Native.Nat.{◌+◌, ◌*◌, ◌-◌, ◌≤◌}
+use Prim.Native.Nat.{◌+◌, ◌*◌}
 use mathlib.Core.Path.{◌≡◌, refl}
 use native.Mathlib.Omega.{arith}
-use lib.ListN.{length, length-set}
-use Rattle.load_general.specs.Held.{Kept}
+use lib.ListN.{length-set}
 use Rattle.load_general.proofs.Symbols.{below, kept_more}
 use Rattle.load_general.proofs.alphabet.Goals as goal
 
@@ -11,7 +10,7 @@ pub loop-i-init : goal.loop-i-init
 loop-i-init c = (omega arith, refl, λ j h. absurd (omega arith))
 
 pub symbol-row-requires : goal.symbol-row-requires
-symbol-row-requires c = 
+symbol-row-requires c =
     let a = c.args in
     (omega arith, omega (arith, below c.loop-i.i a.n (1 + a.pulses * 2) c.loop-i-test.true))
 
@@ -31,7 +30,7 @@ pub loop-i-smaller : goal.loop-i-smaller
 loop-i-smaller c = omega arith
 
 pub loop-i-preserved : goal.loop-i-preserved
-loop-i-preserved c = 
+loop-i-preserved c =
     let a = c.args in
     let l = c.loop-i.invariant.1 in (
       omega arith,

@@ -1,10 +1,8 @@
 -- The loops of `alphabet`.
-use Prim.Native.Nat.{◌+◌, ◌*◌, ◌-◌, ◌≤◌}
-use mathlib.Core.Path.{◌≡◌, refl}
-use native.Mathlib.Omega.{arith}
-use lib.ListN.{length, length-set}
+use Prim.Native.Nat.{◌-◌, ◌≤◌}
+use mathlib.Core.Path.{◌≡◌}
+use lib.ListN.{length}
 use Rattle.load_general.specs.Held.{Kept}
-use Rattle.load_general.proofs.Symbols.{below, kept_more}
 use Rattle.load_general.proofs.alphabet.Given as goal
 
 abbrev pub invariant-loop-i : goal.invariant-loop-i

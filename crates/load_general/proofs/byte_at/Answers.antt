@@ -1,6 +1,5 @@
 -- `byte_at` meets its contract. Assumes nothing.
 use native.Mathlib.Omega.{arith}
-use borrow.Author.Rules.{rules}
 use Rattle.load_general.proofs.byte_at.Goals as goal
 
 pub overflow_cast-result : goal.overflow_cast-result

@@ -3,7 +3,6 @@ use lib.Bits.{and_mask}
 use native.Mathlib.Omega.{arith}
 use native.Mathlib.Nat.{one-le-pow}
 use Rattle.load_general.specs.General.{symbol_number}
-use borrow.Author.Rules.{rules}
 use Rattle.load_general.proofs.number_at.Goals as goal
 
 pub overflow_sub-result : goal.overflow_sub-result

@@ -2,7 +2,6 @@
 use Rattle.load_general.specs.Held.{symbol_words}
 use Rattle.load_general.specs.General.{symbol_at}
 use borrow.Author.Tests.{lt-ltb, le-ltb}
-use borrow.Author.Rules.{rules}
 use Rattle.load_general.proofs.symbol.Goals as goal
 
 pub returns-then-n-gt1 : goal.returns-then-n-gt1

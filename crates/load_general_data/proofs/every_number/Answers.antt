@@ -1,5 +1,4 @@
 -- `every_number` meets its contract. Assumes nothing.
-use borrow.Author.Rules.{rules}
 use Rattle.load_general_data.proofs.every_number.Goals as goal
 
 pub returns : goal.returns

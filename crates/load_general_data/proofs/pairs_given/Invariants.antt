@@ -1,11 +1,7 @@
 -- The loops of `pairs_given`.
 use Prim.Native.Nat.{◌-◌, ◌/◌}
-use mathlib.Core.Path.{sym, ◌∙◌}
-use Rattle.load_general.proofs.Given.{every-pair}
-use native.Mathlib.Omega.{arith}
-use Rattle.rows.proofs.Clauses.{failed, passed}
 use Rattle.load_general.specs.General.{pair_row}
-use Rattle.load_general.proofs.Loops.{Judging, judging_starts, judging_refused, judging_on, judging_over}
+use Rattle.load_general.proofs.Loops.{Judging}
 use Rattle.load_general_data.proofs.pairs_given.Given as goal
 
 abbrev pub invariant-loop-i : goal.invariant-loop-i

@@ -1,11 +1,7 @@
 -- The loops of `singles_given`.
-use mathlib.Core.Path.{sym, ◌∙◌}
-use Rattle.load_general.proofs.Given.{every-single}
 use Prim.Native.Nat.{◌-◌}
-use native.Mathlib.Omega.{arith}
-use Rattle.rows.proofs.Clauses.{failed, passed}
 use Rattle.load_general.specs.General.{single_row}
-use Rattle.load_general.proofs.Loops.{Judging, judging_starts, judging_refused, judging_on, judging_over}
+use Rattle.load_general.proofs.Loops.{Judging}
 use Rattle.load_general_data.proofs.singles_given.Given as goal
 
 abbrev pub invariant-loop-i : goal.invariant-loop-i

@@ -2,7 +2,6 @@
 use Rattle.load_general.specs.Made.{judged_of}
 use Rattle.load_general.specs.General.{singles_of, single_row}
 use borrow.Author.Tests.{eq-eqb, ne_eqb}
-use borrow.Author.Rules.{rules}
 use Rattle.load_general_data.proofs.singles_part.Goals as goal
 
 pub returns-then-g-eq0 : goal.returns-then-g-eq0
@@ -11,7 +10,7 @@ returns-then-g-eq0 c = rw (eq-eqb _ _ c.if-g-eq0.true)
 
 pub returns-else-g-eq0 : goal.returns-else-g-eq0
 unfolding singles_of
-returns-else-g-eq0 c = 
+returns-else-g-eq0 c =
     let a = c.args in
     rw (ne_eqb _ _ c.if-g-eq0.false)
     (c.part_of.ensures (single_row a.tape.now a.g) c.singles_given.ensures)

@@ -2,7 +2,6 @@
 use Rattle.load_general.specs.Held.{symbol_of}
 use Rattle.load_general.specs.General.{cycles}
 use borrow.Author.Tests.{eq-eqb, ne_eqb}
-use borrow.Author.Rules.{rules}
 use Rattle.load_general_pilot.proofs.cycles.Goals as goal
 
 pub returns-then-repeat-eq65535 : goal.returns-then-repeat-eq65535

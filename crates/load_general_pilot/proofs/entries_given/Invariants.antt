@@ -1,10 +1,7 @@
 -- The loops of `entries_given`.
-use Rattle.load_general.proofs.Symbols.{pilot_inside}
 use Prim.Native.Nat.{◌-◌}
-use native.Mathlib.Omega.{arith}
-use Rattle.rows.proofs.Clauses.{failed, passed}
 use Rattle.load_general.specs.General.{entry_row}
-use Rattle.load_general.proofs.Loops.{Judging, judging_starts, judging_refused, judging_on, judging_over}
+use Rattle.load_general.proofs.Loops.{Judging}
 use Rattle.load_general_pilot.proofs.entries_given.Given as goal
 
 abbrev pub invariant-loop-i : goal.invariant-loop-i

@@ -5,7 +5,6 @@ use Rattle.cut_fields.proofs.Le.{le_small}
 use borrow.Author.Tests.{le-leb, lt-leb}
 use Prim.Native.Nat.{◌+◌, ◌*◌}
 use native.Mathlib.Omega.{arith}
-use borrow.Author.Rules.{rules}
 use Rattle.load_general_pilot.proofs.entry_row.Goals as goal
 
 pub returns-then-g-n : goal.returns-then-g-n
@@ -13,7 +12,7 @@ unfolding entry_row entry_symbol
 returns-then-g-n c = rw (← c.byte_at-n.ensures, le-leb _ _ c.if-g-n.true)
 
 pub cycles-requires : goal.cycles-requires
-cycles-requires c = 
+cycles-requires c =
     omega (
       arith,
       c.low_first.ensures,
@@ -23,7 +22,7 @@ cycles-requires c =
 
 pub returns : goal.returns
 unfolding entry_row entry_symbol entry_repeat
-returns c = 
+returns c =
     let a = c.args in
     let n = c.byte_at-n.result in
     let p = c.requires in

@@ -1,6 +1,5 @@
 -- `is_given` meets its contract. Assumes nothing.
 use Rattle.load_general.specs.Made.{is_given}
-use borrow.Author.Rules.{rules}
 use Rattle.load_general_pilot.proofs.is_given.Goals as goal
 
 pub returns-in-Refused : goal.returns-in-Refused

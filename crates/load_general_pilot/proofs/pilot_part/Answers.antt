@@ -6,7 +6,6 @@ use borrow.Author.Tests.{eq-eqb, ne_eqb, le-leb, lt-leb}
 use native.Mathlib.Omega.{arith}
 use mathlib.Core.Path.{◌≡◌, sym, ◌∙◌}
 use Prim.Native.Nat.{◌+◌, ◌*◌}
-use borrow.Author.Rules.{rules}
 use Rattle.load_general_pilot.proofs.pilot_part.Goals as goal
 
 pub returns-then-g-eq0 : goal.returns-then-g-eq0
@@ -18,14 +17,14 @@ entries_given-requires c = (c.requires, omega arith, some_pulses _ (sym c.one_or
 
 pub returns-then-one_or_two : goal.returns-then-one_or_two
 unfolding pilot_of
-returns-then-one_or_two c = 
+returns-then-one_or_two c =
     let a = c.args in
     rw (ne_eqb _ _ c.if-g-eq0.false, ← c.one_or_two.ensures, c.if-one_or_two.true)
     (c.part_of.ensures (entry_row a.tape.now a.g) c.entries_given.ensures)
 
 pub returns-then-g-byte_at : goal.returns-then-g-byte_at
 unfolding pilot_of entry_symbol judged_of
-returns-then-g-byte_at c = 
+returns-then-g-byte_at c =
     let a = c.args in
     let e : a.g.entries + 0 * 3 ≡ a.g.entries = omega arith in
     rw (
@@ -39,7 +38,7 @@ returns-then-g-byte_at c =
 
 pub returns-else-g-byte_at : goal.returns-else-g-byte_at
 unfolding pilot_of entry_symbol judged_of
-returns-else-g-byte_at c = 
+returns-else-g-byte_at c =
     let a = c.args in
     let e : a.g.entries + 0 * 3 ≡ a.g.entries = omega arith in
     rw (

@@ -11,11 +11,10 @@ use Rattle.load_general.specs.General.{pilot_of, symbol_at, used_bits}
 use borrow.Author.Tests.{leb-true}
 use native.Mathlib.Omega.{arith}
 use mathlib.Core.Path.{sym, ◌∙◌}
-use borrow.Author.Rules.{rules}
 use Rattle.load_general_rows.proofs.data_block.Goals as goal
 
 pub put_pilot-requires : goal.put_pilot-requires
-put_pilot-requires c = 
+put_pilot-requires c =
     let a = c.args in
     let p = c.requires in
     let q = pilot_of a.tape.now a.g in
@@ -24,14 +23,14 @@ put_pilot-requires c =
     (p.0, told-tones q p.1, omega (arith, (told-rows q p.1).1))
 
 pub symbol-zero-requires : goal.symbol-zero-requires
-symbol-zero-requires c = 
+symbol-zero-requires c =
     let a = c.args in
     let p = c.requires in
     let t = plain_two a.tape.now a.g p.2 in
     (omega arith, omega (arith, two_inside a.tape.now a.g p.0.places t.used t.asd t.npd))
 
 pub symbol-one-requires : goal.symbol-one-requires
-symbol-one-requires c = 
+symbol-one-requires c =
     let a = c.args in
     let p = c.requires in
     let t = plain_two a.tape.now a.g p.2 in
@@ -39,7 +38,7 @@ symbol-one-requires c =
 
 pub returns-then-room_for : goal.returns-then-room_for
 unfolding symbol_words
-returns-then-room_for c = 
+returns-then-room_for c =
     let a = c.args in
     let s = a.tape.now in
     let g = a.g in
@@ -57,7 +56,7 @@ returns-then-room_for c =
     (used_bits g.totd) a.n o.1 (sym c.room_for.ensures ∙ c.if-room_for.true))
 
 pub returns-else-room_for : goal.returns-else-room_for
-returns-else-room_for c = 
+returns-else-room_for c =
     let a = c.args in
     let s = a.tape.now in
     let g = a.g in

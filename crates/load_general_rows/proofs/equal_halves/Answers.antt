@@ -2,7 +2,6 @@
 use mathlib.Core.Path.{refl}
 use Rattle.load_general.specs.Held.{symbol_of}
 use Rattle.load_general.specs.General.{equal_halves}
-use borrow.Author.Rules.{rules}
 use Rattle.load_general_rows.proofs.equal_halves.Goals as goal
 
 pub returns : goal.returns

@@ -3,15 +3,14 @@ use Rattle.load_general_rows.proofs.Answers.{pilot_refused, pilot_stop, done_ref
 use Rattle.load_general.proofs.Parts.{told-refused, told-stop}
 use Rattle.load_general.specs.General.{pilot_of, general_of}
 use mathlib.Core.Path.{sym, ◌∙◌}
-use borrow.Author.Rules.{rules}
 use Rattle.load_general_rows.proofs.general.Goals as goal
 
 pub with_pilot-requires : goal.with_pilot-requires
-with_pilot-requires c = 
+with_pilot-requires c =
     (c.requires, sym c.pilot_part.ensures ∙ c.in-Rows.is)
 
 pub returns-in-Refused : goal.returns-in-Refused
-returns-in-Refused c = 
+returns-in-Refused c =
     let a = c.args in
     let s = a.tape.now in
     let g = a.g in
@@ -19,7 +18,7 @@ returns-in-Refused c =
     (done_refused a.used a.tones.now)
 
 pub returns-in-Stop : goal.returns-in-Stop
-returns-in-Stop c = 
+returns-in-Stop c =
     let a = c.args in
     let s = a.tape.now in
     let g = a.g in

@@ -5,18 +5,17 @@ use Rattle.load_general.specs.General.{pilot_of}
 use Rattle.rows.specs.Table.{put_all}
 use borrow.Author.Tests.{eq-eqb}
 use native.Mathlib.Omega.{arith}
-use borrow.Author.Rules.{rules}
 use Rattle.load_general_rows.proofs.put_pilot.Goals as goal
 
 pub put_entries-requires : goal.put_entries-requires
-put_entries-requires c = 
+put_entries-requires c =
     let a = c.args in
     let p = c.requires in
     let o = pilot_sorted a.tape.now a.g c.if-g-gt0.true p.1 in
     (p.0, c.if-g-gt0.true, o.ready, sorted_tones o p.1, sorted_count o p.1 p.2)
 
 pub returns-then-g-gt0 : goal.returns-then-g-gt0
-returns-then-g-gt0 c = 
+returns-then-g-gt0 c =
     let a = c.args in
     let o = pilot_sorted a.tape.now a.g c.if-g-gt0.true c.requires.1 in
     rw o.rows c.put_entries.ensures

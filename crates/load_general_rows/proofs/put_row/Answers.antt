@@ -1,6 +1,5 @@
 -- `put_row` meets its contract. Assumes nothing.
 use Rattle.load_general.specs.Made.{put_given}
-use borrow.Author.Rules.{rules}
 use Rattle.load_general_rows.proofs.put_row.Goals as goal
 
 pub returns-in-Refused : goal.returns-in-Refused

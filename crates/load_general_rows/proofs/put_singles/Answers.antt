@@ -1,20 +1,19 @@
 -- `put_singles` meets its contract: with the rows from i on put, the table is what it is to become. Assumes nothing.
 use borrow.Author.Rules.{rules}
-use Prim.Native.Nat.{◌-◌}
 use native.Mathlib.Omega.{arith}
 use Rattle.load_general.specs.General.{single_row}
 use Rattle.load_general.proofs.Symbols.{data_inside}
-use Rattle.load_general.proofs.Loops.{Writing, writing_starts, writing_given, writing_tone, writing_over}
+use Rattle.load_general.proofs.Loops.{writing_starts, writing_given, writing_tone, writing_over}
 use Rattle.load_general_rows.proofs.put_singles.Goals as goal
 
 pub alphabet-a-requires : goal.alphabet-a-requires
-alphabet-a-requires c = 
+alphabet-a-requires c =
     let a = c.args in
     let p = c.requires in
     (p.0.asd, p.2, data_inside a.tape.now a.g p.0.places p.1)
 
 pub loop-i-init : goal.loop-i-init
-loop-i-init c = 
+loop-i-init c =
     let a = c.args in
     writing_starts (single_row a.tape.now a.g) a.g.totd a.used a.tones.now c.requires.5
 
@@ -25,7 +24,7 @@ pub overflow_add-used : goal.overflow_add-used
 overflow_add-used c = omega arith
 
 pub single_tone-requires : goal.single_tone-requires
-single_tone-requires c = 
+single_tone-requires c =
     let a = c.args in
     let p = c.requires in (
       p.0,
@@ -38,7 +37,7 @@ single_tone-requires c =
     )
 
 pub put_tone-requires : goal.put_tone-requires
-put_tone-requires c = 
+put_tone-requires c =
     omega (arith, c.loop-i.invariant.1, c.requires.6)
 
 pub overflow_add-i : goal.overflow_add-i
@@ -48,7 +47,7 @@ pub loop-i-smaller : goal.loop-i-smaller
 loop-i-smaller c = omega arith
 
 pub loop-i-preserved : goal.loop-i-preserved
-loop-i-preserved c = 
+loop-i-preserved c =
     let a = c.args in
     writing_tone (single_row a.tape.now a.g) a.g.totd a.used a.tones.now c.loop-i.tones c.loop-i.i (omega arith)
     c.loop-i.invariant _ c.single_tone.result (search rules) c.single_tone.ensures
@@ -58,7 +57,7 @@ pub shape_of-tones : goal.shape_of-tones
 shape_of-tones c = c.loop-i.invariant.1
 
 pub returns : goal.returns
-returns c = 
+returns c =
     let a = c.args in
     writing_over (single_row a.tape.now a.g) a.g.totd a.used a.tones.now c.loop-i.tones c.loop-i.i (omega arith)
     c.loop-i.invariant

@@ -1,10 +1,7 @@
 -- The loops of `put_singles`.
-use borrow.Author.Rules.{rules}
 use Prim.Native.Nat.{◌-◌}
-use native.Mathlib.Omega.{arith}
 use Rattle.load_general.specs.General.{single_row}
-use Rattle.load_general.proofs.Symbols.{data_inside}
-use Rattle.load_general.proofs.Loops.{Writing, writing_starts, writing_given, writing_tone, writing_over}
+use Rattle.load_general.proofs.Loops.{Writing}
 use Rattle.load_general_rows.proofs.put_singles.Given as goal
 
 abbrev pub invariant-loop-i : goal.invariant-loop-i

@@ -10,11 +10,10 @@ use borrow.Author.Tests.{leb-true}
 use native.Mathlib.Omega.{arith}
 use mathlib.Core.Path.{sym, ◌∙◌}
 use Prim.Native.Nat.{◌+◌}
-use borrow.Author.Rules.{rules}
 use Rattle.load_general_rows.proofs.tone_block.Goals as goal
 
 pub put_pilot-requires : goal.put_pilot-requires
-put_pilot-requires c = 
+put_pilot-requires c =
     let a = c.args in
     let p = c.requires in
     let q = pilot_of a.tape.now a.g in
@@ -23,14 +22,14 @@ put_pilot-requires c =
     (p.0, told-tones q p.1, omega (arith, (told-rows q p.1).1))
 
 pub overflow_add-used : goal.overflow_add-used
-overflow_add-used c = 
+overflow_add-used c =
     let a = c.args in
     let f : a.n + a.m ≤ capacity_of tone tone_most a.tones.now - a.used =
     leb-true _ _ (sym c.room_for.ensures ∙ c.if-room_for.true) in
     omega arith
 
 pub put_data-requires : goal.put_data-requires
-put_data-requires c = 
+put_data-requires c =
     let a = c.args in
     let p = c.requires in
     let q = data_part a.tape.now a.g in
@@ -39,7 +38,7 @@ put_data-requires c =
     (p.0, told-tones q p.2, omega (arith, (told-rows q p.2).1))
 
 pub returns-then-room_for : goal.returns-then-room_for
-returns-then-room_for c = 
+returns-then-room_for c =
     let a = c.args in
     let s = a.tape.now in
     let g = a.g in
@@ -54,7 +53,7 @@ returns-then-room_for c =
     (sym c.room_for.ensures ∙ c.if-room_for.true))
 
 pub returns-else-room_for : goal.returns-else-room_for
-returns-else-room_for c = 
+returns-else-room_for c =
     let a = c.args in
     let s = a.tape.now in
     let g = a.g in

@@ -4,21 +4,20 @@ use Rattle.load_general.proofs.Parts.{told-rows, told-refused, told-stop}
 use Rattle.load_general.specs.Made.{part_tones}
 use Rattle.load_general.specs.General.{pilot_of, data_part}
 use mathlib.Core.Path.{sym, ◌∙◌}
-use borrow.Author.Rules.{rules}
 use Rattle.load_general_rows.proofs.with_pilot.Goals as goal
 
 pub data_block-requires : goal.data_block-requires
-data_block-requires c = 
+data_block-requires c =
     let p = c.requires in
     (p.0, p.1, sym c.ordinary.ensures ∙ c.if-ordinary.true)
 
 pub tone_block-requires : goal.tone_block-requires
-tone_block-requires c = 
+tone_block-requires c =
     let p = c.requires in
     (p.0, p.1, sym c.data_part.ensures ∙ c.in-Rows.is)
 
 pub returns-in-Refused : goal.returns-in-Refused
-returns-in-Refused c = 
+returns-in-Refused c =
     let a = c.args in
     let s = a.tape.now in
     let g = a.g in
@@ -30,7 +29,7 @@ returns-in-Refused c =
     ) (done_refused a.used a.tones.now)
 
 pub returns-in-Stop : goal.returns-in-Stop
-returns-in-Stop c = 
+returns-in-Stop c =
     let a = c.args in
     let s = a.tape.now in
     let g = a.g in
@@ -42,7 +41,7 @@ returns-in-Stop c =
     ) (done-stop a.used a.tones.now)
 
 pub returns-in-Rows : goal.returns-in-Rows
-returns-in-Rows c = 
+returns-in-Rows c =
     let a = c.args in
     let s = a.tape.now in
     let g = a.g in

@@ -4,17 +4,16 @@ use lib.ListN.{length}
 use mathlib.Core.Path.{◌≡◌}
 use native.Mathlib.Omega.{arith}
 use Prim.Native.Nat.{suc, ◌-◌}
-use borrow.Author.Rules.{rules}
 use Rattle.load_groups.proofs.pause_last.Goals as goal
 
 pub returns-then-n-eq0 : goal.returns-then-n-eq0
-returns-then-n-eq0 c = 
+returns-then-n-eq0 c =
     λ B rs len k room e.
     let z : 0 ≡ length rs = omega arith in
     rw (last_none rs z) e
 
 pub returns-then-i-block_capacity : goal.returns-then-i-block_capacity
-returns-then-i-block_capacity c = 
+returns-then-i-block_capacity c =
     λ B rs len k room e.
     let n = c.args.n in
     let q : length rs ≡ suc (n - 1) = omega arith in

@@ -1,7 +1,6 @@
 -- `paused` meets its contract. Assumes nothing.
 use Rattle.load_state.specs.Parser.{paused}
 use borrow.Author.Tests.{eq-eqb, ne_eqb}
-use borrow.Author.Rules.{rules}
 use Rattle.load_groups.proofs.paused.Goals as goal
 
 pub returns-then-r-ne0 : goal.returns-then-r-ne0

@@ -1,22 +1,19 @@
 -- `copy_bodies` meets its contract: at each turn a tape is held from which the bodies left give what all of them give. Assumes nothing.
-use Rattle.load_state.proofs.Copies.{Begins, begins, begins_rows, begins_length, body_turn, bodies_end}
-use Rattle.load_state.proofs.Laws.{Going, going_starts, going_on, going_no, going_ends}
-use Rattle.load_state.specs.Holds.{Holds, block_room}
-use Rattle.load_state.specs.Parser.{Parsed, copy_rows, copies}
+use Rattle.load_state.proofs.Copies.{begins, begins_rows, begins_length, body_turn, bodies_end}
+use Rattle.load_state.proofs.Laws.{going_starts, going_on, going_no, going_ends}
+use Rattle.load_state.specs.Holds.{block_room}
+use Rattle.load_state.specs.Parser.{copy_rows, copies}
 use lib.Seq.{slice}
-use lib.ListN.{length}
-use mathlib.Core.List.{List}
-use mathlib.Core.Path.{◌≡◌, refl}
+use mathlib.Core.Path.{refl}
 use native.Mathlib.Omega.{arith}
-use Prim.Native.Nat.{ℕ, ◌-◌, ◌≤◌}
-use borrow.Author.Rules.{rules}
+use Prim.Native.Nat.{◌-◌}
 use Rattle.load_loops.proofs.copy_bodies.Goals as goal
 
 pub loop-left-init : goal.loop-left-init
 loop-left-init c = (refl, λ B N tt t h e. going_starts (begins t) h)
 
 pub returns-in-No : goal.returns-in-No
-returns-in-No c = 
+returns-in-No c =
     λ B N tt t h e.
     let p = c.args in
     let g = c.loop-left.invariant.1 B N tt t h e in
@@ -27,7 +24,7 @@ returns-in-No c =
     (c.copy_body.ensures B N tt g.at g.holds (begins_length p.end g.known e)) c.in-No.is
 
 pub loop-left-preserved : goal.loop-left-preserved
-loop-left-preserved c = 
+loop-left-preserved c =
     let p = c.args in (
       omega arith,
       λ B N tt t h e.
@@ -41,7 +38,7 @@ loop-left-preserved c =
     )
 
 pub returns : goal.returns
-returns c = 
+returns c =
     λ B N tt t h e.
     let p = c.args in
     let g = c.loop-left.invariant.1 B N tt t h e in

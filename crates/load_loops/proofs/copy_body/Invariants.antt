@@ -1,17 +1,13 @@
 -- The loops of `copy_body`.
-use Rattle.load_state.proofs.Copies.{Begins, begins, begins_block, row_turn, rows_end}
-use Rattle.load_state.proofs.Laws.{Going, going_starts, going_on, going_no, going_ends}
+use Rattle.load_state.proofs.Copies.{Begins}
+use Rattle.load_state.proofs.Laws.{Going}
 use Rattle.load_state.specs.Holds.{Holds, block_room}
-use Rattle.load_state.specs.Parser.{Parsed, nameless, add_block, copy_rows}
-use Rattle.rows.specs.Rows.{block}
-use Rattle.rows.specs.Table.{get}
+use Rattle.load_state.specs.Parser.{Parsed, copy_rows}
 use lib.Seq.{slice}
 use lib.ListN.{length}
 use mathlib.Core.List.{List}
-use mathlib.Core.Path.{◌≡◌, refl}
-use native.Mathlib.Omega.{arith}
-use Prim.Native.Nat.{ℕ, ◌+◌, ◌-◌, ◌≤◌}
-use borrow.Author.Rules.{rules}
+use mathlib.Core.Path.{◌≡◌}
+use Prim.Native.Nat.{ℕ, ◌-◌, ◌≤◌}
 use Rattle.load_loops.proofs.copy_body.Given as goal
 
 abbrev pub invariant-loop-i : goal.invariant-loop-i

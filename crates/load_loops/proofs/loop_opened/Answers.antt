@@ -1,5 +1,4 @@
 -- `loop_opened` meets its contract. Assumes nothing.
-use borrow.Author.Rules.{rules}
 use Rattle.load_loops.proofs.loop_opened.Goals as goal
 
 pub returns-in-Closed : goal.returns-in-Closed

@@ -2,10 +2,9 @@
 use Rattle.load_state.proofs.Laws.{holds_loop}
 use Rattle.load_state.specs.Parser.{open_loop}
 use Rattle.load_state.specs.Holds.{goes}
-use borrow.Author.Rules.{rules}
 use Rattle.load_loops.proofs.loop_start.Goals as goal
 
 pub returns : goal.returns
 unfolding open_loop
-returns c = 
+returns c =
     λ B N bt tt t h. rw c.with_body.ensures (goes (holds_loop h (rw (h.nb, h.loops) at c.loop_opened.ensures)))

@@ -5,11 +5,10 @@ use lib.Seq.{take_all}
 use lib.ListN.{length, drop_of_length-le}
 use native.Mathlib.Omega.{arith}
 use Prim.Native.Nat.{◌≤◌}
-use borrow.Author.Rules.{rules}
 use Rattle.load_loops.proofs.repeat.Goals as goal
 
 pub returns-then-end-start : goal.returns-then-end-start
-returns-then-end-start c = 
+returns-then-end-start c =
     λ B N tt t h.
     let p = c.args in
     let k : length t.blocks ≤ p.start = omega arith in
@@ -19,7 +18,7 @@ pub returns-then-block_capacity-end : goal.returns-then-block_capacity-end
 returns-then-block_capacity-end c = λ B N tt t h. absurd (omega arith)
 
 pub returns : goal.returns
-returns c = 
+returns c =
     λ B N tt t h.
     let a = c.args in
     let k : length t.blocks ≤ a.s.blocks = omega arith in

@@ -3,7 +3,6 @@ use Prim.Native.Nat.{ℕ}
 use mathlib.Core.Path.{◌≡◌, refl, sym, ap, subst, ◌∙◌}
 use mathlib.Core.List.{List}
 use lib.ListN.{length}
-use borrow.Author.Rules.{rules}
 use Rattle.rows.specs.declared.Block.{Block}
 use Rattle.rows.specs.declared.Tone.{Tone}
 use Rattle.load_state.specs.declared.State.{State}
@@ -16,7 +15,7 @@ use Rattle.load_pulsed.proofs.general_block.Goals as goal
 
 pub returns : goal.returns
 unfolding row_of
-returns c = 
+returns c =
     let a = c.args in
     λ B N ts t n e h.
     let made = c.data_row-r.result in

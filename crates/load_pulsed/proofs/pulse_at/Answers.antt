@@ -4,11 +4,10 @@ use Rattle.cut_fields.specs.Field.{number_at}
 use Rattle.load_blocks.specs.Blocks.{pulse_at}
 use Prim.Native.Nat.{◌+◌, ◌*◌}
 use native.Mathlib.Omega.{arith}
-use borrow.Author.Rules.{rules}
 use Rattle.load_pulsed.proofs.pulse_at.Goals as goal
 
 pub returns : goal.returns
 unfolding pulse_at number_at
-returns c = 
+returns c =
     let a = c.args in
     rw (c.field-read.ensures, field_there a.tape.now 2 (a.from + a.i * 2) (omega arith))

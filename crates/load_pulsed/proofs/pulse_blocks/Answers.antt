@@ -1,17 +1,14 @@
 -- `pulse_blocks` meets its contract. Assumes nothing.
-use Prim.Native.Nat.{ℕ, ◌+◌, ◌*◌, ◌-◌}
+use Prim.Native.Nat.{ℕ, ◌+◌, ◌-◌}
 use mathlib.Core.Path.{◌≡◌, refl, ap}
 use native.Mathlib.Omega.{arith}
-use lib.ListN.{length}
 use borrow.Author.Rules.{rules}
 use Rattle.rows.specs.declared.Block.{Block}
-use Rattle.load_state.specs.Parser.{Parsed}
-use Rattle.load_state.specs.Holds.{Holds}
-use Rattle.load_state.proofs.Laws.{Going, going_starts, going_on, going_no, going_ends}
+use Rattle.load_state.proofs.Laws.{going_starts, going_on, going_no, going_ends}
 use Rattle.load_blocks.specs.Sounds.{add_sound, add_sounds}
 use Rattle.load_blocks.specs.Blocks.{tone_sound, pair_sound, pair_sounds}
 use Rattle.load_blocks.specs.Does.{lent_of}
-use Rattle.load_blocks.proofs.Laws.{Any, does_born, one_alone, pairs_more}
+use Rattle.load_blocks.proofs.Laws.{does_born, one_alone, pairs_more}
 use Rattle.load_pulsed.proofs.pulse_blocks.Goals as goal
 
 -- a row without data
@@ -22,7 +19,7 @@ pub loop-left-init : goal.loop-left-init
 loop-left-init c = (refl, refl, omega arith, λ B N t h. going_starts tt h)
 
 pub returns-in-No : goal.returns-in-No
-returns-in-No c = 
+returns-in-No c =
     λ B N t h.
     let a = c.args in
     let g = c.loop-left.invariant.3 B N t h in
@@ -37,13 +34,12 @@ returns-in-No c =
     c.in-No.is
 
 pub overflow_add-i-in-loop-left : goal.overflow_add-i-in-loop-left
-overflow_add-i-in-loop-left c = 
+overflow_add-i-in-loop-left c =
     omega arith
 
 pub loop-left-preserved : goal.loop-left-preserved
-loop-left-preserved c = 
-    let a = c.args in
-    (
+loop-left-preserved c =
+    let a = c.args in (
       search rules,
       search rules,
       omega arith,
@@ -62,7 +58,7 @@ loop-left-preserved c =
 
 pub returns : goal.returns
 unfolding add_sounds pair_sounds
-returns c = 
+returns c =
     λ B N t h.
     let z : c.loop-left.left ≡ 0 = omega arith in
     going_ends (c.loop-left.invariant.3 B N t h) (rw z)

@@ -1,17 +1,14 @@
 -- The loops of `pulse_blocks`.
-use Prim.Native.Nat.{ℕ, ◌+◌, ◌*◌, ◌-◌}
-use mathlib.Core.Path.{◌≡◌, refl, ap}
-use native.Mathlib.Omega.{arith}
+use Prim.Native.Nat.{ℕ, ◌+◌, ◌*◌}
+use mathlib.Core.Path.{◌≡◌}
 use lib.ListN.{length}
-use borrow.Author.Rules.{rules}
-use Rattle.rows.specs.declared.Block.{Block}
 use Rattle.load_state.specs.Parser.{Parsed}
 use Rattle.load_state.specs.Holds.{Holds}
-use Rattle.load_state.proofs.Laws.{Going, going_starts, going_on, going_no, going_ends}
-use Rattle.load_blocks.specs.Sounds.{add_sound, add_sounds}
-use Rattle.load_blocks.specs.Blocks.{tone_sound, pair_sound, pair_sounds}
+use Rattle.load_state.proofs.Laws.{Going}
+use Rattle.load_blocks.specs.Sounds.{add_sounds}
+use Rattle.load_blocks.specs.Blocks.{pair_sounds}
 use Rattle.load_blocks.specs.Does.{lent_of}
-use Rattle.load_blocks.proofs.Laws.{Any, does_born, one_alone, pairs_more}
+use Rattle.load_blocks.proofs.Laws.{Any}
 use Rattle.load_pulsed.proofs.pulse_blocks.Given as goal
 
 abbrev pub invariant-loop-left : goal.invariant-loop-left

@@ -2,7 +2,6 @@
 use Prim.Native.Nat.{ℕ, ◌+◌}
 use native.Mathlib.Omega.{arith}
 use mathlib.Core.Path.{ap, ap₂, ◌∙◌}
-use borrow.Author.Rules.{rules}
 use Rattle.rows.specs.Rows.{with_sound}
 use Rattle.play_entries.specs.Figures.{sound_in}
 use Rattle.load_pulsed.proofs.sounding.Goals as goal
@@ -12,7 +11,7 @@ overflow_add-sound c = omega (arith, c.tones_figure.ensures.upper_bound, c.data_
 
 pub returns : goal.returns
 unfolding sound_in
-returns c = 
+returns c =
     λ ts o. c.with_sound.ensures
     ∙ ap (λ (n : ℕ). with_sound n c.args.r)
     (ap₂ (λ (x y : ℕ). x + y) (c.tones_figure.ensures.value ts o) c.data_figure.ensures.value)

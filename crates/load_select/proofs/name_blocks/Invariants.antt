@@ -1,17 +1,13 @@
 -- The loops of `name_blocks`.
-use Rattle.text_name.proofs.Selecting.{next, name_turn, name_all-pass}
+use Rattle.text_name.proofs.Selecting.{next}
 use Rattle.text_name.specs.Names.{name_one}
-use Rattle.rows.proofs.Passes.{turned_rows, carried, turned_all}
-use Rattle.rows.proofs.Whole.{block-whole}
-use Rattle.rows.proofs.Tables.{rows-length, over-rows}
+use Rattle.rows.proofs.Passes.{turned_rows, carried}
 use Rattle.rows.specs.Table.{table_over, rows_of}
 use Rattle.rows.specs.Rows.{block}
 use lib.ListN.{length}
 use mathlib.Core.Bool.{false}
-use mathlib.Core.Path.{◌≡◌, refl, sym, ◌∙◌}
-use Prim.Native.Nat.{◌-◌, ◌≤◌, ◌<◌}
-use native.Mathlib.Omega.{arith}
-use borrow.Author.Rules.{rules}
+use mathlib.Core.Path.{◌≡◌}
+use Prim.Native.Nat.{◌-◌, ◌≤◌}
 use Rattle.load_select.proofs.name_blocks.Given as goal
 
 abbrev pub invariant-loop-i : goal.invariant-loop-i

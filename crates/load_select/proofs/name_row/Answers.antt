@@ -1,6 +1,5 @@
 -- `name_row` meets its contract: each return is one rule. Assumes nothing.
 use Rattle.text_name.specs.Names.{unselected}
-use borrow.Author.Rules.{rules}
 use Rattle.load_select.proofs.name_row.Goals as goal
 
 pub returns-then-header : goal.returns-then-header

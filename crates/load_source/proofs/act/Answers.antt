@@ -6,11 +6,10 @@ use Rattle.load_blocks.specs.Sounds.{add_sounds}
 use Rattle.load_blocks.proofs.Laws.{does_one}
 use Rattle.load_state.specs.Holds.{goes}
 use native.Mathlib.Omega.{arith}
-use borrow.Author.Rules.{rules}
 use Rattle.load_source.proofs.act.Goals as goal
 
 pub pulse_blocks-requires : goal.pulse_blocks-requires
-pulse_blocks-requires c = 
+pulse_blocks-requires c =
     let f = c.requires.pulses _ _ c.in-Pulses.is in
     omega (arith, f)
 
@@ -19,38 +18,38 @@ generalized_data_block-requires c = c.requires.general _ c.in-Generalized.is
 
 pub returns-in-Standard : goal.returns-in-Standard
 unfolding act deed_of
-returns-in-Standard c = 
+returns-in-Standard c =
     λ B N t h. rw (c.in-Standard.is, ← c.is_header-header.ensures)
     (does_one _ _ _ _ c.standard_data_block.ensures B N t h)
 
 pub returns-in-Turbo : goal.returns-in-Turbo
 unfolding act deed_of
-returns-in-Turbo c = 
+returns-in-Turbo c =
     λ B N t h. rw c.in-Turbo.is (does_one _ _ _ _ c.turbo_data_block.ensures B N t h)
 
 pub returns-in-Tone : goal.returns-in-Tone
 unfolding act deed_of
-returns-in-Tone c = 
+returns-in-Tone c =
     λ B N t h. rw c.in-Tone.is (does_one _ _ _ _ (c.pure_tone_block.ensures _) B N t h)
 
 pub returns-in-Pulses : goal.returns-in-Pulses
 unfolding act deed_of does
-returns-in-Pulses c = 
+returns-in-Pulses c =
     λ B N t h. rw c.in-Pulses.is (c.pulse_blocks.ensures B N t h)
 
 pub returns-in-Pure : goal.returns-in-Pure
 unfolding act deed_of
-returns-in-Pure c = 
+returns-in-Pure c =
     λ B N t h. rw c.in-Pure.is (does_one _ _ _ _ c.pure_data_block.ensures B N t h)
 
 pub returns-in-Generalized : goal.returns-in-Generalized
 unfolding act deed_of
-returns-in-Generalized c = 
+returns-in-Generalized c =
     λ B N t h. rw c.in-Generalized.is (c.generalized_data_block.ensures _ B N t h)
 
 pub returns-in-Pause : goal.returns-in-Pause
 unfolding act deed_of
-returns-in-Pause c = 
+returns-in-Pause c =
     λ B N t h. rw c.in-Pause.is (does_one _ _ _ _ (c.pause_block.ensures _ _) B N t h)
 
 pub returns-in-GroupStart : goal.returns-in-GroupStart

@@ -1,7 +1,6 @@
 -- `halted` meets its contract. Assumes nothing.
 use Rattle.load_source.specs.Source.{halted}
 use Rattle.load_source.specs.Does.{refuses, fails}
-use borrow.Author.Rules.{rules}
 use Rattle.load_source.proofs.halted.Goals as goal
 
 pub returns-in-Refusal : goal.returns-in-Refusal

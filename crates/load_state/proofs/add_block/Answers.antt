@@ -9,11 +9,10 @@ use mathlib.Core.Bool.{true}
 use lib.Dec.{ltb}
 use mathlib.Core.Path.{◌≡◌, sym, ◌∙◌}
 use native.Mathlib.Omega.{arith}
-use borrow.Author.Rules.{rules}
 use Rattle.load_state.proofs.add_block.Goals as goal
 
 pub overflow_add-result : goal.overflow_add-result
-overflow_add-result c = 
+overflow_add-result c =
     let p = c.args in
     let q : ltb p.s.blocks (capacity_of block block_most p.blocks.now) ≡ true =
     sym c.append_block.ensures.value ∙ c.if-append_block.true in
@@ -21,7 +20,7 @@ overflow_add-result c =
 
 pub returns-then-append_block : goal.returns-then-append_block
 unfolding add_block
-returns-then-append_block c = 
+returns-then-append_block c =
     λ B N tt t h.
     let p = c.args in
     let e = c.if-append_block.true in
@@ -34,7 +33,7 @@ returns-then-append_block c =
 
 pub returns-else-append_block : goal.returns-else-append_block
 unfolding add_block
-returns-else-append_block c = 
+returns-else-append_block c =
     λ B N tt t h.
     let p = c.args in
     let k = row_full block block_most p.blocks.now t.blocks B p.s.blocks h.len_b h.nb c.append_block.ensures.value

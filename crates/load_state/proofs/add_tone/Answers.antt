@@ -11,18 +11,17 @@ use lib.ListN.{length}
 use mathlib.Core.Path.{◌≡◌, sym, ◌∙◌}
 use native.Mathlib.Omega.{arith}
 use Prim.Native.Nat.{◌+◌, ◌≤◌, ◌<◌}
-use borrow.Author.Rules.{rules}
 use Rattle.load_state.proofs.add_tone.Goals as goal
 
 pub overflow_add-result : goal.overflow_add-result
-overflow_add-result c = 
+overflow_add-result c =
     let p = c.args in
     let q : ltb p.s.tones (capacity_of tone tone_most p.tones.now) ≡ true = sym c.append_tone.ensures.value ∙ c.if-append_tone.true in
     omega (arith, ltb-true p.s.tones (capacity_of tone tone_most p.tones.now) q)
 
 pub returns-then-append_tone : goal.returns-then-append_tone
 unfolding add_tones
-returns-then-append_tone c = 
+returns-then-append_tone c =
     λ B N bt t h.
     let p = c.args in
     let e = c.if-append_tone.true in
@@ -34,7 +33,7 @@ returns-then-append_tone c =
 
 pub returns-else-append_tone : goal.returns-else-append_tone
 unfolding add_tones
-returns-else-append_tone c = 
+returns-else-append_tone c =
     λ B N bt t h.
     let p = c.args in
     let k : tone_room N < length t.tones + 1 = omega (

@@ -1,5 +1,4 @@
 -- `after_use` meets its contract. Assumes nothing.
-use borrow.Author.Rules.{rules}
 use Rattle.load_state.proofs.after_use.Goals as goal
 
 pub returns-in-First : goal.returns-in-First

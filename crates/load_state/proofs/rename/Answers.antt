@@ -1,5 +1,4 @@
 -- `rename` meets its contract. Assumes nothing.
-use borrow.Author.Rules.{rules}
 use Rattle.load_state.proofs.rename.Goals as goal
 
 pub returns : goal.returns

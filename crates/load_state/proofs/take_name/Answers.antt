@@ -1,5 +1,4 @@
 -- `take_name` meets its contract. Assumes nothing.
-use borrow.Author.Rules.{rules}
 use Rattle.load_state.proofs.take_name.Goals as goal
 
 pub returns-in-Nothing : goal.returns-in-Nothing

@@ -1,6 +1,5 @@
 -- `refuse` meets its contract. Assumes nothing.
 use Rattle.load_tape.proofs.Leaving.{no-leaves}
-use borrow.Author.Rules.{rules}
 use Rattle.load_tape.proofs.refuse.Goals as goal
 
 pub returns : goal.returns

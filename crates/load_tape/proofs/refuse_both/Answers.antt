@@ -1,6 +1,5 @@
 -- `refuse_both` meets its contract. Assumes nothing.
 use Rattle.load_tape.proofs.Leaving.{both_leave}
-use borrow.Author.Rules.{rules}
 use Rattle.load_tape.proofs.refuse_both.Goals as goal
 
 pub returns : goal.returns

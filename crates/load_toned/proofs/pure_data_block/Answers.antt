@@ -1,6 +1,5 @@
 -- `pure_data_block` meets its contract. Assumes nothing.
 use Rattle.load_blocks.specs.Blocks.{pure_tones, pure_sound}
-use borrow.Author.Rules.{rules}
 use Rattle.load_toned.proofs.pure_data_block.Goals as goal
 
 pub returns : goal.returns

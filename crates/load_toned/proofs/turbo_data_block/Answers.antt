@@ -1,7 +1,5 @@
 -- `turbo_data_block` meets its contract. Assumes nothing.
-use native.Mathlib.Omega.{arith}
 use Rattle.load_blocks.specs.Blocks.{turbo_tones, turbo_sound}
-use borrow.Author.Rules.{rules}
 use Rattle.load_toned.proofs.turbo_data_block.Goals as goal
 
 pub returns : goal.returns

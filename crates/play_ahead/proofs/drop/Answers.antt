@@ -6,7 +6,6 @@ use Rattle.play_entries.specs.declared.Phase.TheVariants.{Tones, Data}
 use mathlib.Core.Bool.{false}
 use mathlib.Core.Path.{ap, ◌∙◌}
 use borrow.Author.Tests.{ne_eqb}
-use borrow.Author.Rules.{rules}
 use Rattle.play_ahead.proofs.drop.Goals as goal
 
 pub drop_entry-requires-then-last_half : goal.drop_entry-requires-then-last_half
@@ -34,8 +33,11 @@ returns-then-last_half-2 c = c.drop_entry-then-last_half-2.ensures ∙ rw (c.in-
 
 pub drop_byte-requires : goal.drop_byte-requires
 drop_byte-requires c =
-    let a = c.args in record { r_value = c.requires.r_value; false_value = facts.has_by _ a.r (c.in-Data.is ∙ ap (Data c.in-Data.pos c.in-Data.bit) c.if-last_half-2.false
-          ∙ ap (λ (x : ℕ). Data c.in-Data.pos x false) c.if-bit-eq0.true) c.requires.f_value }
+    let a = c.args in record {
+      r_value = c.requires.r_value;
+      false_value = facts.has_by _ a.r (c.in-Data.is ∙ ap (Data c.in-Data.pos c.in-Data.bit) c.if-last_half-2.false
+          ∙ ap (λ (x : ℕ). Data c.in-Data.pos x false) c.if-bit-eq0.true) c.requires.f_value;
+    }
 
 pub returns-then-bit-eq0 : goal.returns-then-bit-eq0
 returns-then-bit-eq0 c = c.drop_byte.ensures ∙ rw (c.in-Data.is, c.if-last_half-2.false, c.if-bit-eq0.true)

@@ -8,7 +8,6 @@ use native.Mathlib.Omega.{arith}
 use borrow.Author.Tests.{le-leb, lt-leb}
 use mathlib.Core.Path.{refl, ◌∙◌}
 use Rattle.law_pulses.specs.Play.{low}
-use borrow.Author.Rules.{rules}
 use Rattle.play_ahead.proofs.drop_byte.Goals as goal
 
 pub returns-then-d-r : goal.returns-then-d-r

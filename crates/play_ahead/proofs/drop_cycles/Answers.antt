@@ -10,7 +10,6 @@ use Rattle.play_entries.proofs.Lent.{row_lent}
 use Rattle.play_entries.proofs.Valid.{in_tones}
 use Rattle.play_steps.proofs.Facts as facts
 use Rattle.play_ahead.proofs.Cycles as cycles
-use borrow.Author.Rules.{rules}
 use Rattle.play_ahead.proofs.drop_cycles.Goals as goal
 
 pub row_tone-x-requires : goal.row_tone-x-requires

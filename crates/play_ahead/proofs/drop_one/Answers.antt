@@ -2,7 +2,6 @@
 use Rattle.play_ahead.specs.Drops.{drop_one}
 use borrow.Author.Tests.{le-leb, lt-leb}
 use mathlib.Core.Path.{◌∙◌}
-use borrow.Author.Rules.{rules}
 use Rattle.play_ahead.proofs.drop_one.Goals as goal
 
 pub returns-then-t-d : goal.returns-then-t-d

@@ -1,18 +1,16 @@
 -- `ran_ahead` meets its contract. Assumes nothing.
-use borrow.Author.Rules.{rules}
 use Rattle.play_entries.proofs.Lent.{row_lent}
 use Rattle.rows.proofs.Clauses.{failed, passed}
-use Prim.Native.Nat.{ℕ, ◌+◌, ◌-◌, ◌≤◌}
+use Prim.Native.Nat.{ℕ, ◌+◌, ◌-◌}
 use native.Mathlib.Omega.{arith}
-use mathlib.Core.Path.{◌≡◌, refl, sym, ap, ◌∙◌}
-use lib.ListN.{length}
+use mathlib.Core.Path.{refl, sym, ap, ◌∙◌}
 use Rattle.law_pulses.proofs.Ahead.{drops}
 use Rattle.play_entries.proofs.Follows.{list_out}
 use Rattle.play_walk.specs.declared.Position.{Position}
-use Rattle.play_entries.specs.Mounted.{well_row, first_bad, cut_to, tape_of}
+use Rattle.play_entries.specs.Mounted.{well_row, cut_to, tape_of}
 use Rattle.play_walk.proofs.Needed.{well_before, bad_there}
 use Rattle.play_walk.proofs.Turns.{cut_of, rows_of, on_has, on-first, asks, asks_has}
-use Rattle.play_ahead.proofs.Drops.{cur, cur_out, drops_nil, Off, off_first, off_start, start_cur, shed_goes, shed_less}
+use Rattle.play_ahead.proofs.Drops.{cur_out, drops_nil, off_first, off_start, start_cur, shed_goes, shed_less}
 use Rattle.play_ahead.proofs.Drops.{shed_rests, shed_off, dropped-stop, dropped-short, dropped-behind}
 use Rattle.play_ahead.proofs.ran_ahead.Goals as goal
 
@@ -39,8 +37,11 @@ one_step-first-requires c =
     let q : Position = a.pos in
     let k = cut_of w q in
     let x = rows_of w q c.requires in
-    let o = on-first w q k c.requires x in record { tones_bound = (row_lent a.tape.now a.tones.now c.block_at.result
-          (asks x q.block (omega arith) o.below c.block_at.result c.block_at.ensures)).rows; f_value = asks_has w q.block q.phase c.block_at.result c.block_at.ensures (on_has o) }
+    let o = on-first w q k c.requires x in record {
+      tones_bound = (row_lent a.tape.now a.tones.now c.block_at.result
+          (asks x q.block (omega arith) o.below c.block_at.result c.block_at.ensures)).rows;
+      f_value = asks_has w q.block q.phase c.block_at.result c.block_at.ensures (on_has o);
+    }
 
 pub blocks-2-init : goal.blocks-2-init
 blocks-2-init c =

@@ -1,19 +1,10 @@
 -- The loops of `ran_ahead`.
-use borrow.Author.Rules.{rules}
-use Rattle.play_entries.proofs.Lent.{row_lent}
-use Rattle.rows.proofs.Clauses.{failed, passed}
 use Prim.Native.Nat.{ℕ, ◌+◌, ◌-◌, ◌≤◌}
-use native.Mathlib.Omega.{arith}
-use mathlib.Core.Path.{◌≡◌, refl, sym, ap, ◌∙◌}
+use mathlib.Core.Path.{◌≡◌}
 use lib.ListN.{length}
 use Rattle.law_pulses.proofs.Ahead.{drops}
-use Rattle.play_entries.proofs.Follows.{list_out}
-use Rattle.play_walk.specs.declared.Position.{Position}
-use Rattle.play_entries.specs.Mounted.{well_row, first_bad, cut_to, tape_of}
-use Rattle.play_walk.proofs.Needed.{well_before, bad_there}
-use Rattle.play_walk.proofs.Turns.{cut_of, rows_of, on_has, on-first, asks, asks_has}
-use Rattle.play_ahead.proofs.Drops.{cur, cur_out, drops_nil, Off, off_first, off_start, start_cur, shed_goes, shed_less}
-use Rattle.play_ahead.proofs.Drops.{shed_rests, shed_off, dropped-stop, dropped-short, dropped-behind}
+use Rattle.play_entries.specs.Mounted.{first_bad, cut_to, tape_of}
+use Rattle.play_ahead.proofs.Drops.{cur, Off}
 use Rattle.play_ahead.proofs.ran_ahead.Given as goal
 
 abbrev pub invariant-entries : goal.invariant-entries

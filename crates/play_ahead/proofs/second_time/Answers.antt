@@ -1,5 +1,4 @@
 -- `second_time` meets its contract. Assumes nothing.
-use borrow.Author.Rules.{rules}
 use Rattle.play_ahead.proofs.second_time.Goals as goal
 
 pub returns-then-is_single : goal.returns-then-is_single

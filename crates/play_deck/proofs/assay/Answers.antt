@@ -15,7 +15,6 @@ use Rattle.rows.proofs.Clauses.{failed, passed}
 use Rattle.law_pulses.specs.Play.{low}
 use mathlib.Core.Path.{sym, ap, ◌∙◌}
 use native.Mathlib.Omega.{arith}
-use borrow.Author.Rules.{rules}
 use Rattle.play_deck.proofs.assay.Goals as goal
 
 pub returns-then-block_capacity-count : goal.returns-then-block_capacity-count
@@ -82,8 +81,11 @@ assay_document-requires c =
     let e = ready_words (tape_size w.bytes) w.tones (block_in w q.block) y in
     let l = c.has_left-has.ensures
     ∙ ap (λ (x : Block). has_entry w.tones x q.phase && remains q.left (length_at w.bytes w.tones x q.phase))
-    c.block_at-2.ensures in record { lending = lending w q.block (omega (arith, c.block_capacity.ensures, c.if-block_capacity-count.false))
-          c.if-count-b.false e; f_value = λ h. first (has_in w q.block q.phase) (remains q.left (length_in w q.block q.phase)) (sym l ∙ h) }
+    c.block_at-2.ensures in record {
+      lending = lending w q.block (omega (arith, c.block_capacity.ensures, c.if-block_capacity-count.false))
+          c.if-count-b.false e;
+      f_value = λ h. first (has_in w q.block q.phase) (remains q.left (length_in w q.block q.phase)) (sym l ∙ h);
+    }
 
 pub returns : goal.returns
 returns c =

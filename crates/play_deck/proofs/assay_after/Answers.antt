@@ -5,7 +5,6 @@ use Rattle.play_walk.specs.declared.Reached.{Reached}
 use Rattle.play_walk.specs.Heads.{Lands}
 use Rattle.play_entries.specs.Mounted.{tape_of}
 use mathlib.Core.Path.{sym, subst}
-use borrow.Author.Rules.{rules}
 use Rattle.play_deck.proofs.assay_after.Goals as goal
 
 pub assay_stand-requires : goal.assay_stand-requires

@@ -7,7 +7,6 @@ use Rattle.rows.specs.Table.{capacity_of}
 use mathlib.Core.Path.{refl, sym, subst}
 use borrow.Author.Tests.{not-true, not-false}
 use Prim.Native.Nat.{◌+◌, ◌≤◌}
-use borrow.Author.Rules.{rules}
 use Rattle.play_deck.proofs.assay_document.Goals as goal
 
 pub hear-h-requires : goal.hear-h-requires

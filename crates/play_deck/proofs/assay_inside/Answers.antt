@@ -2,7 +2,6 @@
 use Rattle.play_deck.proofs.Landing.{assayed_on, lent_row, hears_on, heard-on}
 use Rattle.play_entries.specs.Mounted.{tape_of}
 use mathlib.Core.Path.{refl}
-use borrow.Author.Rules.{rules}
 use Rattle.play_deck.proofs.assay_inside.Goals as goal
 
 pub is_source-requires : goal.is_source-requires

@@ -1,6 +1,5 @@
 -- `assay_stand` meets its contract. Assumes nothing.
 use mathlib.Core.Path.{sym, ◌∙◌}
-use borrow.Author.Rules.{rules}
 use Rattle.play_deck.proofs.assay_stand.Goals as goal
 
 pub returns-then-is_start : goal.returns-then-is_start

@@ -1,5 +1,4 @@
 -- `check_past` meets its contract. Assumes nothing.
-use borrow.Author.Rules.{rules}
 use Rattle.play_deck.proofs.check_past.Goals as goal
 
 pub returns-then-at_start : goal.returns-then-at_start

@@ -1,5 +1,4 @@
 -- `ends_inside` meets its contract. Assumes nothing.
-use borrow.Author.Rules.{rules}
 use Rattle.play_deck.specs.Inside.{ends_inside}
 use Rattle.play_deck.proofs.ends_inside.Goals as goal
 

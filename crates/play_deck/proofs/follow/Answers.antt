@@ -15,7 +15,6 @@ use mathlib.Core.Path.{sym, ap, subst, ◌∙◌}
 use mathlib.Core.Bool.{false}
 use borrow.Author.Tests.{eq-eqb, ne_eqb}
 use Prim.Native.Nat.{ℕ, ◌+◌}
-use borrow.Author.Rules.{rules}
 use Rattle.play_deck.proofs.follow.Goals as goal
 
 pub returns-then-n-eq0 : goal.returns-then-n-eq0
@@ -31,9 +30,12 @@ returns-then-count-pos c =
     let a = c.args in
     let w = tape_of a.tape.now a.tones.now a.blocks.now a.count in
     let q : Position = a.pos in
-    let fine = fine_so c.requires.assayed c.requires.check_value in record { value = rw (ne_eqb _ _ c.if-n-eq0.false)
+    let fine = fine_so c.requires.assayed c.requires.check_value in record {
+      value = rw (ne_eqb _ _ c.if-n-eq0.false)
           (c.ends.ensures
-          ∙ sym (source_walk w q a.n ∙ checks.past-ends w q fine c.if-count-pos.true _ (omega (arith, c.if-n-eq0.false)))); lands = lands_ended w a.count 0 false c.ends.ensures }
+          ∙ sym (source_walk w q a.n ∙ checks.past-ends w q fine c.if-count-pos.true _ (omega (arith, c.if-n-eq0.false))));
+      lands = lands_ended w a.count 0 false c.ends.ensures;
+    }
 
 pub stand_inside-requires : goal.stand_inside-requires
 stand_inside-requires c = sym c.ends_inside.ensures ∙ c.if-ends_inside.true
@@ -78,5 +80,8 @@ pub returns : goal.returns
 returns c =
     let a = c.args in
     let w = tape_of a.tape.now a.tones.now a.blocks.now a.count in
-    let q : Position = a.pos in record { value = rw (ne_eqb _ _ c.if-n-eq0.false) (c.walk.ensures.value
-          ∙ ap (λ (x : ℕ). walk_from w q (a.n + x)) c.ran_ahead-more.ensures ∙ sym (source_walk w q a.n)); lands = c.walk.ensures.lands }
+    let q : Position = a.pos in record {
+      value = rw (ne_eqb _ _ c.if-n-eq0.false) (c.walk.ensures.value
+          ∙ ap (λ (x : ℕ). walk_from w q (a.n + x)) c.ran_ahead-more.ensures ∙ sym (source_walk w q a.n));
+      lands = c.walk.ensures.lands;
+    }

@@ -1,7 +1,6 @@
 -- `followed_by` meets its contract. Assumes nothing.
 use Rattle.play_walk.specs.Heads.{Lands}
 use Rattle.play_deck.specs.Deck.{unless, play_source}
-use borrow.Author.Rules.{rules}
 use Rattle.play_deck.proofs.followed_by.Goals as goal
 
 pub returns-in-Fine : goal.returns-in-Fine

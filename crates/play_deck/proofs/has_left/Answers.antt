@@ -1,7 +1,6 @@
 -- `has_left` meets its contract. Assumes nothing.
 use Rattle.play_deck.proofs.Assays.{words_lent}
 use Rattle.rows.proofs.Clauses.{failed, passed}
-use borrow.Author.Rules.{rules}
 use Rattle.play_deck.proofs.has_left.Goals as goal
 
 pub has_entry-requires : goal.has_entry-requires

@@ -1,5 +1,4 @@
 -- `is_fine` meets its contract. Assumes nothing.
-use borrow.Author.Rules.{rules}
 use Rattle.play_deck.specs.Assay.{passes}
 use Rattle.play_deck.proofs.is_fine.Goals as goal
 

@@ -1,5 +1,4 @@
 -- `less` meets its contract. Assumes nothing.
-use borrow.Author.Rules.{rules}
 use native.Mathlib.Omega.{arith}
 use Rattle.play_deck.specs.Inside.{less_by}
 use Rattle.play_deck.proofs.Inside.{inside_less}

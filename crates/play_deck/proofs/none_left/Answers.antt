@@ -1,5 +1,4 @@
 -- `none_left` meets its contract. Assumes nothing.
-use borrow.Author.Rules.{rules}
 use Rattle.play_deck.proofs.none_left.Goals as goal
 
 pub returns-in-T : goal.returns-in-T

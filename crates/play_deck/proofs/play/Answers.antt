@@ -1,5 +1,4 @@
 -- `play` meets its contract. Assumes nothing.
-use borrow.Author.Rules.{rules}
 use Rattle.play_deck.proofs.play.Goals as goal
 
 pub followed_by-requires : goal.followed_by-requires

@@ -1,5 +1,4 @@
 -- `play_measured` meets its contract. Assumes nothing.
-use borrow.Author.Rules.{rules}
 use Rattle.play_deck.proofs.play_measured.Goals as goal
 
 pub measured_by-requires : goal.measured_by-requires

@@ -6,7 +6,6 @@ use Rattle.rows.proofs.WellLaws.{tones_lent}
 use Rattle.rows.proofs.Clauses.{failed, passed}
 use mathlib.Core.Path.{sym, ◌∙◌}
 use borrow.Author.Tests.{eq-eqb, ne_eqb}
-use borrow.Author.Rules.{rules}
 use Rattle.play_deck.proofs.row_ready.Goals as goal
 
 pub returns-then-not-words_well : goal.returns-then-not-words_well

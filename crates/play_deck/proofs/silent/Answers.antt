@@ -1,5 +1,4 @@
 -- `silent` meets its contract. Assumes nothing.
-use borrow.Author.Rules.{rules}
 use Rattle.play_deck.proofs.silent.Goals as goal
 
 pub returns : goal.returns

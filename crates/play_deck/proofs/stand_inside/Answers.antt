@@ -1,5 +1,4 @@
 -- `stand_inside` meets its contract. Assumes nothing.
-use borrow.Author.Rules.{rules}
 use Rattle.play_deck.proofs.stand_inside.Goals as goal
 
 pub returns : goal.returns

@@ -1,6 +1,5 @@
 -- `stay` meets its contract. Assumes nothing.
 use Rattle.play_deck.proofs.Assays.{stays_still, stays-stopped}
-use borrow.Author.Rules.{rules}
 use Rattle.play_deck.proofs.stay.Goals as goal
 
 pub returns-in-T : goal.returns-in-T

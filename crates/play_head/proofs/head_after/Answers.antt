@@ -1,6 +1,5 @@
 -- `head_after` meets its contract. Assumes nothing.
 use Rattle.play_deck.specs.Deck.{head_after}
-use borrow.Author.Rules.{rules}
 use Rattle.play_head.proofs.head_after.Goals as goal
 
 pub returns-in-At : goal.returns-in-At

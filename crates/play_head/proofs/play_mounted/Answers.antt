@@ -1,6 +1,5 @@
 -- `play_mounted` meets its contract. Assumes nothing.
 use Rattle.play_deck.specs.Deck.{play_mounted}
-use borrow.Author.Rules.{rules}
 use Rattle.play_head.proofs.play_mounted.Goals as goal
 
 pub returns : goal.returns

@@ -1,7 +1,6 @@
 -- `first_level` meets its contract. Assumes nothing.
 use borrow.Author.Tests.{eq-eqb, ne_eqb}
 use Rattle.play_levels.specs.Closed.{first_level}
-use borrow.Author.Rules.{rules}
 use Rattle.play_levels.proofs.first_level.Goals as goal
 
 pub returns-then-is_one : goal.returns-then-is_one

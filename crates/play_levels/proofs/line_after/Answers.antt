@@ -1,7 +1,6 @@
 -- `line_after` meets its contract. Assumes nothing.
 use borrow.Author.Tests.{eq-eqb, ne_eqb}
 use Rattle.play_levels.specs.Closed.{line_before, line_after}
-use borrow.Author.Rules.{rules}
 use Rattle.play_levels.proofs.line_after.Goals as goal
 
 pub returns-then-n-eq0 : goal.returns-then-n-eq0

@@ -1,6 +1,5 @@
 -- `end_with` meets its contract: with length the sound is the last, else the end stays. Assumes nothing.
 use native.Mathlib.Omega.{arith}
-use borrow.Author.Rules.{rules}
 use borrow.Author.Tests.{lt-ltb, le-ltb}
 use Rattle.play_loading.proofs.end_with.Goals as goal
 

@@ -1,6 +1,5 @@
 -- `one_more` meets its contract: behind a stop, at one, and at another row. Assumes nothing.
 use native.Mathlib.Omega.{arith}
-use borrow.Author.Rules.{rules}
 use borrow.Author.Tests.{eq-eqb, ne_eqb}
 use Rattle.rows.proofs.WellLaws.{numbers-most}
 use Rattle.play_loading.specs.Sums.{one_more}

@@ -1,13 +1,11 @@
 -- `back` meets its contract. Assumes nothing.
 use Rattle.play_deck.proofs.Sourced.{back-bad, back_none, back-here, back_on}
-use Rattle.play_deck.specs.Deck.{back_to}
 use Rattle.rows.proofs.Clauses.{failed, passed}
 use Rattle.play_entries.specs.Mounted.{well_row}
 use Rattle.rows.specs.declared.Block.{Block}
 use Rattle.play_entries.specs.Mounted.{tape_of}
-use mathlib.Core.Path.{◌≡◌, refl, sym, ap, ◌∙◌}
+use mathlib.Core.Path.{refl, sym, ap, ◌∙◌}
 use native.Mathlib.Omega.{arith}
-use Prim.Native.Nat.{ℕ, ◌≤◌}
 use Rattle.play_menu.proofs.back.Goals as goal
 
 pub loop-from-init : goal.loop-from-init
@@ -54,8 +52,7 @@ loop-from-smaller c = omega (arith, c.if-b-eq0.false)
 pub loop-from-preserved : goal.loop-from-preserved
 unfolding well_row
 loop-from-preserved c =
-    let a = c.args in
-    (
+    let a = c.args in (
       omega (arith, c.loop-from.invariant.0),
       λ n. back_on (tape_of a.tape.now a.tones.now a.blocks.now n) c.loop-from.b
           (passed c.row_well.ensures c.if-not-row_well.false-raw) c.if-b-eq0.false

@@ -1,12 +1,7 @@
 -- The loops of `back`.
-use Rattle.play_deck.proofs.Sourced.{back-bad, back_none, back-here, back_on}
 use Rattle.play_deck.specs.Deck.{back_to}
-use Rattle.rows.proofs.Clauses.{failed, passed}
-use Rattle.play_entries.specs.Mounted.{well_row}
-use Rattle.rows.specs.declared.Block.{Block}
 use Rattle.play_entries.specs.Mounted.{tape_of}
-use mathlib.Core.Path.{◌≡◌, refl, sym, ap, ◌∙◌}
-use native.Mathlib.Omega.{arith}
+use mathlib.Core.Path.{◌≡◌}
 use Prim.Native.Nat.{ℕ, ◌≤◌}
 use Rattle.play_menu.proofs.back.Given as goal
 

@@ -5,7 +5,6 @@ use Rattle.play_entries.specs.Mounted.{tape_of}
 use mathlib.Core.Path.{sym, ◌∙◌}
 use borrow.Author.Tests.{le-leb, lt-leb}
 use native.Mathlib.Omega.{arith}
-use borrow.Author.Rules.{rules}
 use Rattle.play_menu.proofs.block.Goals as goal
 
 pub returns-then-count-b : goal.returns-then-count-b

@@ -1,5 +1,4 @@
 -- `bits_at` meets its contract. Assumes nothing.
-use borrow.Author.Rules.{rules}
 use borrow.Author.Tests.{eq-eqb, ne_eqb}
 use Rattle.play_entries.specs.Entries.{bits_at}
 use Rattle.play_phases.proofs.bits_at.Goals as goal

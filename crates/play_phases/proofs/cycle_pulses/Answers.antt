@@ -1,5 +1,4 @@
 -- `cycle_pulses` meets its contract. Assumes nothing.
-use borrow.Author.Rules.{rules}
 use Rattle.play_phases.proofs.cycle_pulses.Goals as goal
 
 pub returns-then-is_single : goal.returns-then-is_single

@@ -1,7 +1,6 @@
 -- `cycle_time` meets its contract. Assumes nothing.
 use native.Mathlib.Omega.{arith}
 use Rattle.rows.proofs.WellLaws.{tone-most}
-use borrow.Author.Rules.{rules}
 use Rattle.play_phases.proofs.cycle_time.Goals as goal
 
 pub returns-then-is_single : goal.returns-then-is_single

@@ -1,7 +1,6 @@
 -- `cycles_of` meets its contract. Assumes nothing.
 use borrow.Author.Tests.{eq-eqb, ne_eqb}
 use Rattle.play_entries.specs.Entries.{cycles_of}
-use borrow.Author.Rules.{rules}
 use Rattle.play_phases.proofs.cycles_of.Goals as goal
 
 pub returns-then-r-eq0 : goal.returns-then-r-eq0

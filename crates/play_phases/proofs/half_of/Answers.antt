@@ -1,5 +1,4 @@
 -- `half_of` meets its contract. Assumes nothing.
-use borrow.Author.Rules.{rules}
 use borrow.Author.Tests.{eq-eqb, ne_eqb}
 use Rattle.play_entries.specs.Entries.{half_of}
 use Rattle.play_phases.proofs.half_of.Goals as goal

@@ -1,7 +1,6 @@
 -- `has_entry` meets its contract. Assumes nothing.
 use borrow.Author.Tests.{lt-ltb, le-ltb}
 use Rattle.play_entries.specs.Places.{has_entry}
-use borrow.Author.Rules.{rules}
 use Rattle.play_phases.proofs.has_entry.Goals as goal
 
 pub returns-in-Start : goal.returns-in-Start

@@ -1,6 +1,5 @@
 -- `has_pulse` meets its contract. Assumes nothing.
 use borrow.Author.Tests.{lt-ltb, le-ltb}
-use borrow.Author.Rules.{rules}
 use Rattle.play_phases.proofs.has_pulse.Goals as goal
 
 pub returns-then-last : goal.returns-then-last

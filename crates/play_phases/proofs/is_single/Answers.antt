@@ -1,7 +1,6 @@
 -- `is_single` meets its contract. Assumes nothing.
 use borrow.Author.Tests.{eq-eqb, ne_eqb}
 use Rattle.play_entries.specs.Entries.{is_single}
-use borrow.Author.Rules.{rules}
 use Rattle.play_phases.proofs.is_single.Goals as goal
 
 pub returns-then-r-eq0 : goal.returns-then-r-eq0

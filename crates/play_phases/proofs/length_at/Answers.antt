@@ -3,7 +3,6 @@ use native.Mathlib.Omega.{arith}
 use Rattle.play_entries.specs.Places.{length_at}
 use Rattle.play_entries.proofs.Bounds.{bits_most}
 use Rattle.play_entries.proofs.Valid.{in_tones, in_data}
-use borrow.Author.Rules.{rules}
 use Rattle.play_phases.proofs.length_at.Goals as goal
 
 pub row_tone-requires : goal.row_tone-requires

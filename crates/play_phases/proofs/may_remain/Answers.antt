@@ -1,5 +1,4 @@
 -- `may_remain` meets its contract. Assumes nothing.
-use borrow.Author.Rules.{rules}
 use Rattle.play_entries.specs.Places.{remains}
 use Rattle.play_phases.proofs.may_remain.Goals as goal
 

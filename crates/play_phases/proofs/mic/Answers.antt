@@ -1,6 +1,5 @@
 -- `mic` meets its contract. Assumes nothing.
 use Rattle.play_entries.specs.Source.{level_of}
-use borrow.Author.Rules.{rules}
 use Rattle.play_phases.proofs.mic.Goals as goal
 
 pub returns-in-Start : goal.returns-in-Start

@@ -1,7 +1,6 @@
 -- `pause_of` meets its contract. Assumes nothing.
 use borrow.Author.Tests.{eq-eqb, ne_eqb}
 use Rattle.play_entries.specs.Entries.{pause_of}
-use borrow.Author.Rules.{rules}
 use Rattle.play_phases.proofs.pause_of.Goals as goal
 
 pub returns-then-r-eq1 : goal.returns-then-r-eq1

@@ -1,6 +1,5 @@
 -- `rest_of` meets its contract. Assumes nothing.
 use native.Mathlib.Omega.{arith}
-use borrow.Author.Rules.{rules}
 use Rattle.play_phases.proofs.rest_of.Goals as goal
 
 pub returns-then-is_edged : goal.returns-then-is_edged

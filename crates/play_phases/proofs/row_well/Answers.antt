@@ -1,6 +1,5 @@
 -- `row_well` meets its contract. Assumes nothing.
 use mathlib.Core.Path.{◌∙◌}
-use borrow.Author.Rules.{rules}
 use Rattle.play_phases.proofs.row_well.Goals as goal
 
 pub returns : goal.returns

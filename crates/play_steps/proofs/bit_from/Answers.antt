@@ -1,7 +1,6 @@
 -- `bit_from` meets its contract. Assumes nothing.
 use Rattle.play_steps.specs.Steps.{bit_from}
 use borrow.Author.Tests.{lt-ltb, le-ltb}
-use borrow.Author.Rules.{rules}
 use Rattle.play_steps.proofs.bit_from.Goals as goal
 
 pub returns-then-k-bits_at : goal.returns-then-k-bits_at

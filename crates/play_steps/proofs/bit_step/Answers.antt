@@ -3,7 +3,6 @@ use Rattle.play_steps.specs.Steps.{one_step}
 use Rattle.play_entries.proofs.Bounds.{bits_any}
 use native.Mathlib.Omega.{arith}
 use mathlib.Core.Path.{◌∙◌}
-use borrow.Author.Rules.{rules}
 use Rattle.play_steps.proofs.bit_step.Goals as goal
 
 pub overflow_add-k : goal.overflow_add-k

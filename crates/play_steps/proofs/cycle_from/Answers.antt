@@ -1,7 +1,6 @@
 -- `cycle_from` meets its contract. Assumes nothing.
 use borrow.Author.Tests.{lt-ltb, le-ltb}
 use Rattle.play_steps.specs.Steps.{cycle_from}
-use borrow.Author.Rules.{rules}
 use Rattle.play_steps.proofs.cycle_from.Goals as goal
 
 pub returns-then-p-cycles_of : goal.returns-then-p-cycles_of

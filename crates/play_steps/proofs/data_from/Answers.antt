@@ -1,7 +1,6 @@
 -- `data_from` meets its contract. Assumes nothing.
 use borrow.Author.Tests.{lt-ltb, le-ltb}
 use Rattle.play_steps.specs.Steps.{data_from}
-use borrow.Author.Rules.{rules}
 use Rattle.play_steps.proofs.data_from.Goals as goal
 
 pub returns-then-pos-r : goal.returns-then-pos-r

@@ -1,6 +1,5 @@
 -- `end_from` meets its contract. Assumes nothing.
 use Rattle.play_steps.specs.Steps.{end_from}
-use borrow.Author.Rules.{rules}
 use Rattle.play_steps.proofs.end_from.Goals as goal
 
 pub returns-then-is_edged : goal.returns-then-is_edged

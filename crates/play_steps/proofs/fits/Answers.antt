@@ -2,7 +2,6 @@
 use Rattle.play_steps.specs.Steps.{cycles_fitting}
 use native.Mathlib.Omega.{arith}
 use borrow.Author.Tests.{eq-eqb, ne_eqb}
-use borrow.Author.Rules.{rules}
 use Rattle.play_steps.proofs.fits.Goals as goal
 
 pub returns-then-c-eq0 : goal.returns-then-c-eq0

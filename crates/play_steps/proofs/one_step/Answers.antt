@@ -2,7 +2,6 @@
 use mathlib.Core.Path.{◌∙◌}
 use Rattle.play_entries.proofs.Valid.{in_tones, in_data}
 use Rattle.play_steps.specs.Steps.{one_step}
-use borrow.Author.Rules.{rules}
 use Rattle.play_steps.proofs.one_step.Goals as goal
 
 pub tone_step-requires : goal.tone_step-requires

@@ -2,7 +2,6 @@
 use native.Mathlib.Omega.{arith}
 use Rattle.play_steps.specs.Steps.{second_from}
 use Rattle.play_entries.proofs.Bounds.{cycles-most}
-use borrow.Author.Rules.{rules}
 use Rattle.play_steps.proofs.second_from.Goals as goal
 
 pub overflow_add-p : goal.overflow_add-p

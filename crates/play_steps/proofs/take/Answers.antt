@@ -3,7 +3,6 @@ use Rattle.play_steps.proofs.Facts as facts
 use Rattle.play_entries.proofs.Valid.{in_tones, in_data}
 use Rattle.play_entries.proofs.Lent.{row_lent}
 use mathlib.Core.Path.{◌∙◌}
-use borrow.Author.Rules.{rules}
 use Rattle.play_steps.proofs.take.Goals as goal
 
 pub take_entry-requires : goal.take_entry-requires

@@ -4,7 +4,6 @@ use Rattle.play_entries.proofs.Bounds.{bits_most, bits_some}
 use borrow.Author.Tests.{lt-ltb, le-ltb}
 use native.Mathlib.Omega.{arith}
 use mathlib.Core.Path.{◌∙◌}
-use borrow.Author.Rules.{rules}
 use Rattle.play_steps.proofs.take_byte.Goals as goal
 
 pub overflow_mul-bits_at : goal.overflow_mul-bits_at

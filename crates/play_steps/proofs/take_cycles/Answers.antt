@@ -7,7 +7,6 @@ use Rattle.rows.specs.Well.{well_tone}
 use Rattle.rows.proofs.WellLaws.{tones-each}
 use Rattle.play_entries.specs.Entries.{cycles_of}
 use Rattle.play_steps.proofs.Facts as facts
-use borrow.Author.Rules.{rules}
 use Rattle.play_steps.proofs.take_cycles.Goals as goal
 
 pub cycle_time-c-requires : goal.cycle_time-c-requires

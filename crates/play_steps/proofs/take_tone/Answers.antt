@@ -2,7 +2,6 @@
 use Rattle.play_steps.specs.Steps.{take_of}
 use borrow.Author.Tests.{not-true, not-false}
 use mathlib.Core.Path.{◌∙◌}
-use borrow.Author.Rules.{rules}
 use Rattle.play_steps.proofs.take_tone.Goals as goal
 
 pub returns-then-not-full : goal.returns-then-not-full

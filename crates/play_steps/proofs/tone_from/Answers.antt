@@ -1,7 +1,6 @@
 -- `tone_from` meets its contract. Assumes nothing.
 use mathlib.Core.Path.{sym, ◌∙◌}
 use Rattle.play_steps.proofs.Facts as facts
-use borrow.Author.Rules.{rules}
 use Rattle.play_steps.proofs.tone_from.Goals as goal
 
 pub returns-then-j-r : goal.returns-then-j-r

@@ -4,7 +4,6 @@ use mathlib.Core.Path.{ap, ◌∙◌}
 use Rattle.play_entries.specs.Entries.{cycles_of}
 use Rattle.play_entries.proofs.Bounds.{cycles-most}
 use Rattle.play_steps.specs.Steps.{one_step}
-use borrow.Author.Rules.{rules}
 use Rattle.play_steps.proofs.tone_step.Goals as goal
 
 pub overflow_add-p : goal.overflow_add-p

@@ -1,10 +1,7 @@
 -- `voiced_row` meets its contract. Assumes nothing.
-use Prim.Native.Nat.{◌-◌, ◌≤◌}
 use native.Mathlib.Omega.{arith}
-use mathlib.Core.Path.{◌≡◌, refl, ap, ◌∙◌}
-use borrow.Author.Rules.{rules}
+use mathlib.Core.Path.{refl, ap, ◌∙◌}
 use Rattle.play_entries.specs.Entries.{cycles_of}
-use Rattle.play_steps.specs.Steps.{tone_from}
 use Rattle.play_steps.proofs.Facts as facts
 use Rattle.play_steps.proofs.voiced_row.Goals as goal
 

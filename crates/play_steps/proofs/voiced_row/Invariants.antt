@@ -1,11 +1,7 @@
 -- The loops of `voiced_row`.
 use Prim.Native.Nat.{◌-◌, ◌≤◌}
-use native.Mathlib.Omega.{arith}
-use mathlib.Core.Path.{◌≡◌, refl, ap, ◌∙◌}
-use borrow.Author.Rules.{rules}
-use Rattle.play_entries.specs.Entries.{cycles_of}
+use mathlib.Core.Path.{◌≡◌}
 use Rattle.play_steps.specs.Steps.{tone_from}
-use Rattle.play_steps.proofs.Facts as facts
 use Rattle.play_steps.proofs.voiced_row.Given as goal
 
 abbrev pub invariant-loop-j : goal.invariant-loop-j

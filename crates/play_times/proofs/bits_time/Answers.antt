@@ -1,7 +1,6 @@
 -- `bits_time` meets its contract: the ones among the bits counted are those of the list. Assumes nothing.
 use native.Mathlib.Omega.{arith}
 use mathlib.Core.Path.{sym, ◌∙◌}
-use borrow.Author.Rules.{rules}
 use Rattle.play_entries.proofs.Runs.{few_ones, bits_time_lem}
 use Rattle.play_times.proofs.bits_time.Goals as goal
 

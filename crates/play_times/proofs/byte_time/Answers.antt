@@ -2,7 +2,6 @@
 use Prim.Native.Nat.{ℕ}
 use native.Mathlib.Omega.{arith}
 use mathlib.Core.Path.{ap, ◌∙◌}
-use borrow.Author.Rules.{rules}
 use Rattle.law_pulses.specs.Play.{time}
 use Rattle.law_pulses.specs.Runs.{run}
 use Rattle.play_entries.specs.Entries.{bit_entries, byte_of, byte_at}

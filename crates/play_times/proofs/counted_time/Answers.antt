@@ -1,7 +1,6 @@
 -- `counted_time` meets its contract: no product leaves 64 bits. Assumes nothing.
 use Prim.Native.Nat.{◌-◌}
 use native.Mathlib.Omega.{arith}
-use borrow.Author.Rules.{rules}
 use Rattle.play_entries.proofs.Bounds.{few}
 use Rattle.play_times.proofs.counted_time.Goals as goal
 

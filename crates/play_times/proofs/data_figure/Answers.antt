@@ -5,7 +5,6 @@ use borrow.Author.Tests.{leb-true}
 use mathlib.Core.Path.{◌≡◌, sym, ◌∙◌}
 use mathlib.Core.Bool.{true, false}
 use lib.ListN.{get_or}
-use borrow.Author.Rules.{rules}
 use Rattle.rows.specs.Well.{inside}
 use Rattle.rows.proofs.Clauses.{failed, passed}
 use Rattle.play_entries.specs.Mounted.{tape_size}

@@ -3,7 +3,6 @@ use Prim.Native.Nat.{ℕ, ◌+◌, ◌-◌, ◌*◌}
 use native.Mathlib.Omega.{arith}
 use mathlib.Core.Path.{sym, ap, ap₂, ◌∙◌}
 use mathlib.Core.Bool.{false}
-use borrow.Author.Rules.{rules}
 use Rattle.play_entries.specs.Counted.{bits_time}
 use Rattle.play_entries.specs.Entries.{data_of}
 use Rattle.play_entries.proofs.Bounds.{bytes-most-time}
@@ -17,14 +16,17 @@ returns-then-r-eq0 c =
 
 pub counted_time-requires : goal.counted_time-requires
 counted_time-requires c =
-    let a = c.args in record { k_le_n = (
+    let a = c.args in record {
+      k_le_n = (
         omega (
           arith,
           c.ones.ensures,
           ones_most a.tape.now (λ i. (c.type_inv.tape i).fits) a.r.start (a.r.size - 1),
         ),
         omega arith,
-      ); r_value = c.requires.r_value }
+      );
+      r_value = c.requires.r_value;
+    }
 
 pub overflow_add-result : goal.overflow_add-result
 unfolding data_of

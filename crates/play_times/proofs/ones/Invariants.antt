@@ -1,12 +1,7 @@
 -- The loops of `ones`.
-use Prim.Native.Nat.{◌+◌, ◌-◌, ◌≤◌}
-use native.Mathlib.Numerals.{add-one}
-use native.Mathlib.Omega.{arith}
-use mathlib.Core.Path.{◌≡◌, refl}
-use lib.Count.{ones-le}
-use lib.ListN.{get_or}
+use Prim.Native.Nat.{◌-◌, ◌≤◌}
+use mathlib.Core.Path.{◌≡◌}
 use Rattle.play_entries.specs.Counted.{ones_from}
-use Rattle.play_entries.proofs.Counted.{ones_most}
 use Rattle.play_times.proofs.ones.Given as goal
 
 abbrev pub invariant-loop-i : goal.invariant-loop-i

@@ -1,9 +1,9 @@
 -- `rows_figure` meets its contract: what is added up and what is left come to all of it. Assumes nothing.
-use Prim.Native.Nat.{◌+◌, ◌-◌, ◌≤◌}
+use Prim.Native.Nat.{◌-◌}
 use native.Mathlib.Omega.{arith}
 use mathlib.Core.Path.{◌≡◌, ap, ◌∙◌}
 use Rattle.play_entries.specs.Figures.{tone_figure}
-use Rattle.play_entries.proofs.Figures.{figure_from, from_next, from_none, from_most, owned}
+use Rattle.play_entries.proofs.Figures.{from_next, from_none, from_most, owned}
 use Rattle.play_times.proofs.rows_figure.Goals as goal
 
 pub loop-i-init : goal.loop-i-init

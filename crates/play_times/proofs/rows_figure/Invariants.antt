@@ -1,9 +1,7 @@
 -- The loops of `rows_figure`.
 use Prim.Native.Nat.{◌+◌, ◌-◌, ◌≤◌}
-use native.Mathlib.Omega.{arith}
-use mathlib.Core.Path.{◌≡◌, ap, ◌∙◌}
-use Rattle.play_entries.specs.Figures.{tone_figure}
-use Rattle.play_entries.proofs.Figures.{figure_from, from_next, from_none, from_most, owned}
+use mathlib.Core.Path.{◌≡◌}
+use Rattle.play_entries.proofs.Figures.{figure_from}
 use Rattle.play_times.proofs.rows_figure.Given as goal
 
 abbrev pub invariant-loop-i : goal.invariant-loop-i

@@ -2,7 +2,6 @@
 use Prim.Native.Nat.{◌*◌}
 use native.Mathlib.Omega.{arith}
 use mathlib.Core.Path.{◌≡◌, sym}
-use borrow.Author.Rules.{rules}
 use Rattle.rows.proofs.Clauses.{failed, passed}
 use Rattle.play_entries.specs.Figures.{tone_figure}
 use Rattle.play_entries.proofs.Figures.{tone_figure_lem, tone-none, tone_figure-most}

@@ -2,7 +2,6 @@
 use Prim.Native.Nat.{◌+◌}
 use native.Mathlib.Omega.{arith}
 use borrow.Author.Tests.{leb-true, leb-false}
-use borrow.Author.Rules.{rules}
 use Rattle.rows.proofs.Clauses.{failed, passed}
 use Rattle.play_times.proofs.tones_figure.Goals as goal
 

@@ -5,7 +5,6 @@ use lib.Dec.{eqb}
 use mathlib.Core.Path.{ap, ◌∙◌}
 use Rattle.play_entries.proofs.Valid.{in_tones}
 use Rattle.play_voice.specs.Voice.{asks_played}
-use borrow.Author.Rules.{rules}
 use Rattle.play_voice.proofs.asks_played.Goals as goal
 
 pub row_tone-requires : goal.row_tone-requires

@@ -3,7 +3,6 @@ use Rattle.play_voice.proofs.Levels.{below_most}
 use Rattle.rows_well.specs.Seen.{seen_of}
 use mathlib.Core.Path.{ap, ◌∙◌}
 use native.Mathlib.Omega.{arith}
-use borrow.Author.Rules.{rules}
 use Rattle.play_voice.proofs.document_level.Goals as goal
 
 pub seen_on-requires : goal.seen_on-requires

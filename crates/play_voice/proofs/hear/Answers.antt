@@ -2,7 +2,6 @@
 use Rattle.play_voice.specs.declared.Heard.{Heard}
 use Rattle.rows_well.specs.Seen.{seen_from, seen_of}
 use mathlib.Core.Path.{◌≡◌, refl, sym, subst}
-use borrow.Author.Rules.{rules}
 use Rattle.play_voice.proofs.hear.Goals as goal
 
 pub hear_on-requires : goal.hear_on-requires

@@ -4,7 +4,6 @@ use Rattle.rows_well.specs.declared.Seen.{Seen}
 use mathlib.Core.Path.{ap, ◌∙◌}
 use native.Mathlib.Omega.{arith}
 use Prim.Native.Nat.{ℕ, min}
-use borrow.Author.Rules.{rules}
 use Rattle.play_voice.proofs.hear_on.Goals as goal
 
 pub seen_on-requires : goal.seen_on-requires

@@ -2,7 +2,6 @@
 use Rattle.rows_well.proofs.Gathered.{seen_wells, seen_on}
 use Rattle.rows_well.specs.Seen.{well_seen}
 use mathlib.Core.Path.{ap, ◌∙◌}
-use borrow.Author.Rules.{rules}
 use Rattle.play_voice.proofs.heard_well.Goals as goal
 
 pub returns : goal.returns

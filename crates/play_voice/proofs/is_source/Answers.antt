@@ -1,5 +1,4 @@
 -- `is_source` meets its contract. Assumes nothing.
-use borrow.Author.Rules.{rules}
 use Rattle.play_voice.proofs.is_source.Goals as goal
 
 pub returns : goal.returns

@@ -1,7 +1,6 @@
 -- `level_by` meets its contract. Assumes nothing.
 use Rattle.play_entries.proofs.Valid.{in_tones}
 use Rattle.play_voice.specs.Voice.{level_by}
-use borrow.Author.Rules.{rules}
 use Rattle.play_voice.proofs.level_by.Goals as goal
 
 pub row_tone-requires : goal.row_tone-requires

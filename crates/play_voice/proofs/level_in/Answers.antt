@@ -6,7 +6,6 @@ use Rattle.rows.specs.declared.Block.{Block}
 use Rattle.rows.specs.Rows.{block}
 use Rattle.rows.specs.Table.{get}
 use mathlib.Core.Path.{sym, ap, ◌∙◌}
-use borrow.Author.Rules.{rules}
 use Rattle.play_voice.proofs.level_in.Goals as goal
 
 pub returns-then-is_source : goal.returns-then-is_source

@@ -5,7 +5,6 @@ use Rattle.play_entries.specs.Entries.{line_at}
 use Rattle.rows.proofs.Clauses.{failed}
 use mathlib.Core.Path.{sym, ap, ◌∙◌}
 use native.Mathlib.Omega.{arith}
-use borrow.Author.Rules.{rules}
 use Rattle.play_voice.proofs.level_seen.Goals as goal
 
 pub returns-then-not-asks_played : goal.returns-then-not-asks_played

@@ -1,8 +1,6 @@
 -- `line_at` meets its contract. Assumes nothing.
-use Prim.Native.Nat.{◌-◌, ◌≤◌}
 use native.Mathlib.Omega.{arith}
 use mathlib.Core.Path.{◌≡◌, ap, ◌∙◌}
-use borrow.Author.Rules.{rules}
 use Rattle.play_entries.specs.Entries.{line_at}
 use Rattle.play_entries.proofs.Lines.{line_none, line_next}
 use Rattle.play_voice.proofs.line_at.Goals as goal

@@ -1,10 +1,7 @@
 -- The loops of `line_at`.
 use Prim.Native.Nat.{◌-◌, ◌≤◌}
-use native.Mathlib.Omega.{arith}
-use mathlib.Core.Path.{◌≡◌, ap, ◌∙◌}
-use borrow.Author.Rules.{rules}
+use mathlib.Core.Path.{◌≡◌}
 use Rattle.play_entries.specs.Entries.{line_at}
-use Rattle.play_entries.proofs.Lines.{line_none, line_next}
 use Rattle.play_voice.proofs.line_at.Given as goal
 
 abbrev pub invariant-loop-i : goal.invariant-loop-i

@@ -1,7 +1,6 @@
 -- `line_behind` meets its contract. Assumes nothing.
 use borrow.Author.Tests.{eq-eqb, ne_eqb}
 use Rattle.play_entries.specs.Signals.{line_behind}
-use borrow.Author.Rules.{rules}
 use Rattle.play_voice.proofs.line_behind.Goals as goal
 
 pub returns-then-r-eq1 : goal.returns-then-r-eq1

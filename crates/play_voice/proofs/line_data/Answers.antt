@@ -1,7 +1,6 @@
 -- `line_data` meets its contract. Assumes nothing.
 use borrow.Author.Tests.{eq-eqb, ne_eqb}
 use Rattle.play_entries.specs.Signals.{line_data}
-use borrow.Author.Rules.{rules}
 use Rattle.play_voice.proofs.line_data.Goals as goal
 
 pub returns-then-r-eq0 : goal.returns-then-r-eq0

@@ -1,6 +1,5 @@
 -- `rows_below` meets its contract. Assumes nothing.
 use Rattle.play_voice.specs.Voice.{rows_below}
-use borrow.Author.Rules.{rules}
 use Rattle.play_voice.proofs.rows_below.Goals as goal
 
 pub returns-in-Start : goal.returns-in-Start

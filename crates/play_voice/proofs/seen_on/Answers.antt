@@ -3,7 +3,6 @@ use Rattle.rows_well.proofs.Gathered.{seen_on}
 use Rattle.rows_well.specs.Seen.{seen_from}
 use Rattle.rows_well.specs.declared.Seen.{Seen}
 use mathlib.Core.Path.{ap, ◌∙◌}
-use borrow.Author.Rules.{rules}
 use Rattle.play_voice.proofs.seen_on.Goals as goal
 
 pub returns-then-h-n : goal.returns-then-h-n

@@ -1,5 +1,4 @@
 -- `turned_line` meets its contract. Assumes nothing.
-use borrow.Author.Rules.{rules}
 use Rattle.play_voice.proofs.turned_line.Goals as goal
 
 pub returns : goal.returns

@@ -1,5 +1,4 @@
 -- `unheard` meets its contract. Assumes nothing.
-use borrow.Author.Rules.{rules}
 use Rattle.play_voice.proofs.unheard.Goals as goal
 
 pub returns : goal.returns

@@ -1,5 +1,4 @@
 -- `ends` meets its contract. Assumes nothing.
-use borrow.Author.Rules.{rules}
 use Rattle.play_walk.proofs.ends.Goals as goal
 
 pub returns : goal.returns

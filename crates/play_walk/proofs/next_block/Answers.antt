@@ -4,7 +4,6 @@ use mathlib.Core.Path.{sym, ap, ◌∙◌}
 use Rattle.play_entries.specs.Mounted.{well_row}
 use Rattle.play_walk.specs.declared.Next.TheVariants.{Left}
 use Rattle.play_walk.specs.Heads.{next_of}
-use borrow.Author.Rules.{rules}
 use Rattle.play_walk.proofs.next_block.Goals as goal
 
 pub returns-then-left-eq0 : goal.returns-then-left-eq0

@@ -3,7 +3,6 @@ use borrow.Author.Tests.{lt-ltb, le-ltb}
 use mathlib.Core.Path.{ap, ◌∙◌}
 use Rattle.play_entries.specs.Entries.{start_level}
 use Rattle.play_walk.specs.Heads.{rest_level}
-use borrow.Author.Rules.{rules}
 use Rattle.play_walk.proofs.rest_level.Goals as goal
 
 pub returns-then-b-count : goal.returns-then-b-count

@@ -1,5 +1,4 @@
 -- `rests` meets its contract. Assumes nothing.
-use borrow.Author.Rules.{rules}
 use Rattle.play_walk.proofs.rests.Goals as goal
 
 pub returns : goal.returns

@@ -1,5 +1,4 @@
 -- `stands` meets its contract. Assumes nothing.
-use borrow.Author.Rules.{rules}
 use Rattle.play_walk.proofs.stands.Goals as goal
 
 pub returns : goal.returns

@@ -1,5 +1,4 @@
 -- `stops` meets its contract. Assumes nothing.
-use borrow.Author.Rules.{rules}
 use Rattle.play_walk.proofs.stops.Goals as goal
 
 pub returns : goal.returns

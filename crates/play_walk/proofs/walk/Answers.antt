@@ -1,12 +1,10 @@
 -- `walk` meets its contract. Assumes nothing.
-use borrow.Author.Rules.{rules}
 use Rattle.play_entries.proofs.Lent.{row_lent}
-use Prim.Native.Nat.{ℕ, ◌+◌, ◌-◌, ◌≤◌}
+use Prim.Native.Nat.{ℕ, ◌+◌, ◌-◌}
 use native.Mathlib.Omega.{arith}
 use mathlib.Core.Path.{◌≡◌, sym, ap, subst, ◌∙◌}
 use mathlib.Core.Logic.{inl, inr}
-use lib.ListN.{length}
-use Rattle.law_pulses.proofs.Lead.{Leads, lead_here, lead_on}
+use Rattle.law_pulses.proofs.Lead.{lead_here, lead_on}
 use Rattle.rows.specs.declared.Block.{Block}
 use Rattle.play_entries.specs.declared.Duration.{Duration}
 use Rattle.play_entries.specs.declared.Duration.TheVariants.{T, Endless}
@@ -14,11 +12,11 @@ use Rattle.play_entries.specs.Places.{left_at, length_at}
 use Rattle.play_walk.specs.declared.Position.{Position}
 use Rattle.play_walk.proofs.Needed.{well_before}
 use Rattle.play_walk.proofs.Landing.{on_walkable, walkable_less, lands_at, lands_stopped, lands_next}
-use Rattle.play_walk.proofs.Turns.{cut_of, rows_of, On, on_has, stands_there, on-first, on_start, asks, asks_has, leaves_at}
+use Rattle.play_walk.proofs.Turns.{cut_of, rows_of, on_has, stands_there, on-first, on_start, asks, asks_has, leaves_at}
 use Rattle.play_walk.proofs.Turns.{leaves-stopped, less_none, step-most, step_few, step_has, turn_lead, turn_on, turn_less}
 use Rattle.play_walk.proofs.Turns.{turn_out, next_into, next_left}
 use Rattle.play_walk.specs.Heads.{placed, Walkable, walk_from}
-use Rattle.play_entries.specs.Mounted.{first_bad, cut_to, formed, tape_of}
+use Rattle.play_entries.specs.Mounted.{formed, tape_of}
 use Rattle.play_walk.proofs.walk.Goals as goal
 
 pub blocks-2-init : goal.blocks-2-init
@@ -103,10 +101,14 @@ length_at-left-requires c =
     let x = rows_of w a.pos c.requires.walkable in
     let i = c.entries.invariant k c.blocks-2.invariant.1.0 in
     let g = row_lent a.tape.now a.tones.now c.block_at-r.result
-    (asks x c.blocks-2.block c.blocks-2.invariant.1.1 i.1.below c.block_at-r.result c.block_at-r.ensures) in record { size_in_bounds = (g.bytes, g.rows); r_value = g.numbers; f_value = asks_has w c.blocks-2.block c.take-s.result.phase c.block_at-r.result c.block_at-r.ensures
-            (step_has w k c.blocks-2.block c.entries.phase c.entries.left c.entries.full c.entries.passed i.1 c.entries.d _ c.in-T.is
-            (omega (arith, c.if-d-eq0.false)) (omega (arith, c.if-d-t.false)) c.block_at-r.result
-            c.block_at-r.ensures c.take-s.result c.take-s.ensures c.if-s.false) }
+    (asks x c.blocks-2.block c.blocks-2.invariant.1.1 i.1.below c.block_at-r.result c.block_at-r.ensures) in record {
+      size_in_bounds = (g.bytes, g.rows);
+      r_value = g.numbers;
+      f_value = asks_has w c.blocks-2.block c.take-s.result.phase c.block_at-r.result c.block_at-r.ensures
+          (step_has w k c.blocks-2.block c.entries.phase c.entries.left c.entries.full c.entries.passed i.1 c.entries.d _ c.in-T.is
+          (omega (arith, c.if-d-eq0.false)) (omega (arith, c.if-d-t.false)) c.block_at-r.result
+          c.block_at-r.ensures c.take-s.result c.take-s.ensures c.if-s.false);
+    }
 
 pub entries-smaller : goal.entries-smaller
 entries-smaller c =
@@ -191,9 +193,12 @@ returns-in_default c =
     let k = cut_of w a.pos in
     let i = c.entries.invariant k c.blocks-2.invariant.1.0 in
     let e = c.in_default.is in
-    let o = on_walkable (rows_of w a.pos c.requires.walkable) c.requires.walkable.lent c.blocks-2.invariant.1.1 i.1 in record { value = c.stops.ensures ∙ sym
-          (leaves-stopped w k c.blocks-2.block c.entries.phase c.entries.left c.entries.full c.entries.passed i.1 (lead_on c.blocks-2.invariant.0 i.0) e); lands = lands_stopped w (placed c.blocks-2.block c.entries.phase Endless) c.entries.passed c.stops.ensures
-          (subst (λ (d : Duration). Walkable w (placed c.blocks-2.block c.entries.phase d)) e o) }
+    let o = on_walkable (rows_of w a.pos c.requires.walkable) c.requires.walkable.lent c.blocks-2.invariant.1.1 i.1 in record {
+      value = c.stops.ensures ∙ sym
+          (leaves-stopped w k c.blocks-2.block c.entries.phase c.entries.left c.entries.full c.entries.passed i.1 (lead_on c.blocks-2.invariant.0 i.0) e);
+      lands = lands_stopped w (placed c.blocks-2.block c.entries.phase Endless) c.entries.passed c.stops.ensures
+          (subst (λ (d : Duration). Walkable w (placed c.blocks-2.block c.entries.phase d)) e o);
+    }
 
 pub returns-then-d-eq0 : goal.returns-then-d-eq0
 unfolding walk_from formed
@@ -205,8 +210,11 @@ returns-then-d-eq0 c =
     let e = c.in-T.is in
     let o = on_walkable (rows_of w a.pos c.requires.walkable) c.requires.walkable.lent c.blocks-2.invariant.1.1 i.1 in
     let z : _ ≡ _ = leaves_at w k c.blocks-2.block c.entries.phase c.entries.left c.entries.full c.entries.passed i.1 (lead_on c.blocks-2.invariant.0 i.0) _
-    e (inl c.if-d-eq0.true) in record { value = c.stands.ensures ∙ less_none _ _ _ _ c.if-d-eq0.true ∙ sym z; lands = lands_at w (placed c.blocks-2.block c.entries.phase (T c.in-T.t)) c.entries.passed c.stands.ensures
-          (subst (λ (d : Duration). Walkable w (placed c.blocks-2.block c.entries.phase d)) e o) }
+    e (inl c.if-d-eq0.true) in record {
+      value = c.stands.ensures ∙ less_none _ _ _ _ c.if-d-eq0.true ∙ sym z;
+      lands = lands_at w (placed c.blocks-2.block c.entries.phase (T c.in-T.t)) c.entries.passed c.stands.ensures
+          (subst (λ (d : Duration). Walkable w (placed c.blocks-2.block c.entries.phase d)) e o);
+    }
 
 pub returns-then-d-t : goal.returns-then-d-t
 unfolding walk_from formed
@@ -218,10 +226,13 @@ returns-then-d-t c =
     let e = c.in-T.is in
     let l = c.if-d-t.true in
     let t : ℕ = c.in-T.t in
-    let o = on_walkable (rows_of w a.pos c.requires.walkable) c.requires.walkable.lent c.blocks-2.invariant.1.1 i.1 in record { value = c.stands-then-d-t.ensures ∙ sym
-          (leaves_at w k c.blocks-2.block c.entries.phase c.entries.left c.entries.full c.entries.passed i.1 (lead_on c.blocks-2.invariant.0 i.0) _ e (inr l)); lands = lands_at w (placed c.blocks-2.block c.entries.phase (T (t - c.entries.d))) c.entries.passed c.stands-then-d-t.ensures
+    let o = on_walkable (rows_of w a.pos c.requires.walkable) c.requires.walkable.lent c.blocks-2.invariant.1.1 i.1 in record {
+      value = c.stands-then-d-t.ensures ∙ sym
+          (leaves_at w k c.blocks-2.block c.entries.phase c.entries.left c.entries.full c.entries.passed i.1 (lead_on c.blocks-2.invariant.0 i.0) _ e (inr l));
+      lands = lands_at w (placed c.blocks-2.block c.entries.phase (T (t - c.entries.d))) c.entries.passed c.stands-then-d-t.ensures
           (walkable_less w c.blocks-2.block c.entries.phase t (t - c.entries.d)
-          (subst (λ (d : Duration). Walkable w (placed c.blocks-2.block c.entries.phase d)) e o) (omega arith) (omega arith)) }
+          (subst (λ (d : Duration). Walkable w (placed c.blocks-2.block c.entries.phase d)) e o) (omega arith) (omega arith));
+    }
 
 pub returns-in-Left : goal.returns-in-Left
 unfolding walk_from formed

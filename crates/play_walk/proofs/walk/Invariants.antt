@@ -1,24 +1,10 @@
 -- The loops of `walk`.
-use borrow.Author.Rules.{rules}
-use Rattle.play_entries.proofs.Lent.{row_lent}
 use Prim.Native.Nat.{ℕ, ◌+◌, ◌-◌, ◌≤◌}
-use native.Mathlib.Omega.{arith}
-use mathlib.Core.Path.{◌≡◌, sym, ap, subst, ◌∙◌}
-use mathlib.Core.Logic.{inl, inr}
 use lib.ListN.{length}
-use Rattle.law_pulses.proofs.Lead.{Leads, lead_here, lead_on}
-use Rattle.rows.specs.declared.Block.{Block}
-use Rattle.play_entries.specs.declared.Duration.{Duration}
-use Rattle.play_entries.specs.declared.Duration.TheVariants.{T, Endless}
-use Rattle.play_entries.specs.Places.{left_at, length_at}
-use Rattle.play_walk.specs.declared.Position.{Position}
-use Rattle.play_walk.proofs.Needed.{well_before}
-use Rattle.play_walk.proofs.Landing.{on_walkable, walkable_less, lands_at, lands_stopped, lands_next}
-use Rattle.play_walk.proofs.Turns.{cut_of, rows_of, On, on_has, stands_there, on-first, on_start, asks, asks_has, leaves_at}
-use Rattle.play_walk.proofs.Turns.{leaves-stopped, less_none, step-most, step_few, step_has, turn_lead, turn_on, turn_less}
-use Rattle.play_walk.proofs.Turns.{turn_out, next_into, next_left}
-use Rattle.play_walk.specs.Heads.{placed, Walkable, walk_from}
-use Rattle.play_entries.specs.Mounted.{first_bad, cut_to, formed, tape_of}
+use Rattle.law_pulses.proofs.Lead.{Leads}
+use Rattle.play_entries.specs.Places.{left_at}
+use Rattle.play_walk.proofs.Turns.{On}
+use Rattle.play_entries.specs.Mounted.{first_bad, cut_to, tape_of}
 use Rattle.play_walk.proofs.walk.Given as goal
 
 abbrev pub invariant-entries : goal.invariant-entries

@@ -1,5 +1,4 @@
 -- `begin` meets its contract: a load, and what its answer says. Assumes nothing.
-use borrow.Author.Rules.{rules}
 use Rattle.prog_tape.proofs.Lines.{opens}
 use Rattle.prog_tape.proofs.begin.Goals as goal
 

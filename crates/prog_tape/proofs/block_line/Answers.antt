@@ -1,5 +1,4 @@
 -- `block_line` meets its contract: the row is well formed, its name short, and its line fits. Assumes nothing.
-use borrow.Author.Rules.{rules}
 use Rattle.text_listing.proofs.Lines.{row_short}
 use Rattle.prog_tape.proofs.Room.{line_well, line_fits}
 use Rattle.prog_tape.proofs.block_line.Goals as goal

@@ -1,5 +1,4 @@
 -- `put_count` meets its contract: each arm is one format. Assumes nothing.
-use borrow.Author.Rules.{rules}
 use Rattle.text_listing.specs.Page.{format_text}
 use Rattle.prog_tape.proofs.put_count.Goals as goal
 

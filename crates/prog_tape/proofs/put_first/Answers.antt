@@ -1,5 +1,4 @@
 -- `put_first` meets its contract: a tape, or a refusal. Assumes nothing.
-use borrow.Author.Rules.{rules}
 use mathlib.Core.Path.{refl}
 use Rattle.prog_tape.specs.Lines.{first_line, lines_after}
 use Rattle.prog_tape.proofs.put_first.Goals as goal

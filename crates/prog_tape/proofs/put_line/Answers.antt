@@ -1,8 +1,5 @@
 -- `put_line` meets its contract: the parts of the line, one behind the other. Assumes nothing.
-use borrow.Author.Rules.{rules}
 use native.Mathlib.Omega.{arith}
-use mathlib.Core.Path.{subst}
-use Rattle.text_out.proofs.Writing.{then}
 use Rattle.text_name.specs.Names.{name_of}
 use Rattle.text_view.specs.View.{row_view}
 use Rattle.prog_tape.proofs.Room.{head_next, name_next, data_next, row_inside, line_written}

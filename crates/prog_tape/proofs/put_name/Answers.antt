@@ -1,5 +1,4 @@
 -- `put_name` meets its contract: the scratch bytes hold the whole name, so their part is the name. Assumes nothing.
-use borrow.Author.Rules.{rules}
 use native.Mathlib.Omega.{arith}
 use Rattle.text_listing.proofs.Showing.{name_part, part_length}
 use Rattle.prog_tape.proofs.put_name.Goals as goal

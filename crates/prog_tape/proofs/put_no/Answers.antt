@@ -1,5 +1,4 @@
 -- `put_no` meets its contract. Assumes nothing.
-use borrow.Author.Rules.{rules}
 use mathlib.Core.Path.{refl}
 use Rattle.text_out.specs.Out.{refused_text, refused_line}
 use Rattle.prog_tape.proofs.put_no.Goals as goal

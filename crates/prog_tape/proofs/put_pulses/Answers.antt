@@ -1,5 +1,4 @@
 -- `put_pulses` meets its contract. Assumes nothing.
-use borrow.Author.Rules.{rules}
 use native.Mathlib.Omega.{arith}
 use Rattle.text_out.proofs.Writing.{then}
 use Rattle.text_view.proofs.Parts.{tones-length}

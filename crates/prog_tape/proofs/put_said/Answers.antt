@@ -1,5 +1,4 @@
 -- `put_said` meets its contract: three writes into bytes that have room. Assumes nothing.
-use borrow.Author.Rules.{rules}
 use native.Mathlib.Omega.{arith}
 use Rattle.text_out.proofs.Writing.{then, decimal-length}
 use Rattle.text_out.proofs.Writing.{wrote_fitted}

@@ -1,7 +1,6 @@
 -- `append_block` meets its contract: the test is the rule of `appended`. Assumes nothing.
 use mathlib.Core.Path.{refl}
 use borrow.Author.Tests.{lt-ltb, le-ltb}
-use borrow.Author.Rules.{rules}
 use Rattle.rows.proofs.append_block.Goals as goal
 
 pub returns-then-n-block_capacity : goal.returns-then-n-block_capacity

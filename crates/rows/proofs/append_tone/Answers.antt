@@ -1,7 +1,6 @@
 -- `append_tone` meets its contract: the test is the rule of `appended`. Assumes nothing.
 use mathlib.Core.Path.{refl}
 use borrow.Author.Tests.{lt-ltb, le-ltb}
-use borrow.Author.Rules.{rules}
 use Rattle.rows.proofs.append_tone.Goals as goal
 
 pub returns-then-n-tone_capacity : goal.returns-then-n-tone_capacity

@@ -1,11 +1,10 @@
 -- `blank` meets its contract: the words before i are zero, the others as they were. Assumes nothing.
-use Prim.Native.Nat.{◌≤◌, ◌<◌, ◌-◌}
+use Prim.Native.Nat.{◌<◌}
 use native.Mathlib.Omega.{arith}
 use mathlib.Core.Path.{◌≡◌, refl, ◌∙◌}
-use mathlib.Core.List.{◌++◌, append-nil}
-use lib.ListN.{length, replicate, drop, length-set}
+use mathlib.Core.List.{append-nil}
+use lib.ListN.{length, length-set}
 use lib.Seq.{drop-length}
-use borrow.Author.Rules.{rules}
 use borrow.Author.Fill.{fill_more}
 use Rattle.rows.proofs.blank.Goals as goal
 

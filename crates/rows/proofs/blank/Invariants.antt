@@ -1,12 +1,8 @@
 -- The loops of `blank`.
-use Prim.Native.Nat.{◌≤◌, ◌<◌, ◌-◌}
-use native.Mathlib.Omega.{arith}
-use mathlib.Core.Path.{◌≡◌, refl, ◌∙◌}
-use mathlib.Core.List.{◌++◌, append-nil}
-use lib.ListN.{length, replicate, drop, length-set}
-use lib.Seq.{drop-length}
-use borrow.Author.Rules.{rules}
-use borrow.Author.Fill.{fill_more}
+use Prim.Native.Nat.{◌≤◌, ◌-◌}
+use mathlib.Core.Path.{◌≡◌}
+use mathlib.Core.List.{◌++◌}
+use lib.ListN.{length, replicate, drop}
 use Rattle.rows.proofs.blank.Given as goal
 
 abbrev pub invariant-loop-i : goal.invariant-loop-i

@@ -1,11 +1,10 @@
 -- `copy_in` meets its contract: the first j words of src stand in dst from at. Assumes nothing.
-use Prim.Native.Nat.{◌+◌, ◌≤◌, ◌<◌, ◌-◌}
+use Prim.Native.Nat.{◌+◌, ◌<◌}
 use native.Mathlib.Omega.{arith}
 use native.Mathlib.Numerals.{add-one}
 use mathlib.Core.Path.{◌≡◌, refl}
 use lib.ListN.{length, length-set}
-use lib.Seq.{paste, paste-zero, paste-suc}
-use borrow.Author.Rules.{rules}
+use lib.Seq.{paste-zero, paste-suc}
 use Rattle.rows.proofs.copy_in.Goals as goal
 
 pub loop-j-init : goal.loop-j-init

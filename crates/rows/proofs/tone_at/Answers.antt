@@ -3,7 +3,6 @@ use Prim.Native.Nat.{ℕ, ◌*◌}
 use native.Mathlib.Nat.{add-sub_cancel_left}
 use mathlib.Core.Path.{ap, ◌∙◌}
 use lib.ListN.{take, drop}
-use borrow.Author.Rules.{rules}
 use Rattle.rows.specs.Rows.{tone, decode_tone}
 use Rattle.rows.proofs.tone_at.Goals as goal
 

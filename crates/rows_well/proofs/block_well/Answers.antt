@@ -1,5 +1,4 @@
 -- `block_well` meets its contract: the words and the tone rows; that the tone range is inside the table gives what `tones_well` asks.
-use Rattle.std.proofs.Common.{rules}
 use Rattle.rows.proofs.Clauses.{failed, passed}
 use Rattle.rows.proofs.WellLaws.{tones_lent}
 use Rattle.rows_well.proofs.WordsLaws.{words_tones, words_clauses}

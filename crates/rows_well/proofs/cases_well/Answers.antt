@@ -1,5 +1,5 @@
 -- `cases_well` meets its contract: each test decides its clause. Assumes nothing.
-use Rattle.std.proofs.Common.{rules, le-leb}
+use Rattle.std.proofs.Common.{le-leb}
 use borrow.Author.Tests.{lt-leb}
 use Rattle.rows.specs.Well.{well_cases}
 use Rattle.rows.proofs.Clauses.{passed, failed}

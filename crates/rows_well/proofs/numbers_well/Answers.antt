@@ -1,5 +1,5 @@
 -- `numbers_well` meets its contract: each test or call decides its clause. Assumes nothing.
-use Rattle.std.proofs.Common.{rules, le-leb}
+use Rattle.std.proofs.Common.{le-leb}
 use borrow.Author.Tests.{lt-leb}
 use Rattle.rows.specs.Well.{well_numbers}
 use Rattle.rows.proofs.Clauses.{failed, passed}

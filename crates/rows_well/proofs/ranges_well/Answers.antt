@@ -1,5 +1,4 @@
 -- `ranges_well` meets its contract: each call decides its clause. Assumes nothing.
-use Rattle.std.proofs.Common.{rules}
 use Rattle.rows.specs.Well.{well_ranges}
 use Rattle.rows.proofs.Clauses.{failed, passed}
 use Rattle.rows_well.proofs.ranges_well.Goals as goal

@@ -1,5 +1,5 @@
 -- `tones_seen` meets its contract: what was seen up to row i. Assumes nothing.
-use Rattle.std.proofs.Common.{◌≡◌, ◌+◌, ◌-◌, ◌≤◌, sym, refl, ◌∙◌, ap₂, arith, rules}
+use Rattle.std.proofs.Common.{◌≡◌, ◌-◌, sym, refl, ◌∙◌, ap₂, arith}
 use Rattle.rows_well.specs.Seen.{seeing_row, seen_from}
 use Rattle.rows_well.proofs.Gathered.{seen_turn}
 use Rattle.rows_well.proofs.tones_seen.Goals as goal

@@ -1,7 +1,6 @@
 -- The loops of `tones_seen`.
-use Rattle.std.proofs.Common.{◌≡◌, ◌+◌, ◌-◌, ◌≤◌, sym, refl, ◌∙◌, ap₂, arith, rules}
-use Rattle.rows_well.specs.Seen.{seeing_row, seen_from}
-use Rattle.rows_well.proofs.Gathered.{seen_turn}
+use Rattle.std.proofs.Common.{◌≡◌, ◌+◌, ◌-◌, ◌≤◌}
+use Rattle.rows_well.specs.Seen.{seen_from}
 use Rattle.rows_well.proofs.tones_seen.Given as goal
 
 abbrev pub invariant-loop-left : goal.invariant-loop-left

@@ -1,5 +1,5 @@
 -- `tones_well` meets its contract: what was seen of the rows decides. Assumes nothing.
-use Rattle.std.proofs.Common.{ap, ◌∙◌, rules}
+use Rattle.std.proofs.Common.{ap, ◌∙◌}
 use Rattle.rows_well.specs.Seen.{well_seen, seen_from}
 use Rattle.rows_well.proofs.Gathered.{seen_wells}
 use Rattle.rows_well.proofs.tones_well.Goals as goal

@@ -1,5 +1,4 @@
 -- `words_well` meets its contract: each call decides its clause. Assumes nothing.
-use Rattle.std.proofs.Common.{rules}
 use Rattle.rows.proofs.Clauses.{failed, passed}
 use Rattle.rows_well.specs.Words.{well_words}
 use Rattle.rows_well.proofs.words_well.Goals as goal

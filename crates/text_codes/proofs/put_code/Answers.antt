@@ -1,7 +1,6 @@
 -- `put_code` meets its contract: the part between the two offsets is the text. Assumes nothing.
 use Rattle.text_codes.proofs.Codes.{part}
 use native.Mathlib.Omega.{arith}
-use borrow.Author.Rules.{rules}
 use Rattle.text_codes.proofs.put_code.Goals as goal
 
 pub put_part-requires : goal.put_part-requires

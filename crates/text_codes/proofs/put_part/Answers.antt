@@ -1,6 +1,5 @@
 -- `put_part` meets its contract: the flat table is the 256 texts one after the other, by one computation. Assumes nothing.
 use Rattle.text_codes.specs.Encoding.{table, flat_texts}
-use borrow.Author.Rules.{rules}
 use Rattle.text_codes.proofs.put_part.Goals as goal
 
 pub slice_bounds-put_all-end : goal.slice_bounds-put_all-end

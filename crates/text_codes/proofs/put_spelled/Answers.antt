@@ -1,10 +1,7 @@
 -- `put_spelled` meets its contract: each turn writes the text of one code more. Assumes nothing.
-use Prim.Native.Nat.{◌-◌}
 use native.Mathlib.Omega.{arith}
-use lib.ListN.{length}
 use Rattle.text_out.proofs.Writing.{same_len}
-use Rattle.text_out.proofs.Loops.{Spells, spells_none, spells_on, spells_over}
-use Rattle.text_codes.specs.Encoding.{encoded}
+use Rattle.text_out.proofs.Loops.{spells_none, spells_on, spells_over}
 use Rattle.text_codes.proofs.Codes.{code_length}
 use Rattle.text_codes.proofs.put_spelled.Goals as goal
 

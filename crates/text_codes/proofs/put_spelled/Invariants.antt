@@ -1,11 +1,8 @@
 -- The loops of `put_spelled`.
 use Prim.Native.Nat.{◌-◌}
-use native.Mathlib.Omega.{arith}
 use lib.ListN.{length}
-use Rattle.text_out.proofs.Writing.{same_len}
-use Rattle.text_out.proofs.Loops.{Spells, spells_none, spells_on, spells_over}
+use Rattle.text_out.proofs.Loops.{Spells}
 use Rattle.text_codes.specs.Encoding.{encoded}
-use Rattle.text_codes.proofs.Codes.{code_length}
 use Rattle.text_codes.proofs.put_spelled.Given as goal
 
 abbrev pub invariant-loop-i : goal.invariant-loop-i

@@ -1,6 +1,5 @@
 -- `start_of` meets its contract: the offsets are the sums of the lengths, by one computation. Assumes nothing.
 use Rattle.text_codes.specs.Encoding.{table, offsets}
-use borrow.Author.Rules.{rules}
 use Rattle.text_codes.proofs.start_of.Goals as goal
 
 pub returns : goal.returns

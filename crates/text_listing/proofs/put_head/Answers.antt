@@ -1,7 +1,6 @@
 -- `put_head` meets its contract: six writes, one after the other. Assumes nothing.
 use native.Mathlib.Omega.{arith}
 use lib.Dec.{eqb}
-use borrow.Author.Rules.{rules}
 use Rattle.text_out.proofs.Writing.{then}
 use Rattle.text_listing.proofs.Texts.{decimal_long, mark_long}
 use Rattle.text_listing.proofs.put_head.Goals as goal

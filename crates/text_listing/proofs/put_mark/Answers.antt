@@ -1,7 +1,6 @@
 -- `put_mark` meets its contract: each return is one mark. Assumes nothing.
 use native.Mathlib.Omega.{arith}
 use borrow.Author.Tests.{eq-eqb, ne_eqb}
-use borrow.Author.Rules.{rules}
 use Rattle.text_listing.specs.Lines.{mark_text}
 use Rattle.text_listing.proofs.put_mark.Goals as goal
 

@@ -1,6 +1,5 @@
 -- `put_name` meets its contract: the scratch bytes hold the whole name, so their part is the name. Assumes nothing.
 use native.Mathlib.Omega.{arith}
-use borrow.Author.Rules.{rules}
 use Rattle.text_listing.proofs.Showing.{name_part, part_length}
 use Rattle.text_listing.proofs.put_name.Goals as goal
 

@@ -1,7 +1,6 @@
 -- `put_row` meets its contract: its two parts make the line, and its words are summed up. Assumes nothing.
 use native.Mathlib.Omega.{arith}
 use mathlib.Core.Path.{ap, ◌∙◌}
-use borrow.Author.Rules.{rules}
 use Rattle.play_loading.specs.Sums.{one_more}
 use Rattle.text_listing.proofs.Lines.{row_numbers, row_sound, row_places, row_chars, row_short}
 use Rattle.text_listing.proofs.Texts.{head_most, row_written}

@@ -1,11 +1,8 @@
 -- `put_rows` meets its contract: each turn writes one line more, and sums up what it lasts. Assumes nothing.
-use Prim.Native.Nat.{ℕ, ◌-◌, ◌≤◌}
 use native.Mathlib.Omega.{arith}
 use mathlib.Core.Path.{◌≡◌, ap, ◌∙◌}
-use mathlib.Core.List.{List, []}
-use borrow.Author.Rules.{rules}
+use mathlib.Core.List.{[]}
 use Rattle.text_out.proofs.Writing.{wrote_nothing, same_len}
-use Rattle.text_out.specs.Out.{Wrote}
 use Rattle.rows.specs.Table.{get}
 use Rattle.rows.specs.Rows.{block}
 use Rattle.play_entries.specs.Mounted.{tape_of}
@@ -14,7 +11,7 @@ use Rattle.play_loading.specs.Sums.{one_more, loading_after}
 use Rattle.play_loading.proofs.Summing.{after_next, after-whole}
 use Rattle.text_listing.proofs.Lines.{rows_fit}
 use Rattle.text_listing.proofs.Texts.{rows-most, rows_next}
-use Rattle.text_listing.specs.Lines.{rows_text_by, rows_text}
+use Rattle.text_listing.specs.Lines.{rows_text_by}
 use Rattle.text_listing.proofs.put_rows.Goals as goal
 
 pub loop-i-init : goal.loop-i-init

@@ -1,6 +1,5 @@
 -- `put_tail` meets its contract: four writes. Assumes nothing.
 use native.Mathlib.Omega.{arith}
-use borrow.Author.Rules.{rules}
 use Rattle.text_name.specs.Names.{name_of}
 use Rattle.text_out.proofs.Writing.{then}
 use Rattle.text_listing.proofs.Showing.{shown-length}

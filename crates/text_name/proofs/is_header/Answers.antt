@@ -1,7 +1,6 @@
 -- `is_header` meets its contract: each test decides its clause. Assumes nothing.
 use Rattle.text_name.specs.Names.{is_header}
 use borrow.Author.Tests.{eq-eqb, ne_eqb}
-use borrow.Author.Rules.{rules}
 use Rattle.text_name.proofs.is_header.Goals as goal
 
 pub returns-then-r-ne19 : goal.returns-then-r-ne19

@@ -3,7 +3,6 @@ use Rattle.text_name.proofs.Naming.{header_size}
 use native.Mathlib.Omega.{arith}
 use Rattle.text_name.specs.Names.{guessed}
 use mathlib.Core.Path.{sym, ◌∙◌}
-use borrow.Author.Rules.{rules}
 use Rattle.text_name.proofs.put_guessed.Goals as goal
 
 pub put_header-requires : goal.put_header-requires

@@ -2,7 +2,6 @@
 use Rattle.text_name.specs.Names.{name_of}
 use native.Mathlib.Nat.{add-sub_cancel_left}
 use borrow.Author.Tests.{eq-eqb, ne_eqb}
-use borrow.Author.Rules.{rules}
 use Rattle.text_name.proofs.put_name.Goals as goal
 
 pub returns-then-r-eq0 : goal.returns-then-r-eq0

@@ -2,7 +2,6 @@
 use Rattle.text_name.specs.Names.{size_name}
 use Rattle.text_out.proofs.Writing.{then, decimal-length}
 use native.Mathlib.Omega.{arith}
-use borrow.Author.Rules.{rules}
 use Rattle.text_name.proofs.put_size.Goals as goal
 
 pub put_all-requires : goal.put_all-requires

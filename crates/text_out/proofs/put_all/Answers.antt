@@ -1,9 +1,7 @@
 -- `put_all` meets its contract: each turn writes one byte more of s. Assumes nothing.
-use Prim.Native.Nat.{◌-◌}
 use native.Mathlib.Omega.{arith}
-use lib.ListN.{length}
 use Rattle.text_out.proofs.Writing.{same_len}
-use Rattle.text_out.proofs.Loops.{Spells, spells_none, spells_on, spells_over, itself, each_itself}
+use Rattle.text_out.proofs.Loops.{spells_none, spells_on, spells_over, each_itself}
 use Rattle.text_out.proofs.put_all.Goals as goal
 
 pub loop-i-init : goal.loop-i-init

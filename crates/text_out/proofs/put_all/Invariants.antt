@@ -1,9 +1,7 @@
 -- The loops of `put_all`.
 use Prim.Native.Nat.{◌-◌}
-use native.Mathlib.Omega.{arith}
 use lib.ListN.{length}
-use Rattle.text_out.proofs.Writing.{same_len}
-use Rattle.text_out.proofs.Loops.{Spells, spells_none, spells_on, spells_over, itself, each_itself}
+use Rattle.text_out.proofs.Loops.{Spells, itself}
 use Rattle.text_out.proofs.put_all.Given as goal
 
 abbrev pub invariant-loop-i : goal.invariant-loop-i

@@ -1,10 +1,7 @@
 -- `put_latin` meets its contract: each turn writes the text of one byte more. Assumes nothing.
-use Prim.Native.Nat.{◌-◌}
 use native.Mathlib.Omega.{arith}
-use lib.ListN.{length}
-use Rattle.text_out.specs.Out.{latin1}
 use Rattle.text_out.proofs.Writing.{same_len, latin1-length}
-use Rattle.text_out.proofs.Loops.{Spells, spells_none, spells_on, spells_over}
+use Rattle.text_out.proofs.Loops.{spells_none, spells_on, spells_over}
 use Rattle.text_out.proofs.put_latin.Goals as goal
 
 pub loop-i-init : goal.loop-i-init

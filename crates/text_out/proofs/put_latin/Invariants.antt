@@ -1,10 +1,8 @@
 -- The loops of `put_latin`.
 use Prim.Native.Nat.{◌-◌}
-use native.Mathlib.Omega.{arith}
 use lib.ListN.{length}
 use Rattle.text_out.specs.Out.{latin1}
-use Rattle.text_out.proofs.Writing.{same_len, latin1-length}
-use Rattle.text_out.proofs.Loops.{Spells, spells_none, spells_on, spells_over}
+use Rattle.text_out.proofs.Loops.{Spells}
 use Rattle.text_out.proofs.put_latin.Given as goal
 
 abbrev pub invariant-loop-i : goal.invariant-loop-i

@@ -1,7 +1,6 @@
 -- `put_latin1` meets its contract: the two lengths of a code point below 256. Assumes nothing.
 use Rattle.text_out.proofs.Writing.{then, as_plain, as_high}
 use native.Mathlib.Omega.{arith}
-use borrow.Author.Rules.{rules}
 use Rattle.text_out.proofs.put_latin1.Goals as goal
 
 pub returns-then-b-lt128 : goal.returns-then-b-lt128

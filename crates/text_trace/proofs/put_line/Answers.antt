@@ -1,6 +1,5 @@
 -- `put_line` meets its contract. Assumes nothing.
 use Rattle.text_trace.specs.Lines.{line_of}
-use borrow.Author.Rules.{rules}
 use Rattle.text_trace.proofs.put_line.Goals as goal
 
 pub returns-then-measured : goal.returns-then-measured

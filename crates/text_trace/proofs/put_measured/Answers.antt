@@ -1,7 +1,6 @@
 -- `put_measured` meets its contract. Assumes nothing.
 use Rattle.text_trace.specs.Lines.{measured_line}
 use Rattle.text_out.proofs.Writing.{then}
-use borrow.Author.Rules.{rules}
 use Rattle.text_trace.proofs.put_measured.Goals as goal
 
 pub returns-in-At : goal.returns-in-At

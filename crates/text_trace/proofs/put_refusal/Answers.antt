@@ -3,7 +3,6 @@ use Rattle.text_out.specs.Out.{refused_line}
 use Rattle.text_trace.proofs.Lengths.{refused-length}
 use native.Mathlib.Omega.{arith}
 use Rattle.text_out.proofs.Writing.{then}
-use borrow.Author.Rules.{rules}
 use Rattle.text_trace.proofs.put_refusal.Goals as goal
 
 pub put-requires : goal.put-requires

@@ -1,7 +1,6 @@
 -- `put_refused` meets its contract. Assumes nothing.
 use Rattle.text_out.specs.Out.{refused_text}
 use Rattle.text_out.proofs.Writing.{then}
-use borrow.Author.Rules.{rules}
 use Rattle.text_trace.proofs.put_refused.Goals as goal
 
 pub returns : goal.returns

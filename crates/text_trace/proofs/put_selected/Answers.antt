@@ -1,6 +1,5 @@
 -- `put_selected` meets its contract. Assumes nothing.
 use Rattle.text_trace.specs.Lines.{selected_text}
-use borrow.Author.Rules.{rules}
 use Rattle.text_trace.proofs.put_selected.Goals as goal
 
 pub returns-in-Block : goal.returns-in-Block

@@ -4,7 +4,6 @@ use Rattle.text_trace.proofs.PlaceLengths.{place_length}
 use Rattle.text_trace.proofs.Lengths.{selected_length}
 use native.Mathlib.Omega.{arith}
 use Rattle.text_out.proofs.Writing.{then}
-use borrow.Author.Rules.{rules}
 use Rattle.text_trace.proofs.put_shown.Goals as goal
 
 pub put_all-y-requires : goal.put_all-y-requires

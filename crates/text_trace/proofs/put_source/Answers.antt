@@ -1,6 +1,5 @@
 -- `put_source` meets its contract. Assumes nothing.
 use Rattle.text_trace.specs.Lines.{source_line}
-use borrow.Author.Rules.{rules}
 use Rattle.text_trace.proofs.put_source.Goals as goal
 
 pub returns-in-At : goal.returns-in-At

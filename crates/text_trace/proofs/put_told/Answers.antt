@@ -3,7 +3,6 @@ use Rattle.text_trace.specs.Lines.{passed_line}
 use Rattle.text_out.proofs.Writing.{decimal-length}
 use native.Mathlib.Omega.{arith}
 use Rattle.text_out.proofs.Writing.{then}
-use borrow.Author.Rules.{rules}
 use Rattle.text_trace.proofs.put_told.Goals as goal
 
 pub put_all-z-requires : goal.put_all-z-requires

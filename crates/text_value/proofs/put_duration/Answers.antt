@@ -1,5 +1,4 @@
 -- `put_duration` meets its contract. Assumes nothing.
-use borrow.Author.Rules.{rules}
 use Rattle.text_value.specs.Values.{duration_text}
 use Rattle.text_value.proofs.put_duration.Goals as goal
 

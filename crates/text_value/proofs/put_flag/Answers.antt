@@ -1,6 +1,5 @@
 -- `put_flag` meets its contract. Assumes nothing.
 use Rattle.text_value.specs.Values.{flag}
-use borrow.Author.Rules.{rules}
 use Rattle.text_value.proofs.put_flag.Goals as goal
 
 pub returns-then-v : goal.returns-then-v

@@ -1,5 +1,4 @@
 -- `put_lasts` meets its contract. Assumes nothing.
-use borrow.Author.Rules.{rules}
 use Rattle.text_value.proofs.put_lasts.Goals as goal
 
 pub returns-in-T : goal.returns-in-T

@@ -1,7 +1,6 @@
 -- `digit` meets its contract. Assumes nothing.
 use Rattle.text_view.specs.Dump.{digit}
 use borrow.Author.Tests.{lt-ltb, le-ltb}
-use borrow.Author.Rules.{rules}
 use Rattle.text_view.proofs.digit.Goals as goal
 
 pub returns-then-d-lt10 : goal.returns-then-d-lt10

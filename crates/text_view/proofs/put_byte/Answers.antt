@@ -2,7 +2,6 @@
 use native.Mathlib.Omega.{arith}
 use Rattle.text_out.proofs.Writing.{then}
 use Rattle.text_view.specs.Dump.{hex}
-use borrow.Author.Rules.{rules}
 use Rattle.text_view.proofs.put_byte.Goals as goal
 
 pub put-requires : goal.put-requires

@@ -1,10 +1,7 @@
 -- `put_hex` meets its contract: each turn writes the text of one byte more. Assumes nothing.
-use Prim.Native.Nat.{◌-◌}
 use native.Mathlib.Omega.{arith}
-use lib.ListN.{length}
 use Rattle.text_out.proofs.Writing.{same_len}
-use Rattle.text_out.proofs.Loops.{Spells, spells_none, spells_on, spells_over}
-use Rattle.text_view.specs.Dump.{hex}
+use Rattle.text_out.proofs.Loops.{spells_none, spells_on, spells_over}
 use Rattle.text_view.proofs.Parts.{hex-length}
 use Rattle.text_view.proofs.put_hex.Goals as goal
 

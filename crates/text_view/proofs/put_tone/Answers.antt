@@ -2,7 +2,6 @@
 use Rattle.text_out.proofs.Writing.{then, decimal-length}
 use Rattle.text_view.specs.Dump.{tone_text}
 use native.Mathlib.Omega.{arith}
-use borrow.Author.Rules.{rules}
 use Rattle.text_view.proofs.put_tone.Goals as goal
 
 pub put-b-requires : goal.put-b-requires

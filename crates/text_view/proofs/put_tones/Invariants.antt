@@ -1,12 +1,8 @@
 -- The loops of `put_tones`.
-use Rattle.text_view.proofs.Parts.{tones_next, tones-length}
 use Rattle.text_view.specs.Dump.{tones_text}
 use Rattle.text_view.specs.View.{tones_from}
-use Rattle.text_out.proofs.Writing.{wrote_nothing, then, same_len}
 use Rattle.text_out.specs.Out.{Wrote}
 use Prim.Native.Nat.{◌-◌, ◌≤◌}
-use native.Mathlib.Omega.{arith}
-use mathlib.Core.Path.{◌≡◌}
 use Rattle.text_view.proofs.put_tones.Given as goal
 
 abbrev pub invariant-loop-i : goal.invariant-loop-i

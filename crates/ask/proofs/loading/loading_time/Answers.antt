@@ -1,15 +1,11 @@
 -- `loading_time` meets its contract: what is summed up is that of the blocks passed, none of them a stop. Assumes nothing.
-use Prim.Native.Nat.{◌-◌, ◌≤◌}
 use native.Mathlib.Omega.{arith}
 use mathlib.Core.Path.{sym, ◌∙◌}
-use borrow.Author.Rules.{rules}
 use borrow.Author.Tests.{le-ltb, ltb-false}
-use Rattle.rows.specs.Table.{capacity_of}
-use Rattle.rows.specs.Rows.{block, block_most}
 use Rattle.rows.proofs.Clauses.{failed, passed}
-use Rattle.play_entries.specs.Mounted.{tape_of, well_row}
+use Rattle.play_entries.specs.Mounted.{well_row}
 use Rattle.ask.specs.Queries.{loading_of}
-use Rattle.ask.proofs.Loads.{Loads, loads_none, loads_over, loads_bad, summable, loads_stop, loads_on}
+use Rattle.ask.proofs.Loads.{loads_none, loads_over, loads_bad, summable, loads_stop, loads_on}
 use Rattle.ask.proofs.loading.loading_time.Goals as goal
 
 pub returns-then-overfull : goal.returns-then-overfull

@@ -1,6 +1,5 @@
 -- `block_name` meets its contract: the dry run tells the length, and the run is made where the name fits. Assumes nothing.
 use native.Mathlib.Omega.{arith}
-use borrow.Author.Rules.{rules}
 use Rattle.play_entries.specs.Mounted.{tape_of}
 use Rattle.ask.proofs.Refusals.{asked}
 use Rattle.ask.proofs.Named.{row_inside, name_refused, name_short, name_told}

@@ -1,20 +1,17 @@
 -- `read_pieces` meets its contract. Assumes nothing.
-use borrow.Author.Rules.{rules}
 use mathlib.Core.Path.{refl, sym, ◌∙◌}
-use Prim.Native.Nat.{◌-◌}
 use native.Mathlib.Omega.{arith}
 use lib.ListN.{length}
-use Rattle.load_state.specs.Parser.{empty}
 use Rattle.load_state.specs.Holds.{goes}
 use Rattle.cut_grammar.proofs.Cutting.{cut_forward}
-use Rattle.load_source.specs.Source.{tzx_of, tzx_see, fold_from}
+use Rattle.load_source.specs.Source.{tzx_of}
 use Rattle.load_blocks.specs.Does.{lent_of}
-use Rattle.load_source.proofs.Rest.{Rest, rest_begins, rest_over, rest-bad, rest-refuses, rest-no, rest-on, tzx-stops, tzx_sees}
+use Rattle.load_source.proofs.Rest.{rest_begins, rest_over, rest-bad, rest-refuses, rest-no, rest-on, tzx-stops, tzx_sees}
 use Rattle.load_source.proofs.Rest.{sees_piece, blank_holds, cut_fit}
 use Rattle.load_source.proofs.run.read_pieces.Goals as goal
 
 pub loop-at-init : goal.loop-at-init
-loop-at-init c = 
+loop-at-init c =
     let a = c.args in
     let pre = c.requires in
     rest_begins 10 (tzx-stops (lent_of (length a.blocks.now) (length a.tones.now)) a.tape.now a.model)
@@ -28,41 +25,41 @@ shape_of-tones-in-End c = c.loop-at.invariant.holds.len_t
 
 pub returns-in-End : goal.returns-in-End
 unfolding tzx_of
-returns-in-End c = 
+returns-in-End c =
     let a = c.args in
     rest_over c.loop-at.invariant (tzx_sees (lent_of (length a.blocks.now) (length a.tones.now)) a.tape.now a.model c.loop-at.at
     (sym c.in-End.is ∙ c.cut.ensures))
 
 pub act-requires : goal.act-requires
-act-requires c = 
+act-requires c =
     let a = c.args in
     cut_fit a.tape.now c.loop-at.at _ (λ i. (c.type_inv.tape i).fits)
     (sym c.cut.ensures ∙ c.in-Whole.is)
 
 pub loop-at-smaller-in-On : goal.loop-at-smaller-in-On
-loop-at-smaller-in-On c = 
+loop-at-smaller-in-On c =
     let a = c.args in
     let f = cut_forward a.tape.now c.loop-at.at 255
     (sym c.cut.ensures ∙ c.in-Whole.is) in
     omega (arith, f.0, c.loop-at-test.true)
 
 pub loop-at-preserved-in-On : goal.loop-at-preserved-in-On
-loop-at-preserved-in-On c = 
+loop-at-preserved-in-On c =
     let a = c.args in
     let q = sym c.in-Whole.is ∙ c.cut.ensures in
     rest-on c.loop-at.invariant (sees_piece (lent_of (length a.blocks.now) (length a.tones.now)) a.tape.now a.model c.loop-at.at q)
     (c.act.ensures _ _ c.loop-at.invariant.here c.loop-at.invariant.holds) c.in-On.is (cut_forward a.tape.now c.loop-at.at 255 (sym q)).0
 
 pub shape_of-blocks-in-No : goal.shape_of-blocks-in-No
-shape_of-blocks-in-No c = 
+shape_of-blocks-in-No c =
     c.act.auto.blocks ∙ c.loop-at.invariant.holds.len_b
 
 pub shape_of-tones-in-No : goal.shape_of-tones-in-No
-shape_of-tones-in-No c = 
+shape_of-tones-in-No c =
     c.act.auto.tones ∙ c.loop-at.invariant.holds.len_t
 
 pub returns-in-No : goal.returns-in-No
-returns-in-No c = 
+returns-in-No c =
     let a = c.args in
     let q = sym c.in-Whole.is ∙ c.cut.ensures in
     rest-no c.loop-at.invariant (sees_piece (lent_of (length a.blocks.now) (length a.tones.now)) a.tape.now a.model c.loop-at.at q)
@@ -70,7 +67,7 @@ returns-in-No c =
 
 pub loop-at-preserved : goal.loop-at-preserved
 unfolding tzx_of
-loop-at-preserved c = 
+loop-at-preserved c =
     let a = c.args in
     rest-on c.loop-at.invariant (tzx_sees (lent_of (length a.blocks.now) (length a.tones.now)) a.tape.now a.model c.loop-at.at
     (sym c.in-Unknown.is ∙ c.cut.ensures)) (goes c.loop-at.invariant.holds) refl (omega arith)
@@ -83,7 +80,7 @@ shape_of-tones-in-Short c = c.loop-at.invariant.holds.len_t
 
 pub returns-in-Short : goal.returns-in-Short
 unfolding tzx_of
-returns-in-Short c = 
+returns-in-Short c =
     let a = c.args in
     rest-bad c.loop-at.invariant (tzx_sees (lent_of (length a.blocks.now) (length a.tones.now)) a.tape.now a.model c.loop-at.at
     (sym c.in-Short.is ∙ c.cut.ensures))
@@ -96,7 +93,7 @@ shape_of-tones-in-Overflow c = c.loop-at.invariant.holds.len_t
 
 pub returns-in-Overflow : goal.returns-in-Overflow
 unfolding tzx_of
-returns-in-Overflow c = 
+returns-in-Overflow c =
     let a = c.args in
     rest-refuses c.loop-at.invariant (tzx_sees (lent_of (length a.blocks.now) (length a.tones.now)) a.tape.now a.model c.loop-at.at
     (sym c.in-Overflow.is ∙ c.cut.ensures))
@@ -108,7 +105,7 @@ pub shape_of-tones : goal.shape_of-tones
 shape_of-tones c = c.loop-at.invariant.holds.len_t
 
 pub returns : goal.returns
-returns c = 
+returns c =
     let a = c.args in
     rest_over c.loop-at.invariant
     (tzx-stops (lent_of (length a.blocks.now) (length a.tones.now)) a.tape.now a.model c.loop-at.at c.loop-at-test.false)

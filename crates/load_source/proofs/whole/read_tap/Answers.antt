@@ -1,18 +1,15 @@
 -- `read_tap` meets its contract. Assumes nothing.
-use borrow.Author.Rules.{rules}
 use mathlib.Core.Path.{sym, ◌∙◌}
-use Prim.Native.Nat.{◌-◌}
 use native.Mathlib.Omega.{arith}
 use lib.ListN.{length}
-use Rattle.load_state.specs.Parser.{empty}
 use Rattle.cut_grammar.proofs.CuttingTap.{tap_forward}
-use Rattle.load_source.specs.Source.{tap_of, tap_see, fold_from, read_tap}
+use Rattle.load_source.specs.Source.{tap_of, read_tap}
 use Rattle.load_blocks.specs.Does.{lent_of}
-use Rattle.load_source.proofs.Rest.{Rest, rest_begins, rest_over, rest-bad, rest-no, rest-on, tap_stops, tap_sees, blank_holds}
+use Rattle.load_source.proofs.Rest.{rest_begins, rest_over, rest-bad, rest-no, rest-on, tap_stops, tap_sees, blank_holds}
 use Rattle.load_source.proofs.whole.read_tap.Goals as goal
 
 pub loop-at-init : goal.loop-at-init
-loop-at-init c = 
+loop-at-init c =
     let a = c.args in
     let pre = c.requires in
     rest_begins 0 (tap_stops (lent_of (length a.blocks.now) (length a.tones.now)) a.tape.now)
@@ -26,7 +23,7 @@ shape_of-tones-in-End c = c.loop-at.invariant.holds.len_t
 
 pub returns-in-End : goal.returns-in-End
 unfolding tap_of read_tap
-returns-in-End c = 
+returns-in-End c =
     let a = c.args in
     rest_over c.loop-at.invariant (tap_sees (lent_of (length a.blocks.now) (length a.tones.now)) a.tape.now c.loop-at.at
     (sym c.in-End.is ∙ c.cut_tap.ensures))
@@ -39,20 +36,20 @@ shape_of-tones-in-Lone c = c.loop-at.invariant.holds.len_t
 
 pub returns-in-Lone : goal.returns-in-Lone
 unfolding tap_of read_tap
-returns-in-Lone c = 
+returns-in-Lone c =
     let a = c.args in
     rest_over c.loop-at.invariant (tap_sees (lent_of (length a.blocks.now) (length a.tones.now)) a.tape.now c.loop-at.at
     (sym c.in-Lone.is ∙ c.cut_tap.ensures))
 
 pub loop-at-smaller : goal.loop-at-smaller
-loop-at-smaller c = 
+loop-at-smaller c =
     let a = c.args in
     let f = tap_forward a.tape.now c.loop-at.at (sym c.cut_tap.ensures ∙ c.in-Block.is) in
     omega (arith, f.0, f.1)
 
 pub loop-at-preserved : goal.loop-at-preserved
 unfolding tap_of
-loop-at-preserved c = 
+loop-at-preserved c =
     let a = c.args in
     let q = sym c.in-Block.is ∙ c.cut_tap.ensures in
     rest-on c.loop-at.invariant (tap_sees (lent_of (length a.blocks.now) (length a.tones.now)) a.tape.now c.loop-at.at q) (rw (
@@ -62,16 +59,16 @@ loop-at-preserved c =
     (omega (arith, (tap_forward a.tape.now c.loop-at.at (sym q)).0))
 
 pub shape_of-blocks-in-No : goal.shape_of-blocks-in-No
-shape_of-blocks-in-No c = 
+shape_of-blocks-in-No c =
     c.standard_data_block.auto.blocks ∙ c.loop-at.invariant.holds.len_b
 
 pub shape_of-tones-in-No : goal.shape_of-tones-in-No
-shape_of-tones-in-No c = 
+shape_of-tones-in-No c =
     c.standard_data_block.auto.tones ∙ c.loop-at.invariant.holds.len_t
 
 pub returns-in-No : goal.returns-in-No
 unfolding tap_of read_tap
-returns-in-No c = 
+returns-in-No c =
     let a = c.args in
     let q = sym c.in-Block.is ∙ c.cut_tap.ensures in
     rest-no c.loop-at.invariant (tap_sees (lent_of (length a.blocks.now) (length a.tones.now)) a.tape.now c.loop-at.at q) (rw (
@@ -88,7 +85,7 @@ shape_of-tones-in-Short c = c.loop-at.invariant.holds.len_t
 
 pub returns-in-Short : goal.returns-in-Short
 unfolding tap_of read_tap
-returns-in-Short c = 
+returns-in-Short c =
     let a = c.args in
     rest-bad c.loop-at.invariant (tap_sees (lent_of (length a.blocks.now) (length a.tones.now)) a.tape.now c.loop-at.at
     (sym c.in-Short.is ∙ c.cut_tap.ensures))
@@ -101,6 +98,6 @@ shape_of-tones c = c.loop-at.invariant.holds.len_t
 
 pub returns : goal.returns
 unfolding read_tap
-returns c = 
+returns c =
     let a = c.args in
     rest_over c.loop-at.invariant (tap_stops (lent_of (length a.blocks.now) (length a.tones.now)) a.tape.now c.loop-at.at c.loop-at-test.false)

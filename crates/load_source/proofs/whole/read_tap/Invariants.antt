@@ -1,14 +1,10 @@
 -- The loops of `whole.read_tap`.
-use borrow.Author.Rules.{rules}
-use mathlib.Core.Path.{sym, ◌∙◌}
 use Prim.Native.Nat.{◌-◌}
-use native.Mathlib.Omega.{arith}
 use lib.ListN.{length}
 use Rattle.load_state.specs.Parser.{empty}
-use Rattle.cut_grammar.proofs.CuttingTap.{tap_forward}
-use Rattle.load_source.specs.Source.{tap_of, tap_see, fold_from, read_tap}
+use Rattle.load_source.specs.Source.{tap_see, fold_from}
 use Rattle.load_blocks.specs.Does.{lent_of}
-use Rattle.load_source.proofs.Rest.{Rest, rest_begins, rest_over, rest-bad, rest-no, rest-on, tap_stops, tap_sees, blank_holds}
+use Rattle.load_source.proofs.Rest.{Rest}
 use Rattle.load_source.proofs.whole.read_tap.Given as goal
 
 abbrev pub invariant-loop-at : goal.invariant-loop-at

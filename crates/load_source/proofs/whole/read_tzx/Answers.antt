@@ -5,7 +5,6 @@ use Rattle.load_source.specs.Does.{fails}
 use Rattle.load_source.specs.Source.{headed}
 use lib.ListN.{length}
 use mathlib.Core.Path.{sym, ◌∙◌}
-use borrow.Author.Rules.{rules}
 use Rattle.load_source.proofs.whole.read_tzx.Goals as goal
 
 pub too_many_bits-requires : goal.too_many_bits-requires
@@ -13,7 +12,7 @@ too_many_bits-requires c = done_room c.read_pieces.ensures c.in-Done.is
 
 pub returns-then-too_many_bits : goal.returns-then-too_many_bits
 unfolding headed
-returns-then-too_many_bits c = 
+returns-then-too_many_bits c =
     let a = c.args in
     rw (tzx-headed (lent_of (length a.blocks.now) (length a.tones.now)) a.tape.now a.model
     (sym c.in-Version.is ∙ c.head.ensures))
@@ -21,7 +20,7 @@ returns-then-too_many_bits c =
 
 pub returns-else-too_many_bits : goal.returns-else-too_many_bits
 unfolding headed
-returns-else-too_many_bits c = 
+returns-else-too_many_bits c =
     let a = c.args in
     rw (tzx-headed (lent_of (length a.blocks.now) (length a.tones.now)) a.tape.now a.model
     (sym c.in-Version.is ∙ c.head.ensures))
@@ -29,7 +28,7 @@ returns-else-too_many_bits c =
 
 pub returns-in-Failed : goal.returns-in-Failed
 unfolding headed
-returns-in-Failed c = 
+returns-in-Failed c =
     let a = c.args in
     rw (tzx-headed (lent_of (length a.blocks.now) (length a.tones.now)) a.tape.now a.model
     (sym c.in-Version.is ∙ c.head.ensures))
@@ -37,7 +36,7 @@ returns-in-Failed c =
 
 pub returns-in-Refused : goal.returns-in-Refused
 unfolding headed
-returns-in-Refused c = 
+returns-in-Refused c =
     let a = c.args in
     rw (tzx-headed (lent_of (length a.blocks.now) (length a.tones.now)) a.tape.now a.model
     (sym c.in-Version.is ∙ c.head.ensures))
@@ -45,14 +44,14 @@ returns-in-Refused c =
 
 pub returns-in-BadSignature : goal.returns-in-BadSignature
 unfolding headed
-returns-in-BadSignature c = 
+returns-in-BadSignature c =
     let a = c.args in
     rw (tzx-headed (lent_of (length a.blocks.now) (length a.tones.now)) a.tape.now a.model
     (sym c.in-BadSignature.is ∙ c.head.ensures)) fails
 
 pub returns-in-Short : goal.returns-in-Short
 unfolding headed
-returns-in-Short c = 
+returns-in-Short c =
     let a = c.args in
     rw (tzx-headed (lent_of (length a.blocks.now) (length a.tones.now)) a.tape.now a.model
     (sym c.in-Short.is ∙ c.head.ensures)) fails

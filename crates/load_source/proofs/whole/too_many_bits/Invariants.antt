@@ -1,15 +1,12 @@
 -- The loops of `whole.too_many_bits`.
-use Rattle.load_source.proofs.Judged.{bits_turn, bits_none}
 use Rattle.load_source.specs.Source.{too_many_bits}
 use Rattle.rows.specs.Rows.{block}
 use Rattle.rows.specs.Table.{table_of}
 use Rattle.rows.specs.declared.Block.{Block}
-use borrow.Author.Rules.{rules}
 use lib.ListN.{length, drop}
-use native.Mathlib.Omega.{arith}
 use mathlib.Core.List.{List}
 use Prim.Native.Nat.{ℕ, ◌-◌, ◌≤◌}
-use mathlib.Core.Path.{◌≡◌, refl, sym, ◌∙◌}
+use mathlib.Core.Path.{◌≡◌}
 use Rattle.load_source.proofs.whole.too_many_bits.Given as goal
 
 abbrev pub invariant-loop-i : goal.invariant-loop-i

@@ -1,6 +1,5 @@
 -- `put_count` meets its contract: five writes, one after the other. Assumes nothing.
 use native.Mathlib.Omega.{arith}
-use borrow.Author.Rules.{rules}
 use Rattle.text_out.proofs.Writing.{decimal-length, then}
 use Rattle.text_listing.proofs.PageTexts.{format_long}
 use Rattle.text_listing.specs.Page.{count_text}

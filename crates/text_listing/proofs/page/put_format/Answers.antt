@@ -1,5 +1,4 @@
 -- `put_format` meets its contract: each arm is one format. Assumes nothing.
-use borrow.Author.Rules.{rules}
 use Rattle.text_listing.specs.Page.{format_text}
 use Rattle.text_listing.proofs.page.put_format.Goals as goal
 

@@ -1,7 +1,6 @@
 -- `put_listing` meets its contract: five writes, one after the other. Assumes nothing.
 use native.Mathlib.Omega.{arith}
 use mathlib.Core.List.{[]}
-use borrow.Author.Rules.{rules}
 use Rattle.play_entries.specs.Mounted.{tape_of}
 use Rattle.text_listing.proofs.Texts.{rows-most}
 use Rattle.text_listing.proofs.PageTexts.{model_long, count_long, listing_written}

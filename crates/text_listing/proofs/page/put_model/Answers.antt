@@ -1,7 +1,6 @@
 -- `put_model` meets its contract: each return is one model. Assumes nothing.
 use native.Mathlib.Omega.{arith}
 use borrow.Author.Tests.{eq-eqb, ne_eqb}
-use borrow.Author.Rules.{rules}
 use Rattle.text_listing.specs.Page.{model_text}
 use Rattle.text_listing.proofs.page.put_model.Goals as goal
 

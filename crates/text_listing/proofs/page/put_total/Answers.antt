@@ -1,6 +1,5 @@
 -- `put_total` meets its contract: three writes, one after the other. Assumes nothing.
 use native.Mathlib.Omega.{arith}
-use borrow.Author.Rules.{rules}
 use Rattle.text_out.proofs.Writing.{then, decimal-length}
 use Rattle.text_listing.specs.Page.{loading_text}
 use Rattle.text_listing.proofs.page.put_total.Goals as goal

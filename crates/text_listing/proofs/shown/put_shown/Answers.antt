@@ -1,10 +1,7 @@
 -- `put_shown` meets its contract: each turn writes one code point, and what is left ends what was begun. Assumes nothing.
-use Prim.Native.Nat.{◌-◌}
 use native.Mathlib.Omega.{arith}
-use lib.ListN.{length}
-use borrow.Author.Rules.{rules}
 use Rattle.text_out.proofs.Writing.{same_len}
-use Rattle.text_listing.proofs.Showing.{Shows, shows_none, shows_on, shows_over, width_some}
+use Rattle.text_listing.proofs.Showing.{shows_none, shows_on, shows_over, width_some}
 use Rattle.text_listing.proofs.shown.put_shown.Goals as goal
 
 pub loop-i-init : goal.loop-i-init

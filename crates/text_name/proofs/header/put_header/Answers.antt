@@ -4,7 +4,6 @@ use Prim.Native.Nat.{◌+◌}
 use lib.ListN.{get_or}
 use Rattle.text_name.proofs.Headers.{as_header, type_length}
 use native.Mathlib.Omega.{arith}
-use borrow.Author.Rules.{rules}
 use Rattle.text_name.proofs.header.put_header.Goals as goal
 
 pub put_all-b-requires : goal.put_all-b-requires

@@ -3,7 +3,6 @@ use Rattle.text_trace.specs.Places.{numbers}
 use Rattle.text_trace.proofs.PlaceLengths.{spaced-length}
 use native.Mathlib.Omega.{arith}
 use Rattle.text_out.proofs.Writing.{then}
-use borrow.Author.Rules.{rules}
 use Rattle.text_trace.proofs.place.put_numbers.Goals as goal
 
 pub put_spaced-b-requires : goal.put_spaced-b-requires

@@ -1,7 +1,6 @@
 -- `put_phase` meets its contract. Assumes nothing.
 use Rattle.text_trace.specs.Places.{phase_text}
 use Rattle.text_out.proofs.Writing.{then}
-use borrow.Author.Rules.{rules}
 use Rattle.text_trace.proofs.place.put_phase.Goals as goal
 
 pub returns-in-Start : goal.returns-in-Start

@@ -4,7 +4,6 @@ use Rattle.text_trace.proofs.PlaceLengths.{phase_length}
 use Rattle.text_out.proofs.Writing.{decimal-length}
 use native.Mathlib.Omega.{arith}
 use Rattle.text_out.proofs.Writing.{then}
-use borrow.Author.Rules.{rules}
 use Rattle.text_trace.proofs.place.put_place.Goals as goal
 
 pub put-b-requires : goal.put-b-requires

@@ -3,7 +3,6 @@ use Rattle.text_trace.specs.Places.{left_text}
 use Rattle.text_value.proofs.Lengths.{duration_length}
 use native.Mathlib.Omega.{arith}
 use Rattle.text_out.proofs.Writing.{then}
-use borrow.Author.Rules.{rules}
 use Rattle.text_trace.proofs.place.put_rest.Goals as goal
 
 pub put_all-c-requires : goal.put_all-c-requires

@@ -1,7 +1,6 @@
 -- `put_spaced` meets its contract. Assumes nothing.
 use Rattle.text_trace.specs.Places.{spaced}
 use Rattle.text_out.proofs.Writing.{then}
-use borrow.Author.Rules.{rules}
 use Rattle.text_trace.proofs.place.put_spaced.Goals as goal
 
 pub returns : goal.returns

@@ -3,7 +3,6 @@ use Rattle.text_view.proofs.Parts.{field_next}
 use Rattle.text_view.specs.Dump.{bits_text}
 use Rattle.text_out.proofs.Writing.{then}
 use native.Mathlib.Omega.{arith}
-use borrow.Author.Rules.{rules}
 use Rattle.text_view.proofs.figures.put_bits.Goals as goal
 
 pub put_field-b-requires : goal.put_field-b-requires

@@ -3,7 +3,6 @@ use Rattle.text_view.proofs.Parts.{pause_next}
 use Rattle.text_view.specs.Dump.{end_text}
 use Rattle.text_out.proofs.Writing.{then}
 use native.Mathlib.Omega.{arith}
-use borrow.Author.Rules.{rules}
 use Rattle.text_view.proofs.figures.put_end.Goals as goal
 
 pub put_all-requires : goal.put_all-requires

@@ -1,7 +1,6 @@
 -- `put_field` meets its contract. Assumes nothing.
 use Rattle.text_view.specs.Dump.{field}
 use Rattle.text_out.proofs.Writing.{then}
-use borrow.Author.Rules.{rules}
 use Rattle.text_view.proofs.figures.put_field.Goals as goal
 
 pub returns : goal.returns

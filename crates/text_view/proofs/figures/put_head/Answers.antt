@@ -3,7 +3,6 @@ use Rattle.text_view.proofs.Parts.{mark_next, bits_next}
 use Rattle.text_view.specs.Dump.{head_text}
 use Rattle.text_out.proofs.Writing.{then}
 use native.Mathlib.Omega.{arith}
-use borrow.Author.Rules.{rules}
 use Rattle.text_view.proofs.figures.put_head.Goals as goal
 
 pub put_bits-b-requires : goal.put_bits-b-requires

@@ -3,7 +3,6 @@ use Rattle.text_view.proofs.Parts.{decimal_next}
 use Rattle.text_view.specs.Dump.{sel_text}
 use Rattle.text_out.proofs.Writing.{then}
 use native.Mathlib.Omega.{arith}
-use borrow.Author.Rules.{rules}
 use Rattle.text_view.proofs.figures.put_mark.Goals as goal
 
 pub put_all-b-requires : goal.put_all-b-requires

@@ -25,5 +25,8 @@ pub read_described : (full k : ℕ) (tape : List ℕ) (from : ℕ) → 0x26 ≤ 
     → read_at (kind_of full k) tape (At from) ≡ Unknown true
 unfolding kind_of read_at
 read_described full k tape from h h' =
-    rw (lookup-none (kinds full) k (described k) (no_key full k h h'), between_above 0x15 0x18 k (omega arith),
-    between_in 0x26 0x28 k h (omega arith))
+    rw (
+      lookup-none (kinds full) k (described k) (no_key full k h h'),
+      between_above 0x15 0x18 k (omega arith),
+      between_in 0x26 0x28 k h (omega arith),
+    )

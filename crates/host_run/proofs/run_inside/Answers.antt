@@ -30,8 +30,7 @@ loop-i-preserved c =
     let n = c.wide-n.result in
     let h : c.loop-i.i < length ns = omega arith in
     let l : n < c.loop-i.left = omega arith in
-    let room = put-length c.loop-i.answers c.loop-i.i c.with_left.result (omega (arith, c.loop-i.invariant.1.0, c.requires.holds_rows)) in
-    (
+    let room = put-length c.loop-i.answers c.loop-i.i c.with_left.result (omega (arith, c.loop-i.invariant.1.0, c.requires.holds_rows)) in (
       omega arith,
       (
         ap length c.put_answer.ensures ∙ room ∙ c.loop-i.invariant.1.0,

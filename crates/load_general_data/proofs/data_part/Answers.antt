@@ -11,13 +11,13 @@ returns-then-g-eq0 c = rw (eq-eqb _ _ c.if-g-eq0.true)
 
 pub returns-then-g-eq2 : goal.returns-then-g-eq2
 unfolding data_part
-returns-then-g-eq2 c = 
+returns-then-g-eq2 c =
     rw (ne_eqb _ _ c.if-g-eq0.false, lt-leb 8 c.args.g.nb (omega arith), eq-eqb _ _ c.if-g-eq2.true)
     c.singles_part.ensures
 
 pub returns-then-g-eq1 : goal.returns-then-g-eq1
 unfolding data_part
-returns-then-g-eq1 c = 
+returns-then-g-eq1 c =
     rw (
       ne_eqb _ _ c.if-g-eq0.false,
       lt-leb 8 c.args.g.nb (omega arith),
@@ -27,7 +27,7 @@ returns-then-g-eq1 c =
 
 pub returns : goal.returns
 unfolding data_part judged_of
-returns c = 
+returns c =
     rw (
       ne_eqb _ _ c.if-g-eq0.false,
       lt-leb 8 c.args.g.nb (omega arith),

@@ -11,6 +11,6 @@ returns-then-length-ne0 c = λ tape tt B N t h. rw (ne_eqb c.args.length 0 (λ e
 
 pub returns : goal.returns
 unfolding does stop48_deed
-returns c = 
+returns c =
     let a = c.args in
     λ tape tt B N t h. rw (eq-eqb a.length 0 (omega arith), ne_eqb a.model 0 (λ e. omega arith)) (goes h)

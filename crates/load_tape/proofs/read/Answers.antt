@@ -9,12 +9,12 @@ use mathlib.Core.Path.{◌∙◌}
 use Rattle.load_tape.proofs.read.Goals as goal
 
 pub read_tzx-requires : goal.read_tzx-requires
-read_tzx-requires c = 
+read_tzx-requires c =
     let a = c.args in
     (blanked (length a.blocks.now) c.blank.ensures, blanked (length a.tones.now) c.blank-2.ensures)
 
 pub returns-in-Done : goal.returns-in-Done
-returns-in-Done c = 
+returns-in-Done c =
     let a = c.args in
     rw (load_reads (lent_of (length a.blocks.now) (length a.tones.now)) a.tape.now a.model
     (lt-leb 3 a.model (omega arith)) (le-ltb 1048576 (length a.tape.now) (omega arith)))
@@ -22,7 +22,7 @@ returns-in-Done c =
     (read_tap (lent_of (length a.blocks.now) (length a.tones.now)) a.tape.now) c.in-Done.is)
 
 pub returns-in-Failed : goal.returns-in-Failed
-returns-in-Failed c = 
+returns-in-Failed c =
     let a = c.args in
     rw (load_reads (lent_of (length a.blocks.now) (length a.tones.now)) a.tape.now a.model
     (lt-leb 3 a.model (omega arith)) (le-ltb 1048576 (length a.tape.now) (omega arith))
@@ -31,7 +31,7 @@ returns-in-Failed c =
     (grind arith)
 
 pub returns-in-Refused : goal.returns-in-Refused
-returns-in-Refused c = 
+returns-in-Refused c =
     let a = c.args in
     rw (load_reads (lent_of (length a.blocks.now) (length a.tones.now)) a.tape.now a.model
     (lt-leb 3 a.model (omega arith)) (le-ltb 1048576 (length a.tape.now) (omega arith))

@@ -6,7 +6,7 @@ use Rattle.prog_unread.proofs.Lengths.{failure_length}
 use Rattle.prog_unread.proofs.put_attempt.Goals as goal
 
 pub put-requires : goal.put-requires
-put-requires c = 
+put-requires c =
     omega (
       arith,
       c.requires,
@@ -16,5 +16,5 @@ put-requires c =
     )
 
 pub returns : goal.returns
-returns c = 
+returns c =
     then (then c.put_all-a.ensures c.put_failure-b.ensures) c.put.ensures

@@ -6,7 +6,7 @@ use Rattle.prog_unread.specs.Report.{field_text}
 use Rattle.prog_unread.proofs.put_field.Goals as goal
 
 pub put_said-requires : goal.put_said-requires
-put_said-requires c = 
+put_said-requires c =
     let a = c.args in
     (omega (arith, c.put_said-a.ensures.count, decimal-length a.place), omega arith)
 

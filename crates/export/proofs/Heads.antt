@@ -5,7 +5,6 @@ use borrow.Author.Tests.{ne_eqb, le-leb}
 use mathlib.Core.Path.{◌≡◌, refl, sym, ◌∙◌}
 use mathlib.Core.List.{List, [], ◌∷◌}
 use lib.ListN.{length}
-use Rattle.refusals.specs.Refusals.{no_room}
 use Rattle.text_out.specs.Out.{told}
 use Rattle.play_entries.specs.Places.{Tape}
 use Rattle.play_walk.specs.declared.Position.{Position}

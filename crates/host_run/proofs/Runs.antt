@@ -1,14 +1,14 @@
 -- A RUN GOES ON: by the calls that end inside an entry, and by one call. Assumes nothing.
-use Prim.Native.Nat.{ℕ, zero, suc, ◌+◌, ◌-◌, ◌*◌, ◌/◌, ◌≤◌, ◌<◌}
+use Prim.Native.Nat.{ℕ, suc, ◌+◌, ◌-◌, ◌*◌, ◌/◌, ◌≤◌, ◌<◌}
 use native.Mathlib.Omega.{arith}
 use native.Mathlib.Nat.{eq-zero-or-pos}
 use native.Mathlib.Numerals.{add-one}
-use borrow.Author.Tests.{lt-ltb, le-ltb, ltb-true, ltb-false, eq-eqb, ne_eqb}
+use borrow.Author.Tests.{lt-ltb, le-ltb, ltb-true, eq-eqb, ne_eqb}
 use mathlib.Core.Path.{◌≡◌, refl, sym, ap, subst, ◌∙◌}
 use mathlib.Core.Bool.{Bool, true, false}
 use mathlib.Core.Logic.{⊎_elim}
 use mathlib.Core.List.{List, [], ◌∷◌}
-use lib.Dec.{ltb, eqb}
+use lib.Dec.{ltb}
 use lib.ListN.{length, get_or, drop}
 use lib.Seq.{drop-cons, drop-drop}
 use Rattle.law_base.specs.Rules.{◌⇒◌, ◌∣◌}
@@ -26,7 +26,7 @@ use Rattle.play_walk.specs.Heads.{placed, stand, Walkable}
 use Rattle.play_walk.proofs.Landing.{walkable_less}
 use Rattle.play_deck.specs.declared.Check.TheVariants.{Fine}
 use Rattle.play_deck.specs.declared.Finding.{Finding}
-use Rattle.play_deck.specs.Deck.{judged, unless, stays, play_measured, play_source}
+use Rattle.play_deck.specs.Deck.{unless, stays, play_measured, play_source}
 use Rattle.play_deck.specs.Assay.{Assayed}
 use Rattle.play_deck.specs.Inside.{ends_inside, less_by, in_place}
 use Rattle.play_deck.specs.Calls.{position_in, passed_in, answer_level}

@@ -1,14 +1,11 @@
 -- WHAT A RUN'S ROWS SAY: each is a single call's, and together they are the runs of calls that demand 3 speaks of. Assumes nothing.
-use Prim.Native.Nat.{ℕ, zero, suc, ◌+◌, ◌<◌}
-use native.Mathlib.Omega.{arith}
-use mathlib.Core.Path.{◌≡◌, refl, ap, ap₂, ◌∙◌}
+use Prim.Native.Nat.{ℕ, suc}
+use mathlib.Core.Path.{◌≡◌, refl, ap}
 use mathlib.Core.List.{List, [], ◌∷◌, ◌++◌}
 use lib.ListN.{length}
 use Rattle.play_entries.specs.Places.{Tape}
 use Rattle.play_walk.specs.declared.Position.{Position}
-use Rattle.play_walk.specs.declared.Stand.{Stand}
 use Rattle.play_walk.specs.declared.Reached.{Reached}
-use Rattle.play_walk.specs.declared.Reached.TheVariants.{At, Stopped, Ended}
 use Rattle.play_deck.specs.Deck.{play_measured, play_source}
 use Rattle.play_deck.specs.Calls.{position_in, passed_in, answer_level, counting, run_calls, run_sources}
 use Rattle.host_words.specs.Words.{words_of, flag_of}

@@ -1,6 +1,6 @@
 -- CALLS THAT END INSIDE ONE ENTRY, and a turn of a run: shortcuts of the code, which no public contract cites.
 -- Definitions alone; assumes nothing.
-use Rattle.std.specs.Prelude.{ℕ, ◌-◌, ◌*◌, ◌≤◌, ◌≡◌, Bool, List, [], ◌∷◌, ltb, length, drop}
+use Rattle.std.specs.Prelude.{ℕ, ◌-◌, ◌*◌, ◌≤◌, Bool, List, [], ◌∷◌, ltb, length, drop}
 use Rattle.law_base.specs.Rules.{◌⇒◌, ◌∣◌}
 use Rattle.rows.specs.Table.{put_all}
 use Rattle.play_entries.specs.Places.{Tape}

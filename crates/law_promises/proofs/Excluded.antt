@@ -43,7 +43,7 @@ use Rattle.play_deck.specs.Calls.{position_in, passed_in}
 use Rattle.text_listing.specs.Shown.{shown}
 use Rattle.text_listing.specs.Lines.{time_text, mark_text, row_text_by, rows_text_by}
 use Rattle.text_listing.specs.Page.{model_text, format_text, count_text, loading_text, rest_text, listing_text}
-use Rattle.listing.specs.Listing.{loaded_of, Listing, mounted, listed, listed_by, listing_of, listing_by, answer_to}
+use Rattle.listing.specs.Listing.{loaded_of, Listing, mounted, listed_by, listing_of, listing_by, answer_to}
 
 -- an empty tape is listed in 37 bytes, and `00 00` in 67
 lists : (answer_to (listing_of [] 0) (replicate 99 0) ≡ 37) × (answer_to (listing_of (0 ∷ 0 ∷ []) 0) (replicate 99 0) ≡ 67)

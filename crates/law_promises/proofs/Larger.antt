@@ -1,9 +1,8 @@
 -- LARGER TABLES, THE SAME LOAD, on the load's contract: what a load that was accepted answers and leaves, one with more words answers and
 -- leaves too, with zeros behind. Assumes nothing but that bytes are below 256.
-use Prim.Native.Nat.{ℕ, ◌+◌, ◌*◌, ◌-◌, ◌/◌, ◌≤◌}
+use Prim.Native.Nat.{ℕ, ◌+◌, ◌*◌, ◌-◌, ◌≤◌}
 use native.Mathlib.Omega.{arith}
-use native.Mathlib.Nat.{le_trans, mul-le-mul_right, div-mul-le_self}
-use mathlib.Core.Path.{◌≡◌, refl, sym, ap, ◌∙◌}
+use mathlib.Core.Path.{◌≡◌, sym, ap, ◌∙◌}
 use mathlib.Core.Bool.{false}
 use mathlib.Core.List.{List, ◌++◌, append_assoc}
 use lib.ListN.{length, drop, length-replicate, replicate-append-replicate}
@@ -12,10 +11,9 @@ use borrow.Fn.Kinds.{Dens, ended_of}
 use contract.Lifetimes.{Lfts}
 use denote.Triple.Clauses.{AtExit}
 use Rattle.rows.specs.Table.{Codec, zeros, flat, table_over, table_of}
-use Rattle.rows.specs.Rows.{block, tone, block_most, tone_most}
+use Rattle.rows.specs.Rows.{block, tone}
 use Rattle.load_state.specs.Parser.{Parsed}
 use Rattle.load_state.specs.Holds.{block_room, tone_room}
-use Rattle.load_blocks.specs.Adds.{Lent}
 use Rattle.load_blocks.specs.Does.{lent_of}
 use Rattle.load_source.specs.Source.{Load}
 use Rattle.load_tape.specs.declared.Format.{Format}
@@ -29,7 +27,7 @@ use Rattle.text_name.proofs.Selecting.{name_all-length}
 use Rattle.law_every_load.specs.Sizes.{Bytes}
 use Rattle.law_every_load.specs.OfSource.{Reads, as_tzx, as_tap}
 use Rattle.law_every_load.proofs.Left.{left}
-use Rattle.law_every_load.proofs.Room.{Within, load_within}
+use Rattle.law_every_load.proofs.Room.{load_within}
 use Rattle.law_promises.specs.Boundless.{Larger}
 use Rattle.law_promises.proofs.Capacity.{named_reads, larger_load}
 

@@ -5,7 +5,7 @@ use Prim.Native.Char.{code}
 use native.Mathlib.Omega.{arith}
 use mathlib.Core.Path.{◌≡◌, refl, sym, subst}
 use mathlib.Core.Bool.{Bool, true, false, ◌&&◌}
-use mathlib.Core.List.{List, [], ◌∷◌, ◌++◌, map}
+use mathlib.Core.List.{List, [], ◌∷◌, map}
 use lib.ListN.{get_or, take, drop, get_or-map}
 use lib.Dec.{ltb, eqb}
 use borrow.Author.Tests.{lt-ltb, ltb-true}
@@ -17,7 +17,7 @@ use Rattle.text_name.specs.Headers.{type_name, header_name}
 use Rattle.rows.specs.declared.Block.{Block}
 use Rattle.text_name.specs.Names.{is_header, size_shown, size_name, guessed, name_of}
 use Rattle.text_listing.specs.Shown.{shown}
-use Rattle.text_listing.specs.Points.{bytes_of, is_scalar, are_scalars, Utf8, shown_point}
+use Rattle.text_listing.specs.Points.{bytes_of, is_scalar, Utf8, shown_point}
 use Rattle.text_listing.proofs.Utf8.{utf8-none, utf8_join, utf8_rule, utf8_one, utf8-plain}
 use Rattle.text_listing.proofs.Points.{shown_points}
 use Rattle.law_every_load.specs.Sizes.{Bytes}

@@ -3,7 +3,7 @@ use Prim.Native.Nat.{ℕ, ◌+◌, ◌≤◌, ◌<◌}
 use native.Mathlib.Omega.{arith}
 use borrow.Author.Tests.{le-leb, lt-leb, le-ltb, leb-true, leb-false, ltb-false, ne_eqb}
 use mathlib.Core.Path.{◌≡◌, refl, sym, ap, subst, ◌∙◌}
-use mathlib.Core.Bool.{Bool, true, false, not}
+use mathlib.Core.Bool.{Bool, true, false}
 use mathlib.Core.Logic.{◌↔◌, ⊎_elim}
 use mathlib.Core.List.{List, ◌∷◌, ◌++◌}
 use lib.ListN.{length, get_or}
@@ -45,7 +45,7 @@ use Rattle.load_source.specs.Source.{or_else, load_of}
 use Rattle.load_source.proofs.Rest.{tzx_sees, sees_piece, tap_sees}
 use Rattle.load_tape.specs.declared.Loaded.TheVariants.{Unread, Refused}
 use Rattle.load_tape.specs.Load.{named_load, load_named, answer_of, refusal_no}
-use Rattle.law_every_load.proofs.Refusals.{says, fails, sound_says}
+use Rattle.law_every_load.proofs.Refusals.{sound_says}
 use Rattle.law_promises.specs.Numbers.{Admitted, Headed, ByTzx, Comes, here, past, Due, ends, errs, stands, answers}
 use Rattle.law_promises.specs.Unread.{PieceMet, field-short, length48, TzxMet, head_short, head_other, at_piece, BlockMet, TapMet}
 use Rattle.law_promises.specs.Unread.{data_short, ShortAt, attempt_trace, piece_trace}

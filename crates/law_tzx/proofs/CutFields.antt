@@ -1,18 +1,18 @@
 -- FIELDS THAT WERE THERE, as a whole 19 shows them: their places, its head, its end. Assumes nothing.
-use Prim.Native.Nat.{ℕ, ◌+◌, ◌-◌, ◌<◌, ◌≤◌}
+use Prim.Native.Nat.{ℕ, ◌+◌, ◌<◌, ◌≤◌}
 use native.Mathlib.Omega.{arith}
 use mathlib.Core.Path.{◌≡◌, refl, sym, ap, ◌∙◌}
 use mathlib.Core.Bool.{Bool, true, false}
 use mathlib.Core.List.{List}
 use mathlib.Core.Logic.{⊎_elim}
-use lib.ListN.{length, get_or}
+use lib.ListN.{length}
 use lib.Dec.{leb}
 use Rattle.law_base.specs.Rules.{◌⇒◌, ◌∣◌}
 use Rattle.law_base.proofs.Numbers.{lt_or_ge}
 use Rattle.cut_fields.specs.declared.Cursor.{Cursor}
 use Rattle.cut_fields.specs.declared.Cursor.TheVariants.{At}
 use Rattle.cut_fields.specs.declared.Cursor.TheVariants as cursor
-use Rattle.cut_fields.specs.Field.{le_at, number_at, field_at, place_of}
+use Rattle.cut_fields.specs.Field.{number_at, field_at, place_of}
 use Rattle.cut_fields.proofs.Runs.{field_there, field-short}
 use Rattle.cut_grammar.specs.declared.Piece.{Piece}
 use Rattle.cut_grammar.specs.declared.Body.TheVariants as body

@@ -29,7 +29,7 @@ use Rattle.load_blocks.specs.Deeds.{general_deed, stop48_deed, does}
 use Rattle.load_source.specs.Meaning.{deed_of}
 use Rattle.load_source.specs.Source.{act, halted, read_on, seeing, fold_from, tzx_of, tzx_see}
 use Rattle.load_source.specs.Source as source
-use Rattle.law_tzx.specs.Format.{PulseLength, lasts, forever, format_full, each, bit_pulses, bits_in, byte_pulses, data_pulses, bits_said}
+use Rattle.law_tzx.specs.Format.{PulseLength, lasts, forever, each, bit_pulses, bits_in, byte_pulses, data_pulses, bits_said}
 use Rattle.law_tzx.specs.Format.{pilot_count, format10, format11, format12, format13, format14, wave_from, symbol_pulse, wave_of}
 use Rattle.law_tzx.specs.Format.{pilot_symbol, repetitions, pilot_pulses, bit_at, group_at, data_number, symbol_pulses, every}
 use Rattle.law_tzx.specs.Format.{symbols_said, format19, format20, format_2a, format_of, lengths_of, lasting}

@@ -15,7 +15,6 @@ use Rattle.rows.specs.declared.Block.{Block}
 use Rattle.rows.specs.declared.Tone.{Tone}
 use Rattle.rows.proofs.Tables.{get_row}
 use Rattle.play_entries.specs.Entries.{Label, entries_of}
-use Rattle.play_entries.specs.Places as mounted
 use Rattle.play_entries.specs.Places.{list_from}
 use Rattle.play_entries.specs.Mounted.{tape_of}
 use Rattle.text_name.specs.Names.{is_header, unselected, name_one, name_all}

@@ -14,12 +14,12 @@ use Rattle.rows.specs.Table.{table_of}
 use Rattle.rows.specs.Rows.{tone}
 use Rattle.rows.specs.declared.Block.{Block}
 use Rattle.rows.specs.declared.Tone.{Tone}
-use Rattle.play_entries.specs.Entries.{Label, entries_of}
+use Rattle.play_entries.specs.Entries.{Label}
 use Rattle.cut_grammar.specs.declared.Piece.TheVariants.{LoopEnd}
 use Rattle.load_state.specs.declared.Halt.TheVariants.{Refusal}
 use Rattle.load_state.specs.declared.Loop.{Loop}
 use Rattle.load_state.specs.declared.Loop.TheVariants.{Closed, Open}
-use Rattle.load_state.specs.Parser.{Parsed, Out, on, no, named, nameless, with_block, with_body, add_block, copy_rows, copies}
+use Rattle.load_state.specs.Parser.{Parsed, on, no, named, nameless, with_block, with_body, add_block, copy_rows, copies}
 use Rattle.load_state.specs.Parser.{closed, close_loop}
 use Rattle.load_state.specs.Kept.{Sure, sure, none}
 use Rattle.load_state.proofs.Kept.{sure_then, sure_also}

@@ -3,7 +3,7 @@ use Prim.Native.Nat.{ℕ, zero, suc, ◌+◌}
 use native.Mathlib.Omega.{arith}
 use mathlib.Core.Path.{◌≡◌, refl, sym, ap}
 use mathlib.Core.Bool.{Bool, true, false, ◌&&◌, not}
-use mathlib.Core.List.{List, [], ◌++◌}
+use mathlib.Core.List.{List, []}
 use lib.ListN.{length, get_or}
 use lib.Dec.{leb, ltb, eqb}
 use Rattle.refusals.specs.Refusals.{bad_model, tape_long, last_bits}
@@ -28,8 +28,7 @@ use Rattle.load_source.specs.Source.{Verdict, done, failed, refused, read_on, se
 use Rattle.load_source.specs.Source.{tzx_see, headed, read_tzx, read_tap, tzx, no, or_tap, or_else, load_of}
 use Rattle.load_source.specs.Source as source
 use Rattle.load_source.specs.declared.Failure.{Failure}
-use Rattle.load_source.specs.declared.Failure.TheVariants as failure
-use Rattle.law_tzx.specs.Format.{Said, format_of, lasting}
+use Rattle.law_tzx.specs.Format.{Said, lasting}
 use Rattle.law_tzx.specs.Cut.{layout_of, format_cut}
 use Rattle.law_tzx.specs.Kept.{kept, Plays, Keeps, as_said}
 use Rattle.law_tzx.specs.Tapes.{Open, none_open, loop_opened, nests, kept_then, kept_from, kept_tape, said_of, said_then}

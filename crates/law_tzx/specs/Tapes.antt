@@ -1,6 +1,6 @@
 -- A tape of kept pieces alone, and what the format plays of such a tape: its pieces one after the other.
 -- Definitions alone; assumes nothing.
-use Rattle.std.specs.Prelude.{ℕ, zero, suc, Bool, true, false, ◌&&◌, ◌||◌, not, List, [], ◌++◌, length, eqb}
+use Rattle.std.specs.Prelude.{ℕ, zero, suc, Bool, false, ◌&&◌, ◌||◌, not, List, [], ◌++◌, length, eqb}
 use Rattle.cut_grammar.specs.declared.Taken.{Taken}
 use Rattle.cut_grammar.specs.declared.Taken.TheVariants as taken
 use Rattle.cut_grammar.specs.Cut.{cut_at}

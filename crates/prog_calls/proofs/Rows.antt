@@ -7,7 +7,7 @@ use mathlib.Core.Path.{◌≡◌, sym, ap, ◌∙◌}
 use mathlib.Core.List.{List, [], ◌∷◌, ◌++◌, append_assoc, append-nil}
 use lib.ListN.{length, take, drop, length-append}
 use lib.Seq.{drop-drop}
-use Rattle.rows.specs.Table.{Codec, get, put, put_all, rows_of, table_over}
+use Rattle.rows.specs.Table.{Codec, get, put_all, rows_of, table_over}
 use Rattle.rows.proofs.Tables.{over_none, put_next, rows-over}
 
 module _ {R : Type 0} (C : Codec R) where

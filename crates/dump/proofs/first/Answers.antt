@@ -1,5 +1,4 @@
 -- `first` meets its contract: each return is one rule. Assumes nothing.
-use borrow.Author.Rules.{rules}
 use native.Mathlib.Omega.{arith}
 use Rattle.dump.proofs.Hearing.{first-none, first-bad, first_long, first_tape}
 use Rattle.dump.proofs.first.Goals as goal

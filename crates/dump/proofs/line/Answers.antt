@@ -1,5 +1,4 @@
 -- `line` meets its contract: the row that the load left is ready, and its line is the dump's. Assumes nothing.
-use borrow.Author.Rules.{rules}
 use native.Mathlib.Omega.{arith}
 use Rattle.dump.proofs.Hearing.{line_heard, part_short, part_ready, part_told}
 use Rattle.dump.proofs.line.Goals as goal

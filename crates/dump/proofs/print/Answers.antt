@@ -1,9 +1,5 @@
 -- `print` meets its contract: every line that is asked for is one of the dump's, and fits. Assumes nothing.
-use Prim.Native.Nat.{◌-◌}
 use native.Mathlib.Omega.{arith}
-use mathlib.Core.Path.{◌≡◌}
-use lib.ListN.{length}
-use borrow.Author.Rules.{rules}
 use Rattle.law_base.proofs.Parts.{take_counted}
 use Rattle.text_out.proofs.Writing.{fitted_most}
 use Rattle.dump.proofs.Hearing.{more_lines}

@@ -1,5 +1,4 @@
 -- `refuse` meets its contract: zeros, and the line. Assumes nothing.
-use borrow.Author.Rules.{rules}
 use Rattle.load_tape.specs.Load.{block_table, tone_table}
 use Rattle.dump.proofs.Hearing.{opens-no}
 use Rattle.dump.proofs.refuse.Goals as goal

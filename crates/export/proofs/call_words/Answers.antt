@@ -2,7 +2,6 @@
 use Rattle.export.proofs.Inside.{passed_inside}
 use Rattle.play_entries.specs.Mounted.{tape_of}
 use mathlib.Core.Path.{sym, ◌∙◌}
-use borrow.Author.Rules.{rules}
 use Rattle.export.proofs.call_words.Goals as goal
 
 pub tell_inside-requires : goal.tell_inside-requires

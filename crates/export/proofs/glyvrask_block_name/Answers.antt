@@ -1,7 +1,6 @@
 -- `glyvrask_block_name` meets its contract: the name told where there is a word for its length. Assumes nothing.
 use native.Mathlib.Omega.{arith}
 use Rattle.export.proofs.Naming.{name_unwritten, name_written}
-use borrow.Author.Rules.{rules}
 use Rattle.export.proofs.glyvrask_block_name.Goals as goal
 
 pub returns-then-answer-lt1 : goal.returns-then-answer-lt1

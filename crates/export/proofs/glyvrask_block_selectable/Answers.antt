@@ -1,5 +1,4 @@
 -- `glyvrask_block_selectable` meets its contract: the mark told. Assumes nothing.
-use borrow.Author.Rules.{rules}
 use Rattle.export.proofs.glyvrask_block_selectable.Goals as goal
 
 pub returns : goal.returns

@@ -1,5 +1,4 @@
 -- `glyvrask_block_size` meets its contract: the size told. Assumes nothing.
-use borrow.Author.Rules.{rules}
 use Rattle.export.proofs.glyvrask_block_size.Goals as goal
 
 pub returns : goal.returns

@@ -1,5 +1,4 @@
 -- `glyvrask_block_time` meets its contract: the time told. Assumes nothing.
-use borrow.Author.Rules.{rules}
 use Rattle.export.proofs.glyvrask_block_time.Goals as goal
 
 pub returns : goal.returns

@@ -1,5 +1,4 @@
 -- `glyvrask_len` meets its contract: the count told. Assumes nothing.
-use borrow.Author.Rules.{rules}
 use Rattle.export.proofs.glyvrask_len.Goals as goal
 
 pub returns : goal.returns

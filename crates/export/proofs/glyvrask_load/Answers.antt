@@ -4,7 +4,6 @@ use lib.ListN.{length}
 use Rattle.load_blocks.specs.Does.{lent_of}
 use Rattle.load_tape.specs.Load.{load_named}
 use Rattle.export.proofs.Loading.{load_short, load_told}
-use borrow.Author.Rules.{rules}
 use Rattle.export.proofs.glyvrask_load.Goals as goal
 
 pub returns-then-answer-lt3 : goal.returns-then-answer-lt3

@@ -1,5 +1,4 @@
 -- `glyvrask_loading_time` meets its contract: the time told. Assumes nothing.
-use borrow.Author.Rules.{rules}
 use Rattle.export.proofs.glyvrask_loading_time.Goals as goal
 
 pub returns : goal.returns

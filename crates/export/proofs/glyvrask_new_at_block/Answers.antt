@@ -1,5 +1,4 @@
 -- `glyvrask_new_at_block` meets its contract: the start told. Assumes nothing.
-use borrow.Author.Rules.{rules}
 use Rattle.export.proofs.glyvrask_new_at_block.Goals as goal
 
 pub returns : goal.returns

@@ -6,7 +6,6 @@ use Rattle.play_deck.specs.Deck.{play_measured}
 use Rattle.play_walk.specs.declared.Position.{Position}
 use Rattle.play_entries.specs.Mounted.{tape_of}
 use mathlib.Core.Path.{sym, ◌∙◌}
-use borrow.Author.Rules.{rules}
 use Rattle.export.proofs.glyvrask_play_head.Goals as goal
 
 pub move_head-requires : goal.move_head-requires

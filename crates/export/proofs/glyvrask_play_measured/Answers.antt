@@ -7,7 +7,6 @@ use Rattle.play_walk.specs.declared.Position.{Position}
 use Rattle.host_answers.specs.Answers.{Reply, of_reached}
 use Rattle.export.proofs.Placing.{tell_misplaced}
 use mathlib.Core.Path.{sym, ◌∙◌}
-use borrow.Author.Rules.{rules}
 use Rattle.export.proofs.glyvrask_play_measured.Goals as goal
 
 pub call_words-requires : goal.call_words-requires

@@ -1,6 +1,5 @@
 -- `glyvrask_play_run` meets its contract. Assumes nothing.
 use Rattle.export.specs.Export.{from_place}
-use borrow.Author.Rules.{rules}
 use Rattle.export.proofs.glyvrask_play_run.Goals as goal
 
 pub returns-in-Is : goal.returns-in-Is

@@ -5,7 +5,6 @@ use Rattle.play_deck.specs.Deck.{block_at}
 use Rattle.play_walk.specs.declared.Position.{Position}
 use Rattle.host_answers.specs.Answers.{Reply, of_selected}
 use Rattle.export.proofs.Placing.{tell_misplaced}
-use borrow.Author.Rules.{rules}
 use Rattle.export.proofs.glyvrask_position_block.Goals as goal
 
 pub returns-in-Is : goal.returns-in-Is

@@ -1,6 +1,5 @@
 -- `is_inside` meets its contract. Assumes nothing.
 use borrow.Author.Tests.{not-true, not-false}
-use borrow.Author.Rules.{rules}
 use Rattle.export.proofs.is_inside.Goals as goal
 
 pub returns-then-not-is_fine : goal.returns-then-not-is_fine

@@ -1,7 +1,6 @@
 -- `misplaced` meets its contract: each return is one rule of rule 37's order. Assumes nothing.
 use native.Mathlib.Omega.{arith}
 use mathlib.Core.Path.{sym, ◌∙◌}
-use borrow.Author.Rules.{rules}
 use Rattle.play_entries.specs.Mounted.{tape_of}
 use Rattle.export.proofs.Placing.{none_over, none-empty, none-bad, none_other}
 use Rattle.export.proofs.misplaced.Goals as goal

@@ -8,7 +8,6 @@ use Rattle.play_deck.specs.declared.Played.{Played}
 use Rattle.play_walk.specs.declared.Reached.{Reached}
 use Rattle.play_entries.specs.Mounted.{tape_of}
 use mathlib.Core.Path.{sym, ap, ◌∙◌}
-use borrow.Author.Rules.{rules}
 use Rattle.export.proofs.move_head.Goals as goal
 
 pub returns-then-k-ne0 : goal.returns-then-k-ne0

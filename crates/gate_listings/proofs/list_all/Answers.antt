@@ -1,8 +1,5 @@
 -- `listings::list_all` meets its contract: each turn lists one tape. Assumes nothing.
 use native.Mathlib.Omega.{arith}
-use mathlib.Core.Path.{◌≡◌}
-use lib.ListN.{length}
-use borrow.Author.Rules.{rules}
 use Rattle.gate_listings.proofs.list_all.Goals as goal
 
 pub list_one-requires : goal.list_one-requires

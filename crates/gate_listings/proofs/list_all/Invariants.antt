@@ -1,8 +1,6 @@
 -- The loops of `list_all`.
-use native.Mathlib.Omega.{arith}
 use mathlib.Core.Path.{◌≡◌}
 use lib.ListN.{length}
-use borrow.Author.Rules.{rules}
 use Rattle.gate_listings.proofs.list_all.Given as goal
 
 abbrev pub invariant-loop-left : goal.invariant-loop-left

@@ -1,5 +1,4 @@
 -- `list_one` meets its contract: what is said is the front of the bytes lent. Assumes nothing.
-use borrow.Author.Rules.{rules}
 use Rattle.law_base.proofs.Parts.{take_counted}
 use Rattle.gate_listings.proofs.list_one.Goals as goal
 

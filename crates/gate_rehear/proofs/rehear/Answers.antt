@@ -1,5 +1,4 @@
 -- `rehear` meets its contract: parts of what is lent. Assumes nothing.
-use borrow.Author.Rules.{rules}
 use Rattle.law_base.proofs.Parts.{take_counted}
 use native.Mathlib.Omega.{arith}
 use Rattle.gate_rehear.proofs.rehear.Goals as goal

@@ -1,8 +1,5 @@
 -- `rehear_all` meets its contract. Assumes nothing.
-use borrow.Author.Rules.{rules}
 use native.Mathlib.Omega.{arith}
-use lib.ListN.{length}
-use mathlib.Core.Path.{◌≡◌}
 use Rattle.gate_rehear.proofs.rehear_all.Goals as goal
 
 pub loop-left-smaller : goal.loop-left-smaller

@@ -1,6 +1,4 @@
 -- The loops of `rehear_all`.
-use borrow.Author.Rules.{rules}
-use native.Mathlib.Omega.{arith}
 use lib.ListN.{length}
 use mathlib.Core.Path.{◌≡◌}
 use Rattle.gate_rehear.proofs.rehear_all.Given as goal

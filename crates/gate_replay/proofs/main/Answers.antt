@@ -1,5 +1,4 @@
 -- `main` meets its contract: the longest line fits. Lengths of the larger arrays are by a law, as lists of so many are not to be computed.
-use borrow.Author.Rules.{rules}
 use Prim.Native.Nat.{ℕ, ◌+◌, ◌*◌, ◌≤◌}
 use native.Mathlib.Omega.{arith}
 use mathlib.Core.Path.{◌≡◌}

@@ -1,9 +1,6 @@
 -- `print` meets its contract: every row that a load leaves is ready, and its line fits. Assumes nothing.
-use Prim.Native.Nat.{◌-◌}
 use native.Mathlib.Omega.{arith}
-use mathlib.Core.Path.{◌≡◌}
 use lib.ListN.{length}
-use borrow.Author.Rules.{rules}
 use Rattle.law_base.proofs.Parts.{take_counted}
 use Rattle.text_out.proofs.Writing.{fitted_most}
 use Rattle.prog_tape.proofs.Lines.{line_left}

@@ -1,5 +1,4 @@
 -- `replay` meets its contract: parts of what is lent. Assumes nothing.
-use borrow.Author.Rules.{rules}
 use Rattle.law_base.proofs.Parts.{take_counted}
 use native.Mathlib.Omega.{arith}
 use lib.ListN.{length-take}

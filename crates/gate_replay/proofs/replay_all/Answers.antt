@@ -1,8 +1,5 @@
 -- `replay_all` meets its contract. Assumes nothing.
-use borrow.Author.Rules.{rules}
 use native.Mathlib.Omega.{arith}
-use lib.ListN.{length}
-use mathlib.Core.Path.{◌≡◌}
 use Rattle.gate_replay.proofs.replay_all.Goals as goal
 
 pub replay-requires : goal.replay-requires

@@ -1,6 +1,4 @@
 -- The loops of `replay_all`.
-use borrow.Author.Rules.{rules}
-use native.Mathlib.Omega.{arith}
 use lib.ListN.{length}
 use mathlib.Core.Path.{◌≡◌}
 use Rattle.gate_replay.proofs.replay_all.Given as goal

@@ -1,6 +1,5 @@
 -- `retrace` meets its contract. Assumes nothing.
 use Rattle.law_base.proofs.Parts.{take_counted}
-use borrow.Author.Rules.{rules}
 use Rattle.gate_retrace.proofs.retrace.Goals as goal
 
 pub slice_bounds-say_trace-end-2 : goal.slice_bounds-say_trace-end-2

@@ -1,8 +1,5 @@
 -- `retrace_all` meets its contract. Assumes nothing.
-use borrow.Author.Rules.{rules}
 use native.Mathlib.Omega.{arith}
-use lib.ListN.{length}
-use mathlib.Core.Path.{◌≡◌}
 use Rattle.gate_retrace.proofs.retrace_all.Goals as goal
 
 pub loop-left-smaller : goal.loop-left-smaller

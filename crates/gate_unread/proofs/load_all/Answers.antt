@@ -1,8 +1,5 @@
 -- `load_all` meets its contract: each turn loads one tape. Assumes nothing.
-use borrow.Author.Rules.{rules}
 use native.Mathlib.Omega.{arith}
-use mathlib.Core.Path.{◌≡◌}
-use lib.ListN.{length}
 use Rattle.gate_unread.proofs.load_all.Goals as goal
 
 pub load_one-requires : goal.load_one-requires

@@ -1,6 +1,4 @@
 -- The loops of `load_all`.
-use borrow.Author.Rules.{rules}
-use native.Mathlib.Omega.{arith}
 use mathlib.Core.Path.{◌≡◌}
 use lib.ListN.{length}
 use Rattle.gate_unread.proofs.load_all.Given as goal

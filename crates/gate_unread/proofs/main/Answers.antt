@@ -1,5 +1,4 @@
 -- `main` meets its contract. Lengths of the arrays are by a law, as lists of so many are not to be computed. Assumes nothing.
-use borrow.Author.Rules.{rules}
 use Rattle.prog_unread.specs.Report.{full_blocks, full_tones}
 use Rattle.law_base.proofs.Parts.{zeros-counted}
 use Rattle.gate_unread.proofs.main.Goals as goal

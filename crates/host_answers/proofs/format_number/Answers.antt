@@ -1,6 +1,5 @@
 -- `format_number` meets its contract: each format has its number. Assumes nothing.
 use Rattle.host_answers.specs.Answers.{format_number}
-use borrow.Author.Rules.{rules}
 use Rattle.host_answers.proofs.format_number.Goals as goal
 
 pub returns-in-Tap : goal.returns-in-Tap

@@ -1,6 +1,5 @@
 -- `met_words` meets its contract. Assumes nothing.
 use Rattle.host_answers.specs.Answers.{met_of}
-use borrow.Author.Rules.{rules}
 use Rattle.host_answers.proofs.met_words.Goals as goal
 
 pub returns-in-Short : goal.returns-in-Short

@@ -1,10 +1,7 @@
 -- `tell` meets its contract: the first j words stand in the row. Assumes nothing.
-use Prim.Native.Nat.{◌≤◌, ◌-◌}
 use native.Mathlib.Omega.{arith}
-use mathlib.Core.Path.{◌≡◌, refl}
-use lib.ListN.{length, length-set}
-use lib.Seq.{paste}
-use borrow.Author.Rules.{rules}
+use mathlib.Core.Path.{refl}
+use lib.ListN.{length-set}
 use Rattle.host_answers.proofs.Telling.{tell_turn, tell_short, tell_whole}
 use Rattle.host_answers.proofs.tell.Goals as goal
 

@@ -1,11 +1,8 @@
 -- The loops of `tell`.
 use Prim.Native.Nat.{◌≤◌, ◌-◌}
-use native.Mathlib.Omega.{arith}
-use mathlib.Core.Path.{◌≡◌, refl}
-use lib.ListN.{length, length-set}
+use mathlib.Core.Path.{◌≡◌}
+use lib.ListN.{length}
 use lib.Seq.{paste}
-use borrow.Author.Rules.{rules}
-use Rattle.host_answers.proofs.Telling.{tell_turn, tell_short, tell_whole}
 use Rattle.host_answers.proofs.tell.Given as goal
 
 abbrev pub invariant-loop-j : goal.invariant-loop-j

@@ -1,6 +1,5 @@
 -- `tell_both` meets its contract: what both attempts met, in eight words. Assumes nothing.
 use Rattle.host_answers.specs.Answers.{both_words}
-use borrow.Author.Rules.{rules}
 use Rattle.host_answers.proofs.tell_both.Goals as goal
 
 pub returns : goal.returns

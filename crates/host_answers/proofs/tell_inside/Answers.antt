@@ -1,6 +1,5 @@
 -- `tell_inside` meets its contract. Assumes nothing.
 use Rattle.host_answers.specs.Answers.{inside_words}
-use borrow.Author.Rules.{rules}
 use Rattle.host_answers.proofs.tell_inside.Goals as goal
 
 pub returns : goal.returns

@@ -1,7 +1,6 @@
 -- `tell_loaded` meets its contract: format, blocks and tone rows, or the refusal, 3 with its words. Assumes nothing.
 use Rattle.host_answers.specs.Answers.{number_of, values_of, of_loaded}
 use Rattle.host_answers.proofs.Telling.{tell_refused}
-use borrow.Author.Rules.{rules}
 use Rattle.host_answers.proofs.tell_loaded.Goals as goal
 
 pub returns-in-Tape : goal.returns-in-Tape

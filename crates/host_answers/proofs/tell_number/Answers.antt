@@ -1,7 +1,6 @@
 -- `tell_number` meets its contract: the number as a word, or the refusal. Assumes nothing.
 use Rattle.host_answers.specs.Answers.{number_of, values_of, of_number}
 use Rattle.host_answers.proofs.Telling.{tell_refused}
-use borrow.Author.Rules.{rules}
 use Rattle.host_answers.proofs.tell_number.Goals as goal
 
 pub returns-in-Is : goal.returns-in-Is

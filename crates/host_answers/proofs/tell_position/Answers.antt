@@ -1,7 +1,6 @@
 -- `tell_position` meets its contract: the seven words. Assumes nothing.
 use Rattle.host_answers.specs.Answers.{number_of, values_of, of_position}
 use Rattle.host_words.specs.Words.{words_of}
-use borrow.Author.Rules.{rules}
 use Rattle.host_answers.proofs.tell_position.Goals as goal
 
 pub returns : goal.returns

@@ -1,7 +1,6 @@
 -- `tell_refused` meets its contract: the number stands, the words are told where they fit. Assumes nothing.
 use Rattle.host_answers.specs.Answers.{values_of}
 use Rattle.host_answers.proofs.Telling.{number-stands}
-use borrow.Author.Rules.{rules}
 use Rattle.host_answers.proofs.tell_refused.Goals as goal
 
 pub returns : goal.returns

@@ -2,7 +2,6 @@
 use Rattle.host_answers.specs.Answers.{number_of, values_of, of_selected}
 use Rattle.host_answers.proofs.Telling.{tell_refused}
 use Rattle.refusals.specs.Refusals.{bad_row, no_position}
-use borrow.Author.Rules.{rules}
 use Rattle.host_answers.proofs.tell_selected.Goals as goal
 
 pub returns-in-Block : goal.returns-in-Block

@@ -1,7 +1,6 @@
 -- `tell_stand` meets its contract: how it stands, the entries passed, the level, the seven words. Assumes nothing.
 use Rattle.host_answers.specs.Answers.{stand_words}
 use Rattle.host_words.specs.Words.{words_of}
-use borrow.Author.Rules.{rules}
 use Rattle.host_answers.proofs.tell_stand.Goals as goal
 
 pub returns : goal.returns

@@ -1,7 +1,6 @@
 -- `tell_time` meets its contract: the duration as words, or the refusal. Assumes nothing.
 use Rattle.host_answers.specs.Answers.{number_of, values_of, of_time}
 use Rattle.host_answers.proofs.Telling.{tell_refused}
-use borrow.Author.Rules.{rules}
 use Rattle.host_answers.proofs.tell_time.Goals as goal
 
 pub returns-in-Lasts : goal.returns-in-Lasts

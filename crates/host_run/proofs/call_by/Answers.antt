@@ -1,6 +1,5 @@
 -- `call_by` meets its contract. Assumes nothing.
 use Rattle.host_run.specs.Runs.{player_of}
-use borrow.Author.Rules.{rules}
 use Rattle.host_run.proofs.call_by.Goals as goal
 
 pub returns-then-measured : goal.returns-then-measured

@@ -1,5 +1,4 @@
 -- `go_far` meets its contract. Assumes nothing.
-use borrow.Author.Rules.{rules}
 use Rattle.play_deck.proofs.Assays.{fine_of}
 use native.Mathlib.Omega.{arith}
 use mathlib.Core.Path.{refl, sym, ◌∙◌}

@@ -1,5 +1,4 @@
 -- `go_inside` meets its contract. Assumes nothing.
-use borrow.Author.Rules.{rules}
 use Rattle.host_run.proofs.Runs.{inside_few, gone_inside}
 use Rattle.play_entries.specs.Mounted.{tape_of}
 use Rattle.play_entries.specs.declared.Duration.TheVariants.{T}

@@ -1,5 +1,4 @@
 -- `go_on` meets its contract. Assumes nothing.
-use borrow.Author.Rules.{rules}
 use Rattle.host_run.proofs.Runs.{gone_on}
 use Rattle.host_run.proofs.Insides.{put-length}
 use Rattle.play_entries.specs.Mounted.{tape_of}

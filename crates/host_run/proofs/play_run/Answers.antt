@@ -1,5 +1,4 @@
 -- `play_run` meets its contract. Assumes nothing.
-use borrow.Author.Rules.{rules}
 use Rattle.host_run.specs.Runs.{check_no, run_no, run_table}
 use Rattle.host_run.proofs.play_run.Goals as goal
 

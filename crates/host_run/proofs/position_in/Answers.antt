@@ -1,6 +1,5 @@
 -- `position_in` meets its contract. Assumes nothing.
 use Rattle.play_deck.specs.Calls.{position_in}
-use borrow.Author.Rules.{rules}
 use Rattle.host_run.proofs.position_in.Goals as goal
 
 pub returns-in-At : goal.returns-in-At

@@ -1,7 +1,6 @@
 -- `row_of` meets its contract. Assumes nothing.
 use Rattle.play_deck.specs.Calls.{position_in, passed_in, answer_level}
 use Rattle.host_run.specs.Rows.{how_of, call_row}
-use borrow.Author.Rules.{rules}
 use Rattle.host_run.proofs.row_of.Goals as goal
 
 pub returns-in-At : goal.returns-in-At

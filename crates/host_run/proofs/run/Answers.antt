@@ -1,12 +1,8 @@
 -- `run` meets its contract. Assumes nothing.
-use Prim.Native.Nat.{◌-◌, ◌≤◌}
 use native.Mathlib.Omega.{arith}
-use mathlib.Core.Path.{◌≡◌, refl, sym, ap, ◌∙◌}
-use lib.ListN.{length}
+use mathlib.Core.Path.{refl, sym, ◌∙◌}
 use Rattle.play_entries.specs.Mounted.{tape_of}
-use Rattle.host_run.specs.Inside.{leads_to, Known}
 use Rattle.host_run.proofs.Runs.{gone_all}
-use borrow.Author.Rules.{rules}
 use Rattle.host_run.proofs.run.Goals as goal
 
 pub loop-g-init : goal.loop-g-init

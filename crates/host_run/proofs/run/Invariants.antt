@@ -1,12 +1,9 @@
 -- The loops of `run`.
 use Prim.Native.Nat.{◌-◌, ◌≤◌}
-use native.Mathlib.Omega.{arith}
-use mathlib.Core.Path.{◌≡◌, refl, sym, ap, ◌∙◌}
+use mathlib.Core.Path.{◌≡◌}
 use lib.ListN.{length}
 use Rattle.play_entries.specs.Mounted.{tape_of}
 use Rattle.host_run.specs.Inside.{leads_to, Known}
-use Rattle.host_run.proofs.Runs.{gone_all}
-use borrow.Author.Rules.{rules}
 use Rattle.host_run.proofs.run.Given as goal
 
 abbrev pub invariant-loop-g : goal.invariant-loop-g

@@ -1,5 +1,4 @@
 -- `run_fitting` meets its contract. Assumes nothing.
-use borrow.Author.Rules.{rules}
 use Rattle.host_run.proofs.Runs.{no_room_lem, room}
 use native.Mathlib.Omega.{arith}
 use mathlib.Core.Path.{sym}

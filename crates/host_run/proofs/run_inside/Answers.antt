@@ -1,16 +1,15 @@
 -- `run_inside` meets its contract. Assumes nothing.
 use Prim.Native.Nat.{ℕ, ◌+◌, ◌-◌, ◌≤◌, ◌<◌}
 use native.Mathlib.Omega.{arith}
-use mathlib.Core.Path.{◌≡◌, refl, sym, ap, ◌∙◌}
+use mathlib.Core.Path.{refl, sym, ap, ◌∙◌}
 use lib.ListN.{length, drop}
 use mathlib.Core.List.{List}
 use Rattle.rows.specs.Table as Table
 use Rattle.rows.specs.Table.{put_all}
 use Rattle.host_run.specs.Rows.{answer_row}
-use Rattle.host_run.specs.Inside.{inside_rows, inside_left}
+use Rattle.host_run.specs.Inside.{inside_rows}
 use Rattle.host_run.proofs.Insides.{put-length, nothing, none-put, rows_end, left_end, rows-stop, left_stop}
 use Rattle.host_run.proofs.Insides.{left_on, next_on, table_on}
-use borrow.Author.Rules.{rules}
 use Rattle.host_run.proofs.run_inside.Goals as goal
 
 pub loop-i-init : goal.loop-i-init

@@ -1,5 +1,4 @@
 -- `stand_row` meets its contract. Assumes nothing.
-use borrow.Author.Rules.{rules}
 use Rattle.host_run.proofs.stand_row.Goals as goal
 
 pub returns : goal.returns

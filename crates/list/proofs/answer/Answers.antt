@@ -1,6 +1,5 @@
 -- `answer` meets its contract: each return is one rule. Assumes nothing.
 use native.Mathlib.Omega.{arith}
-use borrow.Author.Rules.{rules}
 use Rattle.list.proofs.Hearing.{says_none, says_tape}
 use Rattle.list.proofs.answer.Goals as goal
 

@@ -1,6 +1,5 @@
 -- `ends_run` meets its contract. Assumes nothing.
 use Rattle.prog_calls.specs.Trace.{ends_run}
-use borrow.Author.Rules.{rules}
 use Rattle.prog_calls.proofs.ends_run.Goals as goal
 
 pub returns-then-measured : goal.returns-then-measured

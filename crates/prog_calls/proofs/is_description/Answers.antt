@@ -4,7 +4,6 @@ use lib.ListN.{length}
 use borrow.Author.Tests.{le-leb, lt-leb}
 use Rattle.rows.proofs.Clauses.{failed, passed}
 use Rattle.prog_calls.specs.Playback.{calls_in, is_description}
-use borrow.Author.Rules.{rules}
 use Rattle.prog_calls.proofs.is_description.Goals as goal
 
 pub returns-then-s-lt8 : goal.returns-then-s-lt8

@@ -1,6 +1,5 @@
 -- `is_end` meets its contract. Assumes nothing.
 use Rattle.play_walk.specs.Heads.{ended_in}
-use borrow.Author.Rules.{rules}
 use Rattle.prog_calls.proofs.is_end.Goals as goal
 
 pub returns-in-At : goal.returns-in-At

@@ -1,5 +1,4 @@
 -- `number` meets its contract. Assumes nothing.
-use borrow.Author.Rules.{rules}
 use Rattle.prog_calls.proofs.number.Goals as goal
 
 pub returns : goal.returns

@@ -4,7 +4,6 @@ use Rattle.play_entries.specs.Mounted.{tape_of}
 use Rattle.play_walk.specs.Heads.{start_at}
 use Rattle.prog_calls.specs.Trace.{run_text}
 use Rattle.prog_calls.proofs.Saying.{wrote_as}
-use borrow.Author.Rules.{rules}
 use Rattle.prog_calls.proofs.put_counted.Goals as goal
 
 pub returns : goal.returns

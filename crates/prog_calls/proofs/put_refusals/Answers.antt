@@ -1,11 +1,10 @@
 -- `put_refusals` meets its contract. Assumes nothing.
 use Rattle.text_out.specs.Out.{refused_line}
 use Rattle.text_out.proofs.Writing.{same_len}
-use Prim.Native.Nat.{◌-◌, ◌≤◌, ◌<◌}
+use Prim.Native.Nat.{◌<◌}
 use native.Mathlib.Omega.{arith}
-use Rattle.text_out.proofs.Loops.{Goes, goes_none, goes_on}
-use Rattle.prog_calls.proofs.Saying.{same_from, same_next, same_over, refused-most}
-use borrow.Author.Rules.{rules}
+use Rattle.text_out.proofs.Loops.{goes_none, goes_on}
+use Rattle.prog_calls.proofs.Saying.{same_next, same_over, refused-most}
 use Rattle.prog_calls.proofs.put_refusals.Goals as goal
 
 pub loop-i-init : goal.loop-i-init

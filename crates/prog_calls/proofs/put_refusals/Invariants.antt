@@ -1,11 +1,8 @@
 -- The loops of `put_refusals`.
 use Rattle.text_out.specs.Out.{refused_line}
-use Rattle.text_out.proofs.Writing.{same_len}
-use Prim.Native.Nat.{◌-◌, ◌≤◌, ◌<◌}
-use native.Mathlib.Omega.{arith}
-use Rattle.text_out.proofs.Loops.{Goes, goes_none, goes_on}
-use Rattle.prog_calls.proofs.Saying.{same_from, same_next, same_over, refused-most}
-use borrow.Author.Rules.{rules}
+use Prim.Native.Nat.{◌-◌, ◌≤◌}
+use Rattle.text_out.proofs.Loops.{Goes}
+use Rattle.prog_calls.proofs.Saying.{same_from}
 use Rattle.prog_calls.proofs.put_refusals.Given as goal
 
 abbrev pub invariant-loop-i : goal.invariant-loop-i

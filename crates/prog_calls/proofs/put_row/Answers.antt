@@ -1,6 +1,5 @@
 -- `put_row` meets its contract. Assumes nothing.
 use Rattle.prog_calls.specs.Inner.{line_in}
-use borrow.Author.Rules.{rules}
 use Rattle.prog_calls.proofs.put_row.Goals as goal
 
 pub returns : goal.returns

@@ -1,12 +1,11 @@
 -- `put_rows` meets its contract. Assumes nothing.
 use mathlib.Core.Path.{sym, ◌∙◌}
 use Rattle.text_out.proofs.Writing.{same_len}
-use Prim.Native.Nat.{◌-◌, ◌≤◌, ◌<◌}
+use Prim.Native.Nat.{◌<◌}
 use native.Mathlib.Omega.{arith}
 use Rattle.play_entries.specs.Mounted.{tape_of}
-use Rattle.text_out.proofs.Loops.{Goes, goes_none, goes_over}
-use Rattle.prog_calls.proofs.Saying.{lines_from, no_line, rows_on, rows_end}
-use borrow.Author.Rules.{rules}
+use Rattle.text_out.proofs.Loops.{goes_none, goes_over}
+use Rattle.prog_calls.proofs.Saying.{no_line, rows_on, rows_end}
 use Rattle.prog_calls.proofs.put_rows.Goals as goal
 
 pub loop-i-init : goal.loop-i-init

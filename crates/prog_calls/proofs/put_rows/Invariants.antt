@@ -1,12 +1,8 @@
 -- The loops of `put_rows`.
-use mathlib.Core.Path.{sym, ◌∙◌}
-use Rattle.text_out.proofs.Writing.{same_len}
-use Prim.Native.Nat.{◌-◌, ◌≤◌, ◌<◌}
-use native.Mathlib.Omega.{arith}
+use Prim.Native.Nat.{◌-◌, ◌≤◌}
 use Rattle.play_entries.specs.Mounted.{tape_of}
-use Rattle.text_out.proofs.Loops.{Goes, goes_none, goes_over}
-use Rattle.prog_calls.proofs.Saying.{lines_from, no_line, rows_on, rows_end}
-use borrow.Author.Rules.{rules}
+use Rattle.text_out.proofs.Loops.{Goes}
+use Rattle.prog_calls.proofs.Saying.{lines_from}
 use Rattle.prog_calls.proofs.put_rows.Given as goal
 
 abbrev pub invariant-loop-i : goal.invariant-loop-i

@@ -3,7 +3,6 @@ use Rattle.play_entries.specs.Mounted.{tape_of}
 use Rattle.play_walk.specs.Heads.{start_at}
 use Rattle.prog_calls.proofs.Runs.{refused_said, played_said}
 use Rattle.prog_calls.proofs.Saying.{wrote_as}
-use borrow.Author.Rules.{rules}
 use Rattle.prog_calls.proofs.put_run.Goals as goal
 
 pub returns-then-k-ne0 : goal.returns-then-k-ne0

@@ -2,11 +2,10 @@
 use native.Mathlib.Numerals.{add-one}
 use lib.Seq.{take-suc-set, take_all}
 use mathlib.Core.List.{List, [], ◌∷◌, ◌++◌}
-use Prim.Native.Nat.{ℕ, ◌-◌, ◌≤◌, ◌<◌}
+use Prim.Native.Nat.{ℕ, ◌≤◌, ◌<◌}
 use native.Mathlib.Omega.{arith}
 use mathlib.Core.Path.{◌≡◌, refl, sym, ap, ◌∙◌}
 use lib.ListN.{length, length-set, take, set}
-use borrow.Author.Rules.{rules}
 use Rattle.prog_calls.specs.Playback.{counts_in}
 use Rattle.prog_calls.proofs.read_counts.Goals as goal
 

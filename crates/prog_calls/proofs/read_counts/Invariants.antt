@@ -1,12 +1,7 @@
 -- The loops of `read_counts`.
-use native.Mathlib.Numerals.{add-one}
-use lib.Seq.{take-suc-set, take_all}
-use mathlib.Core.List.{List, [], ◌∷◌, ◌++◌}
-use Prim.Native.Nat.{ℕ, ◌-◌, ◌≤◌, ◌<◌}
-use native.Mathlib.Omega.{arith}
-use mathlib.Core.Path.{◌≡◌, refl, sym, ap, ◌∙◌}
-use lib.ListN.{length, length-set, take, set}
-use borrow.Author.Rules.{rules}
+use Prim.Native.Nat.{◌-◌, ◌≤◌}
+use mathlib.Core.Path.{◌≡◌}
+use lib.ListN.{length, take}
 use Rattle.prog_calls.specs.Playback.{counts_in}
 use Rattle.prog_calls.proofs.read_counts.Given as goal
 

@@ -11,7 +11,6 @@ use Rattle.prog_calls.specs.Playback.{counts_in}
 use Rattle.prog_calls.specs.Trace.{run_text}
 use Rattle.prog_calls.proofs.Runs.{run-most}
 use Rattle.prog_calls.proofs.Saying.{wrote_as, prints, counts_length}
-use borrow.Author.Rules.{rules}
 use Rattle.prog_calls.proofs.say_calls.Goals as goal
 
 pub slice_bounds-put_counted-end : goal.slice_bounds-put_counted-end

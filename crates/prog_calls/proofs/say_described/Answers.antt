@@ -2,7 +2,6 @@
 use native.Mathlib.Omega.{arith}
 use mathlib.Core.Path.{sym, ◌∙◌}
 use Rattle.prog_calls.proofs.Describing.{described, text_long, text_tape}
-use borrow.Author.Rules.{rules}
 use Rattle.prog_calls.proofs.say_described.Goals as goal
 
 pub slice_bounds-tape-count : goal.slice_bounds-tape-count

@@ -1,7 +1,6 @@
 -- `say_refused` meets its contract. Assumes nothing.
 use native.Mathlib.Omega.{arith}
 use Rattle.prog_calls.proofs.Saying.{prints, refused-most}
-use borrow.Author.Rules.{rules}
 use Rattle.prog_calls.proofs.say_refused.Goals as goal
 
 pub returns : goal.returns

@@ -2,7 +2,6 @@
 use mathlib.Core.Path.{◌∙◌}
 use Rattle.prog_calls.specs.Playback.{counts_in}
 use Rattle.prog_calls.proofs.Describing.{text-run, text-unread, text-refused}
-use borrow.Author.Rules.{rules}
 use Rattle.prog_calls.proofs.say_tape.Goals as goal
 
 pub returns-in-Tape : goal.returns-in-Tape

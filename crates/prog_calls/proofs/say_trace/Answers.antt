@@ -3,7 +3,6 @@ use native.Mathlib.Omega.{arith}
 use mathlib.Core.Path.{sym, ◌∙◌}
 use Rattle.rows.proofs.Clauses.{failed, passed}
 use Rattle.prog_calls.proofs.Describing.{text-none, text_model, text_undescribed, text_described}
-use borrow.Author.Rules.{rules}
 use Rattle.prog_calls.proofs.say_trace.Goals as goal
 
 pub returns-then-input-eq0 : goal.returns-then-input-eq0

@@ -1,5 +1,4 @@
 -- `put_attempt` meets its contract: three writes. Assumes nothing.
-use borrow.Author.Rules.{rules}
 use native.Mathlib.Omega.{arith}
 use Rattle.text_out.proofs.Writing.{then}
 use Rattle.prog_unread.proofs.Lengths.{failure_length}

@@ -1,5 +1,4 @@
 -- `put_failure` meets its contract: each arm is one failure. Assumes nothing.
-use borrow.Author.Rules.{rules}
 use native.Mathlib.Omega.{arith}
 use Rattle.text_out.proofs.Writing.{then}
 use Rattle.prog_unread.specs.Report.{failure_text}

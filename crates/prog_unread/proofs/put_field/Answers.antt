@@ -1,5 +1,4 @@
 -- `put_field` meets its contract: a word and a number, twice. Assumes nothing.
-use borrow.Author.Rules.{rules}
 use native.Mathlib.Omega.{arith}
 use Rattle.text_out.proofs.Writing.{then, decimal-length}
 use Rattle.prog_unread.specs.Report.{field_text}

@@ -1,5 +1,4 @@
 -- `put_report` meets its contract: each arm is one answer. Assumes nothing.
-use borrow.Author.Rules.{rules}
 use native.Mathlib.Omega.{arith}
 use Rattle.text_out.specs.Out.{refused_text, refused_line}
 use Rattle.text_out.proofs.Writing.{then}

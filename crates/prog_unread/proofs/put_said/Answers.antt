@@ -1,5 +1,4 @@
 -- `put_said` meets its contract: two writes. Assumes nothing.
-use borrow.Author.Rules.{rules}
 use Rattle.text_out.proofs.Writing.{then}
 use Rattle.prog_unread.proofs.put_said.Goals as goal
 

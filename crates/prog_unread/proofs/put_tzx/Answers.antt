@@ -1,5 +1,4 @@
 -- `put_tzx` meets its contract: a field in no piece, or anything else. Assumes nothing.
-use borrow.Author.Rules.{rules}
 use Prim.Native.Nat.{ℕ}
 use mathlib.Core.Path.{◌≡◌, refl}
 use mathlib.Core.List.{◌++◌}

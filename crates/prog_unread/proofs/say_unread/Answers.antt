@@ -1,5 +1,4 @@
 -- `say_unread` meets its contract: a load, and the report of its answer. Assumes nothing.
-use borrow.Author.Rules.{rules}
 use Rattle.prog_unread.proofs.say_unread.Goals as goal
 
 pub returns : goal.returns

@@ -1,5 +1,4 @@
 -- `answer` meets its contract: each return is one rule. Assumes nothing.
-use borrow.Author.Rules.{rules}
 use native.Mathlib.Omega.{arith}
 use Rattle.unread.proofs.Hearing.{says_none, says_tape}
 use Rattle.unread.proofs.answer.Goals as goal

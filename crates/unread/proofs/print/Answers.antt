@@ -1,5 +1,4 @@
 -- `print` meets its contract: what is said is the front of the bytes lent. Assumes nothing.
-use borrow.Author.Rules.{rules}
 use Rattle.law_base.proofs.Parts.{take_counted}
 use Rattle.text_out.proofs.Writing.{fitted_most}
 use Rattle.unread.proofs.print.Goals as goal

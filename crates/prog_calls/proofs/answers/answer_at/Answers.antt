@@ -4,7 +4,6 @@ use native.Mathlib.Nat.{add-sub_cancel_left}
 use mathlib.Core.Path.{ap, ◌∙◌}
 use lib.ListN.{take, drop}
 use Rattle.host_run.specs.Rows.{answer_row, decode_answer}
-use borrow.Author.Rules.{rules}
 use Rattle.prog_calls.proofs.answers.answer_at.Goals as goal
 
 pub returns : goal.returns

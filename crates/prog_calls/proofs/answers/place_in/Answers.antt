@@ -1,6 +1,5 @@
 -- `place_in` meets its contract. Assumes nothing.
 use Rattle.prog_calls.specs.Answers.{or_start, place_in}
-use borrow.Author.Rules.{rules}
 use Rattle.prog_calls.proofs.answers.place_in.Goals as goal
 
 pub returns-in-Is : goal.returns-in-Is

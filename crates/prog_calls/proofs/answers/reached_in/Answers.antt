@@ -2,7 +2,6 @@
 use borrow.Author.Tests.{eq-eqb, ne_eqb}
 use Rattle.refusals.specs.Refusals.{no_position}
 use Rattle.prog_calls.specs.Answers.{reached_in}
-use borrow.Author.Rules.{rules}
 use Rattle.prog_calls.proofs.answers.reached_in.Goals as goal
 
 pub returns-then-how-eq0 : goal.returns-then-how-eq0

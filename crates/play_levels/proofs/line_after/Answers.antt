@@ -1,4 +1,5 @@
 -- `line_after` meets its contract. Assumes nothing.
+use native.Mathlib.Omega.{arith}
 use borrow.Author.Tests.{eq-eqb, ne_eqb}
 use Rattle.play_levels.specs.Closed.{line_before, line_after}
 use Rattle.play_levels.proofs.line_after.Goals as goal
@@ -12,7 +13,7 @@ unfolding line_before line_after
 returns-then-is_one c =
     rw (
       ← c.times_of-n.ensures,
-      ne_eqb _ _ c.if-n-eq0.false,
+      ne_eqb c.times_of-n.result 0 (omega arith),
       ← c.first_level-v.ensures,
       ← c.is_one.ensures,
       c.if-is_one.true,
@@ -23,7 +24,7 @@ unfolding line_before line_after
 returns c =
     rw (
       ← c.times_of-n.ensures,
-      ne_eqb _ _ c.if-n-eq0.false,
+      ne_eqb c.times_of-n.result 0 (omega arith),
       ← c.first_level-v.ensures,
       ← c.is_one.ensures,
       c.if-is_one.false,

@@ -56,6 +56,6 @@ loop-from-preserved c =
       omega (arith, c.loop-from.invariant.0),
       λ n. back_on (tape_of a.tape.now a.tones.now a.blocks.now n) c.loop-from.b
           (passed c.row_well.ensures c.if-not-row_well.false-raw) c.if-b-eq0.false
-          (λ z. c.if-r-eq1.false (ap (λ (r : Block). r.selectable) c.block_at-r.ensures ∙ z))
+          (let e = ap (λ (r : Block). r.selectable) c.block_at-r.ensures in omega (arith, e))
           ∙ c.loop-from.invariant.1 n,
     )

@@ -72,6 +72,7 @@ fn symbol_bits(size: u32) -> u32
 }
 
 // The data bytes of 19, whose count of bits is tested before them.
+#[tactic(auto, using(crate::proofs::Fitting::bits_fit, crate::proofs::Fitting::bits_over))]
 fn stream(tape: &[u8], c: Cursor, bits: u64, general: GeneralizedData) -> Body
     ensures { result ≡ read_at (stream19 bits general) tape.now c }
 {

@@ -2,17 +2,7 @@
 use Rattle.cut_fields.proofs.Runs.{each-stopped, stopped}
 use Rattle.cut_grammar.specs.Kinds.{stream19}
 use Rattle.cut_grammar.specs.Grammar.{read_at, pass_at, whole_at, fitting_at}
-use borrow.Author.Tests.{le-leb, lt-leb}
 use Rattle.cut_body19.proofs.stream.Goals as goal
-
-pub returns-then-bits-le4294967295 : goal.returns-then-bits-le4294967295
-unfolding stream19 read_at pass_at fitting_at
-returns-then-bits-le4294967295 c =
-    rw (c.whole.ensures, c.each.ensures, c.in-At.is, le-leb _ _ c.if-bits-le4294967295.true)
-
-pub returns-else-bits-le4294967295 : goal.returns-else-bits-le4294967295
-unfolding stream19 read_at pass_at fitting_at
-returns-else-bits-le4294967295 c = rw (c.in-At.is, lt-leb _ _ c.if-bits-le4294967295.false)
 
 pub returns-in-Short : goal.returns-in-Short
 unfolding stream19 read_at pass_at fitting_at whole_at

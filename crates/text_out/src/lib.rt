@@ -42,6 +42,7 @@ pub fn put_decimal(out: &mut [u8], at: usize, n: u64) -> usize
 }
 
 // A Latin-1 byte as UTF-8; our crates alone call it.
+#[tactic(auto, using(crate::proofs::Writing::plain))]
 pub fn put_latin1(out: &mut [u8], at: usize, b: u8) -> usize
     requires { at + 1 < 2 ^ 63 }
     ensures { Wrote out.old at (latin1 b) out.new result }

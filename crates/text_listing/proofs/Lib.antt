@@ -5,3 +5,4 @@ pub mod Points
 pub mod Texts
 pub mod Lines
 pub mod Listed
+pub mod Marks

@@ -45,6 +45,7 @@ fn put_name(out: &mut [u8], at: usize, tape: &[u8], r: Block) -> usize
 }
 
 // A star for a selectable block.
+#[tactic(auto, using(crate::proofs::Marks::star, crate::proofs::Marks::dash))]
 fn put_mark(out: &mut [u8], at: usize, selectable: u64) -> usize
     requires { at + 1 < 2 ^ 63 }
     ensures { Wrote out.old at (mark_text (eqb selectable 1)) out.new result }

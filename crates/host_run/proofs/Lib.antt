@@ -1,3 +1,4 @@
 pub mod Insides
 pub mod Runs
 pub mod Told
+pub mod Players

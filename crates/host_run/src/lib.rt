@@ -112,6 +112,7 @@ fn position_in(pos: Position, r: Reached) -> Position
 }
 
 // One call of either player, by what its position came to; our crates alone call it.
+#[tactic(auto, using(crate::proofs::Players::by_measured, crate::proofs::Players::by_source))]
 pub fn call_by(
     tape: &[u8],
     tones: &[u64],

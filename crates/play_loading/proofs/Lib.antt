@@ -1,1 +1,2 @@
 pub mod Summing
+pub mod Ending

@@ -41,6 +41,7 @@ pub fn none() -> Loading
 }
 
 // Where the last sound ends, a row's included: a sound of no length is no end.
+#[tactic(auto, using(crate::proofs::Ending::ends_here, crate::proofs::Ending::ends_before))]
 fn end_with(s: Loading, sound: u64) -> u64
     requires { (s.sum < 2 ^ 63) × (sound < 2 ^ 50) }
     ensures { result ≡ end_with s sound }

@@ -113,6 +113,10 @@ each-length f k h [] = omega arith
 each-length f k h (b ∷ s) = simp (length-append, mul-suc) (omega (arith, h b, each-length f k h s))
 
 -- each case of a byte and of a number: what the calls wrote is the text
+pub as_plain : {d d1 : List ℕ} {at r : ℕ} (b : ℕ) → b < 128 → Wrote d at (b ∷ []) d1 r → Wrote d at (latin1 b) d1 r
+unfolding latin1
+as_plain b k w = rw (lt-ltb b 128 k) w
+
 pub plain : (b : ℕ) → b < 128 → latin1 b ≡ b ∷ []
 unfolding latin1
 plain b k = rw (lt-ltb b 128 k)

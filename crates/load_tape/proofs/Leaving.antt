@@ -104,3 +104,7 @@ module _ {B N B' N' : ℕ} (b : B ≡ B') (n : N ≡ N') where
 
   pub leaves-both : {f g : Failure} {a : Loaded} {bt tt : List ℕ} → Leaves B N (both_err f g) a bt tt → Leaves B' N' (both_err f g) a bt tt
   leaves-both {f} {g} {a} {bt} {tt} l = moved (λ x y. Leaves x y (both_err f g) a bt tt) l
+
+  pub leaves_tap : (s : List ℕ) (f : Failure) {a : Loaded} {bt tt : List ℕ} → Leaves B N (or_tap f (read_tap (lent_of B N) s)) a bt tt
+      → Leaves B' N' (or_tap f (read_tap (lent_of B' N') s)) a bt tt
+  leaves_tap s f {a} {bt} {tt} l = moved (λ x y. Leaves x y (or_tap f (read_tap (lent_of x y) s)) a bt tt) l

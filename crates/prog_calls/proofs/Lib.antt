@@ -4,3 +4,4 @@ mod Runs
 mod Saying
 mod Describing
 mod Enough
+pub mod Many

@@ -43,6 +43,7 @@ fn is_player(b: u8) -> bool
 }
 
 // Whether the bytes begin with a description, whatever model they name.
+#[tactic(auto, using(crate::proofs::Many::many_calls))]
 fn is_description(s: &[u8]) -> bool
     ensures { result ≡ is_description s.now }
 {

@@ -3,7 +3,7 @@ use native.Mathlib.Omega.{arith}
 use lib.ListN.{length}
 use borrow.Author.Tests.{le-leb, lt-leb}
 use Rattle.rows.proofs.Clauses.{failed, passed}
-use Rattle.prog_calls.specs.Playback.{calls_in, is_description}
+use Rattle.prog_calls.specs.Playback.{is_description}
 use Rattle.prog_calls.proofs.is_description.Goals as goal
 
 pub returns-then-s-lt8 : goal.returns-then-s-lt8
@@ -15,16 +15,6 @@ unfolding is_description
 returns-then-not-is_player c =
     let s = c.args.s.now in
     rw (le-leb 8 (length s) (omega arith), failed c.is_player.ensures c.if-not-is_player.true-raw)
-
-pub returns-then-calls-gt1000 : goal.returns-then-calls-gt1000
-unfolding is_description
-returns-then-calls-gt1000 c =
-    let s = c.args.s.now in
-    rw (
-      le-leb 8 (length s) (omega arith),
-      passed c.is_player.ensures c.if-not-is_player.false-raw,
-      lt-leb (calls_in s) 1000 (omega (arith, c.number-calls.ensures)),
-    )
 
 pub returns : goal.returns
 unfolding is_description

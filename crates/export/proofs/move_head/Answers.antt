@@ -7,7 +7,8 @@ use Rattle.play_deck.specs.Deck.{play_mounted}
 use Rattle.play_deck.specs.declared.Played.{Played}
 use Rattle.play_walk.specs.declared.Reached.{Reached}
 use Rattle.play_entries.specs.Mounted.{tape_of}
-use mathlib.Core.Path.{sym, ap, ◌∙◌}
+use mathlib.Core.Path.{◌≡◌, sym, ap, ◌∙◌}
+use native.Mathlib.Omega.{arith}
 use Rattle.export.proofs.move_head.Goals as goal
 
 pub returns-then-k-ne0 : goal.returns-then-k-ne0
@@ -30,7 +31,7 @@ returns c =
     let w = tape_of a.tape.now a.tones.now a.blocks.now a.count in
     let e = ap (λ (p : Played). p.answer) c.play_once-p.ensures in
     let k = c.tell_reached-k.ensures.value ∙ ap (λ (r : Reached). number_of (of_reached r) a.answer.now) e in
-    let z = c.if-k-ne0.false in
+    let z : c.tell_reached-k.result ≡ 0 = omega arith in
     let held = seven_held a.head.now c.play_once-p.result.head.position (named_seven a.head.now a.pos c.requires) in
     record {
       value = c.tell_position.ensures.value ∙ held.0 ∙ sym z ∙ k;

@@ -29,7 +29,7 @@ use Rattle.prog_model.specs.Models.{model_of}
 use Rattle.prog_tape.specs.declared.Opening.{Opening}
 use Rattle.prog_tape.specs.Lines.{first_line, lines_after, block_lines, load_lines, Opens}
 use Rattle.prog_tape.proofs.Lines.{opens, LineAt, line_left}
-use Rattle.dump.specs.Dumped.{load_heard, dump_lines, Dumping}
+use Rattle.dump.specs.Dumped.{load_heard, dump_lines, FirstHeard, FirstRefused, Dumping}
 
 -- A REFUSAL: zeros, and its line
 pub opens-no : {B N k : ℕ} {o : Opening} {bt tt out out' : List ℕ} (s : List ℕ) → bt ≡ block_table B (no k) → tt ≡ tone_table N (no k)
@@ -102,6 +102,12 @@ module _ {B N : ℕ} {o : Opening} {bt tt out out' : List ℕ} (input : List ℕ
         ∙ sym (ap (λ (z : ℕ). load_named (lent_of z N) s m) p ∙ ap (λ (z : ℕ). load_named (lent_of block_words z) s m) q) in
         subst (λ (y : Load). Opens block_words tone_words s y o bt tt out out') (sym x)
         (same_tables (subst (λ (y : List ℕ). Opens B N y (load_named (lent_of B N) y m) o bt tt out out') (behind input) g))
+
+-- a byte that names no model
+pub model_refused : (input : List ℕ) (o : Opening) (bt tt out out' : List ℕ) → 0 < length input → 3 ≤ model_of (get_or input 0 0)
+    → FirstRefused block_words tone_words bad_model o bt tt out out' → FirstHeard input o bt tt out out'
+unfolding FirstHeard FirstRefused
+model_refused input o bt tt out out' h k g = first-bad input refl refl h refl k g
 
 -- A LINE BEHIND IT: the input has a tape, no longer than it may be, and its row's line is the dump's
 pub record LineHeard (input bt tt : List ℕ) (i : ℕ) : Type 0 where

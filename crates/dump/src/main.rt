@@ -1,12 +1,10 @@
 // Reads a model byte (`4`, `1`, `3`) and up to 65,535 tape bytes from standard input, and prints every block whole, or `refused n`.
 #![tactic(auto)]
 
-ghost use Rattle.std.specs.Prelude.{◌≡◌, List, [], ℕ, suc, ◌<◌, ◌≤◌, length, get_or, drop};
+ghost use Rattle.std.specs.Prelude.{◌≡◌, [], suc, ◌<◌, ◌≤◌, length, get_or};
 ghost use Rattle.text_out.specs.Out.{Fitted};
-ghost use Rattle.load_source.specs.Source.{no};
 ghost use Rattle.listing.specs.Listing.{block_words, tone_words};
-ghost use Rattle.prog_tape.specs.Lines.{Opens};
-ghost use Rattle.dump.specs.Dumped.{load_heard, dump_lines, Dumping};
+ghost use Rattle.dump.specs.Dumped.{dump_lines, FirstHeard, FirstRefused, Dumping};
 
 use load_tape::Loaded;
 use prog_model::model_of;
@@ -17,7 +15,7 @@ use rows::{BLOCK_TABLE, TONE_TABLE, blank};
 // A refusal: its line alone, and both tables all zero, as a load's own leaves them.
 fn refuse(blocks: &mut [u64], tones: &mut [u64], out: &mut [u8], k: u32) -> Opening
     requires { 32 ≤ length out.old }
-    ensures { (s : List ℕ) → Opens (length blocks.old) (length tones.old) s (no k) result
+    ensures { FirstRefused (length blocks.old) (length tones.old) k result
         blocks.new tones.new out.old out.new }
 {
     blank(blocks);
@@ -27,11 +25,11 @@ fn refuse(blocks: &mut [u64], tones: &mut [u64], out: &mut [u8], k: u32) -> Open
 }
 
 // The first line, how many follow it, and the tables that they are read from.
+#[tactic(auto, using(crate::proofs::Hearing::model_refused))]
 fn first(input: &[u8], blocks: &mut [u64], tones: &mut [u64], out: &mut [u8]) -> Opening
     requires blocks_len { (length blocks.old ≡ block_words) × (length tones.old ≡ tone_words) }
     requires in_bounds { 32 ≤ length out.old }
-    ensures { Opens block_words tone_words (drop 1 input.now) (load_heard input.now) result
-        blocks.new tones.new out.old out.new }
+    ensures { FirstHeard input.now result blocks.new tones.new out.old out.new }
 {
     if input.len() == 0 {
         return refuse(blocks, tones, out, BAD_MODEL);

@@ -124,6 +124,11 @@ module _ (tones : List ℕ) where
   pub seen_wells : (from n : ℕ) → well_seen (seen_of tones from n) ≡ well_tones tones from n
   seen_wells from n = wells_more unseen from n
 
+  -- before the first row
+  pub seen_none : (s : Seen) (from : ℕ) → seen_from tones s from (from - from) ≡ s
+  unfolding seen_from
+  seen_none s from = let z : from - from ≡ 0 = omega arith in rw z
+
   -- one turn over the rows
   pub seen_turn : (s : Seen) (from i : ℕ) → from ≤ i
       → seen_from tones s from (i + 1 - from) ≡ seeing_row (get tone tones i) (seen_from tones s from (i - from))

@@ -1,8 +1,10 @@
 -- A well-formed row is well formed in its words and in its tone rows. Assumes nothing.
-use Rattle.std.proofs.Common.{◌≡◌, ℕ, Bool, true, false, ◌&&◌, List, refl}
+use Rattle.std.proofs.Common.{◌≡◌, ℕ, ◌+◌, ◌*◌, ◌≤◌, Bool, true, false, ◌&&◌, List, refl, length}
 use Rattle.law_base.proofs.Tests.{first, second}
 use Rattle.rows.specs.Well.{well_ranges, well_numbers, well_sound, well_cases, well_tones, well_block}
+use Rattle.rows.specs.Rows.{tone}
 use Rattle.rows.specs.declared.Block.{Block}
+use Rattle.rows.proofs.WellLaws.{tones_lent}
 use Rattle.rows_well.specs.Words.{well_words}
 
 joined : (a b c d e : Bool) → (a && (b && (c && (d && e)))) ≡ ((a && (b && (c && d))) && e)
@@ -32,3 +34,8 @@ words_clauses tape tones r e =
       numbers = first (well_numbers r) (well_sound r && well_cases r) n;
       cases = second (well_sound r) (well_cases r) (second (well_numbers r) (well_sound r && well_cases r) n);
     }
+
+-- the tone rows of a block whose words are well formed are lent
+pub words_lent : (tape : ℕ) (tones : List ℕ) (r : Block) → well_words tape tones r ≡ true
+    → (r.tone + r.tones) * tone.width ≤ length tones
+words_lent tape tones r e = tones_lent tape tones r (words_clauses tape tones r e).ranges

@@ -7,8 +7,7 @@ ghost use Rattle.rows.specs.Well.{inside, well_tones, well_ranges, well_pause, w
 ghost use Rattle.rows_well.specs.Seen.{unseen, seeing_row, seen_from, well_seen, steady_seen};
 ghost use Rattle.rows_well.specs.Words.{well_words};
 
-use rows::{Block, Tone, tone_at, tone_capacity};
-use std::num::wrapping_add_u64;
+use rows::{Block, Tone, capacity, row_at};
 
 // Whether `n` places from `from` on lie among the first `most`.
 pub fn ranges(from: u64, n: u64, most: u64) -> bool
@@ -44,24 +43,21 @@ fn see(t: Tone, s: Seen) -> Seen
 {
     Seen {
         words: s.words | t.num | t.len1 | t.len2 | t.wave,
-        tops: s.tops | wrapping_add_u64(t.wave, 4),
-        lows: s.lows | wrapping_add_u64(t.wave, 1),
+        tops: s.tops | t.wave.wrapping_add(4),
+        lows: s.lows | t.wave.wrapping_add(1),
         turns: s.turns ^ (t.num & t.wave),
     }
 }
 
 // n tone rows from row `from` on, behind what was seen before; its callers know the rows to be lent.
+#[tactic(auto, using(crate::proofs::Gathered::seen_turn, crate::proofs::Gathered::seen_none))]
 pub fn tones_seen(tones: &[u64], past: Seen, from: u64, n: u64) -> Seen
     requires { (from + n) * tone.width ≤ length tones.now }
     ensures { result ≡ seen_from tones.now past from n }
 {
     let mut s = past;
-    let mut i = from as usize;
-    let mut left = n;
-    while 0 < left {
-        s = see(tone_at(tones, i), s);
-        i += 1;
-        left -= 1;
+    for i in from..from + n {
+        s = see(row_at(tones, i as usize), s);
     }
     s
 }
@@ -81,22 +77,15 @@ pub fn seen_steady(s: Seen) -> bool
 }
 
 // Whether a tone row is well formed.
+#[tactic(auto, unfolding(rows::specs::Well::well_tone))]
 pub fn tone_well(t: Tone) -> bool
     ensures { result ≡ well_tone t }
 {
-    if 65535 < t.num {
-        return false;
-    }
-    if 65535 < t.len1 {
-        return false;
-    }
-    if 65535 < t.len2 {
-        return false;
-    }
-    t.wave <= 11
+    t.num <= 65535 && t.len1 <= 65535 && t.len2 <= 65535 && t.wave <= 11
 }
 
 // Whether n tone rows from row `from` on are well formed; its callers know the rows to be lent.
+#[tactic(auto, using(crate::proofs::Gathered::seen_wells))]
 pub fn tones_well(tones: &[u64], from: u64, n: u64) -> bool
     requires { (from + n) * tone.width ≤ length tones.now }
     ensures { result ≡ well_tones tones.now from n }
@@ -105,16 +94,13 @@ pub fn tones_well(tones: &[u64], from: u64, n: u64) -> bool
 }
 
 // Whether a block's ranges lie inside the tone table and a tape of `tape` bytes.
+#[tactic(auto, unfolding(rows::specs::Well::well_ranges))]
 fn ranges_well(tape: u64, tones: &[u64], r: Block) -> bool
     ensures { result ≡ well_ranges tape tones.now r }
 {
-    if !ranges(r.tone, r.tones, tone_capacity(tones) as u64) {
-        return false;
-    }
-    if !ranges(r.start, r.size, tape) {
-        return false;
-    }
-    ranges(r.text, r.chars, tape)
+    ranges(r.tone, r.tones, capacity::<Tone>(tones) as u64)
+        && ranges(r.start, r.size, tape)
+        && ranges(r.text, r.chars, tape)
 }
 
 // Whether a block's pause is endless or within its limit.
@@ -132,19 +118,11 @@ fn last_well(r: Block) -> bool
 }
 
 // Whether a block's numbers are within their limits.
+#[tactic(auto, unfolding(rows::specs::Well::well_numbers))]
 pub fn numbers_well(r: Block) -> bool
     ensures { result ≡ well_numbers r }
 {
-    if 65535 < r.zero {
-        return false;
-    }
-    if 65535 < r.one {
-        return false;
-    }
-    if !pause_well(r) {
-        return false;
-    }
-    last_well(r)
+    r.zero <= 65535 && r.one <= 65535 && pause_well(r) && last_well(r)
 }
 
 // Whether a block's sound is within its limit, 2 ^ 50.
@@ -162,46 +140,25 @@ fn levels_well(r: Block) -> bool
 }
 
 // Whether a block's flags are 0 or 1 and its case numbers named ones.
+#[tactic(auto, unfolding(rows::specs::Well::well_cases))]
 fn cases_well(r: Block) -> bool
     ensures { result ≡ well_cases r }
 {
-    if 1 < r.endless {
-        return false;
-    }
-    if 1 < r.selectable {
-        return false;
-    }
-    if !levels_well(r) {
-        return false;
-    }
-    if 4 < r.named {
-        return false;
-    }
-    r.sort <= 1
+    r.endless <= 1 && r.selectable <= 1 && levels_well(r) && r.named <= 4 && r.sort <= 1
 }
 
 // Whether a block's row is well formed but for its tone rows, over a tape of `tape` bytes.
+#[tactic(auto, unfolding(crate::specs::Words::well_words))]
 pub fn words_well(tape: u64, tones: &[u64], r: Block) -> bool
     ensures { result ≡ well_words tape tones.now r }
 {
-    if !ranges_well(tape, tones, r) {
-        return false;
-    }
-    if !numbers_well(r) {
-        return false;
-    }
-    if !sound_well(r) {
-        return false;
-    }
-    cases_well(r)
+    ranges_well(tape, tones, r) && numbers_well(r) && sound_well(r) && cases_well(r)
 }
 
 // Whether a block's row is well formed, with its tone rows, over a tape of `tape` bytes.
+#[tactic(auto, using(crate::proofs::WordsLaws::words_tones, crate::proofs::WordsLaws::words_lent))]
 pub fn block_well(tape: u64, tones: &[u64], r: Block) -> bool
     ensures { result ≡ well_block tape tones.now r }
 {
-    if !words_well(tape, tones, r) {
-        return false;
-    }
-    tones_well(tones, r.tone, r.tones)
+    words_well(tape, tones, r) && tones_well(tones, r.tone, r.tones)
 }

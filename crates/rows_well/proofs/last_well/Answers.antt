@@ -1,9 +1,0 @@
--- `last_well` meets its contract. Assumes nothing.
-use Rattle.std.proofs.Common.{eq-eqb, ne_eqb}
-use Rattle.rows_well.proofs.last_well.Goals as goal
-
-pub returns-then-r-eq0 : goal.returns-then-r-eq0
-returns-then-r-eq0 c = rw (eq-eqb _ _ c.if-r-eq0.true)
-
-pub returns-else-r-eq0 : goal.returns-else-r-eq0
-returns-else-r-eq0 c = rw (ne_eqb _ _ c.if-r-eq0.false)

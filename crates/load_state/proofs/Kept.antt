@@ -7,6 +7,7 @@ use mathlib.Core.Bool.{Bool, true, false}
 use mathlib.Core.List.Memᴰ
 use mathlib.Core.List.{List, [], ◌∷◌, ◌++◌, Memᴰ}
 use lib.ListN.{length, get_or, drop}
+use Rattle.std.specs.Prelude.{Option, Some, None}
 use lib.Dec.{ltb}
 use borrow.Author.Tests.{ltb-true}
 use Rattle.refusals.specs.Refusals.{blocks_full}
@@ -14,9 +15,8 @@ use Rattle.law_base.specs.Rules.{◌⇒◌, ◌∣◌}
 use Rattle.rows.specs.declared.Block.{Block}
 use Rattle.load_state.specs.declared.Pending.{Pending}
 use Rattle.load_state.specs.declared.Pending.TheVariants.{Nothing}
-use Rattle.load_state.specs.declared.Loop.{Loop}
+use Rattle.load_state.specs.declared.Body.{Body}
 use Rattle.load_state.specs.declared.Halt.TheVariants.{Refusal}
-use Rattle.load_state.specs.declared.Loop.TheVariants.{Closed, Open}
 use Rattle.load_state.specs.Parser.{Parsed, empty, with_block, with_pending, with_body, opened, Out, on, no, ◌⟫◌, named}
 use Rattle.load_state.specs.Parser.{in_group, last_paused, nameless, add_block, pend, end_group, open_loop, copy_rows, copies}
 use Rattle.load_state.specs.Parser.{closed, close_loop}
@@ -139,13 +139,13 @@ module _ {m : ℕ} {Q : Pending → Type 0} {K : Parsed → Type 0} (k : Steps m
             rows = λ p j. Memᴰ.append_left (named u.pending (nameless q) ∷ []) (o.rows p j);
           }
 
-      closing : (l : Loop) → Sure K (closed m l t)
-      closing Closed = sure h
-      closing (Open start times) =
+      closing : (l : Option Body) → Sure K (closed m l t)
+      closing None = sure h
+      closing (Some b) =
           sure_also (λ u o. o.kept)
-          (copies_keep (Copy t.blocks) (Has K t.blocks) m more times
-          (all_drop start (all_also (λ q i. copy i) (members t.blocks))) (with_body Closed t)
-          (record { kept = k.looping Closed t h; rows = λ q i. i }))
+          (copies_keep (Copy t.blocks) (Has K t.blocks) m more b.times
+          (all_drop b.start (all_also (λ q i. copy i) (members t.blocks))) (with_body None t)
+          (record { kept = k.looping None t h; rows = λ q i. i }))
 
 module _ {P : Block → Type 0} {Q : Pending → Type 0} (k : Lasting P Q) where
   pub kept-empty : KeptSoFar P Q empty

@@ -6,6 +6,7 @@ use mathlib.Core.Bool.{Bool, true, false}
 use mathlib.Core.List.{List, ◌++◌, append_assoc}
 use lib.ListN.{length, length-append, length-replicate}
 use lib.Dec.{leb}
+use Rattle.std.specs.Prelude.{Option, None, Result, Ok, Err}
 use borrow.Author.Tests.{lt-leb, leb-false}
 use Rattle.refusals.specs.Refusals.{tones_full}
 use Rattle.law_base.specs.Rules.{◌⇒◌, ◌∣◌}
@@ -14,14 +15,11 @@ use Rattle.rows.specs.Table.{zeros}
 use Rattle.rows.specs.Rows.{block, tone}
 use Rattle.rows.proofs.Tables.{over_none}
 use Rattle.load_state.specs.declared.State.{State}
-use Rattle.load_state.specs.declared.Step.{Step}
-use Rattle.load_state.specs.declared.Step.TheVariants.{On, No}
 use Rattle.load_state.specs.declared.Pending.{Pending}
 use Rattle.load_state.specs.declared.Pending.TheVariants.{Nothing}
-use Rattle.load_state.specs.declared.Loop.{Loop}
+use Rattle.load_state.specs.declared.Body.{Body}
 use Rattle.load_state.specs.declared.Halt.{Halt}
 use Rattle.load_state.specs.declared.Halt.TheVariants.{Refusal}
-use Rattle.load_state.specs.declared.Loop.TheVariants.{Closed}
 use Rattle.load_state.specs.Parser.{Parsed, with_tones, with_pending, with_body, empty, Out, on, no, ◌⟫◌, add_tones}
 use Rattle.load_state.specs.Holds.{Holds, now_pending, with_loop, GivesOut, goes, refuses}
 
@@ -63,7 +61,7 @@ module _ {B N : ℕ} {s : State} {bt tt : List ℕ} {t : Parsed} (h : Holds B N 
         is_t = h.is_t;
       }
 
-  pub holds_loop : {l m : Loop} → l ≡ m → Holds B N (with_loop l s) bt tt (with_body m t)
+  pub holds_loop : {l m : Option Body} → l ≡ m → Holds B N (with_loop l s) bt tt (with_body m t)
   holds_loop e =
       record {
         nb = h.nb;
@@ -80,23 +78,23 @@ module _ {B N : ℕ} {s : State} {bt tt : List ℕ} {t : Parsed} (h : Holds B N 
 
 -- what an answer that went on, or that refused, says of the definition's
 module _ {B N : ℕ} {bt tt : List ℕ} where
-  pub went_on : {x : Step} {s : State} {o : Out} → GivesOut B N x bt tt o → x ≡ On s
+  pub went_on : {x : Result State Halt} {s : State} {o : Out} → GivesOut B N x bt tt o → x ≡ Ok s
       → (t : Parsed) × (o ≡ on t) × Holds B N s bt tt t
   went_on {s = s} (goes {s = s₁} {t = t} h) e = let q : s₁ ≡ s = cc in (t, refl, rw q at h)
   went_on (refuses) e = let z : ◌≡◌ {A = ℕ} 0 1 = cc in absurd (omega arith)
 
-  pub was_refused : {x : Step} {k : Halt} {o : Out} → GivesOut B N x bt tt o → x ≡ No k → o ≡ no k
+  pub was_refused : {x : Result State Halt} {k : Halt} {o : Out} → GivesOut B N x bt tt o → x ≡ Err k → o ≡ no k
   was_refused (goes h) e = let z : ◌≡◌ {A = ℕ} 0 1 = cc in absurd (omega arith)
   was_refused (refuses) e = cc
 
   -- two calls in turn: where the first went on, what the second gives from there is what both give; where it refused, so do both
-  pub then_on : {x y : Step} {s : State} {bt' tt' : List ℕ} {o : Out} {f : Parsed → Out} → GivesOut B N x bt tt o → x ≡ On s
+  pub then_on : {x y : Result State Halt} {s : State} {bt' tt' : List ℕ} {o : Out} {f : Parsed → Out} → GivesOut B N x bt tt o → x ≡ Ok s
       → ((t : Parsed) → Holds B N s bt tt t → GivesOut B N y bt' tt' (f t)) → GivesOut B N y bt' tt' (o ⟫ f)
   unfolding ◌⟫◌
   then_on e q k = let w = went_on e q in rw w.1 (k w.0 w.2)
 
-  pub then_no : {x : Step} {k : Halt} {bt' tt' : List ℕ} {o : Out} (f : Parsed → Out) → GivesOut B N x bt tt o → x ≡ No k
-      → GivesOut B N (No k) bt' tt' (o ⟫ f)
+  pub then_no : {x : Result State Halt} {k : Halt} {bt' tt' : List ℕ} {o : Out} (f : Parsed → Out) → GivesOut B N x bt tt o → x ≡ Err k
+      → GivesOut B N (Err k) bt' tt' (o ⟫ f)
   unfolding ◌⟫◌
   then_no f e q = rw (was_refused e q) refuses
 
@@ -113,16 +111,16 @@ module _ {P : Parsed → Type 0} {B N : ℕ} {s : State} {bt tt : List ℕ} {res
 
   module _ {whole : Out} (g : Going P B N s bt tt rest whole) where
     -- nothing is left
-    pub going_ends : rest g.at ≡ on g.at → GivesOut B N (On s) bt tt whole
+    pub going_ends : rest g.at ≡ on g.at → GivesOut B N (Ok s) bt tt whole
     going_ends e = rw (← g.same, e) (goes g.holds)
 
     -- one turn of the step f
-    module _ {x : Step} {bt' tt' : List ℕ} (f next : Parsed → Out) (split : rest g.at ≡ f g.at ⟫ next)
+    module _ {x : Result State Halt} {bt' tt' : List ℕ} (f next : Parsed → Out) (split : rest g.at ≡ f g.at ⟫ next)
         (e : GivesOut B N x bt' tt' (f g.at)) where
-      pub going_no : {k : Halt} → x ≡ No k → GivesOut B N (No k) bt' tt' whole
+      pub going_no : {k : Halt} → x ≡ Err k → GivesOut B N (Err k) bt' tt' whole
       going_no q = rw (← g.same, split) (then_no next e q)
 
-      pub going_on : {s' : State} → x ≡ On s' → ((t : Parsed) → f g.at ≡ on t → P t)
+      pub going_on : {s' : State} → x ≡ Ok s' → ((t : Parsed) → f g.at ≡ on t → P t)
           → Going P B N s' bt' tt' next whole
       unfolding ◌⟫◌
       going_on q keep =
@@ -130,7 +128,7 @@ module _ {P : Parsed → Type 0} {B N : ℕ} {s : State} {bt tt : List ℕ} {res
           record { at = w.0; known = keep w.0 w.1; holds = w.2; same = sym (rw w.1 at split) ∙ g.same }
 
 -- nothing read yet
-pub start_holds : (B N : ℕ) → Holds B N (record { blocks = 0; tones = 0; pending = Nothing; body = Closed }) (zeros B) (zeros N) empty
+pub start_holds : (B N : ℕ) → Holds B N (record { blocks = 0; tones = 0; pending = Nothing; body = None }) (zeros B) (zeros N) empty
 unfolding empty
 start_holds B N =
     record {

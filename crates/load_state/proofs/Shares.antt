@@ -6,13 +6,13 @@ use mathlib.Core.Bool.{Bool, true, false}
 use mathlib.Core.List.{List, [], ◌∷◌, ◌++◌, map, map-append, append_assoc, append-nil}
 use lib.ListN.{length, drop}
 use lib.Dec.{ltb}
+use Rattle.std.specs.Prelude.{Option, Some, None}
 use Rattle.refusals.specs.Refusals.{blocks_full}
 use Rattle.law_base.specs.Rules.{◌⇒◌, ◌∣◌}
 use Rattle.rows.specs.declared.Block.{Block}
 use Rattle.load_state.specs.declared.Pending.{Pending}
 use Rattle.load_state.specs.declared.Pending.TheVariants.{Nothing, First, Later, Text}
-use Rattle.load_state.specs.declared.Loop.{Loop}
-use Rattle.load_state.specs.declared.Loop.TheVariants.{Closed, Open}
+use Rattle.load_state.specs.declared.Body.{Body}
 use Rattle.load_state.specs.declared.Halt.TheVariants.{Refusal}
 use Rattle.load_state.specs.Parser.{Parsed, with_block, with_body, Out, on, no, renamed, named, nameless, add_block, copy_rows, copies}
 use Rattle.load_state.specs.Parser.{closed, close_loop}
@@ -64,20 +64,20 @@ module _ {A : Type 0} (f : Block → A)
       (λ u a. sure_also (copies_more m n rs u) (λ v b. then_more t u v (map f rs) (repeated n (map f rs)) a b))
 
   -- the end of an open loop that goes on
-  pub close_repeats : (m : ℕ) (t : Parsed) {u : Parsed} {start times : ℕ} → t.body ≡ Open start times → close_loop m t ≡ on u
-      → (map f u.blocks ≡ map f t.blocks ++ repeated times (map f (drop start t.blocks))) × (u.tones ≡ t.tones)
+  pub close_repeats : (m : ℕ) (t : Parsed) {u : Parsed} {b : Body} → t.body ≡ Some b → close_loop m t ≡ on u
+      → (map f u.blocks ≡ map f t.blocks ++ repeated b.times (map f (drop b.start t.blocks))) × (u.tones ≡ t.tones)
   unfolding close_loop closed
-  close_repeats m t {start = start} {times = times} e g =
-      sure-of (copies_more m times (drop start t.blocks) (with_body Closed t)) (sym (ap (λ (l : Loop). closed m l t) e) ∙ g)
+  close_repeats m t {b = b} e g =
+      sure-of (copies_more m b.times (drop b.start t.blocks) (with_body None t)) (sym (ap (λ (l : Option Body). closed m l t) e) ∙ g)
 
 -- rule 59: a copy shares its original's tone rows
-pub copies_share : (m : ℕ) (t : Parsed) {u : Parsed} {start times : ℕ} → t.body ≡ Open start times → close_loop m t ≡ on u
-    → (map tone_rows u.blocks ≡ map tone_rows t.blocks ++ repeated times (map tone_rows (drop start t.blocks)))
+pub copies_share : (m : ℕ) (t : Parsed) {u : Parsed} {b : Body} → t.body ≡ Some b → close_loop m t ≡ on u
+    → (map tone_rows u.blocks ≡ map tone_rows t.blocks ++ repeated b.times (map tone_rows (drop b.start t.blocks)))
     × (u.tones ≡ t.tones)
 copies_share m t e g = close_repeats tone_rows (λ mark case text chars r. refl) m t e g
 
 -- and is its original but for name and selectability
-pub copies_alike : (m : ℕ) (t : Parsed) {u : Parsed} {start times : ℕ} → t.body ≡ Open start times → close_loop m t ≡ on u
-    → (map nameless u.blocks ≡ map nameless t.blocks ++ repeated times (map nameless (drop start t.blocks)))
+pub copies_alike : (m : ℕ) (t : Parsed) {u : Parsed} {b : Body} → t.body ≡ Some b → close_loop m t ≡ on u
+    → (map nameless u.blocks ≡ map nameless t.blocks ++ repeated b.times (map nameless (drop b.start t.blocks)))
     × (u.tones ≡ t.tones)
 copies_alike m t e g = close_repeats nameless (λ mark case text chars r. refl) m t e g

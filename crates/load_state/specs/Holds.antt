@@ -1,12 +1,10 @@
 -- The code's state and tables hold a tape read so far: the rows, then zeros. Contracts inside a load speak of every tape so held.
 -- Assumes nothing.
-use Rattle.std.specs.Prelude.{ℕ, ◌/◌, ◌≤◌, min, ◌≡◌, List, length}
+use Rattle.std.specs.Prelude.{ℕ, ◌/◌, ◌≤◌, min, ◌≡◌, List, length, Option, Result, Ok, Err}
 use Rattle.rows.specs.Table.{table_of}
 use Rattle.rows.specs.Rows.{block, tone, block_most, tone_most}
 use Rattle.load_state.specs.declared.State.{State}
-use Rattle.load_state.specs.declared.Step.{Step}
-use Rattle.load_state.specs.declared.Step.TheVariants.{On, No}
-use Rattle.load_state.specs.declared.Loop.{Loop}
+use Rattle.load_state.specs.declared.Body.{Body}
 use Rattle.load_state.specs.declared.Halt.{Halt}
 use Rattle.load_state.specs.declared.Pending.{Pending}
 use Rattle.load_state.specs.Parser.{Parsed, Out, on, no}
@@ -15,7 +13,7 @@ use Rattle.load_state.specs.Parser.{Parsed, Out, on, no}
 abbrev pub now_pending : Pending → State → State
 now_pending p s = record { blocks = s.blocks; tones = s.tones; pending = p; body = s.body }
 
-abbrev pub with_loop : Loop → State → State
+abbrev pub with_loop : Option Body → State → State
 with_loop l s = record { blocks = s.blocks; tones = s.tones; pending = s.pending; body = l }
 
 -- the rows that so many lent words have room for
@@ -39,6 +37,6 @@ pub record Holds (B N : ℕ) (s : State) (bt tt : List ℕ) (t : Parsed) : Type 
   pub is_t : tt ≡ table_of tone t.tones N
 
 -- the code's answer is the definition's; a refusal says nothing of the tables, which the load then blanks
-pub data GivesOut (B N : ℕ) : Step → List ℕ → List ℕ → Out → Type 0 where
-  goes : {s : State} {bt tt : List ℕ} {t : Parsed} → Holds B N s bt tt t → GivesOut B N (On s) bt tt (on t)
-  refuses : {k : Halt} {bt tt : List ℕ} → GivesOut B N (No k) bt tt (no k)
+pub data GivesOut (B N : ℕ) : Result State Halt → List ℕ → List ℕ → Out → Type 0 where
+  goes : {s : State} {bt tt : List ℕ} {t : Parsed} → Holds B N s bt tt t → GivesOut B N (Ok s) bt tt (on t)
+  refuses : {k : Halt} {bt tt : List ℕ} → GivesOut B N (Err k) bt tt (no k)

@@ -1,11 +1,11 @@
 -- What theorems of a load say: a property that every step keeps, of tapes read so far and of their blocks.
 -- Definitions alone; assumes nothing.
-use Rattle.std.specs.Prelude.{ℕ, ◌<◌, zero, suc, length}
+use Rattle.std.specs.Prelude.{ℕ, ◌<◌, zero, suc, length, Option}
 use mathlib.Core.List.{List, [], ◌∷◌, Memᴰ, ◌++◌}
 use Rattle.rows.specs.declared.Block.{Block}
 use Rattle.load_state.specs.declared.Pending.{Pending}
 use Rattle.load_state.specs.declared.Pending.TheVariants.{Nothing}
-use Rattle.load_state.specs.declared.Loop.{Loop}
+use Rattle.load_state.specs.declared.Body.{Body}
 use Rattle.load_state.specs.declared.Halt.{Halt}
 use Rattle.load_state.specs.Parser.{Parsed, parsed_of, with_block, with_pending, with_body, Out, on, no, named, used, paused}
 use Rattle.load_state.specs.Parser.{last_paused, nameless}
@@ -29,7 +29,7 @@ pub record Steps (m : ℕ) (Q : Pending → Type 0) (K : Parsed → Type 0) : Ty
   pub copying : (r : Block) (t : Parsed) → Memᴰ r t.blocks → length t.blocks < m → K t → K (with_block (nameless r) t)
   pub naming : (p : Pending) (t : Parsed) → Q p → K t → K (with_pending p t)
   pub pausing : (t : Parsed) → K t → K (with_blocks (last_paused t.blocks) t)
-  pub looping : (l : Loop) (t : Parsed) → K t → K (with_body l t)
+  pub looping : (l : Option Body) (t : Parsed) → K t → K (with_body l t)
 
 -- P of blocks is kept by every pending name with Q, by a copy and by a pause; a used name with Q has Q, and so has none
 pub record Lasting (P : Block → Type 0) (Q : Pending → Type 0) : Type 0 where

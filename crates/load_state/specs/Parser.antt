@@ -1,5 +1,6 @@
 -- What the parser does with blocks, names and loops (rules 25, 26, 57 to 60, 66, 67), over lists of rows. Assumes nothing.
 use Rattle.std.specs.Prelude.{ℕ, zero, suc, ◌+◌, Bool, true, false, ◌&&◌, List, [], ◌∷◌, ◌++◌, length, drop, leb, ltb, eqb}
+use Rattle.std.specs.Prelude.{Option, Some, None}
 use Rattle.refusals.specs.Refusals.{tones_full, blocks_full}
 use Rattle.law_base.specs.Rules.{◌⇒◌, ◌∣◌}
 use Rattle.rows.specs.declared.Block.{Block}
@@ -7,23 +8,22 @@ use Rattle.rows.specs.declared.Tone.{Tone}
 use Rattle.rows.specs.Rows.{with_name, with_pause, with_mark}
 use Rattle.load_state.specs.declared.Pending.{Pending}
 use Rattle.load_state.specs.declared.Pending.TheVariants.{Nothing, First, Later, Text}
-use Rattle.load_state.specs.declared.Loop.{Loop}
+use Rattle.load_state.specs.declared.Body.{Body}
 use Rattle.load_state.specs.declared.Halt.{Halt}
 use Rattle.load_state.specs.declared.Halt.TheVariants.{Refusal}
-use Rattle.load_state.specs.declared.Loop.TheVariants.{Closed, Open}
 
 -- what was read so far: the blocks, the tone rows, the pending name, the open loop
 pub record Parsed : Type 0 where
   pub blocks : List Block
   pub tones : List Tone
   pub pending : Pending
-  pub body : Loop
+  pub body : Option Body
 
-abbrev pub parsed_of : List Block → List Tone → Pending → Loop → Parsed
+abbrev pub parsed_of : List Block → List Tone → Pending → Option Body → Parsed
 parsed_of bs ts p l = record { blocks = bs; tones = ts; pending = p; body = l }
 
 unfoldable pub empty : Parsed
-empty = parsed_of [] [] Nothing Closed
+empty = parsed_of [] [] Nothing None
 
 -- a step's answer: the tape read so far, or why there is none
 pub data Out : Type 0 where
@@ -100,11 +100,11 @@ unfoldable pub end_group : Parsed → Out
 end_group t = on (parsed_of (last_paused t.blocks) t.tones (group_ended t.pending) t.body)
 
 -- a loop start; a nested start is ignored
-abbrev pub opened : ℕ → ℕ → Loop → Loop
-opened start times Closed = Open start times
-opened start times (Open p n) = Open p n
+abbrev pub opened : ℕ → ℕ → Option Body → Option Body
+opened start times None = Some (record { start = start; times = times })
+opened start times (Some b) = Some b
 
-abbrev pub with_body : Loop → Parsed → Parsed
+abbrev pub with_body : Option Body → Parsed → Parsed
 with_body l t = parsed_of t.blocks t.tones t.pending l
 
 unfoldable pub open_loop : ℕ → Parsed → Out
@@ -124,9 +124,9 @@ copies most zero rs t = on t
 copies most (suc n) rs t = copy_rows most rs t ⟫ copies most n rs
 
 -- a loop end appends them; an end without a start is ignored
-unfoldable pub closed : ℕ → Loop → Parsed → Out
-closed most Closed t = on t
-closed most (Open start times) t = copies most times (drop start t.blocks) (with_body Closed t)
+unfoldable pub closed : ℕ → Option Body → Parsed → Out
+closed most None t = on t
+closed most (Some b) t = copies most b.times (drop b.start t.blocks) (with_body None t)
 
 unfoldable pub close_loop : ℕ → Parsed → Out
 close_loop most t = closed most t.body t

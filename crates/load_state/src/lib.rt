@@ -9,7 +9,7 @@ ghost use Rattle.load_state.specs.Parser.{Parsed, empty, renamed, named, used, a
 ghost use Rattle.load_state.specs.Holds.{Holds, GivesOut, block_room, tone_room};
 
 use refusals::{BLOCKS_FULL, TONES_FULL};
-use rows::{Block, Tone, append_block, append_tone, with_mark, with_name};
+use rows::{Block, Tone, append};
 
 // The name that the next blocks take; a place in the tape and a length. The Rust's `GroupParse`.
 #[derive(Clone, Copy)]
@@ -22,9 +22,9 @@ pub enum Pending {
 
 // An open loop: the first block of its body, and how many further bodies its end appends.
 #[derive(Clone, Copy)]
-pub enum Loop {
-    Closed,
-    Open { start: u64, times: u32 },
+pub struct Body {
+    pub start: u64,
+    pub times: u32,
 }
 
 // The Rust's `Parser`: how many rows of each table are used, and what is pending.
@@ -33,7 +33,7 @@ pub struct State {
     pub blocks: u64,
     pub tones: u64,
     pub pending: Pending,
-    pub body: Loop,
+    pub body: Option<Body>,
 }
 
 // Why a reading halts: a refusal's number; or the piece of this kind at this place, a 2A, has a length that is not 0: a failure.
@@ -41,13 +41,6 @@ pub struct State {
 pub enum Halt {
     Refusal(u32),
     Length { kind: u8, at: u64, length: u32 },
-}
-
-// A step's answer: the next state, or why there is none.
-#[derive(Clone, Copy)]
-pub enum Step {
-    On(State),
-    No(Halt),
 }
 
 // Nothing read yet; the tables are blank.
@@ -58,7 +51,7 @@ pub fn new_state() -> State
         blocks: 0,
         tones: 0,
         pending: Pending::Nothing,
-        body: Loop::Closed,
+        body: None,
     }
 }
 
@@ -66,7 +59,7 @@ pub fn new_state() -> State
 pub fn rename(selectable: u64, case: u64, text: u64, chars: u64, r: Block) -> Block
     ensures { result ≡ renamed selectable case text chars r }
 {
-    with_mark(selectable, with_name(case, text, chars, r))
+    r.with_name(case, text, chars).with_mark(selectable)
 }
 
 // A block with the pending name.
@@ -88,48 +81,39 @@ fn after_use(p: Pending) -> Pending
     match p {
         Pending::Nothing => p,
         Pending::First { text, chars } => Pending::Later { text, chars },
-        Pending::Later { text: _, chars: _ } => p,
-        Pending::Text { text: _, chars: _ } => Pending::Nothing,
+        Pending::Later { .. } => p,
+        Pending::Text { .. } => Pending::Nothing,
     }
 }
 
 // One tone row more.
-pub fn add_tone(s: State, tones: &mut [u64], r: Tone) -> Step
+pub fn add_tone(s: State, tones: &mut [u64], r: Tone) -> Result<State, Halt>
     ensures { (B N : ℕ) (bt : List ℕ) (t : Parsed) → Holds B N s bt tones.old t
         → GivesOut B N result bt tones.new (add_tones (tone_room N) (r ∷ []) t) }
 {
-    let n = s.tones;
-    if append_tone(tones, n as usize, r) {
-        let pending = s.pending;
-        let body = s.body;
-        Step::On(State {
-            blocks: s.blocks,
-            tones: n + 1,
-            pending,
-            body,
+    if append(tones, s.tones as usize, r) {
+        Ok(State {
+            tones: s.tones + 1,
+            ..s
         })
     } else {
-        Step::No(Halt::Refusal(TONES_FULL))
+        Err(Halt::Refusal(TONES_FULL))
     }
 }
 
 // One block more, with the pending name.
-pub fn add_block(s: State, blocks: &mut [u64], r: Block) -> Step
+pub fn add_block(s: State, blocks: &mut [u64], r: Block) -> Result<State, Halt>
     ensures { (B N : ℕ) (tt : List ℕ) (t : Parsed) → Holds B N s blocks.old tt t
         → GivesOut B N result blocks.new tt (add_block (block_room B) r t) }
 {
-    let n = s.blocks;
     let p = s.pending;
-    if append_block(blocks, n as usize, take_name(p, r)) {
-        let pending = after_use(p);
-        let body = s.body;
-        Step::On(State {
-            blocks: n + 1,
-            tones: s.tones,
-            pending,
-            body,
+    if append(blocks, s.blocks as usize, take_name(p, r)) {
+        Ok(State {
+            blocks: s.blocks + 1,
+            pending: after_use(p),
+            ..s
         })
     } else {
-        Step::No(Halt::Refusal(BLOCKS_FULL))
+        Err(Halt::Refusal(BLOCKS_FULL))
     }
 }

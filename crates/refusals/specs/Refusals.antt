@@ -1,5 +1,7 @@
 -- THE NUMBERS FOR NO (rules 20 to 31), each under its name: the number that a definition or a law says. Definitions alone; assumes nothing.
 use Rattle.std.specs.Prelude.{ℕ}
+use Rattle.refusals.specs.declared.Refusal.{Refusal}
+use Rattle.refusals.specs.declared.Refusal.TheVariants.{BadModel, TapeLong, TapeBad, Generalised, TonesFull, BlocksFull, LastBits, NoBlock, NoPosition, NoRoom, BadRow}
 
 -- model is not 0 (48K), 1 (128K), 2 (Plus3)
 abbrev pub bad_model : ℕ
@@ -44,3 +46,17 @@ no_room = 10
 -- a needed row is not well formed, or the count exceeds capacity
 abbrev pub bad_row : ℕ
 bad_row = 11
+
+-- the number of each
+abbrev pub number : Refusal → ℕ
+number BadModel = bad_model
+number TapeLong = tape_long
+number TapeBad = tape_bad
+number Generalised = generalised
+number TonesFull = tones_full
+number BlocksFull = blocks_full
+number LastBits = last_bits
+number NoBlock = no_block
+number NoPosition = no_position
+number NoRoom = no_room
+number BadRow = bad_row

@@ -6,7 +6,9 @@ use lib.ListN.{length, replicate}
 use Rattle.cut_fields.specs.Field.{le_at}
 use Rattle.rows.specs.Table.{put_all}
 use Rattle.cut_grammar.specs.Grammar.{binary_digits, bits_of}
-use Rattle.load_general.specs.declared.Made.TheVariants.{Refused, Full, Stop, Data, Tones}
+use Rattle.std.specs.Prelude.{Ok, Err}
+use Rattle.load_general.specs.declared.NoRows.TheVariants.{Refused, Full, Stop}
+use Rattle.load_general.specs.declared.Made.TheVariants.{Data, Tones}
 use Rattle.load_general.specs.General.{symbol_at, plain_tone, before, rows_from, cycles, entry_symbol, entry_repeat, entry_row, pilot_of}
 use Rattle.load_general.specs.General.{equal_halves, ordinary, used_bits, symbol_number, single_row, pair_row, singles_of, pairs_of}
 use Rattle.load_general.specs.General.{data_part, Given, refused4, stop, plain, toned, with_data, with_pilot, general_of}
@@ -156,7 +158,7 @@ two = toned (plain_tone 1 2 3 ∷ plain_tone 4 5 6 ∷ [])
 
 pub answered : (made_of 0 refused4 ∷ made_of 0 stop ∷ made_of 0 (plain [] 10 20 8) ∷ made_of 1 two ∷ made_of 2 two ∷ made_of 3 two ∷
     [])
-    ≡ (Refused ∷ Stop ∷ Data 0 10 20 8 ∷ Full ∷ Tones 2 ∷ Tones 2 ∷ [])
+    ≡ (Err Refused ∷ Err Stop ∷ Ok (Data 0 10 20 8) ∷ Err Full ∷ Ok (Tones 2) ∷ Ok (Tones 2) ∷ [])
 unfolding made_of
 answered = refl
 

@@ -11,9 +11,9 @@ use lib.Dec.{leb, ltb}
 use borrow.Author.Tests.{leb-true, ltb-true, lt-ltb, le-ltb, lt-leb, le-leb}
 use Rattle.law_base.specs.Rules.{◌⇒◌, ◌∣◌}
 use Rattle.law_base.proofs.Numbers.{lt_or_ge}
+use Rattle.rows.specs.declared.Tone.{Tone}
 use Rattle.cut_grammar.specs.declared.GeneralizedData.{GeneralizedData}
-use Rattle.load_general.specs.declared.Row.{Row}
-use Rattle.load_general.specs.declared.Row.TheVariants.{Refused, Gives}
+use Rattle.std.specs.Prelude.{Option, None, Some}
 use Rattle.load_general.specs.General.{plain_tone, symbol_number, single_row, pair_row, rows_from}
 use Rattle.load_general.specs.Made.{is_given, is_tones}
 use Rattle.load_general.specs.Held.{Kept}
@@ -22,7 +22,7 @@ use Rattle.load_general.proofs.Symbols.{kept-first, kept_second}
 use Rattle.law_base.proofs.Tests.{first, second}
 
 -- a number not below the size is refused
-rule : (size n : ℕ) (r : Row) → is_given (leb size n ⇒ Refused ∣ r) ≡ (ltb n size && is_given r)
+rule : (size n : ℕ) (r : Option Tone) → is_given (leb size n ⇒ None ∣ r) ≡ (ltb n size && is_given r)
 unfolding is_given
 rule size n r =
     ⊎_elim
@@ -51,11 +51,11 @@ module _ (s : List ℕ) (g : GeneralizedData) where
   number_below h bit more = lt-ltb _ _ (lt_of_lt_of_le (mod-lt _ (pow_pos g.nb)) (leb-true _ _ h))
 
   pub every-single : leb (2 ^ g.nb) g.asd ≡ true → is_tones (rows_from (single_row s g) 0 g.totd) ≡ true
-  every-single h = all_given (single_row s g) (λ i. single-given i ∙ number_below h (i * g.nb) 0) 0 g.totd
+  every-single h = all_given (single_row s g) 0 g.totd (λ i l. single-given i ∙ number_below h (i * g.nb) 0)
 
   pub every-pair : leb (2 ^ g.nb) g.asd ≡ true → is_tones (rows_from (pair_row s g) 0 (g.totd / 2)) ≡ true
-  every-pair h = all_given (pair_row s g)
-      (λ i. pair-given i ∙ rw (number_below h (2 * i * g.nb) 0, number_below h (2 * i * g.nb) 1)) 0 (g.totd / 2)
+  every-pair h = all_given (pair_row s g) 0 (g.totd / 2)
+      (λ i l. pair-given i ∙ rw (number_below h (2 * i * g.nb) 0, number_below h (2 * i * g.nb) 1))
 
   -- the numbers of what is given, and the tone, from the array that holds the alphabet
   module _ (i : ℕ) (e : is_given (single_row s g i) ≡ true) where
@@ -64,7 +64,7 @@ module _ (s : List ℕ) (g : GeneralizedData) where
 
     pub single-tone : (a : List (List ℕ)) → Kept s g.symbols g.npd g.asd a → (b : ℕ)
         → b ≡ symbol_number s g (i * g.nb) 0
-        → single_row s g i ≡ Gives (plain_tone 1 (get_or (get_or a b []) 0 0) (get_or (get_or a b []) 1 0))
+        → single_row s g i ≡ Some (plain_tone 1 (get_or (get_or a b []) 0 0) (get_or (get_or a b []) 1 0))
     unfolding single_row
     single-tone a k b q =
         let h = single_below in
@@ -84,7 +84,7 @@ module _ (s : List ℕ) (g : GeneralizedData) where
 
     pub pair-tone : (a : List (List ℕ)) → Kept s g.symbols g.npd g.asd a → (b d : ℕ)
         → b ≡ symbol_number s g (2 * i * g.nb) 0 → d ≡ symbol_number s g (2 * i * g.nb) 1
-        → pair_row s g i ≡ Gives (plain_tone 1 (get_or (get_or a b []) 0 0) (get_or (get_or a d []) 0 0))
+        → pair_row s g i ≡ Some (plain_tone 1 (get_or (get_or a b []) 0 0) (get_or (get_or a d []) 0 0))
     unfolding pair_row
     pair-tone a k b d q r =
         rw (

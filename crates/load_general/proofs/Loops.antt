@@ -1,44 +1,26 @@
--- A loop that judges n rows and one that writes them, whatever the sort: what holds at row i, at the start, after a turn and at the end.
+-- A loop that writes n rows, whatever the sort: what holds at row i, at the start, after a turn and at the end.
 -- Assumes nothing.
 use Prim.Native.Nat.{ℕ, ◌+◌, ◌-◌, ◌≤◌, ◌<◌}
 use mathlib.Core.Path.{◌≡◌, refl, sym, ◌∙◌}
-use mathlib.Core.Bool.{true, false}
+use mathlib.Core.Bool.{true}
 use mathlib.Core.List.{List}
 use native.Mathlib.Omega.{arith}
 use lib.ListN.{length}
 use Rattle.rows.specs.Table.{put, put_all}
 use Rattle.rows.specs.Rows.{tone}
 use Rattle.rows.specs.declared.Tone.{Tone}
-use Rattle.load_general.specs.declared.Row.{Row}
-use Rattle.load_general.specs.declared.Row.TheVariants.{Gives}
+use Rattle.std.specs.Prelude.{Option, Some}
 use Rattle.load_general.specs.General.{rows_from}
 use Rattle.load_general.specs.Made.{is_given, put_given, is_tones, part_tones}
-use Rattle.load_general.proofs.Parts.{turn-refused, turn-given, turn_row, turn-put, turn_puts, end_tones, end_put}
-
--- what is judged of the rows from i on is what is judged of all
-abbrev pub Judging : (ℕ → Row) → ℕ → ℕ → Type 0
-Judging row n i = (i ≤ n) × (is_tones (rows_from row i (n - i)) ≡ is_tones (rows_from row 0 n))
-
-module _ (row : ℕ → Row) (n : ℕ) where
-  pub judging_starts : Judging row n 0
-  judging_starts = let z : n - 0 ≡ n = omega arith in (omega arith, rw z refl)
-
-  pub judging_refused : (i : ℕ) → i < n → Judging row n i → is_given (row i) ≡ false → false ≡ is_tones (rows_from row 0 n)
-  judging_refused i h v e = sym (turn-refused row i n h e) ∙ v.1
-
-  pub judging_on : (i : ℕ) → i < n → Judging row n i → is_given (row i) ≡ true → Judging row n (i + 1)
-  judging_on i h v e = (omega arith, turn-given row i n h e ∙ v.1)
-
-  pub judging_over : (i : ℕ) → n ≤ i → Judging row n i → true ≡ is_tones (rows_from row 0 n)
-  judging_over i h v = let e : i ≡ n = omega arith in sym (end_tones row n) ∙ (rw e at v.1)
+use Rattle.load_general.proofs.Parts.{turn_row, turn-put, turn_puts, end_put}
 
 -- with the rows from i on put, the table is what it is to become
-abbrev pub Writing : (ℕ → Row) → ℕ → ℕ → List ℕ → List ℕ → ℕ → Type 0
+abbrev pub Writing : (ℕ → Option Tone) → ℕ → ℕ → List ℕ → List ℕ → ℕ → Type 0
 Writing row n used t₀ t i =
     (i ≤ n) × (length t ≡ length t₀) × (is_tones (rows_from row i (n - i)) ≡ true)
     × (put_all tone t (used + i) (part_tones (rows_from row i (n - i))) ≡ put_all tone t₀ used (part_tones (rows_from row 0 n)))
 
-module _ (row : ℕ → Row) (n used : ℕ) (t₀ : List ℕ) where
+module _ (row : ℕ → Option Tone) (n used : ℕ) (t₀ : List ℕ) where
   pub writing_starts : is_tones (rows_from row 0 n) ≡ true → Writing row n used t₀ t₀ 0
   writing_starts e =
       let z : n - 0 ≡ n = omega arith in let u : used + 0 ≡ used = omega arith in (omega arith, refl, rw z e, rw (z, u) refl)
@@ -56,7 +38,7 @@ module _ (row : ℕ → Row) (n used : ℕ) (t₀ : List ℕ) where
     writing_on t' l p =
         (omega arith, l ∙ v.1, (turn-put row i n h v.2).rest, rw p (sym (turn_puts row i n h v.2 t used) ∙ v.3))
 
-    pub writing_tone : (t' : List ℕ) (r : Tone) → length t' ≡ length t → row i ≡ Gives r → t' ≡ put tone t (used + i) r
+    pub writing_tone : (t' : List ℕ) (r : Tone) → length t' ≡ length t → row i ≡ Some r → t' ≡ put tone t (used + i) r
         → Writing row n used t₀ t' (i + 1)
     unfolding put_given
     writing_tone t' r l e p = writing_on t' l (rw e p)

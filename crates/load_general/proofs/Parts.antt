@@ -3,18 +3,23 @@ use Prim.Native.Nat.{ℕ, zero, suc, ◌+◌, ◌-◌, ◌/◌, ◌≤◌, ◌<�
 use mathlib.Core.Path.{◌≡◌, refl, sym, ap, ◌∙◌}
 use mathlib.Core.Bool.{Bool, true, false, ◌&&◌, ◌||◌}
 use mathlib.Core.List.{List}
+use mathlib.Core.Logic.{⊎_elim}
 use native.Mathlib.Omega.{arith}
-use lib.ListN.{length}
+use native.Mathlib.Nat.{zero-add}
+use lib.ListN.{length, get_or}
 use lib.Dec.{eqb, ltb, leb}
 use borrow.Author.Tests.{ltb-false, leb-false, ne_eqb, eq-eqb, eqb-true, eqb-false}
+use Rattle.std.specs.Bool.{MatchBool}
+use Rattle.std.specs.List.{AllWithin, HoldsAt, range_with_len}
+use Rattle.std.proofs.lemmas.List.FromFn.{length-range_with_len, get_or-range_with_len}
+use Rattle.law_base.proofs.Numbers.{lt_or_ge}
 use Rattle.law_base.specs.Rules.{◌⇒◌, ◌∣◌}
 use Rattle.cut_grammar.specs.declared.GeneralizedData.{GeneralizedData}
 use Rattle.rows.specs.Table.{put_all}
 use Rattle.rows.specs.Rows.{tone}
 use Rattle.rows.specs.declared.Tone.{Tone}
-use Rattle.load_general.specs.declared.Row.{Row}
-use Rattle.load_general.specs.declared.Row.TheVariants.{Refused, Gives}
-use Rattle.load_general.specs.declared.Judged.TheVariants as judged
+use Rattle.std.specs.Prelude.{Option, None, Some, Ok, Err}
+use Rattle.load_general.specs.declared.NoRows.TheVariants.{Refused, Stop}
 use Rattle.load_general.specs.General.{Part, refused, stops, tones, before, rows_from, entry_symbol, entry_row, single_row, pair_row}
 use Rattle.load_general.specs.General.{pilot_of, singles_of, pairs_of, data_part}
 use Rattle.load_general.specs.Made.{is_given, put_given, judged_of, is_tones, part_tones}
@@ -23,72 +28,73 @@ use Rattle.load_general.specs.Made.{is_given, put_given, judged_of, is_tones, pa
 pub differ : true ≡ false → ⊥
 differ e = let z : ◌≡◌ {A = ℕ} 0 1 = cc in omega arith
 
-before-refused : (r : Row) (p : Part) → is_given r ≡ false → is_tones (before r p) ≡ false
+before-refused : (r : Option Tone) (p : Part) → is_given r ≡ false → is_tones (before r p) ≡ false
 unfolding before is_given is_tones
-before-refused Refused p e = refl
-before-refused (Gives t) p e = absurd (differ e)
+before-refused None p e = refl
+before-refused (Some t) p e = absurd (differ e)
 
-before-given : (r : Row) (p : Part) → is_given r ≡ true → is_tones (before r p) ≡ is_tones p
+before-given : (r : Option Tone) (p : Part) → is_given r ≡ true → is_tones (before r p) ≡ is_tones p
 unfolding before is_given is_tones
-before-given Refused p e = absurd (differ (sym e))
-before-given (Gives t) refused e = refl
-before-given (Gives t) stops e = refl
-before-given (Gives t) (tones ts) e = refl
+before-given None p e = absurd (differ (sym e))
+before-given (Some t) refused e = refl
+before-given (Some t) stops e = refl
+before-given (Some t) (tones ts) e = refl
 
-before_row : (r : Row) (p : Part) → is_tones (before r p) ≡ true → is_given r ≡ true
+before-rest : (r : Option Tone) (p : Part) → is_tones p ≡ false → is_tones (before r p) ≡ false
+unfolding before is_tones
+before-rest None p e = refl
+before-rest (Some t) refused e = refl
+before-rest (Some t) stops e = refl
+before-rest (Some t) (tones ts) e = absurd (differ e)
+
+before_row : (r : Option Tone) (p : Part) → is_tones (before r p) ≡ true → is_given r ≡ true
 unfolding before is_given is_tones
-before_row Refused p e = e
-before_row (Gives t) p e = refl
+before_row None p e = e
+before_row (Some t) p e = refl
 
 -- a row before tones is put before them
-pub record Put (r : Row) (p : Part) : Type 0 where
+pub record Put (r : Option Tone) (p : Part) : Type 0 where
   pub rest : is_tones p ≡ true
   pub puts : (t : List ℕ) (k : ℕ) → put_all tone t k (part_tones (before r p)) ≡ put_all tone (put_given t k r) (k + 1) (part_tones p)
 
-before-put : (r : Row) (p : Part) → is_tones (before r p) ≡ true → Put r p
+before-put : (r : Option Tone) (p : Part) → is_tones (before r p) ≡ true → Put r p
 unfolding before is_tones part_tones put_given put_all
-before-put Refused p e = absurd (differ (sym e))
-before-put (Gives t) refused e = absurd (differ (sym e))
-before-put (Gives t) stops e = absurd (differ (sym e))
-before-put (Gives t) (tones ts) e = record { rest = refl; puts = λ l k. refl }
+before-put None p e = absurd (differ (sym e))
+before-put (Some t) refused e = absurd (differ (sym e))
+before-put (Some t) stops e = absurd (differ (sym e))
+before-put (Some t) (tones ts) e = record { rest = refl; puts = λ l k. refl }
 
 -- n rows are n tones, or refused
 pub data Rowed (n : ℕ) : Part → Type 0 where
   none : Rowed n refused
   all : {ts : List Tone} → length ts ≡ n → Rowed n (tones ts)
 
-before_rowed : {n : ℕ} {p : Part} (r : Row) → Rowed n p → Rowed (suc n) (before r p)
+before_rowed : {n : ℕ} {p : Part} (r : Option Tone) → Rowed n p → Rowed (suc n) (before r p)
 unfolding before
-before_rowed Refused h = none
-before_rowed (Gives t) none = none
-before_rowed (Gives t) (all e) = all (ap suc e)
+before_rowed None h = none
+before_rowed (Some t) none = none
+before_rowed (Some t) (all e) = all (ap suc e)
 
-pub rowed : (row : ℕ → Row) (i n : ℕ) → Rowed n (rows_from row i n)
+pub rowed : (row : ℕ → Option Tone) (i n : ℕ) → Rowed n (rows_from row i n)
 unfolding rows_from
 rowed row i zero = all refl
 rowed row i (suc n) = before_rowed (row i) (rowed row (i + 1) n)
 
-pub rowed_all : {n : ℕ} {p : Part} → Rowed n p → is_tones p ≡ true → judged_of p ≡ judged.Rows n
+pub rowed_all : {n : ℕ} {p : Part} → Rowed n p → is_tones p ≡ true → judged_of p ≡ Ok n
 unfolding is_tones judged_of
 rowed_all none e = absurd (differ (sym e))
 rowed_all (all h) e = rw h
 
-pub rowed_none : {n : ℕ} {p : Part} → Rowed n p → is_tones p ≡ false → judged_of p ≡ judged.Refused
+pub rowed_none : {n : ℕ} {p : Part} → Rowed n p → is_tones p ≡ false → judged_of p ≡ Err Refused
 unfolding is_tones judged_of
 rowed_none none e = refl
 rowed_none (all h) e = absurd (differ e)
 
 -- one turn of a loop over n rows, at row i
-module _ (row : ℕ → Row) (i n : ℕ) (h : i < n) where
+module _ (row : ℕ → Option Tone) (i n : ℕ) (h : i < n) where
   turn : rows_from row i (n - i) ≡ before (row i) (rows_from row (i + 1) (n - (i + 1)))
   unfolding rows_from
   turn = let e : n - i ≡ suc (n - (i + 1)) = omega arith in rw e
-
-  pub turn-refused : is_given (row i) ≡ false → is_tones (rows_from row i (n - i)) ≡ false
-  turn-refused e = rw turn (before-refused (row i) (rows_from row (i + 1) (n - (i + 1))) e)
-
-  pub turn-given : is_given (row i) ≡ true → is_tones (rows_from row (i + 1) (n - (i + 1))) ≡ is_tones (rows_from row i (n - i))
-  turn-given e = rw turn (sym (before-given (row i) (rows_from row (i + 1) (n - (i + 1))) e))
 
   pub turn_row : is_tones (rows_from row i (n - i)) ≡ true → is_given (row i) ≡ true
   turn_row e = before_row (row i) (rows_from row (i + 1) (n - (i + 1))) (rw turn at e)
@@ -104,18 +110,43 @@ module _ (row : ℕ → Row) (i n : ℕ) (h : i < n) where
       rw turn ((turn-put e).puts t (used + i)
       ∙ ap (λ (m : ℕ). put_all tone (put_given t (used + i) (row i)) m (part_tones (rows_from row (i + 1) (n - (i + 1))))) k)
 
--- rows that are all given
-pub all_given : (row : ℕ → Row) → ((j : ℕ) → is_given (row j) ≡ true) → (i n : ℕ) → is_tones (rows_from row i n) ≡ true
+-- rows that are all given, and rows of which one is refused
+pub all_given : (row : ℕ → Option Tone) (i n : ℕ) → ((j : ℕ) → j < i + n → is_given (row j) ≡ true) → is_tones (rows_from row i n) ≡ true
 unfolding rows_from is_tones
-all_given row h i zero = refl
-all_given row h i (suc n) = before-given (row i) (rows_from row (i + 1) n) (h i) ∙ all_given row h (i + 1) n
+all_given row i zero h = refl
+all_given row i (suc n) h =
+    before-given (row i) (rows_from row (i + 1) n) (h i (omega arith)) ∙ all_given row (i + 1) n (λ j l. h j (omega arith))
+
+one_refused : (row : ℕ → Option Tone) (i n k : ℕ) → i ≤ k → k < i + n → is_given (row k) ≡ false → is_tones (rows_from row i n) ≡ false
+unfolding rows_from is_tones
+one_refused row i zero k l h e = absurd (omega arith)
+one_refused row i (suc n) k l h e =
+    ⊎_elim
+    (λ (b : i < k). before-rest (row i) (rows_from row (i + 1) n) (one_refused row (i + 1) n k (omega arith) (omega arith) e))
+    (λ (b : k ≤ i). let q : k ≡ i = omega arith in before-refused (row i) (rows_from row (i + 1) n) (rw q at e))
+    (lt_or_ge i k)
+
+-- what `all` answers of n rows
+pub judged : (row : ℕ → Option Tone) (n : ℕ) (r : Bool)
+    → MatchBool r (AllWithin (λ i. i < n → is_given (row i) ≡ true) (range_with_len 0 n) 0 (length (range_with_len 0 n)))
+    ((k : ℕ) × (k < length (range_with_len 0 n)) × HoldsAt (λ i. i < n → is_given (row i) ≡ false) (range_with_len 0 n) k)
+    → r ≡ is_tones (rows_from row 0 n)
+judged row n true m =
+    sym (all_given row 0 n (λ j l.
+    let h : j < n = omega arith in
+    let e : get_or (range_with_len 0 n) j 0 ≡ j = get_or-range_with_len 0 n j 0 h ∙ zero-add j in
+    (rw e at (m j 0 (omega arith) (omega (arith, length-range_with_len 0 n)))) h))
+judged row n false (k, l, m) =
+    let h : k < n = omega (arith, length-range_with_len 0 n) in
+    let e : get_or (range_with_len 0 n) k 0 ≡ k = get_or-range_with_len 0 n k 0 h ∙ zero-add k in
+    sym (one_refused row 0 n k (omega arith) (omega arith) ((rw e at (m 0)) h))
 
 -- no row is left
-pub end_tones : (row : ℕ → Row) (n : ℕ) → is_tones (rows_from row n (n - n)) ≡ true
+pub end_tones : (row : ℕ → Option Tone) (n : ℕ) → is_tones (rows_from row n (n - n)) ≡ true
 unfolding rows_from is_tones
 end_tones row n = let e : n - n ≡ 0 = omega arith in rw e
 
-pub end_put : (row : ℕ → Row) (n k : ℕ) (t : List ℕ) → put_all tone t k (part_tones (rows_from row n (n - n))) ≡ t
+pub end_put : (row : ℕ → Option Tone) (n k : ℕ) (t : List ℕ) → put_all tone t k (part_tones (rows_from row n (n - n))) ≡ t
 unfolding rows_from part_tones put_all
 end_put row n k t = let e : n - n ≡ 0 = omega arith in rw e
 
@@ -129,19 +160,19 @@ some_bits zero totd e h = absurd (omega (arith, ltb-false 1 totd e))
 some_bits (suc n) totd e h = omega arith
 
 -- a part whose answer is known
-pub told-rows : (p : Part) {n : ℕ} → judged_of p ≡ judged.Rows n → (p ≡ tones (part_tones p)) × (length (part_tones p) ≡ n)
+pub told-rows : (p : Part) {n : ℕ} → judged_of p ≡ Ok n → (p ≡ tones (part_tones p)) × (length (part_tones p) ≡ n)
 unfolding judged_of part_tones
 told-rows refused e = absurd (let z : ◌≡◌ {A = ℕ} 0 1 = cc in omega arith)
 told-rows stops e = absurd (let z : ◌≡◌ {A = ℕ} 0 1 = cc in omega arith)
 told-rows (tones ts) e = (refl, cc)
 
-pub told-refused : (p : Part) → judged_of p ≡ judged.Refused → p ≡ refused
+pub told-refused : (p : Part) → judged_of p ≡ Err Refused → p ≡ refused
 unfolding judged_of
 told-refused refused e = refl
 told-refused stops e = absurd (let z : ◌≡◌ {A = ℕ} 0 1 = cc in omega arith)
 told-refused (tones ts) e = absurd (let z : ◌≡◌ {A = ℕ} 0 1 = cc in omega arith)
 
-pub told-stop : (p : Part) → judged_of p ≡ judged.Stop → p ≡ stops
+pub told-stop : (p : Part) → judged_of p ≡ Err Stop → p ≡ stops
 unfolding judged_of
 told-stop refused e = absurd (let z : ◌≡◌ {A = ℕ} 0 1 = cc in omega arith)
 told-stop stops e = refl
@@ -154,7 +185,7 @@ rowed_length none e = absurd (differ (sym e))
 rowed_length (all h) e = h
 
 -- a part that is tones is n rows of one sort, which is ready
-pub record Sorted (Ready : Type 0) (row : ℕ → Row) (n : ℕ) (p : Part) : Type 0 where
+pub record Sorted (Ready : Type 0) (row : ℕ → Option Tone) (n : ℕ) (p : Part) : Type 0 where
   pub ready : Ready
   pub rows : p ≡ rows_from row 0 n
 
@@ -220,7 +251,7 @@ module _ (s : List ℕ) (g : GeneralizedData) where
         record { ready = (some, omega arith, some_bits g.nb g.totd b, leb-false 8 g.nb narrow); rows = rw (used, narrow, p, o, b) }
 
 -- what the rows of a sort have from the part that they are
-module _ {Ready : Type 0} {row : ℕ → Row} {n : ℕ} {p : Part} (o : Sorted Ready row n p) (e : is_tones p ≡ true) where
+module _ {Ready : Type 0} {row : ℕ → Option Tone} {n : ℕ} {p : Part} (o : Sorted Ready row n p) (e : is_tones p ≡ true) where
   pub sorted_tones : is_tones (rows_from row 0 n) ≡ true
   sorted_tones = rw o.rows at e
 
@@ -228,6 +259,6 @@ module _ {Ready : Type 0} {row : ℕ → Row} {n : ℕ} {p : Part} (o : Sorted R
   sorted_count h =
       let l = rowed_length (rowed row 0 n) sorted_tones in omega (arith, ap (λ (q : Part). length (part_tones q)) o.rows)
 
-pub told-tones : (p : Part) {n : ℕ} → judged_of p ≡ judged.Rows n → is_tones p ≡ true
+pub told-tones : (p : Part) {n : ℕ} → judged_of p ≡ Ok n → is_tones p ≡ true
 unfolding is_tones
 told-tones p e = rw (told-rows p e).0

@@ -1,11 +1,9 @@
 -- What a generalised piece (19) gives in the source reading: rules 71 to 78, 81 and 82. Assumes nothing.
-use Rattle.std.specs.Prelude.{ℕ, zero, suc, ◌+◌, ◌*◌, ◌-◌, ◌/◌, ◌%◌, ◌^◌, Bool, ◌&&◌, ◌||◌, List, [], ◌∷◌, ◌++◌, get_or, leb, ltb, eqb}
+use Rattle.std.specs.Prelude.{ℕ, zero, suc, ◌+◌, ◌*◌, ◌-◌, ◌/◌, ◌%◌, ◌^◌, Bool, ◌&&◌, ◌||◌, Option, None, Some, List, [], ◌∷◌, ◌++◌, get_or, leb, ltb, eqb}
 use Rattle.law_base.specs.Rules.{◌⇒◌, ◌∣◌}
 use Rattle.cut_fields.specs.Field.{le_at}
 use Rattle.rows.specs.declared.Tone.{Tone}
 use Rattle.cut_grammar.specs.declared.GeneralizedData.{GeneralizedData}
-use Rattle.load_general.specs.declared.Row.{Row}
-use Rattle.load_general.specs.declared.Row.TheVariants.{Refused, Gives}
 
 -- a symbol: up to two pulses, the second 0 where it has one alone
 pub record Symbol : Type 0 where
@@ -27,23 +25,23 @@ pub data Part : Type 0 where
   stops : Part
   tones : List Tone → Part
 
--- an entry's or a symbol's row before the others of its part
-unfoldable pub before : Row → Part → Part
-before Refused rest = refused
-before (Gives t) refused = refused
-before (Gives t) stops = stops
-before (Gives t) (tones ts) = tones (t ∷ ts)
+-- an entry's or a symbol's row, which is a tone or refused, before the others of its part
+unfoldable pub before : Option Tone → Part → Part
+before None rest = refused
+before (Some t) refused = refused
+before (Some t) stops = stops
+before (Some t) (tones ts) = tones (t ∷ ts)
 
 -- the rows of n entries or symbols from index i on
-unfoldable pub rows_from : (ℕ → Row) → ℕ → ℕ → Part
+unfoldable pub rows_from : (ℕ → Option Tone) → ℕ → ℕ → Part
 rows_from row i zero = tones []
 rows_from row i (suc n) = before (row i) (rows_from row (i + 1) n)
 
 -- one pulse, or second pulse 0, gives (repeat + 1)/2 cycles, refused with repeat 65,535; two give repeat cycles
-unfoldable pub cycles : Symbol → ℕ → Row
+unfoldable pub cycles : Symbol → ℕ → Option Tone
 cycles y repeat =
-    eqb y.second 0 ⇒ (eqb repeat 65535 ⇒ Refused ∣ Gives (plain_tone ((repeat + 1) / 2) y.first y.first))
-    ∣ Gives (plain_tone repeat y.first y.second)
+    eqb y.second 0 ⇒ (eqb repeat 65535 ⇒ None ∣ Some (plain_tone ((repeat + 1) / 2) y.first y.first))
+    ∣ Some (plain_tone repeat y.first y.second)
 
 -- pilot entry i: a symbol's number and its repetitions
 unfoldable pub entry_symbol : List ℕ → GeneralizedData → ℕ → ℕ
@@ -53,9 +51,9 @@ unfoldable pub entry_repeat : List ℕ → GeneralizedData → ℕ → ℕ
 entry_repeat s g i = le_at s (g.entries + i * 3 + 1) 2
 
 -- refused with a symbol not below asp
-unfoldable pub entry_row : List ℕ → GeneralizedData → ℕ → Row
+unfoldable pub entry_row : List ℕ → GeneralizedData → ℕ → Option Tone
 entry_row s g i =
-    leb g.asp (entry_symbol s g i) ⇒ Refused
+    leb g.asp (entry_symbol s g i) ⇒ None
     ∣ cycles (symbol_at s g.pilot g.npp (entry_symbol s g i)) (entry_repeat s g i)
 
 -- the pilot part: npp 0 or above 2 at the first entry makes the piece a stop block
@@ -86,20 +84,20 @@ abbrev pub data_symbol : List ℕ → GeneralizedData → ℕ → Symbol
 data_symbol s g b = symbol_at s g.symbols g.npd b
 
 -- npd 2: one tone for each symbol; refused with a used symbol not below asd
-unfoldable pub single_row : List ℕ → GeneralizedData → ℕ → Row
+unfoldable pub single_row : List ℕ → GeneralizedData → ℕ → Option Tone
 single_row s g i =
     let b = symbol_number s g (i * g.nb) 0 in
-    leb g.asd b ⇒ Refused
-    ∣ Gives (plain_tone 1 (data_symbol s g b).first (data_symbol s g b).second)
+    leb g.asd b ⇒ None
+    ∣ Some (plain_tone 1 (data_symbol s g b).first (data_symbol s g b).second)
 
 -- npd 1: one tone for each pair, the second symbol shifted by one less at the first one's bit
-unfoldable pub pair_row : List ℕ → GeneralizedData → ℕ → Row
+unfoldable pub pair_row : List ℕ → GeneralizedData → ℕ → Option Tone
 pair_row s g i =
     let b = symbol_number s g (2 * i * g.nb) 0 in
     let d = symbol_number s g (2 * i * g.nb) 1 in
-    leb g.asd b ⇒ Refused
-    ∣ leb g.asd d ⇒ Refused
-    ∣ Gives (plain_tone 1 (data_symbol s g b).first (data_symbol s g d).first)
+    leb g.asd b ⇒ None
+    ∣ leb g.asd d ⇒ None
+    ∣ Some (plain_tone 1 (data_symbol s g b).first (data_symbol s g d).first)
 
 -- nb 0 is refused with npd 2, and with npd 1 and totd above 1; an odd last symbol is dropped
 unfoldable pub singles_of : List ℕ → GeneralizedData → Part

@@ -1,22 +1,20 @@
 -- The answers of the code: a part's, and the piece's with the tone table that it leaves. Assumes nothing.
-use Rattle.std.specs.Prelude.{ℕ, ◌-◌, ◌≡◌, Bool, true, false, List, [], length, leb}
+use Rattle.std.specs.Prelude.{ℕ, ◌-◌, ◌≡◌, Bool, true, false, Option, None, Some, Result, Ok, Err, List, [], length, leb}
 use Rattle.law_base.specs.Rules.{◌⇒◌, ◌∣◌}
 use Rattle.rows.specs.Table.{put, put_all, capacity_of}
 use Rattle.rows.specs.Rows.{tone, tone_most}
 use Rattle.rows.specs.declared.Tone.{Tone}
-use Rattle.load_general.specs.declared.Row.{Row}
-use Rattle.load_general.specs.declared.Row.TheVariants.{Refused, Gives}
-use Rattle.load_general.specs.declared.Judged.{Judged}
-use Rattle.load_general.specs.declared.Judged.TheVariants as judged
+use Rattle.load_general.specs.declared.NoRows.{NoRows}
+use Rattle.load_general.specs.declared.NoRows.TheVariants.{Refused, Full, Stop}
 use Rattle.load_general.specs.declared.Made.{Made}
-use Rattle.load_general.specs.declared.Made.TheVariants as made
+use Rattle.load_general.specs.declared.Made.TheVariants.{Data, Tones}
 use Rattle.load_general.specs.General.{Part, refused, stops, tones, Given, refused4, stop, plain, toned}
 
 -- a part: its tones are told by their number
-unfoldable pub judged_of : Part → Judged
-judged_of refused = judged.Refused
-judged_of stops = judged.Stop
-judged_of (tones ts) = judged.Rows (length ts)
+unfoldable pub judged_of : Part → Result ℕ NoRows
+judged_of refused = Err Refused
+judged_of stops = Err Stop
+judged_of (tones ts) = Ok (length ts)
 
 -- whether a part is tones, and which
 unfoldable pub is_tones : Part → Bool
@@ -30,20 +28,20 @@ part_tones stops = []
 part_tones (tones ts) = ts
 
 -- a row is a tone or refused; a tone is put at row i
-unfoldable pub is_given : Row → Bool
-is_given Refused = false
-is_given (Gives t) = true
+unfoldable pub is_given : Option Tone → Bool
+is_given None = false
+is_given (Some t) = true
 
-unfoldable pub put_given : List ℕ → ℕ → Row → List ℕ
-put_given table i Refused = table
-put_given table i (Gives t) = put tone table i t
+unfoldable pub put_given : List ℕ → ℕ → Option Tone → List ℕ
+put_given table i None = table
+put_given table i (Some t) = put tone table i t
 
 -- the piece, where `room` rows remain: refusal 4 and a stop need none, and more rows than remain are Full
-unfoldable pub made_of : ℕ → Given → Made
-made_of room refused4 = made.Refused
-made_of room stop = made.Stop
-made_of room (plain ts nil one last) = leb (length ts) room ⇒ made.Data (length ts) nil one last ∣ made.Full
-made_of room (toned ts) = leb (length ts) room ⇒ made.Tones (length ts) ∣ made.Full
+unfoldable pub made_of : ℕ → Given → Result Made NoRows
+made_of room refused4 = Err Refused
+made_of room stop = Err Stop
+made_of room (plain ts nil one last) = leb (length ts) room ⇒ Ok (Data (length ts) nil one last) ∣ Err Full
+made_of room (toned ts) = leb (length ts) room ⇒ Ok (Tones (length ts)) ∣ Err Full
 
 -- the tone table after it: its rows put from row `used` on, where they fit
 unfoldable pub leaves : ℕ → List ℕ → ℕ → Given → List ℕ
@@ -53,6 +51,6 @@ leaves room t used (plain ts nil one last) = leb (length ts) room ⇒ put_all to
 leaves room t used (toned ts) = leb (length ts) room ⇒ put_all tone t used ts ∣ t
 
 -- the answer r, and the tone table t that has become t'
-pub record MadeDone (given : Given) (used : ℕ) (t t' : List ℕ) (r : Made) : Type 0 where
+pub record MadeDone (given : Given) (used : ℕ) (t t' : List ℕ) (r : Result Made NoRows) : Type 0 where
   pub answer : r ≡ made_of (capacity_of tone tone_most t - used) given
   pub table : t' ≡ leaves (capacity_of tone tone_most t - used) t used given

@@ -1,41 +1,32 @@
 // Generalised data (19) in the source reading: what a cut piece gives, and the reading of its symbols and of the numbers in its data.
 #![tactic(auto)]
 
-ghost use Rattle.std.specs.Prelude.{◌≡◌, ℕ, ◌+◌, ◌*◌, ◌-◌, ◌/◌, ◌%◌, ◌^◌, ◌≤◌, ◌<◌, length, get_or};
+ghost use Rattle.std.specs.Prelude.{◌≡◌, ℕ, Bool, Option, ◌+◌, ◌*◌, ◌-◌, ◌/◌, ◌%◌, ◌^◌, ◌≤◌, ◌<◌, length, get_or};
 ghost use Rattle.cut_fields.specs.Field.{le_at};
-ghost use Rattle.load_general.specs.declared.Row.{Row};
-ghost use Rattle.load_general.specs.General.{symbol_at, rows_from, symbol_number};
-ghost use Rattle.load_general.specs.Made.{judged_of, is_tones};
-ghost use Rattle.load_general.specs.Held.{Held, Kept, symbol_words};
+ghost use Rattle.rows.specs.declared.Tone.{Tone};
+ghost use Rattle.load_general.specs.General.{symbol_at, rows_from};
+ghost use Rattle.load_general.specs.Made.{judged_of, is_given, is_tones};
+ghost use Rattle.load_general.specs.Held.{Kept, symbol_words};
+
+mod piece;
 
 use cut_fields::low_first;
-use cut_grammar::GeneralizedData;
-use rows::Tone;
+pub use piece::Piece19;
 
-// The symbols of an alphabet at the most.
+// The symbols of an alphabet at the most: rule 130 keeps one as an array by value, and how many it has stands in the piece.
 pub const SYMBOLS: usize = 255;
 
-// What a pilot entry, a data symbol or a pair of them gives: refusal 4, or a tone.
+// Why a part, or the piece, puts no rows: refusal 4, more rows than remain, or it is a stop block.
 #[derive(Clone, Copy)]
-pub enum Row {
-    Refused,
-    Gives(Tone),
-}
-
-// What a part of the piece comes to: refusal 4, a stop block, or so many rows.
-#[derive(Clone, Copy)]
-pub enum Judged {
-    Refused,
-    Stop,
-    Rows(u32),
-}
-
-// What the piece comes to: refusal 4, more rows than remain, a stop block, a data block, or a block of tones alone.
-#[derive(Clone, Copy)]
-pub enum Made {
+pub enum NoRows {
     Refused,
     Full,
     Stop,
+}
+
+// What the piece comes to with its rows put: a data block, or a block of tones alone.
+#[derive(Clone, Copy)]
+pub enum Made {
     Data {
         rows: u64,
         zero: u32,
@@ -56,6 +47,7 @@ pub fn byte_at(tape: &[u8], at: u64) -> u32
 }
 
 // The pulse at a place.
+#[tactic(auto, using(cut_fields::proofs::Le::le_small))]
 fn pulse(tape: &[u8], at: u64) -> u16
     requires { at + 2 ≤ length tape.now }
     ensures { result ≡ le_at tape.now at 2 }
@@ -65,6 +57,7 @@ fn pulse(tape: &[u8], at: u64) -> u16
 
 // Symbol i of an alphabet, a flag byte, which the source ignores, and n pulses, of which two are kept;
 // its callers know it to lie in the tape.
+#[tactic(auto, unfolding(crate::specs::General::symbol_at, crate::specs::Held::symbol_words))]
 pub fn symbol(tape: &[u8], place: u64, n: u32, i: u32) -> [u16; 2]
     requires { (0 < n) × (place + i * (1 + n * 2) + (1 + n * 2) ≤ length tape.now) }
     ensures { result ≡ symbol_words (symbol_at tape.now place n i) }
@@ -84,11 +77,8 @@ pub fn alphabet(tape: &[u8], place: u64, n: u32, pulses: u32) -> [[u16; 2]; SYMB
     ensures { Kept tape.now place pulses n result }
 {
     let mut a = [[0u16; 2]; SYMBOLS];
-    let mut i = 0;
-    while i < n {
-        let row = symbol(tape, place, pulses, i);
-        a[i as usize] = row;
-        i += 1;
+    for i in 0..n {
+        a[i as usize] = symbol(tape, place, pulses, i);
     }
     a
 }
@@ -109,16 +99,6 @@ fn shift(bit: u32, more: u32) -> u32
     7 - bit % 8 - more
 }
 
-// The symbol number at a bit of the data bytes, or `more` bits further down its byte;
-// its callers know the piece to be one of this tape, and the bits to lie in it.
-pub fn number_at(tape: &[u8], g: GeneralizedData, bit: u32, more: u32) -> u32
-    requires { Held tape.now g × (g.nb < 8) × (bit < g.nb * g.totd) × (bit % 8 + more ≤ 7) }
-    ensures { result ≡ symbol_number tape.now g bit more }
-{
-    let byte = byte_at(tape, g.from + bit as u64 / 8);
-    (byte >> shift(bit, more)) & (power(g.nb) - 1)
-}
-
 // How many pairs n symbols make; an odd last one is dropped.
 pub fn pairs_of(n: u32) -> u32
     ensures { result ≡ n / 2 }
@@ -127,12 +107,17 @@ pub fn pairs_of(n: u32) -> u32
 }
 
 // What n rows of any sort come to, where `given` says whether all are given.
-pub fn part_of(given: bool, n: u32) -> Judged
-    ensures { (row : ℕ → Row) → given ≡ is_tones (rows_from row 0 n) → result ≡ judged_of (rows_from row 0 n) }
+pub fn part_of(given: bool, n: u32) -> Result<u32, NoRows>
+    ensures { (row : ℕ → Option Tone) → given ≡ is_tones (rows_from row 0 n) → result ≡ judged_of (rows_from row 0 n) }
 {
-    if given {
-        Judged::Rows(n)
-    } else {
-        Judged::Refused
-    }
+    if given { Ok(n) } else { Err(NoRows::Refused) }
+}
+
+// Whether all n rows of one sort are given, where `given` says it of each.
+pub fn all_given<F: Fn(u32) -> bool>(n: u32, given: F) -> bool
+    requires { (i : ℕ) → i < n → F.pre given i }
+    ensures { (row : ℕ → Option Tone) → ((i : ℕ) (b : Bool) → i < n → F.post given i b → b ≡ is_given (row i))
+        → result ≡ is_tones (rows_from row 0 n) }
+{
+    (0..n).all(given)
 }

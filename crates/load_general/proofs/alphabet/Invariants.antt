@@ -1,12 +1,8 @@
 -- The loops of `alphabet`.
-use Prim.Native.Nat.{◌-◌, ◌≤◌}
 use mathlib.Core.Path.{◌≡◌}
 use lib.ListN.{length}
 use Rattle.load_general.specs.Held.{Kept}
 use Rattle.load_general.proofs.alphabet.Given as goal
 
 abbrev pub invariant-loop-i : goal.invariant-loop-i
-invariant-loop-i l = (l.i ≤ l.n) × (length l.a ≡ 255) × Kept l.tape l.place l.pulses l.i l.a
-
-abbrev pub decreases-loop-i : goal.decreases-loop-i
-decreases-loop-i l = l.n - l.i
+invariant-loop-i l = (length l.a ≡ 255) × Kept l.tape l.place l.pulses l.i l.a

@@ -1,9 +1,0 @@
--- `power` meets its contract. Assumes nothing.
-use mathlib.Core.Path.{◌∙◌}
-use native.Mathlib.Nat.{one-mul}
-use native.Mathlib.Omega.{arith}
-use lib.Pow.{shl_exact}
-use Rattle.load_general.proofs.power.Goals as goal
-
-pub returns : goal.returns
-returns c = shl_exact 1 c.args.k 32 (omega arith) (omega arith) ∙ one-mul _

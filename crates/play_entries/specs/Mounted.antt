@@ -4,10 +4,15 @@ use Rattle.law_base.specs.Rules.{◌⇒◌, ◌∣◌}
 use Rattle.rows.specs.Table.{capacity_of}
 use Rattle.rows.specs.Rows.{block, block_most}
 use Rattle.rows.specs.Well.{well_block}
+use Rattle.play_entries.specs.declared.mount.Mounted.{Mounted}
 use Rattle.play_entries.specs.Places.{Tape, block_in}
 
 abbrev pub tape_of : List ℕ → List ℕ → List ℕ → ℕ → Tape
 tape_of bytes tones blocks count = record { bytes = bytes; tones = tones; blocks = blocks; count = count }
+
+-- the tape that the code has mounted
+abbrev pub mounted_tape : Mounted → Tape
+mounted_tape m = tape_of m.tape.now m.tones.now m.blocks.now m.count
 
 -- the count exceeds the capacity
 abbrev pub overfull : Tape → Bool

@@ -22,6 +22,7 @@ pub fn is_one(t: Tone) -> bool
 }
 
 // The repetitions that have pulses.
+#[tactic(auto, unfolding(crate::specs::Closed::times_of))]
 pub fn times_of(t: Tone) -> u64
     ensures { result ≡ times_of t }
 {
@@ -29,6 +30,7 @@ pub fn times_of(t: Tone) -> u64
 }
 
 // A level turned n times.
+#[tactic(auto, unfolding(crate::specs::Closed::turned))]
 fn turned(n: u64, v: bool) -> bool
     ensures { result ≡ turned n v }
 {
@@ -36,23 +38,18 @@ fn turned(n: u64, v: bool) -> bool
 }
 
 // The level of the first pulse of repetition q, l being the line before the row.
+#[tactic(auto, unfolding(crate::specs::Closed::first_level))]
 pub fn first_level(t: Tone, l: Line, q: u64) -> bool
     ensures { result ≡ first_level t l q }
 {
-    let begin = t.wave / 3;
-    if begin == 0 {
-        if is_one(t) {
-            return turned(q, l.current);
-        }
-        return l.current;
+    let one = is_one(t);
+    match t.wave / 3 {
+        0 if one => turned(q, l.current),
+        0 => l.current,
+        1 if one => l.played,
+        1 => turned(q, l.played),
+        begin => begin != 2,
     }
-    if begin == 1 {
-        if is_one(t) {
-            return l.played;
-        }
-        return turned(q, l.played);
-    }
-    if begin == 2 { false } else { true }
 }
 
 // The line behind a pulse of this level.
@@ -66,6 +63,7 @@ pub fn behind(v: bool) -> Line
 }
 
 // The line behind a tone row.
+#[tactic(auto, unfolding(crate::specs::Closed::line_after, crate::specs::Closed::line_before))]
 pub fn line_after(t: Tone, l: Line) -> Line
     ensures { result ≡ line_after t l }
 {
@@ -74,8 +72,5 @@ pub fn line_after(t: Tone, l: Line) -> Line
         return l;
     }
     let v = first_level(t, l, n - 1);
-    if is_one(t) {
-        return behind(v);
-    }
-    behind(!v)
+    behind(if is_one(t) { v } else { !v })
 }

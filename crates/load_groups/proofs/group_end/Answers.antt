@@ -14,7 +14,7 @@ returns-then-in_group c =
     λ B N tt t h.
     let q : in_group t.pending ≡ true = sym (rw h.pends at c.in_group.ensures) ∙ c.if-in_group.true in
     let k = holds_paused h (omega arith) (c.pause_last.ensures B t.blocks h.len_b h.nb h.room_b h.is_b) in
-    rw (q, c.with_pending.ensures) (goes (holds_name k refl))
+    rw q (goes (holds_name k refl))
 
 pub returns : goal.returns
 unfolding end_group

@@ -12,12 +12,12 @@ returns-then-n-eq0 c =
     let z : 0 ≡ length rs = omega arith in
     rw (last_none rs z) e
 
-pub returns-then-i-block_capacity : goal.returns-then-i-block_capacity
-returns-then-i-block_capacity c =
+pub returns-then-i-capacity : goal.returns-then-i-capacity
+returns-then-i-capacity c =
     λ B rs len k room e.
     let n = c.args.n in
     let q : length rs ≡ suc (n - 1) = omega arith in
-    table-paused c.block_at.result rs B (n - 1) q e (rw (c.paused.ensures, c.block_at.ensures) at c.put_block.ensures)
+    table-paused c.row_at.result rs B (n - 1) q e (rw (c.paused.ensures, c.row_at.ensures) at c.put_row.ensures)
 
-pub returns-else-i-block_capacity : goal.returns-else-i-block_capacity
-returns-else-i-block_capacity c = λ B rs len k room e. absurd (omega arith)
+pub returns-else-i-capacity : goal.returns-else-i-capacity
+returns-else-i-capacity c = λ B rs len k room e. absurd (omega arith)

@@ -18,4 +18,4 @@ unfolding pend
 returns c =
     λ B N bt tt t h.
     let q : in_group t.pending ≡ false = sym (rw h.pends at c.in_group.ensures) ∙ c.if-in_group.false in
-    rw (q, c.with_pending.ensures) (goes (holds_name h refl))
+    rw q (goes (holds_name h refl))

@@ -67,13 +67,12 @@ rows_end l m i end t h =
     let k : length (take end l) ≤ i = rw length-take (omega arith) in
     ap (λ (x : List Block). copy_rows m x t) (drop_of_length-le (take end l) k)
 
--- a turn of the loop over the bodies
-pub body_turn : {l : List Block} {t : Parsed} (m left start end : ℕ) → Begins l t → 0 < left → end ≤ length l
-    → copies m left (slice start end l) t ≡ copy_rows m (slice start end t.blocks) t ⟫ copies m (left - 1) (slice start end l)
+-- a turn of the loop over n bodies, of which i are copied
+pub body_turn : {l : List Block} {t : Parsed} (m n i start end : ℕ) → Begins l t → i < n → end ≤ length l
+    → copies m (n - i) (slice start end l) t ≡ copy_rows m (slice start end t.blocks) t ⟫ copies m (n - (i + 1)) (slice start end l)
 unfolding copies
-body_turn {l} {t} m zero start end b h e = absurd (omega arith)
-body_turn {l} {t} m (suc n) start end b h e =
-    let k : suc n - 1 ≡ n = omega arith in
+body_turn {l} {t} m n i start end b h e =
+    let k : n - i ≡ suc (n - (i + 1)) = omega arith in
     rw (k, b.is, take-append-le end l b.more e)
 
 pub begins_length : {l : List Block} {t : Parsed} (n : ℕ) → Begins l t → n ≤ length l → n ≤ length t.blocks

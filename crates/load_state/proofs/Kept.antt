@@ -24,7 +24,7 @@ use Rattle.load_state.specs.Kept.{Sure, sure, none, All, nil, cons, with_blocks,
 
 pub sure-of : {K : Parsed → Type 0} {o : Out} {t : Parsed} → Sure K o → o ≡ on t → K t
 sure-of {t = t} (sure {t = u} k) e = let q : u ≡ t = cc in rw q at k
-sure-of (none) e = let z : ◌≡◌ {A = ℕ} 0 1 = cc in absurd (omega arith)
+sure-of (none) e = absurd (cc)
 
 pub sure_then : {K L : Parsed → Type 0} {o : Out} (f : Parsed → Out) → Sure K o → ((t : Parsed) → K t → Sure L (f t))
     → Sure L (o ⟫ f)

@@ -6,7 +6,8 @@ use mathlib.Core.Bool.{Bool, true, false}
 use mathlib.Core.List.{List, ◌++◌, append_assoc}
 use lib.ListN.{length, length-append, length-replicate}
 use lib.Dec.{leb}
-use Rattle.std.specs.Prelude.{Option, None, Result, Ok, Err}
+use Rattle.std.specs.Prelude.{Option, None, Result, Ok, Err, IsErrAnd}
+use Rattle.std.proofs.lemmas.Result.{err_from_is_err_and}
 use borrow.Author.Tests.{lt-leb, leb-false}
 use Rattle.refusals.specs.Refusals.{tones_full}
 use Rattle.law_base.specs.Rules.{◌⇒◌, ◌∣◌}
@@ -76,27 +77,31 @@ module _ {B N : ℕ} {s : State} {bt tt : List ℕ} {t : Parsed} (h : Holds B N 
         is_t = h.is_t;
       }
 
+-- what a `?` returns where it hands a refusal on
+abbrev pub Hands : Halt → Result State Halt → Type 0
+Hands k y = IsErrAnd y (λ j. j ≡ k)
+
 -- what an answer that went on, or that refused, says of the definition's
 module _ {B N : ℕ} {bt tt : List ℕ} where
   pub went_on : {x : Result State Halt} {s : State} {o : Out} → GivesOut B N x bt tt o → x ≡ Ok s
       → (t : Parsed) × (o ≡ on t) × Holds B N s bt tt t
   went_on {s = s} (goes {s = s₁} {t = t} h) e = let q : s₁ ≡ s = cc in (t, refl, rw q at h)
-  went_on (refuses) e = let z : ◌≡◌ {A = ℕ} 0 1 = cc in absurd (omega arith)
+  went_on (refuses) e = cc
 
   pub was_refused : {x : Result State Halt} {k : Halt} {o : Out} → GivesOut B N x bt tt o → x ≡ Err k → o ≡ no k
-  was_refused (goes h) e = let z : ◌≡◌ {A = ℕ} 0 1 = cc in absurd (omega arith)
+  was_refused (goes h) e = cc
   was_refused (refuses) e = cc
 
   -- two calls in turn: where the first went on, what the second gives from there is what both give; where it refused, so do both
-  pub then_on : {x y : Result State Halt} {s : State} {bt' tt' : List ℕ} {o : Out} {f : Parsed → Out} → GivesOut B N x bt tt o → x ≡ Ok s
-      → ((t : Parsed) → Holds B N s bt tt t → GivesOut B N y bt' tt' (f t)) → GivesOut B N y bt' tt' (o ⟫ f)
+  pub then_on : {x y : Result State Halt} {s : State} {bt' tt' : List ℕ} {o : Out} {f : Parsed → Out} → GivesOut B N x bt tt o
+      → x ≡ Ok s → ((t : Parsed) → Holds B N s bt tt t → GivesOut B N y bt' tt' (f t)) → GivesOut B N y bt' tt' (o ⟫ f)
   unfolding ◌⟫◌
   then_on e q k = let w = went_on e q in rw w.1 (k w.0 w.2)
 
-  pub then_no : {x : Result State Halt} {k : Halt} {bt' tt' : List ℕ} {o : Out} (f : Parsed → Out) → GivesOut B N x bt tt o → x ≡ Err k
-      → GivesOut B N (Err k) bt' tt' (o ⟫ f)
+  pub then_no : {x y : Result State Halt} {k : Halt} {bt' tt' : List ℕ} {o : Out} (f : Parsed → Out) → GivesOut B N x bt tt o
+      → x ≡ Err k → Hands k y → GivesOut B N y bt' tt' (o ⟫ f)
   unfolding ◌⟫◌
-  then_no f e q = rw (was_refused e q) refuses
+  then_no {y = y} f e q d = let p = err_from_is_err_and y d in rw (p.1, p.2, was_refused e q) refuses
 
 -- what a loop keeps: a tape that the state holds, known to be P, from which what is left gives what the whole gives
 pub record Going (P : Parsed → Type 0) (B N : ℕ) (s : State) (bt tt : List ℕ) (rest : Parsed → Out) (whole : Out) : Type 0 where
@@ -117,8 +122,8 @@ module _ {P : Parsed → Type 0} {B N : ℕ} {s : State} {bt tt : List ℕ} {res
     -- one turn of the step f
     module _ {x : Result State Halt} {bt' tt' : List ℕ} (f next : Parsed → Out) (split : rest g.at ≡ f g.at ⟫ next)
         (e : GivesOut B N x bt' tt' (f g.at)) where
-      pub going_no : {k : Halt} → x ≡ Err k → GivesOut B N (Err k) bt' tt' whole
-      going_no q = rw (← g.same, split) (then_no next e q)
+      pub going_no : {y : Result State Halt} {k : Halt} → x ≡ Err k → Hands k y → GivesOut B N y bt' tt' whole
+      going_no q d = rw (← g.same, split) (then_no next e q d)
 
       pub going_on : {s' : State} → x ≡ Ok s' → ((t : Parsed) → f g.at ≡ on t → P t)
           → Going P B N s' bt' tt' next whole

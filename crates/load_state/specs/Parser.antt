@@ -1,6 +1,7 @@
 -- What the parser does with blocks, names and loops (rules 25, 26, 57 to 60, 66, 67), over lists of rows. Assumes nothing.
 use Rattle.std.specs.Prelude.{ℕ, zero, suc, ◌+◌, Bool, true, false, ◌&&◌, List, [], ◌∷◌, ◌++◌, length, drop, leb, ltb, eqb}
 use Rattle.std.specs.Prelude.{Option, Some, None}
+use Rattle.std.specs.Option.{option_or}
 use Rattle.refusals.specs.Refusals.{tones_full, blocks_full}
 use Rattle.law_base.specs.Rules.{◌⇒◌, ◌∣◌}
 use Rattle.rows.specs.declared.Block.{Block}
@@ -101,8 +102,7 @@ end_group t = on (parsed_of (last_paused t.blocks) t.tones (group_ended t.pendin
 
 -- a loop start; a nested start is ignored
 abbrev pub opened : ℕ → ℕ → Option Body → Option Body
-opened start times None = Some (record { start = start; times = times })
-opened start times (Some b) = Some b
+opened start times b = option_or b (Some (record { start = start; times = times }))
 
 abbrev pub with_body : Option Body → Parsed → Parsed
 with_body l t = parsed_of t.blocks t.tones t.pending l

@@ -6,5 +6,4 @@ use Rattle.load_loops.proofs.loop_start.Goals as goal
 
 pub returns : goal.returns
 unfolding open_loop
-returns c =
-    λ B N bt tt t h. rw c.with_body.ensures (goes (holds_loop h (rw (h.nb, h.loops) at c.loop_opened.ensures)))
+returns c = λ B N bt tt t h. goes (holds_loop h (rw (h.nb, h.loops) at c.or.ensures))

@@ -7,15 +7,12 @@ use native.Mathlib.Omega.{arith}
 use Prim.Native.Nat.{◌≤◌}
 use Rattle.load_loops.proofs.repeat.Goals as goal
 
-pub returns-then-end-start : goal.returns-then-end-start
-returns-then-end-start c =
+pub returns-then-end-b : goal.returns-then-end-b
+returns-then-end-b c =
     λ B N tt t h.
     let p = c.args in
-    let k : length t.blocks ≤ p.start = omega arith in
-    rw (drop_of_length-le t.blocks k, copies-none (block_room B) p.times t) (goes h)
-
-pub returns-then-block_capacity-end : goal.returns-then-block_capacity-end
-returns-then-block_capacity-end c = λ B N tt t h. absurd (omega arith)
+    let k : length t.blocks ≤ p.b.start = omega arith in
+    rw (drop_of_length-le t.blocks k, copies-none (block_room B) p.b.times t) (goes h)
 
 pub returns : goal.returns
 returns c =

@@ -6,12 +6,11 @@ use Rattle.load_state.specs.Parser.{Parsed, copies}
 use lib.Seq.{slice}
 use lib.ListN.{length}
 use mathlib.Core.List.{List}
-use mathlib.Core.Path.{◌≡◌}
 use Prim.Native.Nat.{ℕ, ◌-◌, ◌≤◌}
 use Rattle.load_loops.proofs.copy_bodies.Given as goal
 
 abbrev pub invariant-loop : goal.invariant-loop
-invariant-loop l = (length l.blocks ≡ length l.initial.blocks)
-    × ((B N : ℕ) (tt : List ℕ) (t : Parsed) → Holds B N l.initial.s l.initial.blocks tt t → l.end ≤ length t.blocks
+invariant-loop l =
+    (B N : ℕ) (tt : List ℕ) (t : Parsed) → Holds B N l.initial.s l.initial.blocks tt t → l.end ≤ length t.blocks
     → Going (Begins t.blocks) B N l.s l.blocks tt (copies (block_room B) (l.times - l.counter) (slice l.start l.end t.blocks))
-    (copies (block_room B) l.times (slice l.start l.end t.blocks) t))
+    (copies (block_room B) l.times (slice l.start l.end t.blocks) t)

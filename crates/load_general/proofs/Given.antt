@@ -13,17 +13,16 @@ use Rattle.law_base.specs.Rules.{◌⇒◌, ◌∣◌}
 use Rattle.law_base.proofs.Numbers.{lt_or_ge}
 use Rattle.rows.specs.declared.Tone.{Tone}
 use Rattle.cut_grammar.specs.declared.GeneralizedData.{GeneralizedData}
-use Rattle.std.specs.Prelude.{Option, None, Some}
+use Rattle.std.specs.Prelude.{is_some, Option, None, Some}
 use Rattle.load_general.specs.General.{plain_tone, symbol_number, single_row, pair_row, rows_from}
-use Rattle.load_general.specs.Made.{is_given, is_tones}
+use Rattle.load_general.specs.Made.{is_tones}
 use Rattle.load_general.specs.Held.{Kept}
 use Rattle.load_general.proofs.Parts.{all_given}
-use Rattle.load_general.proofs.Symbols.{kept-first, kept_second}
+use Rattle.load_general.proofs.Symbols.{kept_first, kept_second}
 use Rattle.law_base.proofs.Tests.{first, second}
 
 -- a number not below the size is refused
-rule : (size n : ℕ) (r : Option Tone) → is_given (leb size n ⇒ None ∣ r) ≡ (ltb n size && is_given r)
-unfolding is_given
+rule : (size n : ℕ) (r : Option Tone) → is_some (leb size n ⇒ None ∣ r) ≡ (ltb n size && is_some r)
 rule size n r =
     ⊎_elim
     (λ (b : n < size). rw (lt-leb size n b, lt-ltb n size b))
@@ -35,14 +34,14 @@ last true = refl
 last false = refl
 
 module _ (s : List ℕ) (g : GeneralizedData) where
-  pub single-given : (i : ℕ) → is_given (single_row s g i) ≡ ltb (symbol_number s g (i * g.nb) 0) g.asd
-  unfolding single_row is_given
+  pub single-given : (i : ℕ) → is_some (single_row s g i) ≡ ltb (symbol_number s g (i * g.nb) 0) g.asd
+  unfolding single_row
   single-given i = rule g.asd (symbol_number s g (i * g.nb) 0) _ ∙ last _
 
   pub pair-given : (i : ℕ)
-      → is_given (pair_row s g i)
+      → is_some (pair_row s g i)
       ≡ (ltb (symbol_number s g (2 * i * g.nb) 0) g.asd && ltb (symbol_number s g (2 * i * g.nb) 1) g.asd)
-  unfolding pair_row is_given
+  unfolding pair_row
   pair-given i = rule g.asd (symbol_number s g (2 * i * g.nb) 0) _ ∙ rw (rule g.asd (symbol_number s g (2 * i * g.nb) 1), last)
 
   -- a number of nb bits is below a size that every such number is below
@@ -58,7 +57,7 @@ module _ (s : List ℕ) (g : GeneralizedData) where
       (λ i l. pair-given i ∙ rw (number_below h (2 * i * g.nb) 0, number_below h (2 * i * g.nb) 1))
 
   -- the numbers of what is given, and the tone, from the array that holds the alphabet
-  module _ (i : ℕ) (e : is_given (single_row s g i) ≡ true) where
+  module _ (i : ℕ) (e : is_some (single_row s g i) ≡ true) where
     pub single_below : symbol_number s g (i * g.nb) 0 < g.asd
     single_below = ltb-true _ _ (sym (single-given i) ∙ e)
 
@@ -70,12 +69,12 @@ module _ (s : List ℕ) (g : GeneralizedData) where
         let h = single_below in
         rw (
           q,
-          kept-first s g.symbols g.npd g.asd a k (symbol_number s g (i * g.nb) 0) h,
+          kept_first s g.symbols g.npd g.asd a k (symbol_number s g (i * g.nb) 0) h,
           kept_second s g.symbols g.npd g.asd a k (symbol_number s g (i * g.nb) 0) h,
           lt-leb g.asd (symbol_number s g (i * g.nb) 0) h,
         )
 
-  module _ (i : ℕ) (e : is_given (pair_row s g i) ≡ true) where
+  module _ (i : ℕ) (e : is_some (pair_row s g i) ≡ true) where
     pub pair_below : symbol_number s g (2 * i * g.nb) 0 < g.asd
     pair_below = ltb-true _ _ (first _ _ (sym (pair-given i) ∙ e))
 
@@ -90,8 +89,8 @@ module _ (s : List ℕ) (g : GeneralizedData) where
         rw (
           q,
           r,
-          kept-first s g.symbols g.npd g.asd a k (symbol_number s g (2 * i * g.nb) 0) pair_below,
-          kept-first s g.symbols g.npd g.asd a k (symbol_number s g (2 * i * g.nb) 1) pair_below_2,
+          kept_first s g.symbols g.npd g.asd a k (symbol_number s g (2 * i * g.nb) 0) pair_below,
+          kept_first s g.symbols g.npd g.asd a k (symbol_number s g (2 * i * g.nb) 1) pair_below_2,
           lt-leb g.asd (symbol_number s g (2 * i * g.nb) 0) pair_below,
           lt-leb g.asd (symbol_number s g (2 * i * g.nb) 1) pair_below_2,
         )

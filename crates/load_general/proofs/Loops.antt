@@ -9,9 +9,9 @@ use lib.ListN.{length}
 use Rattle.rows.specs.Table.{put, put_all}
 use Rattle.rows.specs.Rows.{tone}
 use Rattle.rows.specs.declared.Tone.{Tone}
-use Rattle.std.specs.Prelude.{Option, Some}
+use Rattle.std.specs.Prelude.{is_some, Option, Some}
 use Rattle.load_general.specs.General.{rows_from}
-use Rattle.load_general.specs.Made.{is_given, put_given, is_tones, part_tones}
+use Rattle.load_general.specs.Made.{put_given, is_tones, part_tones}
 use Rattle.load_general.proofs.Parts.{turn_row, turn-put, turn_puts, end_put}
 
 -- with the rows from i on put, the table is what it is to become
@@ -30,7 +30,7 @@ module _ (row : ℕ → Option Tone) (n used : ℕ) (t₀ : List ℕ) where
   writing_over t i h v = let e : i ≡ n = omega arith in sym (end_put row n (used + n) t) ∙ (rw e at v.3)
 
   module _ (t : List ℕ) (i : ℕ) (h : i < n) (v : Writing row n used t₀ t i) where
-    pub writing_given : is_given (row i) ≡ true
+    pub writing_given : is_some (row i) ≡ true
     writing_given = turn_row row i n h v.2
 
     pub writing_on : (t' : List ℕ) → length t' ≡ length t → t' ≡ put_given t (used + i) (row i)

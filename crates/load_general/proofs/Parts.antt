@@ -18,23 +18,23 @@ use Rattle.cut_grammar.specs.declared.GeneralizedData.{GeneralizedData}
 use Rattle.rows.specs.Table.{put_all}
 use Rattle.rows.specs.Rows.{tone}
 use Rattle.rows.specs.declared.Tone.{Tone}
-use Rattle.std.specs.Prelude.{Option, None, Some, Ok, Err}
+use Rattle.std.specs.Prelude.{is_some, Option, None, Some, Ok, Err}
 use Rattle.load_general.specs.declared.NoRows.TheVariants.{Refused, Stop}
 use Rattle.load_general.specs.General.{Part, refused, stops, tones, before, rows_from, entry_symbol, entry_row, single_row, pair_row}
 use Rattle.load_general.specs.General.{pilot_of, singles_of, pairs_of, data_part}
-use Rattle.load_general.specs.Made.{is_given, put_given, judged_of, is_tones, part_tones}
+use Rattle.load_general.specs.Made.{put_given, judged_of, is_tones, part_tones}
 
 -- two truths
 pub differ : true ≡ false → ⊥
 differ e = let z : ◌≡◌ {A = ℕ} 0 1 = cc in omega arith
 
-before-refused : (r : Option Tone) (p : Part) → is_given r ≡ false → is_tones (before r p) ≡ false
-unfolding before is_given is_tones
+before-refused : (r : Option Tone) (p : Part) → is_some r ≡ false → is_tones (before r p) ≡ false
+unfolding before is_tones
 before-refused None p e = refl
 before-refused (Some t) p e = absurd (differ e)
 
-before-given : (r : Option Tone) (p : Part) → is_given r ≡ true → is_tones (before r p) ≡ is_tones p
-unfolding before is_given is_tones
+before-given : (r : Option Tone) (p : Part) → is_some r ≡ true → is_tones (before r p) ≡ is_tones p
+unfolding before is_tones
 before-given None p e = absurd (differ (sym e))
 before-given (Some t) refused e = refl
 before-given (Some t) stops e = refl
@@ -47,8 +47,8 @@ before-rest (Some t) refused e = refl
 before-rest (Some t) stops e = refl
 before-rest (Some t) (tones ts) e = absurd (differ e)
 
-before_row : (r : Option Tone) (p : Part) → is_tones (before r p) ≡ true → is_given r ≡ true
-unfolding before is_given is_tones
+before_row : (r : Option Tone) (p : Part) → is_tones (before r p) ≡ true → is_some r ≡ true
+unfolding before is_tones
 before_row None p e = e
 before_row (Some t) p e = refl
 
@@ -96,7 +96,7 @@ module _ (row : ℕ → Option Tone) (i n : ℕ) (h : i < n) where
   unfolding rows_from
   turn = let e : n - i ≡ suc (n - (i + 1)) = omega arith in rw e
 
-  pub turn_row : is_tones (rows_from row i (n - i)) ≡ true → is_given (row i) ≡ true
+  pub turn_row : is_tones (rows_from row i (n - i)) ≡ true → is_some (row i) ≡ true
   turn_row e = before_row (row i) (rows_from row (i + 1) (n - (i + 1))) (rw turn at e)
 
   pub turn-put : is_tones (rows_from row i (n - i)) ≡ true → Put (row i) (rows_from row (i + 1) (n - (i + 1)))
@@ -111,13 +111,13 @@ module _ (row : ℕ → Option Tone) (i n : ℕ) (h : i < n) where
       ∙ ap (λ (m : ℕ). put_all tone (put_given t (used + i) (row i)) m (part_tones (rows_from row (i + 1) (n - (i + 1))))) k)
 
 -- rows that are all given, and rows of which one is refused
-pub all_given : (row : ℕ → Option Tone) (i n : ℕ) → ((j : ℕ) → j < i + n → is_given (row j) ≡ true) → is_tones (rows_from row i n) ≡ true
+pub all_given : (row : ℕ → Option Tone) (i n : ℕ) → ((j : ℕ) → j < i + n → is_some (row j) ≡ true) → is_tones (rows_from row i n) ≡ true
 unfolding rows_from is_tones
 all_given row i zero h = refl
 all_given row i (suc n) h =
     before-given (row i) (rows_from row (i + 1) n) (h i (omega arith)) ∙ all_given row (i + 1) n (λ j l. h j (omega arith))
 
-one_refused : (row : ℕ → Option Tone) (i n k : ℕ) → i ≤ k → k < i + n → is_given (row k) ≡ false → is_tones (rows_from row i n) ≡ false
+one_refused : (row : ℕ → Option Tone) (i n k : ℕ) → i ≤ k → k < i + n → is_some (row k) ≡ false → is_tones (rows_from row i n) ≡ false
 unfolding rows_from is_tones
 one_refused row i zero k l h e = absurd (omega arith)
 one_refused row i (suc n) k l h e =
@@ -128,8 +128,8 @@ one_refused row i (suc n) k l h e =
 
 -- what `all` answers of n rows
 pub judged : (row : ℕ → Option Tone) (n : ℕ) (r : Bool)
-    → MatchBool r (AllWithin (λ i. i < n → is_given (row i) ≡ true) (range_with_len 0 n) 0 (length (range_with_len 0 n)))
-    ((k : ℕ) × (k < length (range_with_len 0 n)) × HoldsAt (λ i. i < n → is_given (row i) ≡ false) (range_with_len 0 n) k)
+    → MatchBool r (AllWithin (λ i. i < n → is_some (row i) ≡ true) (range_with_len 0 n) 0 (length (range_with_len 0 n)))
+    ((k : ℕ) × (k < length (range_with_len 0 n)) × HoldsAt (λ i. i < n → is_some (row i) ≡ false) (range_with_len 0 n) k)
     → r ≡ is_tones (rows_from row 0 n)
 judged row n true m =
     sym (all_given row 0 n (λ j l.

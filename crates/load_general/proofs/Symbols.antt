@@ -57,19 +57,19 @@ pub two_inside : (s : List ℕ) (g : GeneralizedData) → Places s g → 0 < g.t
 two_inside s g p h a n = rw (a, n) at (data_inside s g p h)
 
 -- a symbol as the code keeps it, and back again
-pub symbol-back : {w : List ℕ} {y : Symbol} → w ≡ symbol_words y → symbol_of w ≡ y
+pub symbol_back : {w : List ℕ} {y : Symbol} → w ≡ symbol_words y → symbol_of w ≡ y
 unfolding symbol_of symbol_words
-symbol-back e = rw e
+symbol_back e = rw e
 
 -- what an array that holds an alphabet has at a symbol's number
 module _ (s : List ℕ) (place pulses n : ℕ) (a : List (List ℕ)) (k : Kept s place pulses n a) (i : ℕ) (h : i < n) where
-  pub kept-symbol : symbol_of (get_or a i []) ≡ symbol_at s place pulses i
-  kept-symbol = symbol-back (k i h)
+  pub kept_symbol : symbol_of (get_or a i []) ≡ symbol_at s place pulses i
+  kept_symbol = symbol_back (k i h)
 
-  pub kept-first : get_or (get_or a i []) 0 0 ≡ (symbol_at s place pulses i).first
+  pub kept_first : get_or (get_or a i []) 0 0 ≡ (symbol_at s place pulses i).first
   unfolding symbol_of
-  kept-first = ap (λ (y : Symbol). y.first) kept-symbol
+  kept_first = ap (λ (y : Symbol). y.first) kept_symbol
 
   pub kept_second : get_or (get_or a i []) 1 0 ≡ (symbol_at s place pulses i).second
   unfolding symbol_of
-  kept_second = ap (λ (y : Symbol). y.second) kept-symbol
+  kept_second = ap (λ (y : Symbol). y.second) kept_symbol

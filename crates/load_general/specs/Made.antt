@@ -28,10 +28,6 @@ part_tones stops = []
 part_tones (tones ts) = ts
 
 -- a row is a tone or refused; a tone is put at row i
-unfoldable pub is_given : Option Tone → Bool
-is_given None = false
-is_given (Some t) = true
-
 unfoldable pub put_given : List ℕ → ℕ → Option Tone → List ℕ
 put_given table i None = table
 put_given table i (Some t) = put tone table i t

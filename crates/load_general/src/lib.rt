@@ -1,17 +1,17 @@
 // Generalised data (19) in the source reading: what a cut piece gives, and the reading of its symbols and of the numbers in its data.
 #![tactic(auto)]
 
-ghost use Rattle.std.specs.Prelude.{◌≡◌, ℕ, Bool, Option, ◌+◌, ◌*◌, ◌-◌, ◌/◌, ◌%◌, ◌^◌, ◌≤◌, ◌<◌, length, get_or};
+ghost use Rattle.std.specs.Prelude.{◌≡◌, ℕ, Bool, Option, ◌+◌, ◌*◌, ◌-◌, ◌/◌, ◌%◌, ◌^◌, ◌≤◌, ◌<◌, length, get_or, is_some};
 ghost use Rattle.cut_fields.specs.Field.{le_at};
-ghost use Rattle.rows.specs.declared.Tone.{Tone};
-ghost use Rattle.load_general.specs.General.{symbol_at, rows_from};
-ghost use Rattle.load_general.specs.Made.{judged_of, is_given, is_tones};
+ghost use Rattle.load_general.specs.General.{symbol_at, plain_tone, rows_from};
+ghost use Rattle.load_general.specs.Made.{judged_of, is_tones};
 ghost use Rattle.load_general.specs.Held.{Kept, symbol_words};
 
 mod piece;
 
 use cut_fields::low_first;
 pub use piece::Piece19;
+use rows::Tone;
 
 // The symbols of an alphabet at the most: rule 130 keeps one as an array by value, and how many it has stands in the piece.
 pub const SYMBOLS: usize = 255;
@@ -46,9 +46,9 @@ pub fn byte_at(tape: &[u8], at: u64) -> u32
     tape[at as usize] as u32
 }
 
-// The pulse at a place.
+// The number of two bytes at a place.
 #[tactic(auto, using(cut_fields::proofs::Le::le_small))]
-fn pulse(tape: &[u8], at: u64) -> u16
+pub fn word_at(tape: &[u8], at: u64) -> u16
     requires { at + 2 ≤ length tape.now }
     ensures { result ≡ le_at tape.now at 2 }
 {
@@ -63,9 +63,9 @@ pub fn symbol(tape: &[u8], place: u64, n: u32, i: u32) -> [u16; 2]
     ensures { result ≡ symbol_words (symbol_at tape.now place n i) }
 {
     let at = place + i as u64 * (1 + n as u64 * 2) + 1;
-    let first = pulse(tape, at);
+    let first = word_at(tape, at);
     if 1 < n {
-        [first, pulse(tape, at + 2)]
+        [first, word_at(tape, at + 2)]
     } else {
         [first, 0]
     }
@@ -81,6 +81,18 @@ pub fn alphabet(tape: &[u8], place: u64, n: u32, pulses: u32) -> [[u16; 2]; SYMB
         a[i as usize] = symbol(tape, place, pulses, i);
     }
     a
+}
+
+// A row of cycles.
+pub fn plain_tone(num: u16, len1: u16, len2: u16) -> Tone
+    ensures { result ≡ plain_tone num len1 len2 }
+{
+    Tone {
+        num: num as u64,
+        len1: len1 as u64,
+        len2: len2 as u64,
+        wave: 0,
+    }
 }
 
 // How many numbers k bits can have, which its callers know to be fewer than 8 bits.
@@ -116,7 +128,7 @@ pub fn part_of(given: bool, n: u32) -> Result<u32, NoRows>
 // Whether all n rows of one sort are given, where `given` says it of each.
 pub fn all_given<F: Fn(u32) -> bool>(n: u32, given: F) -> bool
     requires { (i : ℕ) → i < n → F.pre given i }
-    ensures { (row : ℕ → Option Tone) → ((i : ℕ) (b : Bool) → i < n → F.post given i b → b ≡ is_given (row i))
+    ensures { (row : ℕ → Option Tone) → ((i : ℕ) (b : Bool) → i < n → F.post given i b → b ≡ is_some (row i))
         → result ≡ is_tones (rows_from row 0 n) }
 {
     (0..n).all(given)

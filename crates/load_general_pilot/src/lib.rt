@@ -2,79 +2,51 @@
 #![tactic(auto)]
 
 ghost use Rattle.std.specs.Prelude.{◌≡◌, ◌||◌, ◌≤◌, ◌<◌, eqb};
-ghost use Rattle.load_general.specs.declared.Row.TheVariants.{Gives};
-ghost use Rattle.load_general.specs.General.{plain_tone, cycles, entry_row, rows_from, pilot_of};
-ghost use Rattle.load_general.specs.Made.{judged_of, is_given, is_tones};
-ghost use Rattle.load_general.specs.Held.{Held, Kept, symbol_of};
+ghost use Rattle.load_general.specs.General.{cycles, entry_row, rows_from, pilot_of};
+ghost use Rattle.load_general.specs.Made.{judged_of, is_tones};
+ghost use Rattle.load_general.specs.Held.{Kept, symbol_of};
 
-use cut_fields::low_first;
-use cut_grammar::GeneralizedData;
-use load_general::{Judged, Row, SYMBOLS, alphabet, byte_at, part_of};
+use load_general::{
+    NoRows, Piece19, SYMBOLS, all_given, alphabet, byte_at, part_of, plain_tone, word_at,
+};
 use rows::Tone;
 
-// A row of cycles.
-fn gives(num: u32, len1: u16, len2: u16) -> Row
-    ensures { result ≡ Gives (plain_tone num len1 len2) }
-{
-    Row::Gives(Tone {
-        num: num as u64,
-        len1: len1 as u64,
-        len2: len2 as u64,
-        wave: 0,
-    })
-}
-
 // The cycles of a pilot symbol.
-fn cycles(y: [u16; 2], repeat: u32) -> Row
-    requires { repeat ≤ 65535 }
+#[tactic(auto, unfolding(load_general::specs::General::cycles, load_general::specs::Held::symbol_of))]
+fn cycles(y: [u16; 2], repeat: u16) -> Option<Tone>
     ensures { result ≡ cycles (symbol_of y) repeat }
 {
     if y[1] == 0 {
         if repeat == 65535 {
-            return Row::Refused;
+            return None;
         }
-        return gives((repeat + 1) / 2, y[0], y[0]);
+        return Some(plain_tone((repeat + 1) / 2, y[0], y[0]));
     }
-    gives(repeat, y[0], y[1])
+    Some(plain_tone(repeat, y[0], y[1]))
 }
 
-// Pilot entry i, which its callers know to be one of this tape, as they know the alphabet to be its own.
-pub fn entry_row(tape: &[u8], a: &[[u16; 2]; SYMBOLS], g: GeneralizedData, i: u32) -> Row
-    requires { Held tape.now g × Kept tape.now g.pilot g.npp g.asp a.now × (i < g.totp) }
-    ensures { result ≡ entry_row tape.now g i }
+// Pilot entry i; its callers know the alphabet to be the piece's own.
+#[tactic(auto, using(load_general::proofs::Symbols::kept_symbol), unfolding(load_general::specs::General::entry_row, load_general::specs::General::entry_symbol, load_general::specs::General::entry_repeat))]
+pub fn entry_row(p: &Piece19, a: &[[u16; 2]; SYMBOLS], i: u32) -> Option<Tone>
+    requires { Kept p.now.tape.now p.now.g.pilot p.now.g.npp p.now.g.asp a.now × (i < p.now.g.totp) }
+    ensures { result ≡ entry_row p.now.tape.now p.now.g i }
 {
-    let at = g.entries + i as u64 * 3;
-    let n = byte_at(tape, at);
-    if g.asp <= n {
-        return Row::Refused;
+    let at = p.g.entries + i as u64 * 3;
+    let n = byte_at(p.tape, at);
+    if p.g.asp <= n {
+        return None;
     }
-    cycles(a[n as usize], low_first(tape, at + 1, 2))
-}
-
-// Whether a row is one.
-fn is_given(r: Row) -> bool
-    ensures { result ≡ is_given r }
-{
-    match r {
-        Row::Refused => false,
-        Row::Gives(_) => true,
-    }
+    cycles(a[n as usize], word_at(p.tape, at + 1))
 }
 
 // Whether all pilot entries are given.
-fn entries_given(tape: &[u8], g: GeneralizedData) -> bool
-    requires { Held tape.now g × (0 < g.totp) × (0 < g.npp) }
-    ensures { result ≡ is_tones (rows_from (entry_row tape.now g) 0 g.totp) }
+#[tactic(auto, using(load_general::proofs::Symbols::pilot_inside))]
+fn entries_given(p: &Piece19) -> bool
+    requires { (0 < p.now.g.totp) × (0 < p.now.g.npp) }
+    ensures { result ≡ is_tones (rows_from (entry_row p.now.tape.now p.now.g) 0 p.now.g.totp) }
 {
-    let a = alphabet(tape, g.pilot, g.asp, g.npp);
-    let mut i = 0;
-    while i < g.totp {
-        if !is_given(entry_row(tape, &a, g, i)) {
-            return false;
-        }
-        i += 1;
-    }
-    true
+    let a = alphabet(p.tape, p.g.pilot, p.g.asp, p.g.npp);
+    all_given(p.g.totp, |i| entry_row(p, &a, i).is_some())
 }
 
 // Whether symbols have as many pulses as the source takes.
@@ -84,20 +56,20 @@ fn one_or_two(n: u32) -> bool
     n == 1 || n == 2
 }
 
-// What the pilot part comes to; its callers know the piece to be one of this tape.
-pub fn pilot_part(tape: &[u8], g: GeneralizedData) -> Judged
-    requires { Held tape.now g }
-    ensures { result ≡ judged_of (pilot_of tape.now g) }
+// What the pilot part comes to.
+#[tactic(auto, using(load_general::proofs::Parts::some_pulses), unfolding(load_general::specs::General::pilot_of, load_general::specs::General::entry_symbol, load_general::specs::Made::judged_of))]
+pub fn pilot_part(p: &Piece19) -> Result<u32, NoRows>
+    ensures { result ≡ judged_of (pilot_of p.now.tape.now p.now.g) }
 {
-    if g.totp == 0 {
-        return Judged::Rows(0);
+    if p.g.totp == 0 {
+        return Ok(0);
     }
-    if one_or_two(g.npp) {
-        return part_of(entries_given(tape, g), g.totp);
+    if one_or_two(p.g.npp) {
+        return part_of(entries_given(p), p.g.totp);
     }
-    if g.asp <= byte_at(tape, g.entries) {
-        Judged::Refused
+    if p.g.asp <= byte_at(p.tape, p.g.entries) {
+        Err(NoRows::Refused)
     } else {
-        Judged::Stop
+        Err(NoRows::Stop)
     }
 }

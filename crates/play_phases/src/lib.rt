@@ -8,19 +8,23 @@ ghost use Rattle.play_entries.specs.Entries.{rest_of, whole_pause, pause_of};
 ghost use Rattle.play_entries.specs.Places.{cycle_half, remains};
 ghost use Rattle.play_entries.specs.Source.{level_of};
 
-mod lent;
-pub use lent::LentRow;
+mod toned;
 
 use play_entries::{Duration, Phase};
 use play_levels::{is_one, times_of};
 use rows::{Block, Tone};
+pub use toned::TonedRow;
 
 // The repetitions of a tone row: in a source row, 0 as one.
 #[tactic(auto, unfolding(play_entries::specs::Entries::cycles_of))]
 pub fn cycles_of(r: Block, t: Tone) -> u64
     ensures { result ≡ cycles_of r t }
 {
-    if r.sort == 0 { t.num.max(1) } else { times_of(t) }
+    if r.sort == 0 {
+        t.num.max(1)
+    } else {
+        times_of(t)
+    }
 }
 
 // Whether a repetition is one pulse.
@@ -155,6 +159,12 @@ pub fn mic(f: Phase) -> bool
 {
     matches!(
         f,
-        Phase::Tones { last_half: true, .. } | Phase::Data { last_half: true, .. }
+        Phase::Tones {
+            last_half: true,
+            ..
+        } | Phase::Data {
+            last_half: true,
+            ..
+        }
     )
 }

@@ -2,7 +2,7 @@
 use native.Mathlib.Omega.{arith}
 use Rattle.play_entries.proofs.Bounds.{bits_most}
 use Rattle.play_entries.proofs.Valid.{in_tones, in_data}
-use Rattle.play_phases.proofs.lent.LentRow.length_at.Goals as goal
+use Rattle.play_phases.proofs.toned.TonedRow.length_at.Goals as goal
 
 pub tone-requires : goal.tone-requires
 tone-requires c =

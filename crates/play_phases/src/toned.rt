@@ -14,13 +14,13 @@ use rows::{Block, Tone, row_at};
 
 // A tone table and a block's row, whose tone rows are all in it.
 #[derive(Clone, Copy)]
-pub struct LentRow<'a> {
+pub struct TonedRow<'a> {
     pub tones: &'a [u64],
     pub row: Block,
     pub ghost lent: { row.tone + row.tones ≤ capacity_of tone tone_most tones.now },
 }
 
-impl LentRow<'_> {
+impl TonedRow<'_> {
     // Its tone row i, which its callers know to be one of them.
     pub fn tone(&self, i: u64) -> Tone
         requires { i < self.now.row.tones }

@@ -1,9 +1,19 @@
 -- One field at a cursor. Once a field came up short the cursor keeps that field's place and width. Assumes nothing.
-use Rattle.std.specs.Prelude.{ℕ, zero, suc, ◌+◌, ◌*◌, List, length, get_or, leb}
+use Rattle.std.specs.Prelude.{ℕ, zero, suc, ◌+◌, ◌*◌, List, length, get_or, leb, Result, Ok, Err}
 use Rattle.law_base.specs.Rules.{◌⇒◌, ◌∣◌}
-use Rattle.cut_fields.specs.declared.Cursor.{Cursor}
-use Rattle.cut_fields.specs.declared.Cursor.TheVariants.{At, Short}
-use Rattle.cut_fields.specs.declared.Read.{Read}
+use Rattle.cut_fields.specs.declared.Short.{Short}
+
+-- a place, or the place and the width of the first field in reading order that came up short
+abbrev pub Cursor : Type 0
+Cursor = Result ℕ Short
+
+abbrev pub short_at : ℕ → ℕ → Cursor
+short_at p w = Err (record { place = p; width = w })
+
+-- a field's number, and the cursor past it
+pub record Read : Type 0 where
+  pub value : ℕ
+  pub cursor : Cursor
 
 -- the number that the w bytes from p on spell, the lowest first
 unfoldable pub le_at : List ℕ → ℕ → ℕ → ℕ
@@ -16,12 +26,22 @@ number_at s p w = leb w 4 ⇒ le_at s p w ∣ 0
 
 -- a field of w bytes: its number and the cursor past it, where the tape holds it
 unfoldable pub field_at : List ℕ → Cursor → ℕ → Read
-field_at s (At p) w =
-    leb (p + w) (length s) ⇒ record { value = number_at s p w; cursor = At (p + w) }
-    ∣ record { value = 0; cursor = Short p w }
-field_at s (Short p v) w = record { value = 0; cursor = Short p v }
+field_at s (Ok p) w =
+    leb (p + w) (length s) ⇒ record { value = number_at s p w; cursor = Ok (p + w) }
+    ∣ record { value = 0; cursor = short_at p w }
+field_at s (Err e) w = record { value = 0; cursor = Err e }
 
 -- where a cursor stands
 unfoldable pub place_of : Cursor → ℕ
-place_of (At p) = p
-place_of (Short p w) = 0
+place_of (Ok p) = p
+place_of (Err e) = 0
+
+-- what a reader gives, and its place behind it, as a cursor
+abbrev pub cursor_of : {A : Type 0} → Result A Short → ℕ → Cursor
+cursor_of (Ok v) at = Ok at
+cursor_of (Err e) at = Err e
+
+-- and as a field
+abbrev pub read_of : Result ℕ Short → ℕ → Read
+read_of (Ok v) at = record { value = v; cursor = Ok at }
+read_of (Err e) at = record { value = 0; cursor = Err e }

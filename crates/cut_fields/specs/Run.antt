@@ -1,14 +1,12 @@
 -- Runs of fields, one field after the other. Assumes nothing.
-use Rattle.std.specs.Prelude.{ℕ, zero, suc, ◌+◌, ◌*◌, ◌-◌, ◌≤◌, ◌<◌, List}
-use Rattle.cut_fields.specs.declared.Cursor.{Cursor}
-use Rattle.cut_fields.specs.declared.Cursor.TheVariants.{At, Short}
-use Rattle.cut_fields.specs.Field.{field_at}
+use Rattle.std.specs.Prelude.{ℕ, zero, suc, ◌+◌, ◌*◌, ◌-◌, ◌≤◌, ◌<◌, List, Ok, Err}
+use Rattle.cut_fields.specs.Field.{Cursor, field_at}
 
 -- the same step n times; a cursor that came up short stays
 unfoldable pub times : (Cursor → Cursor) → ℕ → Cursor → Cursor
 times f zero c = c
-times f (suc n) (At p) = times f n (f (At p))
-times f (suc n) (Short p w) = Short p w
+times f (suc n) (Ok p) = times f n (f (Ok p))
+times f (suc n) (Err e) = Err e
 
 -- n fields of w bytes
 unfoldable pub each_at : List ℕ → Cursor → ℕ → ℕ → Cursor

@@ -1,41 +1,22 @@
-// Little-endian fields of a tape, read with a cursor that keeps the first field that came up short.
+// Little-endian fields of a tape, read one after the other up to the first that came up short.
 #![tactic(auto)]
 
-ghost use Rattle.std.specs.Prelude.{◌≡◌, ◌+◌, ◌≤◌, length, leb};
-ghost use Rattle.cut_fields.specs.declared.Cursor.TheVariants.{At};
-ghost use Rattle.cut_fields.specs.Field.{le_at, number_at, field_at, place_of};
+ghost use Rattle.std.specs.Prelude.{◌≡◌, ◌+◌, ◌≤◌, ◌<◌, IfOk, IfErr, length};
+ghost use Rattle.cut_fields.specs.Field.{le_at, number_at, field_at, read_of, cursor_of};
 ghost use Rattle.cut_fields.specs.Run.{Wholes, each_at, groups_at};
 
-// A place, or the place and the width of the first field in reading order that came up short.
+// The place and the width of the first field in reading order that came up short.
+#[derive(Clone, Copy, PartialEq, Eq)]
+pub struct Short {
+    pub place: u64,
+    pub width: u64,
+}
+
+// A tape, and the place in it from which the next field is read.
 #[derive(Clone, Copy)]
-pub enum Cursor {
-    At(u64),
-    Short(u64, u64),
-}
-
-// A field's number, and the cursor past it.
-#[derive(Clone, Copy)]
-pub struct Read {
-    pub value: u32,
-    pub cursor: Cursor,
-}
-
-// Where a cursor stands; 0 once it came up short.
-pub fn place(c: Cursor) -> u64
-    ensures { result ≡ place_of c }
-{
-    match c {
-        Cursor::At(at) => at,
-        Cursor::Short(_, _) => 0,
-    }
-}
-
-// Whether n bytes are there from `at` on.
-fn room(tape: &[u8], at: u64, n: u64) -> bool
-    ensures { result ≡ leb (at + n) (length tape.now) }
-{
-    let end = tape.len() as u64;
-    if at <= end { n <= end - at } else { false }
+pub struct Reader<'a> {
+    pub tape: &'a [u8],
+    pub at: u64,
 }
 
 // The number of `width` bytes at `at`, the lowest first; its callers know the bytes to be there.
@@ -44,16 +25,15 @@ pub fn low_first(tape: &[u8], at: u64, width: u64) -> u32
     ensures { result ≡ le_at tape.now at width }
 {
     let mut value: u32 = 0;
-    let mut left = width;
-    while 0 < left {
-        left -= 1;
-        let byte = tape[(at + left) as usize] as u32;
+    for i in (0..width).rev() {
+        let byte = tape[(at + i) as usize] as u32;
         value = value * 256 + byte;
     }
     value
 }
 
 // The number of a field that is there: up to four bytes spell one, a wider field none.
+#[tactic(auto, unfolding(crate::specs::Field::number_at))]
 fn number(tape: &[u8], at: u64, width: u64) -> u32
     requires { at + width ≤ length tape.now }
     ensures { result ≡ number_at tape.now at width }
@@ -65,53 +45,17 @@ fn number(tape: &[u8], at: u64, width: u64) -> u32
     }
 }
 
-// One field.
-pub fn field(tape: &[u8], c: Cursor, width: u64) -> Read
-    ensures { result ≡ field_at tape.now c width }
+// The place past one field, where it is there.
+fn past(tape: &[u8], at: u64, width: u64) -> Result<u64, Short>
+    ensures there { IfOk result (λ next. (next ≡ at + width) × (next ≤ length tape.now)) }
+    ensures short { IfErr result (λ e. (e.place ≡ at) × (e.width ≡ width) × (length tape.now < at + width)) }
 {
-    match c {
-        Cursor::At(at) => {
-            if room(tape, at, width) {
-                Read {
-                    value: number(tape, at, width),
-                    cursor: Cursor::At(at + width),
-                }
-            } else {
-                Read {
-                    value: 0,
-                    cursor: Cursor::Short(at, width),
-                }
-            }
-        }
-        Cursor::Short(_, _) => Read {
-            value: 0,
-            cursor: c,
-        },
+    let end = tape.len() as u64;
+    if at <= end && width <= end - at {
+        Ok(at + width)
+    } else {
+        Err(Short { place: at, width })
     }
-}
-
-// One field whose number nobody asks: a body, a text or data, of its length.
-pub fn pass(tape: &[u8], c: Cursor, width: u64) -> Cursor
-    ensures { result ≡ (field_at tape.now c width).cursor }
-{
-    match c {
-        Cursor::At(at) => {
-            if room(tape, at, width) {
-                Cursor::At(at + width)
-            } else {
-                Cursor::Short(at, width)
-            }
-        }
-        Cursor::Short(_, _) => c,
-    }
-}
-
-// The field after another one.
-pub fn after(tape: &[u8], r: Read, width: u64) -> Read
-    ensures { result ≡ field_at tape.now r.cursor width }
-{
-    let c = r.cursor;
-    field(tape, c, width)
 }
 
 // How many of n things of `size` bytes are whole from `at` on.
@@ -120,48 +64,68 @@ fn wholes(tape: &[u8], at: u64, n: u64, size: u64) -> u64
 {
     let end = tape.len() as u64;
     if end < at {
-        return 0;
-    }
-    if size == 0 {
-        return n;
-    }
-    let most = (end - at) / size;
-    if n < most { n } else { most }
-}
-
-// n fields of one width, one after the other, at no cost a field.
-pub fn each(tape: &[u8], c: Cursor, n: u64, width: u64) -> Cursor
-    ensures { result ≡ each_at tape.now c n width }
-{
-    match c {
-        Cursor::At(at) => {
-            let whole = wholes(tape, at, n, width);
-            let next = at + whole * width;
-            if whole < n {
-                Cursor::Short(next, width)
-            } else {
-                Cursor::At(next)
-            }
-        }
-        Cursor::Short(_, _) => c,
+        0
+    } else if size == 0 {
+        n
+    } else {
+        n.min((end - at) / size)
     }
 }
 
-// n groups, each a field of `head` bytes and k fields of `width` bytes, at no cost a group.
-pub fn groups(tape: &[u8], c: Cursor, n: u64, head: u32, k: u32, width: u32) -> Cursor
-    ensures { result ≡ groups_at tape.now c n head k width }
-{
-    match c {
-        Cursor::At(at) => {
-            let size = head as u64 + k as u64 * width as u64;
-            let whole = wholes(tape, at, n, size);
-            let next = Cursor::At(at + whole * size);
-            if whole < n {
-                each(tape, pass(tape, next, head as u64), k as u64, width as u64)
-            } else {
-                next
-            }
+impl<'a> Reader<'a> {
+    // One field's number.
+    #[tactic(auto, using(crate::proofs::Runs::field_there, crate::proofs::Runs::field_short))]
+    pub fn number(&mut self, width: u64) -> Result<u32, Short>
+        ensures tape { self.new.tape ≡ self.old.tape }
+        ensures read { field_at self.old.tape.now (Ok self.old.at) width ≡ read_of result self.new.at }
+    {
+        let next = past(self.tape, self.at, width)?;
+        let value = number(self.tape, self.at, width);
+        self.at = next;
+        Ok(value)
+    }
+
+    // One field whose number nobody asks: a body, a text or data, of its length.
+    #[tactic(auto, using(crate::proofs::Runs::field_moves, crate::proofs::Runs::field_stops))]
+    pub fn skip(&mut self, width: u64) -> Result<(), Short>
+        ensures tape { self.new.tape ≡ self.old.tape }
+        ensures past { (field_at self.old.tape.now (Ok self.old.at) width).cursor ≡ cursor_of result self.new.at }
+    {
+        self.at = past(self.tape, self.at, width)?;
+        Ok(())
+    }
+
+    // n fields of one width, one after the other, at no cost a field.
+    #[tactic(auto, using(crate::proofs::Runs::each_all, crate::proofs::Runs::each_short))]
+    pub fn each(&mut self, n: u64, width: u64) -> Result<(), Short>
+        ensures tape { self.new.tape ≡ self.old.tape }
+        ensures past { each_at self.old.tape.now (Ok self.old.at) n width ≡ cursor_of result self.new.at }
+    {
+        let whole = wholes(self.tape, self.at, n, width);
+        self.at += whole * width;
+        if whole == n {
+            Ok(())
+        } else {
+            Err(Short {
+                place: self.at,
+                width,
+            })
         }
-        Cursor::Short(_, _) => c,
+    }
+
+    // n groups, each a field of `head` bytes and k fields of `width` bytes, at no cost a group.
+    #[tactic(auto, using(crate::proofs::Runs::groups_all, crate::proofs::Runs::groups_short, crate::proofs::Runs::groups_stuck))]
+    pub fn groups(&mut self, n: u64, head: u32, k: u32, width: u32) -> Result<(), Short>
+        ensures tape { self.new.tape ≡ self.old.tape }
+        ensures past { groups_at self.old.tape.now (Ok self.old.at) n head k width ≡ cursor_of result self.new.at }
+    {
+        let size = head as u64 + k as u64 * width as u64;
+        let whole = wholes(self.tape, self.at, n, size);
+        self.at += whole * size;
+        if whole < n {
+            self.skip(head as u64)?;
+            self.each(k as u64, width as u64)?;
+        }
+        Ok(())
     }
 }

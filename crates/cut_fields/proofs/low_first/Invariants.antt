@@ -1,11 +1,8 @@
--- The loops of `low_first`.
-use Prim.Native.Nat.{◌≤◌, ◌+◌, ◌-◌}
+-- The loop of `low_first`: `value` is the number of the bytes from `at + i` on.
+use Prim.Native.Nat.{◌+◌, ◌-◌}
 use mathlib.Core.Path.{◌≡◌}
 use Rattle.cut_fields.specs.Field.{le_at}
 use Rattle.cut_fields.proofs.low_first.Given as goal
 
-abbrev pub invariant-loop-left : goal.invariant-loop-left
-invariant-loop-left l = (l.left ≤ l.width) × (l.value ≡ le_at l.tape (l.at + l.left) (l.width - l.left))
-
-abbrev pub decreases-loop-left : goal.decreases-loop-left
-decreases-loop-left l = l.left
+abbrev pub invariant-loop-i : goal.invariant-loop-i
+invariant-loop-i l = l.value ≡ le_at l.tape (l.at + l.i) (l.width - l.i)

@@ -10,7 +10,7 @@ use borrow.Author.Tests.{le-leb, lt-leb}
 use Rattle.law_base.proofs.Numbers.{lt_or_ge}
 use Rattle.std.specs.Prelude.{Ok, Err}
 use Rattle.cut_fields.specs.declared.Short.{Short}
-use Rattle.cut_fields.specs.Field.{Cursor, Read, short_at, number_at, field_at, place_of}
+use Rattle.cut_fields.specs.Field.{Cursor, short_at, number_at, field_at, place_of}
 use Rattle.cut_fields.specs.Run.{times, each_at, groups_at, Wholes}
 
 -- a cursor that came up short

@@ -9,10 +9,10 @@ use lib.ListN.{length, get_or, take, length-take}
 use lib.Seq.{get_or-take}
 use borrow.Author.Tests.{le-leb, lt-leb}
 use Rattle.law_base.proofs.Numbers.{lt_or_ge}
-use Rattle.cut_fields.specs.declared.Cursor.TheVariants.{At}
+use Rattle.std.specs.Prelude.{Ok, Err}
+use Rattle.cut_grammar.specs.declared.NotCut.TheVariants as not_cut
+use Rattle.cut_grammar.specs.Grammar.{Body}
 use Rattle.cut_grammar.specs.declared.Piece.{Piece}
-use Rattle.cut_grammar.specs.declared.Body.{Body}
-use Rattle.cut_grammar.specs.declared.Body.TheVariants as body
 use Rattle.cut_grammar.specs.declared.Taken.TheVariants as taken
 use Rattle.cut_grammar.specs.Grammar.{read_at}
 use Rattle.cut_grammar.specs.Kinds.{kind_of}
@@ -24,7 +24,7 @@ use Rattle.cut_grammar.proofs.Layouts.{forward, own}
 named-ends : {a b : ℕ} (kind at : ℕ) {k p next : ℕ} {x : Body} {piece : Piece} → Ends a b x
     → taken_as kind at x ≡ taken.Whole k p next piece → (a ≤ next) × (next ≤ b)
 unfolding taken_as
-named-ends {a} {b} kind at {next = next} (ends {p = q} h t) e = let i : q ≡ next = cc in (omega arith, omega arith)
+named-ends {a} {b} kind at {next = next} (ends {x = y} h t) e = let i : y.next ≡ next = cc in (omega arith, omega arith)
 named-ends kind at none e = absurd (let z : ◌≡◌ {A = ℕ} 0 1 = cc in omega arith)
 named-ends kind at short e = absurd (let z : ◌≡◌ {A = ℕ} 0 1 = cc in omega arith)
 named-ends kind at wide e = absurd (let z : ◌≡◌ {A = ℕ} 0 1 = cc in omega arith)
@@ -32,14 +32,14 @@ named-ends kind at wide e = absurd (let z : ◌≡◌ {A = ℕ} 0 1 = cc in omeg
 -- a piece is named by its kind
 named_kind : (kind at : ℕ) (x : Body) {k p next : ℕ} {piece : Piece} → taken_as kind at x ≡ taken.Whole k p next piece → k ≡ kind
 unfolding taken_as
-named_kind kind at (body.Whole y q) e = cc
-named_kind kind at (body.Unknown described) e = absurd (let z : ◌≡◌ {A = ℕ} 0 1 = cc in omega arith)
-named_kind kind at (body.Short q w) e = absurd (let z : ◌≡◌ {A = ℕ} 0 1 = cc in omega arith)
-named_kind kind at (body.Overflow q) e = absurd (let z : ◌≡◌ {A = ℕ} 0 1 = cc in omega arith)
+named_kind kind at (Ok y) e = cc
+named_kind kind at (Err (not_cut.Unknown described)) e = absurd (let z : ◌≡◌ {A = ℕ} 0 1 = cc in omega arith)
+named_kind kind at (Err (not_cut.Short q)) e = absurd (let z : ◌≡◌ {A = ℕ} 0 1 = cc in omega arith)
+named_kind kind at (Err (not_cut.Overflow q)) e = absurd (let z : ◌≡◌ {A = ℕ} 0 1 = cc in omega arith)
 
 -- a place inside the tape has a kind byte
 pub cut_there : (s : List ℕ) (at full : ℕ) → at < length s
-    → cut_at s at full ≡ taken_as (get_or s at 0) at (read_at (kind_of full (get_or s at 0)) s (At (at + 1)))
+    → cut_at s at full ≡ taken_as (get_or s at 0) at (read_at (kind_of full (get_or s at 0)) s (Ok (at + 1)))
 unfolding cut_at
 cut_there s at full h = rw (lt-leb (length s) at h)
 
@@ -64,7 +64,7 @@ module _ (s : List ℕ) (at full : ℕ) {k a next : ℕ} {piece : Piece} (e : cu
   pub cut_forward : (at < next) × (next ≤ length s)
   cut_forward =
       let h = cut_inside in
-      let f = forward (kind_of full (get_or s at 0)) s (at + 1) (At (at + 1)) (stands (le_refl (at + 1)) (omega arith)) in
+      let f = forward (kind_of full (get_or s at 0)) s (at + 1) (Ok (at + 1)) (stands (le_refl (at + 1)) (omega arith)) in
       let r = named-ends (get_or s at 0) at f (sym (cut_there s at full h) ∙ e) in
       (omega (arith, r.0), r.1)
 

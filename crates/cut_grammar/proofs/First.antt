@@ -11,15 +11,16 @@ use lib.ListN.{length, get_or, take, length-take}
 use lib.Dec.{leb}
 use Rattle.law_base.specs.Rules.{◌⇒◌, ◌∣◌}
 use Rattle.law_base.proofs.Numbers.{lt_or_ge}
-use Rattle.cut_fields.specs.declared.Cursor.{Cursor}
-use Rattle.cut_fields.specs.declared.Cursor.TheVariants.{At}
-use Rattle.cut_fields.specs.declared.Cursor.TheVariants as cursor
+use Rattle.std.specs.Prelude.{Ok, Err}
+use Rattle.cut_fields.specs.declared.Short.{Short}
+use Rattle.cut_fields.specs.Field.{Cursor}
+use Rattle.cut_grammar.specs.declared.Whole.{Whole}
+use Rattle.cut_grammar.specs.declared.NotCut.TheVariants as not_cut
+use Rattle.cut_grammar.specs.Grammar.{Body, short_body}
 use Rattle.cut_fields.specs.Field.{number_at, field_at, place_of}
 use Rattle.cut_fields.specs.Run.{times, each_at, groups_at}
-use Rattle.cut_fields.proofs.Runs.{field_there, field-short}
+use Rattle.cut_fields.proofs.Runs.{field_there, field_short}
 use Rattle.cut_grammar.specs.declared.Piece.{Piece}
-use Rattle.cut_grammar.specs.declared.Body.{Body}
-use Rattle.cut_grammar.specs.declared.Body.TheVariants.{Whole, Unknown, Short, Overflow}
 use Rattle.cut_grammar.specs.declared.Taken.TheVariants as taken
 use Rattle.cut_grammar.specs.Grammar.{Passed, bytes, fields, groups, texts, Layout, number, counted, here, pass, within, fitting}
 use Rattle.cut_grammar.specs.Grammar.{whole, unknown, counted_at, texts_at, pass_at, whole_at, sealed, enclosed, fitting_at}
@@ -28,32 +29,34 @@ use Rattle.cut_grammar.specs.Kinds.{kind_of}
 use Rattle.cut_grammar.specs.Cut.{taken_as, cut_at}
 use Rattle.cut_grammar.specs.Trace.{Field, field_in, each_trace, groups_trace, counted_trace, texts_trace, pass_trace, trace}
 use Rattle.cut_grammar.specs.Trace.{IsThere, NotAllThere, FirstShort, this, later, AllThere, nil, cons}
+use Rattle.cut_grammar.proofs.Bodies.{short_is}
 use Rattle.cut_grammar.proofs.Cutting.{cut_there, cut_end, cut_inside, cut_kind}
 
 -- an answer that meets fields read from the first l bytes at the most: short at the first that is not there, else not short
 data Meets (l : ℕ) : Body → List Field → Type 0 where
-  short : {p w e : ℕ} {fs : List Field} → e < p + w → p ≤ e → e ≤ l → Meets l (Short p w) (record { place = p; width = w; end = e } ∷ fs)
+  short : {x : Short} {e : ℕ} {fs : List Field} → e < x.place + x.width → x.place ≤ e → e ≤ l
+      → Meets l (Err (not_cut.Short x)) (record { place = x.place; width = x.width; end = e } ∷ fs)
   past : {b : Body} {f : Field} {fs : List Field} → IsThere f → Meets l b fs → Meets l b (f ∷ fs)
-  ended : {piece : Piece} {p : ℕ} → Meets l (Whole piece p) []
-  none : {described : Bool} → Meets l (Unknown described) []
-  wide : {p : ℕ} → Meets l (Overflow p) []
+  ended : {x : Whole} → Meets l (Ok x) []
+  none : {described : Bool} → Meets l (Err (not_cut.Unknown described)) []
+  wide : {p : ℕ} → Meets l (Err (not_cut.Overflow p)) []
 
 -- what is read from a cursor on, and the fields from its place on
 record Follows (s : List ℕ) (K : Cursor → Body) (k : ℕ → List Field) : Type 0 where
-  stuck : (p w : ℕ) → K (cursor.Short p w) ≡ Short p w
-  meets : (p : ℕ) → p ≤ length s → Meets (length s) (K (At p)) (k p)
+  stuck : (e : Short) → K (Err e) ≡ Err (not_cut.Short e)
+  meets : (p : ℕ) → p ≤ length s → Meets (length s) (K (Ok p)) (k p)
 
 module _ (s : List ℕ) where
   -- behind a field, by its number
   field_follows : (w : ℕ) {K : ℕ → Cursor → Body} {k : ℕ → ℕ → List Field} → ((v : ℕ) → Follows s (K v) (k v))
       → Follows s (λ c. K (field_at s c w).value (field_at s c w).cursor) (λ p. field_in s p w ∷ k (number_at s p w) (p + w))
-  field_follows w {K} {k} f = record { stuck = λ p v. unfold field_at in (f 0).stuck p v; meets = at_field }
+  field_follows w {K} {k} f = record { stuck = λ e. unfold field_at in (f 0).stuck e; meets = at_field }
     where
       at_field : (p : ℕ) → p ≤ length s
-          → Meets (length s) (K (field_at s (At p) w).value (field_at s (At p) w).cursor) (field_in s p w ∷ k (number_at s p w) (p + w))
+          → Meets (length s) (K (field_at s (Ok p) w).value (field_at s (Ok p) w).cursor) (field_in s p w ∷ k (number_at s p w) (p + w))
       at_field p h =
           ⊎_elim
-          (λ (t : length s < p + w). rw (field-short s w p t, (f 0).stuck p w) (short t h (le_refl (length s))))
+          (λ (t : length s < p + w). rw (field_short s w p t, (f 0).stuck (record { place = p; width = w })) (short t h (le_refl (length s))))
           (λ (t : p + w ≤ length s). rw (field_there s w p t) (past t ((f (number_at s p w)).meets (p + w) t)))
           (lt_or_ge (length s) (p + w))
 
@@ -61,7 +64,7 @@ module _ (s : List ℕ) where
   here_follows : {K : ℕ → Cursor → Body} {k : ℕ → ℕ → List Field} → ((q : ℕ) → Follows s (K q) (k q))
       → Follows s (λ c. K (place_of c) c) (λ p. k p p)
   unfolding place_of
-  here_follows f = record { stuck = λ p w. (f 0).stuck p w; meets = λ p h. (f p).meets p h }
+  here_follows f = record { stuck = λ e. (f 0).stuck e; meets = λ p h. (f p).meets p h }
 
   -- behind the same step n times
   times_follows : (step : Cursor → Cursor) (T : ℕ → ℕ → List Field)
@@ -121,7 +124,7 @@ module _ (s : List ℕ) where
   unfolding fitting_at
   fitting_follows bits {K} {k} f = record { stuck = f.stuck; meets = λ p h. by_cases p h (leb bits 4294967295) }
     where
-      by_cases : (p : ℕ) → p ≤ length s → (t : Bool) → Meets (length s) (t ⇒ K (At p) ∣ Overflow p) (t ⇒ k p ∣ [])
+      by_cases : (p : ℕ) → p ≤ length s → (t : Bool) → Meets (length s) (t ⇒ K (Ok p) ∣ Err (not_cut.Overflow p)) (t ⇒ k p ∣ [])
       by_cases p h true = f.meets p h
       by_cases p h false = wide
 
@@ -138,13 +141,13 @@ within_follows : (s : List ℕ) (n : ℕ) (K : List ℕ → Cursor → Body) (k 
     → ((s : List ℕ) → Follows s (K s) (k s))
     → Follows s (λ c. enclosed (λ end. K (take end s) c) (field_at s c n).cursor) (λ p. field_in s p n ∷ k (take (p + n) s) p)
 unfolding enclosed
-within_follows s n K k f = record { stuck = λ p w. unfold field_at in refl; meets = at_body }
+within_follows s n K k f = record { stuck = λ e. unfold field_at in refl; meets = at_body }
   where
     at_body : (p : ℕ) → p ≤ length s
-        → Meets (length s) (enclosed (λ end. K (take end s) (At p)) (field_at s (At p) n).cursor) (field_in s p n ∷ k (take (p + n) s) p)
+        → Meets (length s) (enclosed (λ end. K (take end s) (Ok p)) (field_at s (Ok p) n).cursor) (field_in s p n ∷ k (take (p + n) s) p)
     at_body p h =
         ⊎_elim
-        (λ (t : length s < p + n). rw (field-short s n p t) (short t h (le_refl (length s))))
+        (λ (t : length s < p + n). rw (field_short s n p t) (short t h (le_refl (length s))))
         (λ (t : p + n ≤ length s).
         let i : p ≤ length (take (p + n) s) = rw length-take (omega arith) in
         let j : length (take (p + n) s) ≤ length s = rw length-take (omega arith) in
@@ -161,26 +164,26 @@ traced (here rest) s = here_follows s {K = λ q. read_at (rest q) s} {k = λ q. 
 traced (pass part rest) s = pass_follows s part (traced rest s)
 traced (within n inner) s = within_follows s n (read_at inner) (trace inner) (traced inner)
 traced (fitting bits rest) s = fitting_follows s bits (traced rest s)
-traced (whole piece) s = record { stuck = λ p w. refl; meets = λ p h. ended }
-traced (unknown described) s = record { stuck = λ p w. refl; meets = λ p h. none }
+traced (whole piece) s = record { stuck = λ e. refl; meets = λ p h. ended }
+traced (unknown described) s = record { stuck = λ e. refl; meets = λ p h. none }
 
 -- an answer that meets fields is short exactly at the first that is not there
-meets_short : {l : ℕ} {b : Body} {fs : List Field} → Meets l b fs → (q w : ℕ) → b ≡ Short q w
+meets_short : {l : ℕ} {b : Body} {fs : List Field} → Meets l b fs → (q w : ℕ) → b ≡ short_body q w
     → (e : ℕ) × FirstShort fs (record { place = q; width = w; end = e })
-meets_short (short {p} {w = v} {e = e} t h i) q w r =
-    let a : p ≡ q = cc in let d : v ≡ w = cc in (e, rw (← a, ← d) (this t))
+meets_short (short {x} {e = e} t h i) q w r =
+    let a : x.place ≡ q = cc in let d : x.width ≡ w = cc in (e, rw (← a, ← d) (this t))
 meets_short (past t m) q w r = let x = meets_short m q w r in (x.0, later t x.1)
 meets_short ended q w r = absurd (let z : ◌≡◌ {A = ℕ} 0 1 = cc in omega arith)
 meets_short none q w r = absurd (let z : ◌≡◌ {A = ℕ} 0 1 = cc in omega arith)
 meets_short wide q w r = absurd (let z : ◌≡◌ {A = ℕ} 0 1 = cc in omega arith)
 
 meets_first : {l : ℕ} {b : Body} {fs : List Field} → Meets l b fs → {f : Field} → FirstShort fs f
-    → (b ≡ Short f.place f.width) × ((f.place ≤ f.end) × (f.end ≤ l))
+    → (b ≡ short_body f.place f.width) × ((f.place ≤ f.end) × (f.end ≤ l))
 meets_first (short t h i) (this u) = (refl, (h, i))
 meets_first (short t h i) (later u m) = absurd (omega arith)
 meets_first (past t m) (this u) = absurd (omega arith)
 meets_first (past t m) (later u n) = meets_first m n
-meets_first {l = l} (ended {piece = piece} {p = p}) {f = f} x4 = elim x4 [ ]
+meets_first {l = l} (ended {x = x}) {f = f} x4 = elim x4 [ ]
 meets_first {l = l} (none {described = described}) {f = f} x5 = elim x5 [ ]
 meets_first {l = l} (wide {p = p}) {f = f} x6 = elim x6 [ ]
 
@@ -190,7 +193,7 @@ first_not_there (later t m) = first_not_there m
 
 -- A LAYOUT IS SHORT EXACTLY AT THE FIRST OF ITS FIELDS THAT IS NOT ALL THERE
 pub short-first : (l : Layout) (s : List ℕ) (p : ℕ) → p ≤ length s → (q w : ℕ)
-    → (read_at l s (At p) ≡ Short q w) ↔ ((e : ℕ) × FirstShort (trace l s p) (record { place = q; width = w; end = e }))
+    → (read_at l s (Ok p) ≡ short_body q w) ↔ ((e : ℕ) × FirstShort (trace l s p) (record { place = q; width = w; end = e }))
 short-first l s p h q w =
     let m = (traced l s).meets p h in (λ r. meets_short m q w r, λ x. (meets_first m x.1).0)
 
@@ -205,12 +208,15 @@ pub short_end : (l : Layout) (s : List ℕ) (p : ℕ) → p ≤ length s → {f 
 short_end l s p h x = (meets_first ((traced l s).meets p h) x).1.1
 
 -- a body under its name
-named-short : (kind at : ℕ) (b : Body) {k p w : ℕ} → taken_as kind at b ≡ taken.Short k p w → (k ≡ kind) × (b ≡ Short p w)
+named-short : (kind at : ℕ) (b : Body) {k p w : ℕ} → taken_as kind at b ≡ taken.Short k p w → (k ≡ kind) × (b ≡ short_body p w)
 unfolding taken_as
-named-short kind at (Short q v) {k} {p} {w} e = let a : k ≡ kind = cc in (a, cc)
-named-short kind at (Whole y q) e = absurd (let z : ◌≡◌ {A = ℕ} 0 1 = cc in omega arith)
-named-short kind at (Unknown described) e = absurd (let z : ◌≡◌ {A = ℕ} 0 1 = cc in omega arith)
-named-short kind at (Overflow q) e = absurd (let z : ◌≡◌ {A = ℕ} 0 1 = cc in omega arith)
+named-short kind at (Err (not_cut.Short x)) {k} {p} {w} e = let a : k ≡ kind = cc in
+    let i : x.place ≡ p = cc in
+    let j : x.width ≡ w = cc in
+    (a, short_is x i j)
+named-short kind at (Ok y) e = absurd (let z : ◌≡◌ {A = ℕ} 0 1 = cc in omega arith)
+named-short kind at (Err (not_cut.Unknown described)) e = absurd (let z : ◌≡◌ {A = ℕ} 0 1 = cc in omega arith)
+named-short kind at (Err (not_cut.Overflow q)) e = absurd (let z : ◌≡◌ {A = ℕ} 0 1 = cc in omega arith)
 
 not_end : {k p w : ℕ} → taken.End ≡ taken.Short k p w → ⊥
 not_end e = let z : ◌≡◌ {A = ℕ} 0 1 = cc in omega arith
@@ -227,7 +233,7 @@ cut_first s at full k p w = (there, back)
     there r =
         ⊎_elim
         (λ (h : at < length s).
-        let n = named-short (get_or s at 0) at (read_at (kind_of full (get_or s at 0)) s (At (at + 1))) (sym (cut_there s at full h) ∙ r) in
+        let n = named-short (get_or s at 0) at (read_at (kind_of full (get_or s at 0)) s (Ok (at + 1))) (sym (cut_there s at full h) ∙ r) in
         (h, (n.0, rw n.0 ((short-first (kind_of full (get_or s at 0)) s (at + 1) (omega arith) p w).0 n.1))))
         (λ (h : length s ≤ at). absurd (not_end (sym (cut_end s at full h) ∙ r)))
         (lt_or_ge at (length s))
@@ -241,8 +247,8 @@ cut_first s at full k p w = (there, back)
         cut_there s at full h ∙ rw (← x.1.0, r)
 
 -- an answer that is not short has met fields that are all there
-meets_there : {l : ℕ} {b : Body} {fs : List Field} → Meets l b fs → ((p w : ℕ) → b ≡ Short p w → ⊥) → AllThere fs
-meets_there (short {p} {w = w} t h i) n = absurd (n p w refl)
+meets_there : {l : ℕ} {b : Body} {fs : List Field} → Meets l b fs → ((p w : ℕ) → b ≡ short_body p w → ⊥) → AllThere fs
+meets_there (short {x} t h i) n = absurd (n x.place x.width refl)
 meets_there (past t m) n = cons t (meets_there m n)
 meets_there ended n = nil
 meets_there none n = nil
@@ -274,10 +280,10 @@ whole_there s at full {k} {a} {next} {piece} e =
 -- a body under its name
 named-unknown : (kind at : ℕ) (b : Body) {k : ℕ} {described : Bool} → taken_as kind at b ≡ taken.Unknown k described → k ≡ kind
 unfolding taken_as
-named-unknown kind at (Unknown d) e = cc
-named-unknown kind at (Whole y q) e = absurd (let z : ◌≡◌ {A = ℕ} 0 1 = cc in omega arith)
-named-unknown kind at (Short q v) e = absurd (let z : ◌≡◌ {A = ℕ} 0 1 = cc in omega arith)
-named-unknown kind at (Overflow q) e = absurd (let z : ◌≡◌ {A = ℕ} 0 1 = cc in omega arith)
+named-unknown kind at (Err (not_cut.Unknown d)) e = cc
+named-unknown kind at (Ok y) e = absurd (let z : ◌≡◌ {A = ℕ} 0 1 = cc in omega arith)
+named-unknown kind at (Err (not_cut.Short x)) e = absurd (let z : ◌≡◌ {A = ℕ} 0 1 = cc in omega arith)
+named-unknown kind at (Err (not_cut.Overflow q)) e = absurd (let z : ◌≡◌ {A = ℕ} 0 1 = cc in omega arith)
 
 module _ (s : List ℕ) (at full : ℕ) {k : ℕ} {described : Bool} (e : cut_at s at full ≡ taken.Unknown k described) where
   no_end : taken.End ≡ taken.Unknown k described → ⊥

@@ -10,7 +10,7 @@ use borrow.Author.Tests.{le-leb, lt-leb}
 use Rattle.law_base.specs.Rules.{◌⇒◌, ◌∣◌}
 use Rattle.law_base.proofs.Numbers.{lt_or_ge}
 use Rattle.cut_fields.specs.Field.{number_at, place_of}
-use Rattle.cut_fields.proofs.Runs.{field_there, field-short}
+use Rattle.cut_fields.proofs.Runs.{field_there, field_short}
 use Rattle.cut_grammar.specs.declared.TakenTap.TheVariants as tap
 use Rattle.cut_grammar.specs.declared.Heading.TheVariants as head
 use Rattle.cut_grammar.specs.Grammar.{counted_at}
@@ -50,7 +50,7 @@ tap_data : (s : List ℕ) (at : ℕ) → at + 1 < length s → length s < at + 2
     → tap_at s at ≡ tap.Short (at + 2) (number_at s at 2)
 unfolding counted_at tap_block
 tap_data s at h t =
-    tap_there s at h ∙ rw (field_there s 2 at (omega arith), field-short s (number_at s at 2) (at + 2) t)
+    tap_there s at h ∙ rw (field_there s 2 at (omega arith), field_short s (number_at s at 2) (at + 2) t)
 
 tap_full : (s : List ℕ) (at : ℕ) → at + 1 < length s → at + 2 + number_at s at 2 ≤ length s
     → tap_at s at ≡ tap.Block (at + 2) (number_at s at 2) (at + 2 + number_at s at 2)

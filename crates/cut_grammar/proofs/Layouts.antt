@@ -11,16 +11,14 @@ use lib.Seq.{get_or-take, take-take}
 use lib.Dec.{leb}
 use Rattle.law_base.proofs.Numbers.{lt_or_ge}
 use Rattle.law_base.specs.Rules.{◌⇒◌, ◌∣◌}
-use Rattle.cut_fields.specs.declared.Cursor.{Cursor}
-use Rattle.cut_fields.specs.declared.Cursor.TheVariants.{At}
-use Rattle.cut_fields.specs.declared.Cursor.TheVariants as cursor
-use Rattle.cut_fields.specs.declared.Read.{Read}
+use Rattle.std.specs.Prelude.{Ok, Err}
+use Rattle.cut_fields.specs.Field.{Cursor, Read}
+use Rattle.cut_grammar.specs.declared.NotCut.TheVariants as not_cut
+use Rattle.cut_grammar.specs.Grammar.{Body}
 use Rattle.cut_fields.specs.Field.{le_at, number_at, field_at, place_of}
 use Rattle.cut_fields.specs.Run.{times, each_at, groups_at}
-use Rattle.cut_fields.proofs.Runs.{field_there, field-short}
+use Rattle.cut_fields.proofs.Runs.{field_there, field_short}
 use Rattle.cut_grammar.specs.declared.Piece.{Piece}
-use Rattle.cut_grammar.specs.declared.Body.{Body}
-use Rattle.cut_grammar.specs.declared.Body.TheVariants.{Whole, Unknown, Short, Overflow}
 use Rattle.cut_grammar.specs.Grammar.{Passed, bytes, fields, groups, texts, Layout, number, counted, here, pass, within, fitting}
 use Rattle.cut_grammar.specs.Grammar.{whole, unknown, counted_at, texts_at, pass_at, whole_at, sealed, enclosed, fitting_at, unknown_at}
 use Rattle.cut_grammar.specs.Grammar.{read_at}
@@ -28,17 +26,17 @@ use Rattle.cut_grammar.specs.Ends.{StandsIn, stands, stuck, Ends, ends, none, sh
 
 -- two reads of which the first, where it ends at or before k, is the second
 pub data OwnRead (l k : ℕ) : Read → Read → Type 0 where
-  same : {v p : ℕ} → p ≤ k → OwnRead l k (record { value = v; cursor = At p }) (record { value = v; cursor = At p })
+  same : {v p : ℕ} → p ≤ k → OwnRead l k (record { value = v; cursor = Ok p }) (record { value = v; cursor = Ok p })
   beyond : {x y : Read} → StandsIn (k + 1) l x.cursor → OwnRead l k x y
 
 pub data OwnPlace (l k : ℕ) : Cursor → Cursor → Type 0 where
-  same : {p : ℕ} → p ≤ k → OwnPlace l k (At p) (At p)
+  same : {p : ℕ} → p ≤ k → OwnPlace l k (Ok p) (Ok p)
   beyond : {x y : Cursor} → StandsIn (k + 1) l x → OwnPlace l k x y
 
 -- what holds of all that moves a cursor
 record Moves (f : List ℕ → Cursor → Cursor) : Type 0 where
   forward : (s : List ℕ) (a : ℕ) (c : Cursor) → StandsIn a (length s) c → StandsIn a (length s) (f s c)
-  own : (s : List ℕ) (k p : ℕ) → p ≤ k → OwnPlace (length s) k (f s (At p)) (f (take k s) (At p))
+  own : (s : List ℕ) (k p : ℕ) → p ≤ k → OwnPlace (length s) k (f s (Ok p)) (f (take k s) (Ok p))
 
 -- a field reads the same from the bytes up to its end
 le_own : (s : List ℕ) (k p w : ℕ) → p + w ≤ k → le_at (take k s) p w ≡ le_at s p w
@@ -51,25 +49,25 @@ unfolding number_at
 number_own s k p w h = rw (le_own s k p w h)
 
 -- a field from p on stands from any place up to its end on
-pub field_past : (s : List ℕ) (a p w : ℕ) → a ≤ p + w → StandsIn a (length s) (field_at s (At p) w).cursor
+pub field_past : (s : List ℕ) (a p w : ℕ) → a ≤ p + w → StandsIn a (length s) (field_at s (Ok p) w).cursor
 field_past s a p w h =
     ⊎_elim
-    (λ (t : length s < p + w). rw (field-short s w p t) stuck)
+    (λ (t : length s < p + w). rw (field_short s w p t) stuck)
     (λ (t : p + w ≤ length s). rw (field_there s w p t) (stands h t))
     (lt_or_ge (length s) (p + w))
 
 pub field_forward : (w : ℕ) (s : List ℕ) (a : ℕ) (c : Cursor) → StandsIn a (length s) c
     → StandsIn a (length s) (field_at s c w).cursor
-field_forward w s a (At p) (stands h t) = field_past s a p w (omega arith)
-field_forward w s a (cursor.Short p v) stuck = unfold field_at in stuck
+field_forward w s a (Ok p) (stands h t) = field_past s a p w (omega arith)
+field_forward w s a (Err e) stuck = unfold field_at in stuck
 
-pub field_own : (w : ℕ) (s : List ℕ) (k p : ℕ) → p ≤ k → OwnRead (length s) k (field_at s (At p) w) (field_at (take k s) (At p) w)
+pub field_own : (w : ℕ) (s : List ℕ) (k p : ℕ) → p ≤ k → OwnRead (length s) k (field_at s (Ok p) w) (field_at (take k s) (Ok p) w)
 field_own w s k p h =
     ⊎_elim
     (λ (t : k < p + w). beyond (field_past s (k + 1) p w (omega arith)))
     (λ (t : p + w ≤ k).
     ⊎_elim
-    (λ (u : length s < p + w). beyond (rw (field-short s w p u) stuck))
+    (λ (u : length s < p + w). beyond (rw (field_short s w p u) stuck))
     (λ (u : p + w ≤ length s).
     let v : p + w ≤ length (take k s) = rw length-take (omega arith) in
     rw (field_there s w p u, field_there (take k s) w p v, number_own s k p w t) (same t))
@@ -97,8 +95,8 @@ module _ {f : List ℕ → Cursor → Cursor} (m : Moves f) where
   times_forward : (n : ℕ) (s : List ℕ) (a : ℕ) (c : Cursor) → StandsIn a (length s) c → StandsIn a (length s) (times (f s) n c)
   unfolding times
   times_forward zero s a c h = h
-  times_forward (suc n) s a (At p) h = times_forward n s a (f s (At p)) (m.forward s a (At p) h)
-  times_forward (suc n) s a (cursor.Short p w) h = stuck
+  times_forward (suc n) s a (Ok p) h = times_forward n s a (f s (Ok p)) (m.forward s a (Ok p) h)
+  times_forward (suc n) s a (Err e) h = stuck
 
   times_own : (n : ℕ) (s : List ℕ) (k : ℕ) {x y : Cursor} → OwnPlace (length s) k x y
       → OwnPlace (length s) k (times (f s) n x) (times (f (take k s)) n y)
@@ -135,33 +133,33 @@ pass_moves (texts n) = moves_times (moves_then (field_moves 1) (counted_moves 1)
 -- the ends of layouts
 whole_forward : (piece : Piece) (a b : ℕ) (c : Cursor) → StandsIn a b c → Ends a b (whole_at piece c)
 unfolding whole_at
-whole_forward piece a b (At p) (stands h t) = ends h t
-whole_forward piece a b (cursor.Short p w) stuck = short
+whole_forward piece a b (Ok p) (stands h t) = ends h t
+whole_forward piece a b (Err e) stuck = short
 
 unknown_forward : (described : Bool) (a b : ℕ) (c : Cursor) → Ends a b (unknown_at described c)
-unknown_forward described a b (At p) = none
-unknown_forward described a b (cursor.Short p w) = short
+unknown_forward described a b (Ok p) = none
+unknown_forward described a b (Err e) = short
 
 sealed_forward : (a b end : ℕ) → a ≤ end → end ≤ b → (x : Body) → Ends a b (sealed end x)
 unfolding sealed
-sealed_forward a b end h t (Whole piece p) = ends h t
-sealed_forward a b end h t (Unknown described) = none
-sealed_forward a b end h t (Short p w) = short
-sealed_forward a b end h t (Overflow p) = wide
+sealed_forward a b end h t (Ok x) = ends h t
+sealed_forward a b end h t (Err (not_cut.Unknown described)) = none
+sealed_forward a b end h t (Err (not_cut.Short e)) = short
+sealed_forward a b end h t (Err (not_cut.Overflow p)) = wide
 
 enclosed_forward : (inner : ℕ → Body) (a b : ℕ) (c : Cursor) → StandsIn a b c → Ends a b (enclosed inner c)
 unfolding enclosed
-enclosed_forward inner a b (At end) (stands h t) = sealed_forward a b end h t (inner end)
-enclosed_forward inner a b (cursor.Short p w) stuck = short
+enclosed_forward inner a b (Ok end) (stands h t) = sealed_forward a b end h t (inner end)
+enclosed_forward inner a b (Err e) stuck = short
 
 fitting_forward : (bits a b : ℕ) (c : Cursor) (rest : Body) → Ends a b rest → Ends a b (fitting_at bits c rest)
 unfolding fitting_at
-fitting_forward bits a b (At p) rest h = by_cases (leb bits 4294967295)
+fitting_forward bits a b (Ok p) rest h = by_cases (leb bits 4294967295)
   where
-    by_cases : (t : Bool) → Ends a b (t ⇒ rest ∣ Overflow p)
+    by_cases : (t : Bool) → Ends a b (t ⇒ rest ∣ Err (not_cut.Overflow p))
     by_cases true = h
     by_cases false = wide
-fitting_forward bits a b (cursor.Short p w) rest h = h
+fitting_forward bits a b (Err e) rest h = h
 
 -- a piece ends no earlier than the place where its layout began, and inside the tape
 pub forward : (l : Layout) (s : List ℕ) (a : ℕ) (c : Cursor) → StandsIn a (length s) c → Ends a (length s) (read_at l s c)
@@ -180,7 +178,7 @@ forward (unknown described) s a c h = unknown_forward described a (length s) c
 -- the rest of a layout after a move
 module _ (s : List ℕ) (k : ℕ) where
   abbrev Rest : Layout → Type 0
-  Rest l = (p : ℕ) → p ≤ k → Own (length s) k (read_at l s (At p)) (read_at l (take k s) (At p))
+  Rest l = (p : ℕ) → p ≤ k → Own (length s) k (read_at l s (Ok p)) (read_at l (take k s) (Ok p))
 
   after : (l : Layout) → Rest l → {x y : Cursor} → OwnPlace (length s) k x y
       → Own (length s) k (read_at l s x) (read_at l (take k s) y)
@@ -195,32 +193,32 @@ module _ (s : List ℕ) (k : ℕ) where
   after-span : (rest : ℕ → ℕ → Layout) → ((p v : ℕ) → Rest (rest p v)) → {x y : Read} → OwnRead (length s) k x y
       → Own (length s) k (read_at (rest (place_of x.cursor) x.value) s (field_at s x.cursor x.value).cursor)
       (read_at (rest (place_of y.cursor) y.value) (take k s) (field_at (take k s) y.cursor y.value).cursor)
-  after-span rest r (same {v} {p} h) = after (rest (place_of (At p)) v) (r (place_of (At p)) v) (place_own (field_own v s k p h))
+  after-span rest r (same {v} {p} h) = after (rest (place_of (Ok p)) v) (r (place_of (Ok p)) v) (place_own (field_own v s k p h))
   after-span rest r (beyond {x} h) =
       Own.beyond (forward (rest (place_of x.cursor) x.value) s (k + 1) _ (field_forward x.value s (k + 1) x.cursor h))
 
   after_body : (inner : Layout) (p : ℕ) {x y : Cursor} → OwnPlace (length s) k x y
-      → Own (length s) k (enclosed (λ end. read_at inner (take end s) (At p)) x)
-      (enclosed (λ end. read_at inner (take end (take k s)) (At p)) y)
+      → Own (length s) k (enclosed (λ end. read_at inner (take end s) (Ok p)) x)
+      (enclosed (λ end. read_at inner (take end (take k s)) (Ok p)) y)
   unfolding enclosed
   after_body inner p (same {p = end} h) = rw (take-take end k s h) Own.same
   after_body inner p (beyond {x} h) =
-      Own.beyond (enclosed_forward (λ end. read_at inner (take end s) (At p)) (k + 1) (length s) x h)
+      Own.beyond (enclosed_forward (λ end. read_at inner (take end s) (Ok p)) (k + 1) (length s) x h)
 
-  after_bits : (bits p : ℕ) {x y : Body} → Own (length s) k x y → Own (length s) k (fitting_at bits (At p) x) (fitting_at bits (At p) y)
+  after_bits : (bits p : ℕ) {x y : Body} → Own (length s) k x y → Own (length s) k (fitting_at bits (Ok p) x) (fitting_at bits (Ok p) y)
   unfolding fitting_at
   after_bits bits p {x} {y} o = by_cases (leb bits 4294967295)
     where
-      by_cases : (t : Bool) → Own (length s) k (t ⇒ x ∣ Overflow p) (t ⇒ y ∣ Overflow p)
+      by_cases : (t : Bool) → Own (length s) k (t ⇒ x ∣ Err (not_cut.Overflow p)) (t ⇒ y ∣ Err (not_cut.Overflow p))
       by_cases true = o
       by_cases false = Own.same
 
 -- a piece that ends at or before k is read alike from the first k bytes
-pub own : (l : Layout) (s : List ℕ) (k p : ℕ) → p ≤ k → Own (length s) k (read_at l s (At p)) (read_at l (take k s) (At p))
+pub own : (l : Layout) (s : List ℕ) (k p : ℕ) → p ≤ k → Own (length s) k (read_at l s (Ok p)) (read_at l (take k s) (Ok p))
 unfolding read_at counted_at whole_at
 own (number w rest) s k p h = after_read s k rest (λ v. own (rest v) s k) (field_own w s k p h)
 own (counted w rest) s k p h = after-span s k rest (λ q v. own (rest q v) s k) (field_own w s k p h)
-own (here rest) s k p h = own (rest (place_of (At p))) s k p h
+own (here rest) s k p h = own (rest (place_of (Ok p))) s k p h
 own (pass part rest) s k p h = after s k rest (own rest s k) ((pass_moves part).own s k p h)
 own (within n inner) s k p h = after_body s k inner p (place_own (field_own n s k p h))
 own (fitting bits rest) s k p h = after_bits s k bits p (own rest s k p h)

@@ -1,3 +1,4 @@
+pub mod Bodies
 pub mod Layouts
 pub mod Cutting
 pub mod Others

@@ -9,17 +9,17 @@ use lib.Dec.{leb, eqb}
 use borrow.Author.Tests.{eqb-true}
 use Rattle.law_base.specs.Rules.{◌⇒◌, ◌∣◌}
 use Rattle.law_base.specs.Arms.{Arm, lookup}
-use Rattle.cut_fields.specs.declared.Cursor.{Cursor}
-use Rattle.cut_fields.specs.declared.Cursor.TheVariants.{At}
-use Rattle.cut_fields.specs.declared.Cursor.TheVariants as cursor
+use Rattle.std.specs.Prelude.{Ok, Err}
+use Rattle.cut_fields.specs.Field.{Cursor}
+use Rattle.cut_grammar.specs.declared.NotCut.TheVariants as not_cut
+use Rattle.cut_grammar.specs.Grammar.{Body, whole_body}
 use Rattle.cut_fields.specs.Field.{field_at, place_of}
 use Rattle.cut_grammar.specs.declared.Piece.{Piece}
-use Rattle.cut_grammar.specs.declared.Body.{Body}
-use Rattle.cut_grammar.specs.declared.Body.TheVariants.{Whole, Unknown, Short, Overflow}
 use Rattle.cut_grammar.specs.declared.Taken.TheVariants as taken
 use Rattle.cut_grammar.specs.Grammar.{Layout, number, counted, here, pass, within, fitting, whole, unknown, counted_at, pass_at}
 use Rattle.cut_grammar.specs.Grammar.{whole_at, sealed, enclosed, fitting_at, unknown_at, read_at}
 use Rattle.cut_grammar.specs.Cut.{taken_as}
+use Rattle.cut_grammar.proofs.Bodies.{whole_same, whole_is}
 
 module _ (is : Piece → Bool) where
   -- a layout that gives no such piece, whatever it reads
@@ -35,38 +35,36 @@ module _ (is : Piece → Bool) where
 
   -- an answer that is no such piece
   abbrev pub Never : Body → Type 0
-  Never b = (x : Piece) (next : ℕ) → is x ≡ true → b ≡ Whole x next → ⊥
+  Never b = (x : Piece) (next : ℕ) → is x ≡ true → b ≡ whole_body x next → ⊥
 
   whole_other : (x : Piece) (c : Cursor) → is x ≡ false → Never (whole_at x c)
   unfolding whole_at
-  whole_other x (At p) h y next t e =
-      let i : x ≡ y = cc in let z : false ≡ true = sym h ∙ ap is i ∙ t in let n : ◌≡◌ {A = ℕ} 0 1 = cc in omega arith
-  whole_other x (cursor.Short p w) h y next t e = let z : ◌≡◌ {A = ℕ} 0 1 = cc in omega arith
+  whole_other x (Ok p) h y next t e =
+      let i : x ≡ y = (whole_same e).0 in let z : false ≡ true = sym h ∙ ap is i ∙ t in let n : ◌≡◌ {A = ℕ} 0 1 = cc in omega arith
+  whole_other x (Err q) h y next t e = let z : ◌≡◌ {A = ℕ} 0 1 = cc in omega arith
 
   unknown_other : (described : Bool) (c : Cursor) → Never (unknown_at described c)
-  unknown_other described (At p) y next t e = let z : ◌≡◌ {A = ℕ} 0 1 = cc in omega arith
-  unknown_other described (cursor.Short p w) y next t e = let z : ◌≡◌ {A = ℕ} 0 1 = cc in omega arith
+  unknown_other described (Ok p) y next t e = let z : ◌≡◌ {A = ℕ} 0 1 = cc in omega arith
+  unknown_other described (Err q) y next t e = let z : ◌≡◌ {A = ℕ} 0 1 = cc in omega arith
 
   sealed_other : (end : ℕ) (b : Body) → Never b → Never (sealed end b)
   unfolding sealed
-  sealed_other end (Whole x p) h y next t e = let i : x ≡ y = cc in h y p t (ap (λ (z : Piece). Whole z p) i)
-  sealed_other end (Unknown described) h y next t e = let z : ◌≡◌ {A = ℕ} 0 1 = cc in omega arith
-  sealed_other end (Short p w) h y next t e = let z : ◌≡◌ {A = ℕ} 0 1 = cc in omega arith
-  sealed_other end (Overflow p) h y next t e = let z : ◌≡◌ {A = ℕ} 0 1 = cc in omega arith
+  sealed_other end (Ok x) h y next t e = h y x.next t (whole_is x (whole_same e).0 refl)
+  sealed_other end (Err x) h y next t e = let z : ◌≡◌ {A = ℕ} 0 1 = cc in omega arith
 
   enclosed_other : (inner : ℕ → Body) (c : Cursor) → ((end : ℕ) → Never (inner end)) → Never (enclosed inner c)
   unfolding enclosed
-  enclosed_other inner (At end) h y next t e = sealed_other end (inner end) (h end) y next t e
-  enclosed_other inner (cursor.Short p w) h y next t e = let z : ◌≡◌ {A = ℕ} 0 1 = cc in omega arith
+  enclosed_other inner (Ok end) h y next t e = sealed_other end (inner end) (h end) y next t e
+  enclosed_other inner (Err q) h y next t e = let z : ◌≡◌ {A = ℕ} 0 1 = cc in omega arith
 
   fitting_other : (bits : ℕ) (c : Cursor) (rest : Body) → Never rest → Never (fitting_at bits c rest)
   unfolding fitting_at
-  fitting_other bits (At p) rest h y next t e = by_cases (leb bits 4294967295) e
+  fitting_other bits (Ok p) rest h y next t e = by_cases (leb bits 4294967295) e
     where
-      by_cases : (b : Bool) → (b ⇒ rest ∣ Overflow p) ≡ Whole y next → ⊥
+      by_cases : (b : Bool) → (b ⇒ rest ∣ Err (not_cut.Overflow p)) ≡ whole_body y next → ⊥
       by_cases true q = h y next t q
       by_cases false q = let z : ◌≡◌ {A = ℕ} 0 1 = cc in omega arith
-  fitting_other bits (cursor.Short p w) rest h y next t e = h y next t e
+  fitting_other bits (Err q) rest h y next t e = h y next t e
 
   pub other_none : (l : Layout) → Other l → (s : List ℕ) (c : Cursor) → Never (read_at l s c)
   unfolding read_at
@@ -107,9 +105,9 @@ found_every P arms x d every k = found_row (λ _. P) arms x d every k
 
 -- a body under its name
 pub unnamed : (kind at : ℕ) (b : Body) {k a next : ℕ} {x : Piece} → taken_as kind at b ≡ taken.Whole k a next x
-    → b ≡ Whole x next
+    → b ≡ whole_body x next
 unfolding taken_as
-unnamed kind at (Whole y p) e = cc
-unnamed kind at (Unknown described) e = absurd (let z : ◌≡◌ {A = ℕ} 0 1 = cc in omega arith)
-unnamed kind at (Short p w) e = absurd (let z : ◌≡◌ {A = ℕ} 0 1 = cc in omega arith)
-unnamed kind at (Overflow p) e = absurd (let z : ◌≡◌ {A = ℕ} 0 1 = cc in omega arith)
+unnamed kind at (Ok y) {next = next} {x = x} e = let i : y.piece ≡ x = cc in let j : y.next ≡ next = cc in whole_is y i j
+unnamed kind at (Err (not_cut.Unknown described)) e = absurd (let z : ◌≡◌ {A = ℕ} 0 1 = cc in omega arith)
+unnamed kind at (Err (not_cut.Short p)) e = absurd (let z : ◌≡◌ {A = ℕ} 0 1 = cc in omega arith)
+unnamed kind at (Err (not_cut.Overflow p)) e = absurd (let z : ◌≡◌ {A = ℕ} 0 1 = cc in omega arith)

@@ -11,23 +11,23 @@ use lib.Dec.{leb, eqb}
 use borrow.Author.Tests.{leb-true}
 use Rattle.law_base.proofs.Numbers.{lt_or_ge}
 use Rattle.law_base.specs.Rules.{◌⇒◌, ◌∣◌}
-use Rattle.cut_fields.specs.declared.Cursor.{Cursor}
-use Rattle.cut_fields.specs.declared.Cursor.TheVariants.{At}
-use Rattle.cut_fields.specs.declared.Cursor.TheVariants as cursor
+use Rattle.std.specs.Prelude.{Ok, Err}
+use Rattle.cut_fields.specs.Field.{Cursor}
+use Rattle.cut_grammar.specs.declared.NotCut.TheVariants as not_cut
+use Rattle.cut_grammar.specs.Grammar.{Body, whole_body}
 use Rattle.cut_fields.specs.Field.{le_at, number_at, field_at, place_of}
 use Rattle.cut_fields.specs.Run.{each_at, groups_at}
-use Rattle.cut_fields.proofs.Runs.{Stood, field_there, field-short, each_stood, groups_stood}
+use Rattle.cut_fields.proofs.Runs.{Stood, field_there, field_short, each_stood, groups_stood}
 use Rattle.cut_grammar.specs.declared.GeneralizedData.{GeneralizedData}
 use Rattle.cut_grammar.specs.declared.Piece.{Piece}
 use Rattle.cut_grammar.specs.declared.Piece.TheVariants as piece
-use Rattle.cut_grammar.specs.declared.Body.{Body}
-use Rattle.cut_grammar.specs.declared.Body.TheVariants.{Whole, Overflow}
 use Rattle.cut_grammar.specs.declared.Taken.TheVariants as taken
 use Rattle.cut_grammar.specs.Grammar.{Layout, pass_at, whole_at, fitting_at, read_at, bits_of, or_full, held_if}
 use Rattle.cut_grammar.specs.Kinds.{kind13, stream19, kind19, kind_2a}
 use Rattle.cut_grammar.specs.Cut.{cut_at}
 use Rattle.cut_grammar.specs.Steps.{head19}
 use Rattle.cut_grammar.specs.Places.{Places, Found19}
+use Rattle.cut_grammar.proofs.Bodies.{whole_same}
 use Rattle.cut_grammar.proofs.Cutting.{cut_there, cut_inside, cut_forward}
 use Rattle.cut_grammar.proofs.Others.{Other, other_none, unnamed}
 use Rattle.cut_grammar.proofs.Sorts.{sort_of, is_general, is_listed, RowSort, pulses, general, stop48, other, row_of}
@@ -39,36 +39,39 @@ record Streamed (s : List ℕ) (bits : ℕ) (g₀ g : GeneralizedData) (c : Curs
   stood : Stood c (g₀.size * 1) next
 
 whole_streamed : (s : List ℕ) (g₀ : GeneralizedData) (c d : Cursor) {g : GeneralizedData} {next : ℕ}
-    → each_at s c g₀.size 1 ≡ d → whole_at (piece.Generalized g₀) d ≡ Whole (piece.Generalized g) next
+    → each_at s c g₀.size 1 ≡ d → whole_at (piece.Generalized g₀) d ≡ whole_body (piece.Generalized g) next
     → (g₀ ≡ g) × Stood c (g₀.size * 1) next
 unfolding whole_at
-whole_streamed s g₀ c (At q) {next = next} f e =
-    let i : q ≡ next = cc in (cc, each_stood s g₀.size 1 c (f ∙ ap At i))
-whole_streamed s g₀ c (cursor.Short q w) f e = absurd (let z : ◌≡◌ {A = ℕ} 0 1 = cc in omega arith)
+whole_streamed s g₀ c (Ok q) {next = next} f e =
+    let r = whole_same e in
+    let i : q ≡ next = r.1 in
+    let j = r.0 in
+    (cc, each_stood s g₀.size 1 c (f ∙ ap Ok i))
+whole_streamed s g₀ c (Err x) f e = absurd (let z : ◌≡◌ {A = ℕ} 0 1 = cc in omega arith)
 
 streamed : (s : List ℕ) (bits : ℕ) (g₀ : GeneralizedData) (c : Cursor) {g : GeneralizedData} {next : ℕ}
-    → read_at (stream19 bits g₀) s c ≡ Whole (piece.Generalized g) next → Streamed s bits g₀ g c next
+    → read_at (stream19 bits g₀) s c ≡ whole_body (piece.Generalized g) next → Streamed s bits g₀ g c next
 unfolding read_at stream19 pass_at fitting_at
-streamed s bits g₀ (At p) {g} {next} e = by_cases (leb bits 4294967295) refl e
+streamed s bits g₀ (Ok p) {g} {next} e = by_cases (leb bits 4294967295) refl e
   where
     by_cases : (t : Bool) → leb bits 4294967295 ≡ t
-        → (t ⇒ whole_at (piece.Generalized g₀) (each_at s (At p) g₀.size 1) ∣ Overflow p) ≡ Whole (piece.Generalized g) next
-        → Streamed s bits g₀ g (At p) next
+        → (t ⇒ whole_at (piece.Generalized g₀) (each_at s (Ok p) g₀.size 1) ∣ Err (not_cut.Overflow p)) ≡ whole_body (piece.Generalized g) next
+        → Streamed s bits g₀ g (Ok p) next
     by_cases true b q =
-        let r = whole_streamed s g₀ (At p) (each_at s (At p) g₀.size 1) refl q in
+        let r = whole_streamed s g₀ (Ok p) (each_at s (Ok p) g₀.size 1) refl q in
         record { same = r.0; fits = leb-true _ _ b; stood = r.1 }
     by_cases false b q = absurd (let z : ◌≡◌ {A = ℕ} 0 1 = cc in omega arith)
-streamed s bits g₀ (cursor.Short p w) e =
-    let r = whole_streamed s g₀ (cursor.Short p w) (each_at s (cursor.Short p w) g₀.size 1) refl e in
+streamed s bits g₀ (Err x) e =
+    let r = whole_streamed s g₀ (Err x) (each_at s (Err x) g₀.size 1) refl e in
     absurd (stuck r.1.began)
   where
-    stuck : cursor.Short p w ≡ At (place_of (cursor.Short p w)) → ⊥
+    stuck : ◌≡◌ {A = Cursor} (Err x) (Ok (place_of (Err x))) → ⊥
     stuck i = let z : ◌≡◌ {A = ℕ} 0 1 = cc in omega arith
 
 -- what a layout says of the 19 that it gives
 abbrev Placed : ℕ → List ℕ → Body → Type 0
 Placed full s b =
-    (g : GeneralizedData) (next : ℕ) → b ≡ Whole (piece.Generalized g) next → next ≤ length s → Found19 full s g next
+    (g : GeneralizedData) (next : ℕ) → b ≡ whole_body (piece.Generalized g) next → next ≤ length s → Found19 full s g next
 
 other_placed : {full : ℕ} (is : Piece → Bool) → ((g : GeneralizedData) → is (piece.Generalized g) ≡ true) → (l : Layout)
     → Other is l → (s : List ℕ) (c : Cursor) → Placed full s (read_at l s c)
@@ -77,12 +80,12 @@ other_placed is i l o s c g next e h = absurd (other_none is l o s c (piece.Gene
 -- an alphabet's size
 byte_small : (s : List ℕ) → ((i : ℕ) → get_or s i 0 < 256) → (c : Cursor) → (field_at s c 1).value ≤ 255
 unfolding field_at number_at le_at
-byte_small s h (At p) =
+byte_small s h (Ok p) =
     ⊎_elim
-    (λ (t : length s < p + 1). rw (field-short s 1 p t) (omega arith))
+    (λ (t : length s < p + 1). rw (field_short s 1 p t) (omega arith))
     (λ (t : p + 1 ≤ length s). rw (field_there s 1 p t) (omega (arith, h p)))
     (lt_or_ge (length s) (p + 1))
-byte_small s h (cursor.Short p w) = omega arith
+byte_small s h (Err x) = omega arith
 
 full_small : (full size most : ℕ) → full ≤ most → size ≤ most → or_full full size ≤ most
 unfolding or_full
@@ -144,5 +147,5 @@ rows-placed (other l o) s c = other_placed is_listed (λ _. refl) l o s c
 pub cut_places : (s : List ℕ) (at full : ℕ) {k a next : ℕ} {g : GeneralizedData}
     → cut_at s at full ≡ taken.Whole k a next (piece.Generalized g) → Found19 full s g next
 cut_places s at full {next = next} {g = g} e =
-    rows-placed (row_of full (get_or s at 0)) s (At (at + 1)) g next
+    rows-placed (row_of full (get_or s at 0)) s (Ok (at + 1)) g next
     (unnamed (get_or s at 0) at _ (sym (cut_there s at full (cut_inside s at full e)) ∙ e)) (cut_forward s at full e).1

@@ -9,12 +9,13 @@ use lib.ListN.{length, get_or, drop}
 use lib.Seq.{drop-cons}
 use lib.Dec.{eqb}
 use borrow.Author.Tests.{ne_eqb}
-use Rattle.cut_fields.specs.declared.Cursor.{Cursor}
-use Rattle.cut_fields.specs.declared.Cursor.TheVariants.{At}
-use Rattle.cut_fields.specs.declared.Cursor.TheVariants as cursor
+use Rattle.std.specs.Prelude.{Ok, Err}
+use Rattle.cut_fields.specs.Field.{Cursor}
 use Rattle.cut_fields.specs.Field.{field_at}
 use Rattle.cut_fields.specs.Run.{times}
-use Rattle.cut_fields.proofs.Runs.{times-stopped, stopped}
+use Rattle.cut_fields.specs.Run.{each_at, groups_at}
+use Rattle.cut_fields.specs.declared.Short.{Short}
+use Rattle.cut_fields.proofs.Runs.{times-stopped, stopped, each_stopped, groups-stopped, field_stuck}
 use Rattle.cut_grammar.specs.Grammar.{counted_at, texts_at, binary_digits}
 use Rattle.cut_grammar.specs.Cut.{starts_at}
 
@@ -36,8 +37,8 @@ pub texts_more : (s : List ℕ) (c : Cursor) (n : ℕ) → 0 < n
     → texts_at s c n ≡ texts_at s (counted_at s (field_at s c 1).cursor 1).cursor (n - 1)
 unfolding texts_at times
 texts_more s c zero h = absurd (omega arith)
-texts_more s (At p) (suc n) h = let e : suc n - 1 ≡ n = omega arith in rw e
-texts_more s (cursor.Short p w) (suc n) h =
+texts_more s (Ok p) (suc n) h = let e : suc n - 1 ≡ n = omega arith in rw e
+texts_more s (Err x) (suc n) h =
     unfold counted_at field_at in sym (times-stopped (λ c. (counted_at s (field_at s c 1).cursor 1).cursor) (suc n - 1) stopped)
 
 -- one byte of what a tape begins with
@@ -45,3 +46,22 @@ pub starts_more : (s xs : List ℕ) (i : ℕ) → i < length xs
     → starts_at s i (drop i xs) ≡ (eqb (get_or s i 0) (get_or xs i 0) && starts_at s (i + 1) (drop (i + 1) xs))
 unfolding starts_at
 starts_more s xs i h = rw (drop-cons xs i 0 h, add-one)
+
+-- nothing is read behind a field that came up short
+module _ (s : List ℕ) (e : Short) where
+  pub counted_stuck : (w : ℕ) → (counted_at s (Err e) w).cursor ≡ Err e
+  unfolding counted_at
+  counted_stuck w = rw (field_stuck s e w) (rw (field_stuck s e 0) refl)
+
+  pub each_stuck : (n w : ℕ) → each_at s (Err e) n w ≡ Err e
+  each_stuck n w = each_stopped s n w stopped
+
+  pub groups_stuck : (n h k w : ℕ) → groups_at s (Err e) n h k w ≡ Err e
+  groups_stuck n h k w = groups-stopped s n h k w stopped
+
+  pub texts_stuck : (n : ℕ) → texts_at s (Err e) n ≡ Err e
+  unfolding texts_at
+  texts_stuck n = times-stopped (λ c. (counted_at s (field_at s c 1).cursor 1).cursor) n stopped
+
+-- for a reader's early exits
+pub ruleset stuck = (field_stuck, counted_stuck, each_stuck, groups_stuck, texts_stuck)

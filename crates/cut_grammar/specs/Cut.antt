@@ -1,19 +1,15 @@
 -- The head of a TZX, one piece of it, and one block of a TAP. Assumes nothing.
-use Rattle.std.specs.Prelude.{ℕ, ◌+◌, Bool, true, ◌&&◌, List, [], ◌∷◌, length, get_or, leb, eqb}
+use Rattle.std.specs.Prelude.{ℕ, ◌+◌, Bool, true, ◌&&◌, List, [], ◌∷◌, length, get_or, leb, eqb, Ok, Err}
 use Rattle.law_base.specs.Rules.{◌⇒◌, ◌∣◌}
-use Rattle.cut_fields.specs.declared.Cursor.{Cursor}
-use Rattle.cut_fields.specs.declared.Cursor.TheVariants.{At}
-use Rattle.cut_fields.specs.declared.Cursor.TheVariants as cursor
-use Rattle.cut_grammar.specs.declared.Body.{Body}
-use Rattle.cut_grammar.specs.declared.Body.TheVariants as body
+use Rattle.cut_fields.specs.Field.{Cursor}
+use Rattle.cut_grammar.specs.declared.NotCut.TheVariants as not_cut
 use Rattle.cut_grammar.specs.declared.Taken.{Taken}
 use Rattle.cut_grammar.specs.declared.Taken.TheVariants as taken
 use Rattle.cut_grammar.specs.declared.TakenTap.{TakenTap}
 use Rattle.cut_grammar.specs.declared.TakenTap.TheVariants as tap
 use Rattle.cut_grammar.specs.declared.Heading.{Heading}
 use Rattle.cut_grammar.specs.declared.Heading.TheVariants as head
-use Rattle.cut_grammar.specs.declared.Span.{Span}
-use Rattle.cut_grammar.specs.Grammar.{read_at, counted_at}
+use Rattle.cut_grammar.specs.Grammar.{Body, Span, read_at, counted_at}
 use Rattle.cut_grammar.specs.Kinds.{kind_of}
 
 -- `ZXTape!` and 1A
@@ -33,24 +29,24 @@ head_at s =
 
 -- a body under the kind and the place of its piece
 unfoldable pub taken_as : ℕ → ℕ → Body → Taken
-taken_as kind at (body.Whole piece next) = taken.Whole kind at next piece
-taken_as kind at (body.Unknown described) = taken.Unknown kind described
-taken_as kind at (body.Short p w) = taken.Short kind p w
-taken_as kind at (body.Overflow p) = taken.Overflow kind p
+taken_as kind at (Ok x) = taken.Whole kind at x.next x.piece
+taken_as kind at (Err (not_cut.Unknown described)) = taken.Unknown kind described
+taken_as kind at (Err (not_cut.Short e)) = taken.Short kind e.place e.width
+taken_as kind at (Err (not_cut.Overflow p)) = taken.Overflow kind p
 
 -- the piece at a place: a kind byte and its body
 unfoldable pub cut_at : List ℕ → ℕ → ℕ → Taken
 cut_at s at full =
     leb (length s) at ⇒ taken.End
-    ∣ taken_as (get_or s at 0) at (read_at (kind_of full (get_or s at 0)) s (At (at + 1)))
+    ∣ taken_as (get_or s at 0) at (read_at (kind_of full (get_or s at 0)) s (Ok (at + 1)))
 
 -- the block at a place of a TAP: length 2, data; zero or one byte left ends the list
 unfoldable pub tap_block : Span → Cursor → TakenTap
-tap_block data' (At next) = tap.Block data'.from data'.size next
-tap_block data' (cursor.Short p w) = tap.Short p w
+tap_block data' (Ok next) = tap.Block data'.from data'.size next
+tap_block data' (Err e) = tap.Short e.place e.width
 
 unfoldable pub tap_at : List ℕ → ℕ → TakenTap
 tap_at s at =
     leb (length s) at ⇒ tap.End
     ∣ eqb (at + 1) (length s) ⇒ tap.Lone
-    ∣ tap_block (counted_at s (At at) 2) (counted_at s (At at) 2).cursor
+    ∣ tap_block (counted_at s (Ok at) 2) (counted_at s (Ok at) 2).cursor

@@ -1,16 +1,29 @@
 -- What a layout is made of, and how one is read: `read_at` hands what a part holds, and the cursor past it, to the rest.
 -- A cursor that came up short stays, so a layout ends at its last part or at the first field that is not there. Assumes nothing.
-use Rattle.std.specs.Prelude.{ℕ, zero, suc, ◌+◌, ◌/◌, Bool, List, take, leb, eqb}
+use Rattle.std.specs.Prelude.{ℕ, zero, suc, ◌+◌, ◌/◌, Bool, List, take, leb, eqb, Result, Ok, Err}
 use Rattle.law_base.specs.Rules.{◌⇒◌, ◌∣◌}
-use Rattle.cut_fields.specs.declared.Cursor.{Cursor}
-use Rattle.cut_fields.specs.declared.Cursor.TheVariants.{At}
-use Rattle.cut_fields.specs.declared.Cursor.TheVariants as cursor
-use Rattle.cut_fields.specs.Field.{field_at, place_of}
+use Rattle.cut_fields.specs.Field.{Cursor, field_at, place_of}
 use Rattle.cut_fields.specs.Run.{times, each_at, groups_at}
 use Rattle.cut_grammar.specs.declared.Piece.{Piece}
-use Rattle.cut_grammar.specs.declared.Body.{Body}
-use Rattle.cut_grammar.specs.declared.Body.TheVariants.{Whole, Unknown, Short, Overflow}
-use Rattle.cut_grammar.specs.declared.Span.{Span}
+use Rattle.cut_grammar.specs.declared.Whole.{Whole}
+use Rattle.cut_grammar.specs.declared.NotCut.{NotCut}
+use Rattle.cut_grammar.specs.declared.NotCut.TheVariants.{Unknown, Short, Overflow}
+
+-- what stands after a kind byte: a whole piece and the place past it, or why there is none
+abbrev pub Body : Type 0
+Body = Result Whole NotCut
+
+abbrev pub whole_body : Piece → ℕ → Body
+whole_body piece p = Ok (record { piece = piece; next = p })
+
+abbrev pub short_body : ℕ → ℕ → Body
+short_body p w = Err (Short (record { place = p; width = w }))
+
+-- a length and as many bytes: their place, their number, and the cursor past them
+pub record Span : Type 0 where
+  pub from : ℕ
+  pub size : ℕ
+  pub cursor : Cursor
 
 -- what is passed over: n bytes, one field; n fields of w bytes; n groups of a field of h bytes and k fields of w bytes;
 -- n texts, each an id of 1 byte, a length of 1 byte and as many bytes
@@ -37,6 +50,9 @@ pub data Layout : Type 0 where
   -- no row of ours, though the format may describe the kind
   unknown : Bool → Layout
 
+abbrev pub span : ℕ → ℕ → ℕ → Span
+span from size p = record { from = from; size = size; cursor = Ok p }
+
 unfoldable pub counted_at : List ℕ → Cursor → ℕ → Span
 counted_at s c w =
     let size = field_at s c w in
@@ -52,27 +68,25 @@ pass_at (groups n h k w) s c = groups_at s c n h k w
 pass_at (texts n) s c = texts_at s c n
 
 unfoldable pub whole_at : Piece → Cursor → Body
-whole_at piece (At p) = Whole piece p
-whole_at piece (cursor.Short p w) = Short p w
+whole_at piece (Ok p) = whole_body piece p
+whole_at piece (Err e) = Err (Short e)
 
 -- what a body's parts gave, in a body that ends at `end`
 unfoldable pub sealed : ℕ → Body → Body
-sealed end (Whole piece p) = Whole piece end
-sealed end (Unknown described) = Unknown described
-sealed end (Short p w) = Short p w
-sealed end (Overflow p) = Overflow p
+sealed end (Ok x) = whole_body x.piece end
+sealed end (Err e) = Err e
 
 unfoldable pub enclosed : (ℕ → Body) → Cursor → Body
-enclosed inner (At end) = sealed end (inner end)
-enclosed inner (cursor.Short p w) = Short p w
+enclosed inner (Ok end) = sealed end (inner end)
+enclosed inner (Err e) = Err (Short e)
 
 unfoldable pub fitting_at : ℕ → Cursor → Body → Body
-fitting_at bits (At p) rest = leb bits 4294967295 ⇒ rest ∣ Overflow p
-fitting_at bits (cursor.Short p w) rest = rest
+fitting_at bits (Ok p) rest = leb bits 4294967295 ⇒ rest ∣ Err (Overflow p)
+fitting_at bits (Err e) rest = rest
 
 abbrev pub unknown_at : Bool → Cursor → Body
-unknown_at described (At p) = Unknown described
-unknown_at described (cursor.Short p w) = Short p w
+unknown_at described (Ok p) = Err (Unknown described)
+unknown_at described (Err e) = Err (Short e)
 
 unfoldable pub read_at : Layout → List ℕ → Cursor → Body
 read_at (number w rest) s c = read_at (rest (field_at s c w).value) s (field_at s c w).cursor

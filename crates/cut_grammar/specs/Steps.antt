@@ -1,12 +1,21 @@
 -- Where the code cuts a long layout into functions: what the first part of 19 hands on, and the rest of it. Assumes nothing.
 use Rattle.std.specs.Prelude.{ℕ, ◌+◌, ◌*◌, ◌-◌, ◌/◌, List}
-use Rattle.cut_fields.specs.declared.Cursor.{Cursor}
-use Rattle.cut_fields.specs.Field.{field_at, place_of}
+use Rattle.cut_fields.specs.Field.{Cursor, field_at, place_of}
 use Rattle.cut_fields.specs.Run.{groups_at}
-use Rattle.cut_grammar.specs.declared.Body.{Body}
-use Rattle.cut_grammar.specs.declared.GeneralHead.{GeneralHead}
-use Rattle.cut_grammar.specs.Grammar.{read_at, bits_of, or_full, held_if}
+use Rattle.cut_grammar.specs.Grammar.{Body, read_at, bits_of, or_full, held_if}
 use Rattle.cut_grammar.specs.Kinds.{stream19}
+
+-- the numbers that 19 begins with, as they are written, and the cursor past them
+pub record GeneralHead : Type 0 where
+  pub length : ℕ
+  pub pause : ℕ
+  pub totp : ℕ
+  pub npp : ℕ
+  pub asp : ℕ
+  pub totd : ℕ
+  pub npd : ℕ
+  pub asd : ℕ
+  pub cursor : Cursor
 
 unfoldable pub head19 : List ℕ → Cursor → GeneralHead
 head19 s c =

@@ -3,11 +3,12 @@
 // What a reading makes of them is not here.
 #![tactic(auto)]
 
-ghost use Rattle.std.specs.Prelude.{◌≡◌, ◌≤◌, length};
-ghost use Rattle.cut_grammar.specs.Grammar.{counted_at, whole_at, sealed};
+ghost use Rattle.std.specs.Prelude.{◌≡◌, ◌≤◌, IfOk, IfErr, length};
+ghost use Rattle.cut_grammar.specs.Grammar.{counted_at, span, sealed};
 ghost use Rattle.cut_grammar.specs.Cut.{signature, starts_at, head_at, tap_at};
+ghost use Rattle.cut_grammar.specs.declared.NotCut.TheVariants as not_cut;
 
-use cut_fields::{Cursor, field, pass, place};
+use cut_fields::{Reader, Short};
 
 // What 11 holds.
 #[derive(Clone, Copy)]
@@ -98,15 +99,32 @@ pub enum Piece {
     Glue,
 }
 
-// What stands after a kind byte: a whole piece and the place past it; a kind without a row here, and whether the format
-// describes it all the same; the first field that came up short; or a 19 whose data bits pass 32 bits, at the place of its data bytes.
+// A whole piece, and the place past it.
 #[derive(Clone, Copy)]
-pub enum Body {
-    Whole(Piece, u64),
+pub struct Whole {
+    pub piece: Piece,
+    pub next: u64,
+}
+
+// Why no piece stands after a kind byte: a kind without a row here, and whether the format describes it all the same; the first field
+// that came up short; or a 19 whose data bits pass 32 bits, at the place of its data bytes.
+#[derive(Clone, Copy, PartialEq, Eq)]
+pub enum NotCut {
     Unknown(bool),
-    Short(u64, u64),
+    Short(Short),
     Overflow(u64),
 }
+
+impl From<Short> for NotCut {
+    ghost from_gives = { λ e r. r ≡ not_cut.Short e };
+
+    fn from(e: Short) -> NotCut {
+        NotCut::Short(e)
+    }
+}
+
+// What stands after a kind byte.
+pub type Body = Result<Whole, NotCut>;
 
 // What stands at a place of a TZX.
 #[derive(Clone, Copy)]
@@ -150,64 +168,29 @@ pub enum Heading {
     Short { place: u64, width: u64 },
 }
 
-// A length and as many bytes: their place, their number, and the cursor past them.
-#[derive(Clone, Copy)]
-pub struct Span {
-    pub from: u64,
-    pub size: u32,
-    pub cursor: Cursor,
-}
-
-// A length of `width` bytes and as many bytes.
-pub fn counted(tape: &[u8], c: Cursor, width: u64) -> Span
-    ensures { result ≡ counted_at tape.now c width }
+// A length of `width` bytes and as many bytes: their place, and their number.
+#[tactic(auto, using(cut_fields::proofs::Runs::field_stuck), unfolding(crate::specs::Grammar::counted_at, cut_fields::specs::Field::place_of))]
+pub fn counted(r: &mut Reader, width: u64) -> Result<(u64, u32), Short>
+    ensures tape { r.new.tape ≡ r.old.tape }
+    ensures there { IfOk result (λ x. counted_at r.old.tape.now (Ok r.old.at) width ≡ span x.0 x.1 r.new.at) }
+    ensures short { IfErr result (λ e. (counted_at r.old.tape.now (Ok r.old.at) width).cursor ≡ Err e) }
 {
-    let size = field(tape, c, width);
-    let from = size.cursor;
-    Span {
-        from: place(from),
-        size: size.value,
-        cursor: pass(tape, from, size.value as u64),
-    }
-}
-
-// The piece, where all of its bytes were there.
-pub fn whole(piece: Piece, c: Cursor) -> Body
-    ensures { result ≡ whole_at piece c }
-{
-    match c {
-        Cursor::At(next) => Body::Whole(piece, next),
-        Cursor::Short(at, width) => Body::Short(at, width),
-    }
-}
-
-// The numbers that 19 begins with, as they are written.
-#[derive(Clone, Copy)]
-pub struct GeneralHead {
-    pub length: u32,
-    pub pause: u32,
-    pub totp: u32,
-    pub npp: u32,
-    pub asp: u32,
-    pub totd: u32,
-    pub npd: u32,
-    pub asd: u32,
-    pub cursor: Cursor,
+    let size = r.number(width)?;
+    let from = r.at;
+    r.skip(size as u64)?;
+    Ok((from, size))
 }
 
 // A body's answer, where the piece ends with the body.
+#[tactic(auto, unfolding(crate::specs::Grammar::sealed))]
 pub fn sealed(end: u64, inner: Body) -> Body
     ensures { result ≡ sealed end inner }
 {
-    match inner {
-        Body::Whole(piece, _) => Body::Whole(piece, end),
-        Body::Unknown(described) => Body::Unknown(described),
-        Body::Short(at, width) => Body::Short(at, width),
-        Body::Overflow(at) => Body::Overflow(at),
-    }
+    inner.map(|whole| Whole { next: end, ..whole })
 }
 
 // The block at a place of a TAP.
+#[tactic(auto, unfolding(crate::specs::Cut::tap_at, crate::specs::Cut::tap_block))]
 pub fn cut_tap(tape: &[u8], at: u64) -> TakenTap
     ensures { result ≡ tap_at tape.now at }
 {
@@ -218,36 +201,30 @@ pub fn cut_tap(tape: &[u8], at: u64) -> TakenTap
     if at + 1 == end {
         return TakenTap::Lone;
     }
-    let data = counted(tape, Cursor::At(at), 2);
-    let c = data.cursor;
-    match c {
-        Cursor::At(next) => TakenTap::Block {
-            from: data.from,
-            size: data.size,
-            next,
+    let mut r = Reader { tape, at };
+    match counted(&mut r, 2) {
+        Ok((from, size)) => TakenTap::Block {
+            from,
+            size,
+            next: r.at,
         },
-        Cursor::Short(place, width) => TakenTap::Short { place, width },
+        Err(Short { place, width }) => TakenTap::Short { place, width },
     }
 }
 
 const SIGNATURE: [u8; 8] = [0x5A, 0x58, 0x54, 0x61, 0x70, 0x65, 0x21, 0x1A];
 
 // Whether a tape of 8 bytes or more begins with the signature.
+#[tactic(auto, unfolding(crate::specs::Cut::starts_at))]
 fn signed(tape: &[u8]) -> bool
     requires { 8 ≤ length tape.now }
     ensures { result ≡ starts_at tape.now 0 signature }
 {
-    let mut i = 0;
-    while i < 8 {
-        if tape[i] != SIGNATURE[i] {
-            return false;
-        }
-        i += 1;
-    }
-    true
+    tape.starts_with(&SIGNATURE)
 }
 
 // What a tape begins with.
+#[tactic(auto, unfolding(crate::specs::Cut::head_at))]
 pub fn head(tape: &[u8]) -> Heading
     ensures { result ≡ head_at tape.now }
 {

@@ -1,8 +1,0 @@
--- `group_start` meets its contract. Assumes nothing.
-use Rattle.cut_grammar.specs.Grammar.{read_at, pass_at}
-use Rattle.cut_grammar.specs.Kinds.{kind21}
-use Rattle.cut_bodies.proofs.group_start.Goals as goal
-
-pub returns : goal.returns
-unfolding kind21 read_at pass_at
-returns c = rw (c.whole.ensures, c.counted-text.ensures)

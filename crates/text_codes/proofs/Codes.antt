@@ -65,11 +65,12 @@ pub record CodeText (k a e : ℕ) : Type 0 where
   pub short : e - a ≤ 9
   pub is : take (e - a) (drop a (flat_texts table)) ≡ encoded k
 
-pub part : (k a e : ℕ) → k < 256 → a ≡ get_or (offsets 0 table) k 0 → e ≡ get_or (offsets 0 table) (k + 1) 0 → CodeText k a e
+pub part : (code : ℕ) {k a e : ℕ} → k ≡ code → code < 256 → a ≡ get_or (offsets 0 table) k 0
+    → e ≡ get_or (offsets 0 table) (k + 1) 0 → CodeText code a e
 unfolding encoded
-part k a e h p q =
-    let c : Cut table (flat_texts table) k a e = rw (p, q, add-one) (cut [] 0 table k refl (rw codes h)) in
+part code {k} {a} {e} w h p q =
+    let c : Cut table (flat_texts table) code a e = rw (p, q, w, add-one) (cut [] 0 table code refl (rw codes h)) in
     let l : length (take (e - a) (drop a (flat_texts table))) ≡ e - a =
     length-take-le (e - a) (drop a (flat_texts table)) (rw length-drop (omega (arith, c.inside))) in
-    let m : e - a ≡ length (encoded k) = sym l ∙ ap length c.is in
-    record { order = c.order; inside = c.inside; short = omega (arith, m, code_length k); is = c.is }
+    let m : e - a ≡ length (encoded code) = sym l ∙ ap length c.is in
+    record { order = c.order; inside = c.inside; short = omega (arith, m, code_length code); is = c.is }

@@ -2,8 +2,10 @@
 #![tactic(auto)]
 
 ghost use Rattle.std.specs.Prelude.{◌≡◌, ◌+◌, ◌-◌, ◌*◌, ◌^◌, ◌≤◌, ◌<◌, length, take, drop, get_or};
-ghost use Rattle.text_out.specs.Out.{Wrote};
+ghost use Rattle.text_out.specs.Writes.{Writes};
 ghost use Rattle.text_codes.specs.Encoding.{table, encoded, spelled, flat_texts, offsets};
+
+use text_out::{Spelling, Writer};
 
 // The texts of all codes, one after the other.
 const FLAT: [u8; 534] =
@@ -33,50 +35,43 @@ const STARTS: [u16; 257] = [
     477, 481, 485, 490, 494, 497, 501, 510, 512, 515, 519, 524, 530, 534,
 ];
 
-// For the index below: a call gives what a cast in place doesn't.
-fn wide(x: u16) -> usize
-    ensures { result ≡ x }
-{
-    x as usize
-}
-
 // Where the text of code k begins.
+#[tactic(auto, unfolding(crate::specs::Encoding::table, crate::specs::Encoding::offsets))]
 fn start_of(k: usize) -> usize
     requires { k < 257 }
     ensures { result ≡ get_or (offsets 0 table) k 0 }
 {
-    wide(STARTS[k])
+    usize::from(STARTS[k])
 }
 
 // The texts' bytes from a up to e.
-fn put_part(out: &mut [u8], at: usize, a: usize, e: usize) -> usize
-    requires { (a ≤ e) × (e ≤ length (flat_texts table)) × (at + (e - a) < 2 ^ 63) }
-    ensures { Wrote out.old at (take (e - a) (drop a (flat_texts table))) out.new result }
+fn put_part(w: &mut Writer<'_>, a: usize, e: usize)
+    requires { (a ≤ e) × (e ≤ length (flat_texts table)) × (w.old.at + (e - a) ≤ 2 ^ 63) }
+    ensures { Writes w.old (take (e - a) (drop a (flat_texts table))) w.new }
 {
-    text_out::put_all(out, at, &FLAT[a..e])
+    w.bytes(&FLAT[a..e]);
 }
 
-// The text of a code.
-fn put_code(out: &mut [u8], at: usize, code: u8) -> usize
-    requires { at + 9 < 2 ^ 63 }
-    ensures { Wrote out.old at (encoded code) out.new result }
-{
-    let k = code as usize;
-    let a = start_of(k);
-    let e = start_of(k + 1);
-    put_part(out, at, a, e)
+// A code as its text.
+pub struct Code;
+
+impl Spelling for Code {
+    ghost text = { encoded };
+
+    ghost most = { 9 };
+
+    fn put(w: &mut Writer<'_>, code: u8) {
+        let k = usize::from(code);
+        let a = start_of(k);
+        let e = start_of(k + 1);
+        put_part(w, a, e);
+    }
 }
 
 // The texts of codes, one after the other; the Rust's `string_from_zx`; our crates alone call it.
-pub fn put_spelled(out: &mut [u8], at: usize, s: &[u8]) -> usize
-    requires { at + 9 * length s.now < 2 ^ 63 }
-    ensures { Wrote out.old at (spelled s.now) out.new result }
+pub fn put_spelled(w: &mut Writer<'_>, s: &[u8])
+    requires { w.old.at + 9 * length s.now ≤ 2 ^ 63 }
+    ensures { Writes w.old (spelled s.now) w.new }
 {
-    let mut o = at;
-    let mut i = 0;
-    while i < s.len() {
-        o = put_code(out, o, s[i]);
-        i += 1;
-    }
-    o
+    w.each::<Code>(s);
 }

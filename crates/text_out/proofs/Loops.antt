@@ -7,47 +7,47 @@ use mathlib.Core.Path.{◌≡◌, refl, ap, ◌∙◌}
 use mathlib.Core.List.{List, [], ◌∷◌, ◌++◌}
 use lib.ListN.{length, get_or, drop, drop_of_length-le}
 use lib.Seq.{drop-cons}
-use Rattle.text_out.specs.Out.{Wrote, each_byte}
-use Rattle.text_out.proofs.Writing.{wrote_nothing, then}
+use Rattle.text_out.specs.declared.Writer.{Writer}
+use Rattle.text_out.specs.Out.{each_byte}
+use Rattle.text_out.specs.Writes.{Writes}
+use Rattle.text_out.proofs.Writing.{writes_nothing, then}
 
 -- `left i` is still to be written behind i things, of which none has taken more than k bytes: it ends what was begun
-pub record Goes (left : ℕ → List ℕ) (k : ℕ) (d₀ : List ℕ) (at i : ℕ) (d : List ℕ) (o : ℕ) : Type 0 where
-  pub few : o ≤ at + k * i
-  pub rest : (d' : List ℕ) (r : ℕ) → Wrote d o (left i) d' r → Wrote d₀ at (left 0) d' r
+pub record Goes (left : ℕ → List ℕ) (k : ℕ) (w₀ : Writer) (i : ℕ) (w : Writer) : Type 0 where
+  pub few : w.at ≤ w₀.at + k * i
+  pub rest : (u : Writer) → Writes w (left i) u → Writes w₀ (left 0) u
 
-pub goes_none : (left : ℕ → List ℕ) (k : ℕ) (d : List ℕ) (at : ℕ) → Goes left k d at 0 d at
-goes_none left k d at = record { few = omega (arith, mul-zero k); rest = λ d' r w. w }
+pub goes_none : (left : ℕ → List ℕ) (k : ℕ) (w : Writer) → Goes left k w 0 w
+goes_none left k w = record { few = omega (arith, mul-zero k); rest = λ u h. h }
 
--- the text x of w things more
-pub goes_on : {left : ℕ → List ℕ} {k : ℕ} {d₀ d d1 x : List ℕ} {at i o o1 : ℕ} (w : ℕ) → Goes left k d₀ at i d o
-    → left i ≡ x ++ left (i + w) → length x ≤ k * w → Wrote d o x d1 o1 → Goes left k d₀ at (i + w) d1 o1
-goes_on {k = k} {i = i} w g e h p =
-    record { few = omega (arith, g.few, p.count, mul-add k i w); rest = λ d' r u. g.rest d' r (rw e (then p u)) }
+-- the text x of n things more
+pub goes_on : {left : ℕ → List ℕ} {k : ℕ} {w₀ w v : Writer} {x : List ℕ} {i : ℕ} (n : ℕ) → Goes left k w₀ i w
+    → left i ≡ x ++ left (i + n) → length x ≤ k * n → Writes w x v → Goes left k w₀ (i + n) v
+goes_on {k = k} {i = i} n g e h p =
+    record { few = omega (arith, g.few, p.wrote.count, mul-add k i n); rest = λ u q. g.rest u (rw e (then p q)) }
 
-pub goes_over : {left : ℕ → List ℕ} {k : ℕ} {d₀ d : List ℕ} {at i o : ℕ} → Goes left k d₀ at i d o → left i ≡ []
-    → Wrote d₀ at (left 0) d o
-goes_over {d = d} {o = o} g e = g.rest d o (rw e (wrote_nothing d o))
+pub goes_over : {left : ℕ → List ℕ} {k : ℕ} {w₀ w : Writer} {i : ℕ} → Goes left k w₀ i w → left i ≡ [] → Writes w₀ (left 0) w
+goes_over {w = w} g e = g.rest w (rw e (writes_nothing w))
 
 -- the byte at i, and those behind it
 pub byte_here : (s : List ℕ) (i : ℕ) → i < length s → drop i s ≡ get_or s i 0 ∷ drop (i + 1) s
 byte_here s i h = drop-cons s i 0 h ∙ rw add-one
 
 -- A TEXT FOR EACH BYTE of s, of at most k bytes
-pub record Spells (f : ℕ → List ℕ) (k : ℕ) (d₀ : List ℕ) (at : ℕ) (s : List ℕ) (i : ℕ) (d : List ℕ)
-    (o : ℕ) : Type 0 where
-  pub goes : Goes (λ j. each_byte f (drop j s)) k d₀ at i d o
+pub record Spells (f : ℕ → List ℕ) (k : ℕ) (w₀ : Writer) (s : List ℕ) (i : ℕ) (w : Writer) : Type 0 where
+  pub goes : Goes (λ j. each_byte f (drop j s)) k w₀ i w
 
-module _ {f : ℕ → List ℕ} {k : ℕ} {d₀ : List ℕ} {at : ℕ} {s : List ℕ} where
-  pub spells_none : Spells f k d₀ at s 0 d₀ at
-  spells_none = record { goes = goes_none _ k d₀ at }
+module _ {f : ℕ → List ℕ} {k : ℕ} {w₀ : Writer} {s : List ℕ} where
+  pub spells_none : Spells f k w₀ s 0 w₀
+  spells_none = record { goes = goes_none _ k w₀ }
 
-  pub spells_on : {d d1 : List ℕ} {i o o1 : ℕ} → Spells f k d₀ at s i d o → i < length s → length (f (get_or s i 0)) ≤ k
-      → Wrote d o (f (get_or s i 0)) d1 o1 → Spells f k d₀ at s (i + 1) d1 o1
+  pub spells_on : {w v : Writer} {i : ℕ} → Spells f k w₀ s i w → i < length s → Writes w (f (get_or s i 0)) v
+      → v.at ≤ w.at + k → Spells f k w₀ s (i + 1) v
   unfolding each_byte
-  spells_on {i = i} g h most w =
-      record { goes = goes_on 1 g.goes (ap (each_byte f) (byte_here s i h)) (omega (arith, most, mul-one k)) w }
+  spells_on {i = i} g h p most =
+      record { goes = goes_on 1 g.goes (ap (each_byte f) (byte_here s i h)) (omega (arith, p.wrote.count, most, mul-one k)) p }
 
-  pub spells_over : {d : List ℕ} {i o : ℕ} → Spells f k d₀ at s i d o → length s ≤ i → Wrote d₀ at (each_byte f s) d o
+  pub spells_over : {w : Writer} {i : ℕ} → Spells f k w₀ s i w → length s ≤ i → Writes w₀ (each_byte f s) w
   unfolding each_byte
   spells_over g h = goes_over g.goes (ap (each_byte f) (drop_of_length-le s h))
 

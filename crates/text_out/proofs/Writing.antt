@@ -10,22 +10,31 @@ use lib.Seq.{sets, length-sets, sets-eq}
 use lib.Dec.{ltb}
 use borrow.Author.Tests.{lt-ltb, le-ltb, le-leb, lt-leb}
 use Rattle.law_base.specs.Rules.{◌⇒◌, ◌∣◌}
-use Rattle.text_out.specs.Out.{Wrote, digits, decimal, latin1, each_byte, fits, told, Fitted}
+use Rattle.text_out.specs.declared.Writer.{Writer}
+use Rattle.text_out.specs.Writes.{Writes}
+use Rattle.text_out.specs.Out.{Wrote, digits, decimal, latin1, each_byte, refused_text, fits, told, Fitted}
 
-sets_append : (d s t : List ℕ) (at : ℕ) → sets (sets d at s) (at + length s) t ≡ sets d at (s ++ t)
+pub sets_append : (d s t : List ℕ) (at : ℕ) → sets d at (s ++ t) ≡ sets (sets d at s) (at + length s) t
 sets_append d [] t at = rw add-zero
 sets_append d (a ∷ s) t at = rw (add-suc, ← suc-add at (length s)) (sets_append (set d at a) s t (suc at))
 
 pub wrote_nothing : (d : List ℕ) (at : ℕ) → Wrote d at [] d at
 wrote_nothing d at = record { count = sym (add-zero at); bytes = refl }
 
-pub then : {d d1 d2 s t : List ℕ} {at r1 r2 : ℕ} → Wrote d at s d1 r1 → Wrote d1 r1 t d2 r2 → Wrote d at (s ++ t) d2 r2
-then {d} {d1} {d2} {s} {t} {at} {r1} {r2} p q = record {
+wrote_then : {d d1 d2 s t : List ℕ} {at r1 r2 : ℕ} → Wrote d at s d1 r1 → Wrote d1 r1 t d2 r2 → Wrote d at (s ++ t) d2 r2
+wrote_then {d} {d1} {d2} {s} {t} {at} {r1} {r2} p q = record {
   count = q.count ∙ ap (λ (n : ℕ). n + length t) p.count ∙ add_assoc at (length s) (length t)
       ∙ sym (ap (λ (n : ℕ). at + n) (length-append s t));
   bytes = q.bytes ∙ ap (λ (n : ℕ). sets d1 n t) p.count ∙ ap (λ (l : List ℕ). sets l (at + length s) t) p.bytes
-      ∙ sets_append d s t at;
+      ∙ sym (sets_append d s t at);
 }
+
+-- WRITERS: one that writes nothing, and one text after the other
+pub writes_nothing : (w : Writer) → Writes w [] w
+writes_nothing w = record { same = refl; wrote = wrote_nothing w.out.now w.at }
+
+pub then : {w v u : Writer} {s t : List ℕ} → Writes w s v → Writes v t u → Writes w (s ++ t) u
+then p q = record { same = q.same ∙ p.same; wrote = wrote_then p.wrote q.wrote }
 
 pub same_len : {d d1 s : List ℕ} {at r : ℕ} → Wrote d at s d1 r → length d1 ≡ length d
 same_len {d} {d1} {s} {at} p = ap length p.bytes ∙ length-sets d at s
@@ -81,6 +90,13 @@ pub decimal-length : (n : ℕ) → length (decimal n) ≤ 20
 unfolding decimal
 decimal-length n = digits-length 20 n
 
+-- by which a chain of writers is one write of their texts, in order, and stays below a bound
+pub ruleset composed = (sets_append, length-append, decimal-length)
+
+pub refused_length : (k : ℕ) → length (refused_text k) ≤ 28
+unfolding refused_text
+refused_length k = simp length-append (omega (arith, decimal-length k))
+
 -- more digits allowed change nothing where the number has no more
 digits_more : (f n : ℕ) → n < 10 ^ suc f → digits (suc (suc f)) n ≡ digits (suc f) n
 unfolding digits
@@ -112,25 +128,11 @@ unfolding each_byte
 each-length f k h [] = omega arith
 each-length f k h (b ∷ s) = simp (length-append, mul-suc) (omega (arith, h b, each-length f k h s))
 
--- each case of a byte and of a number: what the calls wrote is the text
-pub as_plain : {d d1 : List ℕ} {at r : ℕ} (b : ℕ) → b < 128 → Wrote d at (b ∷ []) d1 r → Wrote d at (latin1 b) d1 r
-unfolding latin1
-as_plain b k w = rw (lt-ltb b 128 k) w
-
-pub plain : (b : ℕ) → b < 128 → latin1 b ≡ b ∷ []
-unfolding latin1
-plain b k = rw (lt-ltb b 128 k)
-
-pub as_high : {d d1 : List ℕ} {at r : ℕ} (b : ℕ) → 128 ≤ b → Wrote d at ((192 + b / 64) ∷ (128 + b % 64) ∷ []) d1 r
-    → Wrote d at (latin1 b) d1 r
-unfolding latin1
-as_high b k w = rw (le-ltb b 128 k) w
-
-pub as_digit : {d d1 : List ℕ} {at r : ℕ} (n : ℕ) → n < 10 → Wrote d at ((48 + n) ∷ []) d1 r → Wrote d at (decimal n) d1 r
+-- the digits of a number: those of its tenth, and the last one
+pub decimal_one : (n : ℕ) → n < 10 → decimal n ≡ (48 + n) ∷ []
 unfolding decimal digits
-as_digit n h w = rw (lt-ltb n 10 h) w
+decimal_one n h = rw (lt-ltb n 10 h)
 
-pub as_digits : {d d1 d2 : List ℕ} {at r1 r2 : ℕ} (n : ℕ) → 10 ≤ n → n < 2 ^ 64 → Wrote d at (decimal (n / 10)) d1 r1
-    → Wrote d1 r1 ((48 + n % 10) ∷ []) d2 r2 → Wrote d at (decimal n) d2 r2
+pub decimal_more : (n : ℕ) → 10 ≤ n → n < 2 ^ 64 → decimal n ≡ decimal (n / 10) ++ ((48 + n % 10) ∷ [])
 unfolding decimal
-as_digits n h k p q = rw (digits_step n h k) (then p q)
+decimal_more n h k = digits_step n h k

@@ -1,69 +1,149 @@
-// Text into lent bytes: each writer clips at the end of `out` and counts on, so a dry run into no bytes gives the length.
+// Text into lent bytes: each writer clips at the end of them and counts on, so a dry run into no bytes gives the length.
 #![tactic(auto)]
 
-ghost use Rattle.std.specs.Prelude.{◌+◌, ◌*◌, ◌^◌, ◌<◌, [], ◌∷◌, length};
-ghost use Rattle.text_out.specs.Out.{Wrote, decimal, latin1, latin};
+ghost use Rattle.std.specs.Prelude.{◌≡◌, ℕ, List, ◌+◌, ◌*◌, ◌^◌, ◌<◌, ◌≤◌, [], ◌∷◌, ◌++◌, length};
+ghost use Rattle.text_out.specs.Out.{decimal, latin1, latin, each_byte, refused_text, refused_line};
+ghost use Rattle.text_out.specs.Writes.{Writes};
 
-// The byte b at `at`, where `out` reaches so far; our crates alone call it.
-pub fn put(out: &mut [u8], at: usize, b: u8) -> usize
-    requires { at < 2 ^ 63 }
-    ensures { Wrote out.old at (b ∷ []) out.new result }
-{
-    if at < out.len() {
-        out[at] = b;
-    }
-    at + 1
+// Bytes lent for a text, and how far it has come: the place of its next byte, past their end too.
+#[derive(Drop)]
+pub struct Writer<'a> {
+    pub out: &'a mut [u8],
+    pub at: usize,
 }
 
-// All of s; our crates alone call it.
-pub fn put_all(out: &mut [u8], at: usize, s: &[u8]) -> usize
-    requires { at + length s.now < 2 ^ 63 }
-    ensures { Wrote out.old at s.now out.new result }
-{
-    let mut o = at;
-    let mut i = 0;
-    while i < s.len() {
-        o = put(out, o, s[i]);
-        i += 1;
-    }
-    o
+// How a byte is told: its text, of at most so many bytes. Our crates alone call what writes it.
+pub trait Spelling {
+    ghost text: { ℕ → List ℕ };
+
+    ghost most: { ℕ };
+
+    fn put(w: &mut Writer<'_>, b: u8)
+        requires { w.old.at + most ≤ 2 ^ 63 }
+        ensures written { Writes w.old (text b) w.new }
+        ensures few { w.new.at ≤ w.old.at + most };
 }
 
-// n in decimal; our crates alone call it.
-pub fn put_decimal(out: &mut [u8], at: usize, n: u64) -> usize
-    requires { at + 20 < 2 ^ 63 }
-    ensures { Wrote out.old at (decimal n) out.new result }
-{
-    if n < 10 {
-        return put(out, at, b'0' + n as u8);
+// A byte as it is.
+pub struct Plain;
+
+impl Spelling for Plain {
+    ghost text = { λ b. b ∷ [] };
+
+    ghost most = { 1 };
+
+    fn put(w: &mut Writer<'_>, b: u8) {
+        w.byte(b);
     }
-    let next = put_decimal(out, at, n / 10);
-    put(out, next, b'0' + (n % 10) as u8)
 }
 
-// A Latin-1 byte as UTF-8; our crates alone call it.
-#[tactic(auto, using(crate::proofs::Writing::plain))]
-pub fn put_latin1(out: &mut [u8], at: usize, b: u8) -> usize
-    requires { at + 1 < 2 ^ 63 }
-    ensures { Wrote out.old at (latin1 b) out.new result }
-{
-    if b < 128 {
-        return put(out, at, b);
+// A Latin-1 byte as UTF-8.
+pub struct Latin1;
+
+impl Spelling for Latin1 {
+    ghost text = { latin1 };
+
+    ghost most = { 2 };
+
+    #[tactic(auto, using(crate::proofs::Writing::composed), unfolding(crate::specs::Out::latin1))]
+    fn put(w: &mut Writer<'_>, b: u8) {
+        if b < 128 {
+            w.byte(b);
+        } else {
+            w.byte(192 + b / 64);
+            w.byte(128 + b % 64);
+        }
     }
-    let next = put(out, at, 192 + b / 64);
-    put(out, next, 128 + b % 64)
 }
 
-// All of s, each byte a code point; our crates alone call it.
-pub fn put_latin(out: &mut [u8], at: usize, s: &[u8]) -> usize
-    requires { at + 2 * length s.now < 2 ^ 63 }
-    ensures { Wrote out.old at (latin s.now) out.new result }
-{
-    let mut o = at;
-    let mut i = 0;
-    while i < s.len() {
-        o = put_latin1(out, o, s[i]);
-        i += 1;
+impl<'a> Writer<'a> {
+    // A text that begins at the first byte lent.
+    pub fn over(out: &'a mut [u8]) -> Writer<'a>
+        ensures same { result.out.ghost_name ≡ out.entry.ghost_name }
+        ensures bytes { result.out.now ≡ out.old }
+        ensures at { result.at ≡ 0 }
+    {
+        Writer { out, at: 0 }
     }
-    o
+
+    // The byte b, where the bytes lent reach so far; our crates alone call it, and what follows.
+    pub fn byte(&mut self, b: u8)
+        requires { self.old.at < 2 ^ 63 }
+        ensures { Writes self.old (b ∷ []) self.new }
+    {
+        if self.at < self.out.len() {
+            self.out[self.at] = b;
+        }
+        self.at += 1;
+    }
+
+    // The text of each byte of s.
+    pub fn each<S: Spelling>(&mut self, s: &[u8])
+        requires { self.old.at + S.most * length s.now ≤ 2 ^ 63 }
+        ensures { Writes self.old (each_byte S.text s.now) self.new }
+    {
+        for b in s {
+            S::put(self, *b);
+        }
+    }
+
+    // All of s.
+    #[tactic(auto, using(crate::proofs::Loops::each_itself))]
+    pub fn bytes(&mut self, s: &[u8])
+        requires { self.old.at + length s.now ≤ 2 ^ 63 }
+        ensures { Writes self.old s.now self.new }
+    {
+        self.each::<Plain>(s);
+    }
+
+    // All of s, each byte a code point.
+    pub fn latin(&mut self, s: &[u8])
+        requires { self.old.at + 2 * length s.now ≤ 2 ^ 63 }
+        ensures { Writes self.old (latin s.now) self.new }
+    {
+        self.each::<Latin1>(s);
+    }
+
+    // n in decimal.
+    #[tactic(auto, using(crate::proofs::Writing::composed, crate::proofs::Writing::decimal_one, crate::proofs::Writing::decimal_more))]
+    pub fn decimal(&mut self, n: u64)
+        requires { self.old.at + 20 < 2 ^ 63 }
+        ensures { Writes self.old (decimal n) self.new }
+    {
+        if n < 10 {
+            self.byte(b'0' + n as u8);
+        } else {
+            self.decimal(n / 10);
+            self.byte(b'0' + (n % 10) as u8);
+        }
+    }
+
+    // A word and a number.
+    #[tactic(auto, using(crate::proofs::Writing::composed))]
+    pub fn said(&mut self, word: &[u8], n: u64)
+        requires { self.old.at + length word.now + 20 < 2 ^ 63 }
+        ensures { Writes self.old (word.now ++ decimal n) self.new }
+    {
+        self.bytes(word);
+        self.decimal(n);
+    }
+
+    // `refused n`
+    #[tactic(auto, unfolding(crate::specs::Out::refused_text))]
+    pub fn refused(&mut self, k: u32)
+        requires { self.old.at + 32 < 2 ^ 63 }
+        ensures { Writes self.old (refused_text k) self.new }
+    {
+        self.said(b"refused ", u64::from(k));
+    }
+
+    // The same, to the end of the line.
+    #[tactic(auto, using(crate::proofs::Writing::composed, crate::proofs::Writing::refused_length), unfolding(crate::specs::Out::refused_line))]
+    pub fn refused_line(&mut self, k: u32)
+        requires { self.old.at + 32 < 2 ^ 63 }
+        ensures { Writes self.old (refused_line k) self.new }
+    {
+        self.refused(k);
+        self.byte(b'\n');
+    }
 }

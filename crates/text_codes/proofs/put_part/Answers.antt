@@ -2,10 +2,10 @@
 use Rattle.text_codes.specs.Encoding.{table, flat_texts}
 use Rattle.text_codes.proofs.put_part.Goals as goal
 
-pub slice_bounds-put_all-end : goal.slice_bounds-put_all-end
+pub slice_bounds-bytes-end : goal.slice_bounds-bytes-end
 unfolding table flat_texts
-slice_bounds-put_all-end c = c.requires.1
+slice_bounds-bytes-end c = c.requires.1
 
 pub returns : goal.returns
 unfolding table flat_texts
-returns c = c.put_all.ensures
+returns c = c.bytes.ensures

@@ -6,27 +6,8 @@ use mathlib.Core.Bool.{false}
 use Rattle.play_entries.specs.Counted.{bits_time}
 use Rattle.play_entries.specs.Entries.{data_of}
 use Rattle.play_entries.proofs.Bounds.{bytes-most-time}
-use Rattle.play_entries.proofs.Counted.{ones_most, data_counted, data_none}
+use Rattle.play_entries.proofs.Counted.{data_counted}
 use Rattle.play_times.proofs.data_time.Goals as goal
-
-pub returns-then-r-eq0 : goal.returns-then-r-eq0
-returns-then-r-eq0 c =
-    let a = c.args in
-    λ b d. sym (data_none a.tape.now (λ i. (c.type_inv.tape i).fits) b a.r d c.if-r-eq0.true)
-
-pub counted_time-requires : goal.counted_time-requires
-counted_time-requires c =
-    let a = c.args in record {
-      k_le_n = (
-        omega (
-          arith,
-          c.ones.ensures,
-          ones_most a.tape.now (λ i. (c.type_inv.tape i).fits) a.r.start (a.r.size - 1),
-        ),
-        omega arith,
-      );
-      r_value = c.requires.r_value;
-    }
 
 pub overflow_add-result : goal.overflow_add-result
 unfolding data_of

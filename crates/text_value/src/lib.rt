@@ -2,39 +2,38 @@
 #![tactic(auto)]
 
 ghost use Rattle.std.specs.Prelude.{◌+◌, ◌^◌, ◌<◌, ◌≤◌, length};
-ghost use Rattle.text_out.specs.Out.{Wrote};
+ghost use Rattle.text_out.specs.Writes.{Writes};
 ghost use Rattle.text_value.specs.Values.{flag, lasts_text, duration_text};
 
 use play_entries::Duration;
-use text_out::{put, put_all, put_decimal};
+use text_out::Writer;
 
 // A mark, a half or a level: 0 or 1.
-pub fn put_flag(out: &mut [u8], at: usize, v: bool) -> usize
-    requires { at < 2 ^ 63 }
-    ensures { Wrote out.old at (flag v) out.new result }
+#[tactic(auto, unfolding(crate::specs::Values::flag))]
+pub fn put_flag(w: &mut Writer<'_>, v: bool)
+    requires { w.old.at < 2 ^ 63 }
+    ensures { Writes w.old (flag v) w.new }
 {
-    if v {
-        return put(out, at, b'1');
-    }
-    put(out, at, b'0')
+    w.byte(if v { b'1' } else { b'0' });
 }
 
 // T-states, or a word of at most 20 bytes for what never ends.
-pub fn put_lasts(out: &mut [u8], at: usize, d: Duration, word: &[u8]) -> usize
-    requires at_bound { at + 20 < 2 ^ 63 }
+pub fn put_lasts(w: &mut Writer<'_>, d: Duration, word: &[u8])
+    requires at_bound { w.old.at + 20 < 2 ^ 63 }
     requires word_len_bound { length word.now ≤ 20 }
-    ensures { Wrote out.old at (lasts_text word.now d) out.new result }
+    ensures { Writes w.old (lasts_text word.now d) w.new }
 {
     match d {
-        Duration::T(n) => put_decimal(out, at, n),
-        Duration::Endless => put_all(out, at, word),
+        Duration::T(n) => w.decimal(n),
+        Duration::Endless => w.bytes(word),
     }
 }
 
 // T-states, or `endless`.
-pub fn put_duration(out: &mut [u8], at: usize, d: Duration) -> usize
-    requires { at + 20 < 2 ^ 63 }
-    ensures { Wrote out.old at (duration_text d) out.new result }
+#[tactic(auto, unfolding(crate::specs::Values::duration_text))]
+pub fn put_duration(w: &mut Writer<'_>, d: Duration)
+    requires { w.old.at + 20 < 2 ^ 63 }
+    ensures { Writes w.old (duration_text d) w.new }
 {
-    put_lasts(out, at, d, b"endless")
+    put_lasts(w, d, b"endless");
 }

@@ -3,17 +3,16 @@ use Prim.Native.Nat.{ℕ, zero, suc, ◌+◌, ◌*◌, ◌≤◌}
 use native.Mathlib.Nat.{add-zero, mul-suc}
 use native.Mathlib.Numerals.{add-one}
 use native.Mathlib.Omega.{arith}
-use mathlib.Core.Path.{◌≡◌, sym, ap, ◌∙◌}
+use mathlib.Core.Path.{◌≡◌, refl, sym, ap, ◌∙◌}
 use mathlib.Core.Bool.{Bool, true, false}
-use mathlib.Core.List.{List, ◌++◌, append-nil, append_assoc}
+use mathlib.Core.List.{List, [], ◌++◌, append-nil, append_assoc}
 use lib.ListN.{length, length-append}
 use Rattle.rows.specs.Table.{get}
 use Rattle.rows.specs.Rows.{tone}
 use Rattle.rows.specs.declared.Tone.{Tone}
-use Rattle.text_out.specs.Out.{Wrote, decimal}
 use Rattle.text_out.proofs.Writing.{decimal-length}
 use Rattle.play_entries.specs.declared.Duration.{Duration}
-use Rattle.text_value.specs.Values.{flag, duration_text}
+use Rattle.text_value.specs.Values.{flag}
 use Rattle.text_value.proofs.Lengths.{duration_length}
 use Rattle.text_view.specs.View.{tones_from}
 use Rattle.text_view.specs.Dump.{hex, tone_text, tones_text, field, sel_text, bits_text, end_text, head_text}
@@ -27,24 +26,12 @@ unfolding tone_text
 tone-length t =
     simp length-append (omega (arith, decimal-length t.num, decimal-length t.len1, decimal-length t.len2))
 
--- how far a part may reach
-module _ {d d1 : List ℕ} {at r : ℕ} where
-  pub decimal_next : (n : ℕ) → Wrote d at (decimal n) d1 r → r ≤ at + 20
-  decimal_next n w = omega (arith, w.count, decimal-length n)
-
-  pub field_next : (word : List ℕ) (n : ℕ) → Wrote d at (field word n) d1 r → r ≤ at + length word + 20
-  unfolding field
-  field_next word n w = omega (arith, w.count, length-append word (decimal n), decimal-length n)
-
-  pub pause_next : (p : Duration) → Wrote d at (duration_text p) d1 r → r ≤ at + 20
-  pause_next p w = omega (arith, w.count, duration_length p)
-
-mark_length : (i : ℕ) (b : Bool) → length (sel_text i b) ≤ 26
+pub mark_length : (i : ℕ) (b : Bool) → length (sel_text i b) ≤ 26
 unfolding sel_text flag
 mark_length i true = simp length-append (omega (arith, decimal-length i))
 mark_length i false = simp length-append (omega (arith, decimal-length i))
 
-bits_length : (nil one last : ℕ) → length (bits_text nil one last) ≤ 77
+pub bits_length : (nil one last : ℕ) → length (bits_text nil one last) ≤ 77
 unfolding bits_text field
 bits_length nil one last = simp length-append (omega (arith, decimal-length nil, decimal-length one, decimal-length last))
 
@@ -57,13 +44,6 @@ unfolding head_text
 head_length i b nil one last p =
     simp length-append (omega (arith, mark_length i b, bits_length nil one last, end_length p))
 
-module _ {d d1 : List ℕ} {at r : ℕ} where
-  pub mark_next : (i : ℕ) (b : Bool) → Wrote d at (sel_text i b) d1 r → r ≤ at + 26
-  mark_next i b w = omega (arith, w.count, mark_length i b)
-
-  pub bits_next : (nil one last : ℕ) → Wrote d at (bits_text nil one last) d1 r → r ≤ at + 77
-  bits_next nil one last w = omega (arith, w.count, bits_length nil one last)
-
 module _ (tones : List ℕ) where
   more : (from i : ℕ)
       → tones_text (tones_from tones from (suc i)) ≡ tones_text (tones_from tones from i) ++ tone_text (get tone tones (from + i))
@@ -75,6 +55,10 @@ module _ (tones : List ℕ) where
       ∙ sym
       (append_assoc (tone_text (get tone tones from)) (tones_text (tones_from tones (from + 1) i)) (tone_text (get tone tones (from + suc i))))
 
+  pub tones_none : (from : ℕ) → tones_text (tones_from tones from 0) ≡ []
+  unfolding tones_text tones_from
+  tones_none from = refl
+
   -- one row more
   pub tones_next : (from i : ℕ)
       → tones_text (tones_from tones from (i + 1)) ≡ tones_text (tones_from tones from i) ++ tone_text (get tone tones (from + i))
@@ -84,3 +68,6 @@ module _ (tones : List ℕ) where
   unfolding tones_text tones_from
   tones-length from zero = omega arith
   tones-length from (suc n) = simp (length-append, mul-suc) (omega (arith, tone-length (get tone tones from), tones-length (from + 1) n))
+
+-- by which a loop over tone rows is one write of their texts
+pub ruleset rows_more = (tones_none, tones_next, tones-length)

@@ -1,61 +1,56 @@
 // The numbers of a view's line, up to the name, written into lent bytes. Our programs alone call it.
-ghost use Rattle.std.specs.Prelude.{◌+◌, ◌^◌, ◌<◌, length, eqb};
-ghost use Rattle.text_out.specs.Out.{Wrote};
+ghost use Rattle.std.specs.Prelude.{◌+◌, ◌^◌, ◌<◌, eqb};
+ghost use Rattle.text_out.specs.Writes.{Writes};
 ghost use Rattle.play_entries.specs.Entries.{whole_pause};
-ghost use Rattle.text_view.specs.Dump.{field, sel_text, bits_text, end_text, head_text};
+ghost use Rattle.text_view.specs.Dump.{sel_text, bits_text, end_text, head_text};
 
 use play_entries::Duration;
 use play_phases::whole_pause;
 use rows::Block;
-use text_out::{put_all, put_decimal};
+use text_out::Writer;
 use text_value::{put_duration, put_flag};
 
-// A word and a number.
-fn put_field(out: &mut [u8], at: usize, word: &[u8], n: u64) -> usize
-    requires { at + length word.now + 20 < 2 ^ 63 }
-    ensures { Wrote out.old at (field word.now n) out.new result }
-{
-    let next = put_all(out, at, word);
-    put_decimal(out, next, n)
-}
-
 // A block's number and mark.
-fn put_mark(out: &mut [u8], at: usize, i: u64, selectable: bool) -> usize
-    requires { at + 26 < 2 ^ 63 }
-    ensures { Wrote out.old at (sel_text i selectable) out.new result }
+#[tactic(auto, using(text_out::proofs::Writing::composed), unfolding(crate::specs::Dump::sel_text))]
+fn put_mark(w: &mut Writer<'_>, i: u64, selectable: bool)
+    requires { w.old.at + 26 < 2 ^ 63 }
+    ensures { Writes w.old (sel_text i selectable) w.new }
 {
-    let a = put_decimal(out, at, i);
-    let b = put_all(out, a, b" sel=");
-    put_flag(out, b, selectable)
+    w.decimal(i);
+    w.bytes(b" sel=");
+    put_flag(w, selectable);
 }
 
 // The lengths of its bits.
-fn put_bits(out: &mut [u8], at: usize, zero: u64, one: u64, last: u64) -> usize
-    requires { at + 77 < 2 ^ 63 }
-    ensures { Wrote out.old at (bits_text zero one last) out.new result }
+#[tactic(auto, using(text_out::proofs::Writing::composed), unfolding(crate::specs::Dump::bits_text, crate::specs::Dump::field))]
+fn put_bits(w: &mut Writer<'_>, zero: u64, one: u64, last: u64)
+    requires { w.old.at + 77 < 2 ^ 63 }
+    ensures { Writes w.old (bits_text zero one last) w.new }
 {
-    let a = put_field(out, at, b" zero=", zero);
-    let b = put_field(out, a, b" one=", one);
-    put_field(out, b, b" last=", last)
+    w.said(b" zero=", zero);
+    w.said(b" one=", one);
+    w.said(b" last=", last);
 }
 
 // Its pause, and the name's word.
-fn put_end(out: &mut [u8], at: usize, pause: Duration) -> usize
-    requires { at + 33 < 2 ^ 63 }
-    ensures { Wrote out.old at (end_text pause) out.new result }
+#[tactic(auto, using(text_out::proofs::Writing::composed, text_value::proofs::Lengths::duration_length), unfolding(crate::specs::Dump::end_text))]
+fn put_end(w: &mut Writer<'_>, pause: Duration)
+    requires { w.old.at + 33 < 2 ^ 63 }
+    ensures { Writes w.old (end_text pause) w.new }
 {
-    let a = put_all(out, at, b" pause=");
-    let b = put_duration(out, a, pause);
-    put_all(out, b, b" name=")
+    w.bytes(b" pause=");
+    put_duration(w, pause);
+    w.bytes(b" name=");
 }
 
 // The line's numbers, up to the name.
-pub fn put_head(out: &mut [u8], at: usize, i: u64, r: Block) -> usize
-    requires { at + 136 < 2 ^ 63 }
-    ensures { Wrote out.old
-        at (head_text i (eqb r.selectable 1) r.zero r.one r.last (whole_pause r)) out.new result }
+#[tactic(auto, using(text_out::proofs::Writing::composed, crate::proofs::Parts::mark_length, crate::proofs::Parts::bits_length), unfolding(crate::specs::Dump::head_text))]
+pub fn put_head(w: &mut Writer<'_>, i: u64, r: Block)
+    requires { w.old.at + 136 < 2 ^ 63 }
+    ensures { Writes w.old
+        (head_text i (eqb r.selectable 1) r.zero r.one r.last (whole_pause r)) w.new }
 {
-    let a = put_mark(out, at, i, r.selectable == 1);
-    let b = put_bits(out, a, r.zero, r.one, r.last);
-    put_end(out, b, whole_pause(r))
+    put_mark(w, i, r.selectable == 1);
+    put_bits(w, r.zero, r.one, r.last);
+    put_end(w, whole_pause(r));
 }

@@ -6,15 +6,16 @@ mod figures;
 
 ghost use Rattle.std.specs.Prelude.{◌≡◌, ◌+◌, ◌*◌, ◌^◌, ◌<◌, ◌≤◌, length};
 ghost use Rattle.rows.specs.Rows.{tone};
-ghost use Rattle.text_out.specs.Out.{Wrote};
+ghost use Rattle.text_out.specs.Writes.{Writes};
 ghost use Rattle.text_view.specs.View.{tones_from};
 ghost use Rattle.text_view.specs.Dump.{digit, hex, hex_all, tone_text, tones_text};
 
 pub use figures::put_head;
-use rows::{Tone, tone_at};
-use text_out::{put, put_decimal};
+use rows::{Tone, row_at};
+use text_out::{Spelling, Writer};
 
 // The digit of a number below 16.
+#[tactic(auto, unfolding(crate::specs::Dump::digit))]
 fn digit(d: u8) -> u8
     requires { d < 16 }
     ensures { result ≡ digit d }
@@ -23,52 +24,50 @@ fn digit(d: u8) -> u8
 }
 
 // A byte as two digits.
-fn put_byte(out: &mut [u8], at: usize, b: u8) -> usize
-    requires { at + 1 < 2 ^ 63 }
-    ensures { Wrote out.old at (hex b) out.new result }
-{
-    let next = put(out, at, digit(b / 16));
-    put(out, next, digit(b % 16))
+pub struct Hex;
+
+impl Spelling for Hex {
+    ghost text = { hex };
+
+    ghost most = { 2 };
+
+    #[tactic(auto, using(text_out::proofs::Writing::composed), unfolding(crate::specs::Dump::hex))]
+    fn put(w: &mut Writer<'_>, b: u8) {
+        w.byte(digit(b / 16));
+        w.byte(digit(b % 16));
+    }
 }
 
 // All of s, two digits a byte.
-pub fn put_hex(out: &mut [u8], at: usize, s: &[u8]) -> usize
-    requires { at + 2 * length s.now < 2 ^ 63 }
-    ensures { Wrote out.old at (hex_all s.now) out.new result }
+pub fn put_hex(w: &mut Writer<'_>, s: &[u8])
+    requires { w.old.at + 2 * length s.now ≤ 2 ^ 63 }
+    ensures { Writes w.old (hex_all s.now) w.new }
 {
-    let mut o = at;
-    let mut i = 0;
-    while i < s.len() {
-        o = put_byte(out, o, s[i]);
-        i += 1;
-    }
-    o
+    w.each::<Hex>(s);
 }
 
 // A tone row.
-fn put_tone(out: &mut [u8], at: usize, t: Tone) -> usize
-    requires { at + 63 < 2 ^ 63 }
-    ensures { Wrote out.old at (tone_text t) out.new result }
+#[tactic(auto, using(text_out::proofs::Writing::composed), unfolding(crate::specs::Dump::tone_text))]
+fn put_tone(w: &mut Writer<'_>, t: Tone)
+    requires { w.old.at + 63 < 2 ^ 63 }
+    ensures { Writes w.old (tone_text t) w.new }
 {
-    let a = put_decimal(out, at, t.num);
-    let b = put(out, a, b'x');
-    let c = put_decimal(out, b, t.len1);
-    let d = put(out, c, b'/');
-    let e = put_decimal(out, d, t.len2);
-    put(out, e, b',')
+    w.decimal(t.num);
+    w.byte(b'x');
+    w.decimal(t.len1);
+    w.byte(b'/');
+    w.decimal(t.len2);
+    w.byte(b',');
 }
 
 // n tone rows from row `from` on.
-pub fn put_tones(out: &mut [u8], at: usize, tones: &[u64], from: usize, n: usize) -> usize
+#[tactic(auto, using(text_out::proofs::Writing::composed, crate::proofs::Parts::rows_more))]
+pub fn put_tones(w: &mut Writer<'_>, tones: &[u64], from: usize, n: usize)
     requires width_in_bounds { (from + n) * tone.width ≤ length tones.now }
-    requires n_bound { at + 63 * n < 2 ^ 62 }
-    ensures { Wrote out.old at (tones_text (tones_from tones.now from n)) out.new result }
+    requires n_bound { w.old.at + 63 * n < 2 ^ 62 }
+    ensures { Writes w.old (tones_text (tones_from tones.now from n)) w.new }
 {
-    let mut o = at;
-    let mut i = 0;
-    while i < n {
-        o = put_tone(out, o, tone_at(tones, from + i));
-        i += 1;
+    for i in 0..n {
+        put_tone(w, row_at(tones, from + i));
     }
-    o
 }

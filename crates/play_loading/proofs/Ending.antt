@@ -1,12 +1,8 @@
--- Where a sound ends, by whether it has a length. Assumes nothing.
-use Prim.Native.Nat.{ℕ, ◌+◌, ◌<◌, ◌≤◌}
-use mathlib.Core.Path.{◌≡◌}
-use borrow.Author.Tests.{lt-ltb, le-ltb}
-use Rattle.play_loading.specs.declared.Loading.{Loading}
-use Rattle.play_loading.specs.Sums.{end_with}
+-- What a row's pause comes to at most, where it ends. Assumes nothing.
+use Rattle.std.proofs.Common.{◌≡◌, ◌≢◌, ◌≤◌, true}
+use Rattle.rows.specs.declared.Block.{Block}
+use Rattle.rows.specs.Well.{well_numbers}
+use Rattle.rows.proofs.WellLaws.{numbers-most}
 
-pub ends_here : (s : Loading) (sound : ℕ) → 0 < sound → s.sum + sound ≡ end_with s sound
-ends_here s sound h = rw (lt-ltb 0 sound h)
-
-pub ends_before : (s : Loading) (sound : ℕ) → sound ≤ 0 → s.end ≡ end_with s sound
-ends_before s sound h = rw (le-ltb 0 sound h)
+pub pause_fits : (r : Block) → well_numbers r ≡ true → r.endless ≢ 1 → r.pause ≤ 229372500
+pause_fits r e n = (numbers-most r e).pause n

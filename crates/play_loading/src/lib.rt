@@ -10,6 +10,7 @@ use play_entries::Duration;
 use rows::Block;
 
 // What a row lasts: its sound and its pause, or that it never ends. Its callers know both to be within their limits.
+#[tactic(auto, using(crate::proofs::Ending::pause_fits), unfolding(play_entries::specs::Stored::row_lasts))]
 pub fn row_lasts(r: Block) -> Duration
     requires { (r.sound < 2 ^ 50) × (well_numbers r ≡ true) }
     ensures { result ≡ row_lasts r }
@@ -41,18 +42,15 @@ pub fn none() -> Loading
 }
 
 // Where the last sound ends, a row's included: a sound of no length is no end.
-#[tactic(auto, using(crate::proofs::Ending::ends_here, crate::proofs::Ending::ends_before))]
 fn end_with(s: Loading, sound: u64) -> u64
     requires { (s.sum < 2 ^ 63) × (sound < 2 ^ 50) }
     ensures { result ≡ end_with s sound }
 {
-    if 0 < sound {
-        return s.sum + sound;
-    }
-    s.end
+    if 0 < sound { s.sum + sound } else { s.end }
 }
 
 // One row more: what stands behind a stop isn't counted. Its callers know the row's words to be within their limits.
+#[tactic(auto, using(crate::proofs::Ending::pause_fits), unfolding(crate::specs::Sums::one_more))]
 pub fn one_more(s: Loading, r: Block) -> Loading
     requires sum_bound { (s.sum < 2 ^ 63) × (r.sound < 2 ^ 50) }
     requires r_value { well_numbers r ≡ true }
@@ -64,9 +62,9 @@ pub fn one_more(s: Loading, r: Block) -> Loading
     let end = end_with(s, r.sound);
     if r.endless == 1 {
         return Loading {
-            sum: s.sum,
             end,
             over: true,
+            ..s
         };
     }
     let sum = s.sum + r.sound + r.pause;

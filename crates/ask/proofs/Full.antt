@@ -17,7 +17,7 @@ use Rattle.rows.proofs.Tables.{get_row, over-length}
 use Rattle.play_entries.specs.Places.{Tape, block_in, by_row}
 use Rattle.play_entries.specs.Stored.{rows_loading}
 use Rattle.play_entries.specs.Mounted.{tape_of, tape_size, well_row, WholeTape}
-use Rattle.ask.specs.declared.Number.TheVariants as number
+use Rattle.std.specs.Prelude.{Ok}
 use Rattle.ask.specs.Queries.{loading_of}
 use Rattle.ask.proofs.Answers.{loading_whole}
 
@@ -59,8 +59,8 @@ module _ (n : ℕ) where
       ∙ ap (by_row loud 1125899906842623) (rows_loud (b + 1) m (omega arith))
       ∙ one_louder m
 
-  loading_loud : n ≤ 4096 → loading_of (louds n) ≡ number.Is (n * 1125899906842623)
-  loading_loud h = loading_whole (louds n) (all_well h) ∙ ap number.Is (rows_loud 0 n (omega arith))
+  loading_loud : n ≤ 4096 → loading_of (louds n) ≡ Ok (n * 1125899906842623)
+  loading_loud h = loading_whole (louds n) (all_well h) ∙ ap Ok (rows_loud 0 n (omega arith))
 
-pub full_loud : loading_of (louds 4096) ≡ number.Is 4611686018427383808
+pub full_loud : loading_of (louds 4096) ≡ Ok 4611686018427383808
 full_loud = loading_loud 4096 (omega arith)

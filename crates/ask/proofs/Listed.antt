@@ -3,7 +3,7 @@
 use Prim.Native.Nat.{ℕ, zero, suc, ◌+◌, ◌≤◌, ◌<◌}
 use native.Mathlib.Omega.{arith}
 use borrow.Author.Tests.{eqb-true, eqb-false, lt-ltb, le-ltb}
-use mathlib.Core.Path.{◌≡◌, refl, sym, ap, ◌∙◌}
+use mathlib.Core.Path.{◌≡◌, refl, sym, ap, subst, ◌∙◌}
 use mathlib.Core.Bool.{Bool, true, false, not, ◌&&◌}
 use mathlib.Core.Logic.{⊎_elim}
 use lib.Dec.{ltb, eqb}
@@ -11,23 +11,30 @@ use Rattle.law_base.specs.Rules.{◌⇒◌, ◌∣◌}
 use Rattle.law_base.proofs.Numbers.{lt_or_ge}
 use Rattle.law_pulses.specs.Play.{comes_to}
 use Rattle.law_pulses.specs.Source.{is_ended}
-use Rattle.play_entries.specs.declared.Duration.{Duration}
 use Rattle.play_entries.specs.Places.{Tape, block_in, list_from, load_time}
 use Rattle.play_entries.specs.Stored.{Timed}
 use Rattle.play_entries.specs.Mounted.{well_row, cut_to, formed, WholeTape}
 use Rattle.play_entries.proofs.Loading.{comes_stop, comes_on, comes_out}
 use Rattle.play_entries.proofs.Formed.{WellUpTo, needed, whole-formed}
 use Rattle.play_entries.proofs.Stored.{stored_lasts, stored_time}
-use Rattle.ask.specs.declared.Number.TheVariants as number
-use Rattle.ask.specs.declared.Time.TheVariants as lasting
-use Rattle.ask.specs.Queries.{refusal_of, time_unless, time_of, well_to_stop, loading_of}
+use Rattle.std.specs.Prelude.{Result, Ok, Err}
+use Rattle.rows.specs.declared.Block.{Block}
+use Rattle.refusals.specs.declared.Refusal.{Refusal}
+use Rattle.play_entries.specs.Entries.{entries_of, lasts_of}
+use Rattle.play_entries.specs.Stored.{row_lasts}
+use Rattle.ask.specs.Queries.{told_of, asked, time_of, well_to_stop, loading_of}
+use Rattle.ask.proofs.Refusals.{answerable}
 use Rattle.ask.specs.Listed.{time_listed, loading_in, loading_listed}
 use Rattle.ask.proofs.Answers.{not-over, loading_whole}
 use Rattle.ask.proofs.Needed.{need_none, need_bad, need_stop, need_on}
 
 pub time_by_list : (w : Tape) → Timed w → (i : ℕ) → i < w.count → time_of w i ≡ time_listed w i
-unfolding time_of time_listed
-time_by_list w timed i h = ap (λ (d : Duration). time_unless (refusal_of w i) (lasting.Lasts d)) (stored_lasts w timed i h)
+unfolding time_of time_listed told_of
+time_by_list w timed i h = of (asked w i) refl
+  where
+    of : (a : Result Block Refusal) → asked w i ≡ a → told_of row_lasts a ≡ told_of (λ r. lasts_of (entries_of w.bytes w.tones i r)) a
+    of (Err k) e = refl
+    of (Ok r) e = ap Ok (subst (λ (b : Block). row_lasts b ≡ lasts_of (entries_of w.bytes w.tones i b)) (answerable w i r (sym e)).row (stored_lasts w timed i h))
 
 -- a rule whose second test fails
 never : {A : Type 0} (t : Bool) (x y : A) → ((t && false) ⇒ x ∣ y) ≡ y
@@ -36,16 +43,16 @@ never false x y = refl
 
 module _ (w : Tape) (whole : WholeTape w) where
   -- none of it is cut
-  uncut : loading_in w w ≡ number.Is (load_time w)
+  uncut : loading_in w w ≡ Ok (load_time w)
   unfolding loading_in
   uncut = rw (le-ltb w.count w.count (omega arith)) (never (is_ended (comes_to (list_from w 0))) _ _)
 
-  pub listed-whole : loading_listed w ≡ number.Is (load_time w)
+  pub listed-whole : loading_listed w ≡ Ok (load_time w)
   unfolding loading_listed
   listed-whole = rw (not-over w whole) (ap (loading_in w) (whole-formed w whole 0) ∙ uncut)
 
   pub loading_by_list : Timed w → loading_of w ≡ loading_listed w
-  loading_by_list timed = loading_whole w whole ∙ ap number.Is (stored_time w timed) ∙ sym listed-whole
+  loading_by_list timed = loading_whole w whole ∙ ap Ok (stored_time w timed) ∙ sym listed-whole
 
 -- ON ANY TAPE, cut at its first row that is not well formed: each row that is needed is well formed, unless the list ends at the cut
 not_cut : (t : Bool) → true ≡ not (t && false)

@@ -7,7 +7,8 @@ use mathlib.Core.Bool.{Bool, true, false, ◌||◌}
 use mathlib.Core.Logic.{⊎_elim}
 use lib.Dec.{eqb}
 use Rattle.law_base.proofs.Numbers.{lt_or_ge}
-use Rattle.refusals.specs.Refusals.{bad_row}
+use Rattle.std.specs.Prelude.{Ok, Err}
+use Rattle.refusals.specs.declared.Refusal.TheVariants.{BadRow}
 use Rattle.rows.specs.declared.Block.{Block}
 use Rattle.rows.specs.Well.{well_numbers}
 use Rattle.rows.proofs.WellLaws.{block_clauses}
@@ -17,8 +18,8 @@ use Rattle.play_entries.specs.Mounted.{tape_size, overfull, well_row}
 use Rattle.play_loading.specs.declared.Loading.{Loading}
 use Rattle.play_loading.specs.Sums.{no_loading, one_more, loading_after}
 use Rattle.play_loading.proofs.Summing.{after_next, after-whole, after_stop, more_over, sums_fit}
-use Rattle.ask.specs.declared.Number.TheVariants as number
-use Rattle.ask.specs.Queries.{well_to_stop, loading_of}
+use Rattle.ask.specs.Queries.{asked, well_to_stop, loading_of}
+use Rattle.ask.proofs.Refusals.{answerable}
 use Rattle.ask.proofs.Needed.{need_none, need_bad, need_stop, need_on}
 
 -- what a well-formed row's words are within
@@ -34,11 +35,11 @@ row_limits w i g =
 
 -- the answer by what is needed
 module _ (w : Tape) (o : overfull w ≡ false) where
-  pub loading_given : well_to_stop w 0 w.count ≡ true → number.Is (rows_time w) ≡ loading_of w
+  pub loading_given : well_to_stop w 0 w.count ≡ true → Ok (rows_time w) ≡ loading_of w
   unfolding loading_of
   loading_given e = rw (o, e)
 
-  loading_refused : well_to_stop w 0 w.count ≡ false → number.Refused bad_row ≡ loading_of w
+  loading_refused : well_to_stop w 0 w.count ≡ false → Err BadRow ≡ loading_of w
   unfolding loading_of
   loading_refused e = rw (o, e)
 
@@ -61,13 +62,13 @@ loads_none w e =
 
 module _ {w : Tape} {b : ℕ} {s : Loading} (o : overfull w ≡ false) (l : Loads w b s) where
   -- out: past the last block, or at a row that is not well formed
-  pub loads_over : b ≡ w.count → number.Is s.end ≡ loading_of w
+  pub loads_over : b ≡ w.count → Ok s.end ≡ loading_of w
   loads_over z =
-      ap (λ (x : Loading). number.Is x.end) (l.sums ∙ ap (loading_after w) z)
-      ∙ ap number.Is (after-whole w)
+      ap (λ (x : Loading). Ok x.end) (l.sums ∙ ap (loading_after w) z)
+      ∙ ap Ok (after-whole w)
       ∙ loading_given w o (sym (l.needs 0 (omega arith)) ∙ need_none w b)
 
-  pub loads_bad : b < w.count → well_row w b ≡ false → number.Refused bad_row ≡ loading_of w
+  pub loads_bad : b < w.count → well_row w b ≡ false → Err BadRow ≡ loading_of w
   loads_bad h e = loading_refused w o (sym (l.needs (suc (w.count - b - 1)) (omega arith)) ∙ need_bad w b _ e)
 
 -- a block whose row r is well formed
@@ -96,11 +97,11 @@ module _ {w : Tape} {b : ℕ} {s : Loading} (l : Loads w b s) {r : Block} (q : r
         ∙ ap (λ (y : Block). eqb y.endless 1) q
 
     -- out: at a stop
-    pub loads_stop : overfull w ≡ false → s'.over ≡ true → number.Is s'.end ≡ loading_of w
+    pub loads_stop : overfull w ≡ false → s'.over ≡ true → Ok s'.end ≡ loading_of w
     loads_stop o e =
         let f : well_to_stop w b (suc (w.count - b - 1)) ≡ true = need_stop w b _ g (sym stop-here ∙ e) in
-        ap (λ (x : Loading). number.Is x.end) after
-        ∙ ap number.Is (after_stop w (b + 1) (omega arith) (ap (λ (x : Loading). x.over) (sym after) ∙ e))
+        ap (λ (x : Loading). Ok x.end) after
+        ∙ ap Ok (after_stop w (b + 1) (omega arith) (ap (λ (x : Loading). x.over) (sym after) ∙ e))
         ∙ loading_given w o (sym (l.needs (suc (w.count - b - 1)) (omega arith)) ∙ f)
 
     pub loads_on : s'.over ≡ false → Loads w (b + 1) s'
@@ -111,3 +112,10 @@ module _ {w : Tape} {b : ℕ} {s : Loading} (l : Loads w b s) {r : Block} (q : r
           well = λ i d. ⊎_elim (λ x. l.well i x) (λ x. let z : i ≡ b = omega arith in ap (well_row w) z ∙ g) (lt_or_ge i b);
           needs = λ n x. need_on w b n g (sym stop-here ∙ e) ∙ l.needs (suc n) (omega arith);
         }
+
+-- what a row that is answered is within
+pub asked_limits : (w : Tape) (i : ℕ) (r : Block) → Ok r ≡ asked w i → (r.sound < 2 ^ 50) × (well_numbers r ≡ true)
+asked_limits w i r e =
+    let a = answerable w i r e in
+    let m = subst Limits a.row (row_limits w i a.well) in
+    (m.sound, m.numbers)

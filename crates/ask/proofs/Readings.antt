@@ -4,7 +4,10 @@ use Prim.Native.Nat.{ℕ}
 use mathlib.Core.Path.{◌≡◌, refl}
 use mathlib.Core.Bool.{true, false}
 use mathlib.Core.List.{List, [], ◌∷◌, ◌++◌, map}
-use Rattle.refusals.specs.Refusals.{no_block, no_room, bad_row}
+use Rattle.std.specs.Prelude.{Bool, Result, Ok, Err}
+use Rattle.refusals.specs.declared.Refusal.{Refusal}
+use Rattle.refusals.specs.declared.Refusal.TheVariants.{NoBlock, NoRoom, BadRow}
+use Rattle.refusals.specs.Refusals.{number}
 use Rattle.rows.specs.Well.{well_ranges, well_tone, well_numbers, well_cases, well_tones, well_block}
 use Rattle.rows.proofs.Samples.{row_words}
 use Rattle.text_out.specs.Out.{digits, decimal, told}
@@ -14,24 +17,18 @@ use Rattle.play_entries.specs.declared.Duration.TheVariants.{T, Endless}
 use Rattle.play_entries.specs.Places.{Tape}
 use Rattle.play_entries.specs.Stored.{row_lasts, rows_loading}
 use Rattle.play_entries.specs.Mounted.{tape_of, well_row}
-use Rattle.ask.specs.declared.Number.{Number}
-use Rattle.ask.specs.declared.Number.TheVariants as number
-use Rattle.ask.specs.declared.Mark.{Mark}
-use Rattle.ask.specs.declared.Mark.TheVariants as mark
-use Rattle.ask.specs.declared.Time.{Time}
-use Rattle.ask.specs.declared.Time.TheVariants as lasting
-use Rattle.ask.specs.Queries.{refusal_of, number_unless, mark_unless, time_unless, size_of, selectable_of, time_of, length_or_no_room}
-use Rattle.ask.specs.Queries.{name_answer, name_bytes, well_to_stop, loading_of}
+use Rattle.ask.specs.Queries.{answer_no, told_of, asked, refusal_of, size_of, selectable_of, time_of, length_or_no_room}
+use Rattle.ask.specs.Queries.{named_or, name_answer, name_bytes, well_to_stop, loading_of}
 
 -- all that is answered of a block, with the bytes that its name leaves, and the tape's loading time
 pub record Answers : Type 0 where
   pub refusal : ℕ
-  pub size : Number
-  pub selectable : Mark
-  pub lasts : Time
-  pub name : Number
+  pub size : Result ℕ Refusal
+  pub selectable : Result Bool Refusal
+  pub lasts : Result Duration Refusal
+  pub name : Result ℕ Refusal
   pub bytes : List ℕ
-  pub loading : Number
+  pub loading : Result ℕ Refusal
 
 abbrev pub answered : Tape → ℕ → List ℕ → Answers
 answered w i out =
@@ -46,36 +43,36 @@ answered w i out =
     }
 
 -- a block of `size` data bytes, its name n bytes long
-abbrev says : ℕ → Mark → Duration → ℕ → List ℕ → ℕ → Answers
+abbrev says : ℕ → Result Bool Refusal → Duration → ℕ → List ℕ → ℕ → Answers
 says size marked d n bytes loading =
     record {
       refusal = 0;
-      size = number.Is size;
+      size = Ok size;
       selectable = marked;
-      lasts = lasting.Lasts d;
-      name = number.Is n;
+      lasts = Ok d;
+      name = Ok n;
       bytes = bytes;
-      loading = number.Is loading;
+      loading = Ok loading;
     }
 
 -- refusal k of each of these, which leaves the lent bytes
-abbrev refuses : ℕ → List ℕ → Number → Answers
+abbrev refuses : Refusal → List ℕ → Result ℕ Refusal → Answers
 refuses k out loading =
     record {
-      refusal = k;
-      size = number.Refused k;
-      selectable = mark.Refused k;
-      lasts = lasting.Refused k;
-      name = number.Refused k;
+      refusal = number k;
+      size = Err k;
+      selectable = Err k;
+      lasts = Err k;
+      name = Err k;
       bytes = out;
       loading = loading;
     }
 
-abbrev starred : Mark
-starred = mark.Is true
+abbrev starred : Result Bool Refusal
+starred = Ok true
 
-abbrev plain : Mark
-plain = mark.Is false
+abbrev plain : Result Bool Refusal
+plain = Ok false
 
 -- ` bytes`, and `stop`
 abbrev bytes_word : List ℕ
@@ -169,15 +166,15 @@ readings =
     -- the loading time has the sound of a stop's own row
     (tape_of [] one_tone (sound 0 1 0 1 1 1 400) 1, 0, stop_word, says 0 starred Endless 4 stop_word 400) ∷
     -- 11 for the count goes before 8
-    (tape_of [] [] stop_row 2, 2, [], refuses bad_row [] (number.Refused bad_row)) ∷
+    (tape_of [] [] stop_row 2, 2, [], refuses BadRow [] (Err BadRow)) ∷
     -- 8 before 11 for the row: the row behind the count is not well formed
-    (tape_of (0 ∷ []) [] (stop_row ++ broken_row) 1, 1, nine, refuses no_block nine (number.Is 0)) ∷
-    (tape_of [] [] [] 0, 0, [], refuses no_block [] (number.Is 0)) ∷
+    (tape_of (0 ∷ []) [] (stop_row ++ broken_row) 1, 1, nine, refuses NoBlock nine (Ok 0)) ∷
+    (tape_of [] [] [] 0, 0, [], refuses NoBlock [] (Ok 0)) ∷
     -- 11 for the row before 10; the loading time needs no row beyond the first stop, and each up to it
-    (tape_of (0 ∷ []) [] (stop_row ++ broken_row) 2, 1, [], refuses bad_row [] (number.Is 0)) ∷
-    (tape_of (0 ∷ []) [] (broken_row ++ stop_row) 2, 0, [], refuses bad_row [] (number.Refused bad_row)) ∷
+    (tape_of (0 ∷ []) [] (stop_row ++ broken_row) 2, 1, [], refuses BadRow [] (Ok 0)) ∷
+    (tape_of (0 ∷ []) [] (broken_row ++ stop_row) 2, 0, [], refuses BadRow [] (Err BadRow)) ∷
     -- also behind the last pulse: without it nobody can tell that none follows
-    (tape_of (0 ∷ []) one_tone (sound 0 1 0 0 0 0 400 ++ broken_row ++ stop_row) 3, 1, [], refuses bad_row [] (number.Refused bad_row)) ∷
+    (tape_of (0 ∷ []) one_tone (sound 0 1 0 0 0 0 400 ++ broken_row ++ stop_row) 3, 1, [], refuses BadRow [] (Err BadRow)) ∷
     -- 10: three bytes are too short for `stop`, and stay
     (
       printed,
@@ -185,12 +182,12 @@ readings =
       1 ∷ 2 ∷ 3 ∷ [],
       record {
         refusal = 0;
-        size = number.Is 0;
+        size = Ok 0;
         selectable = starred;
-        lasts = lasting.Lasts Endless;
-        name = number.Refused no_room;
+        lasts = Ok Endless;
+        name = Err NoRoom;
         bytes = 1 ∷ 2 ∷ 3 ∷ [];
-        loading = number.Is 400;
+        loading = Ok 400;
       },
     ) ∷
     -- TIMES BY THE ROWS' WORDS: 7 written in the row of a tone of two cycles; and a tone row's length made 300, the row as it was
@@ -210,12 +207,12 @@ readings =
       nine,
       says 0 plain (T 1125899906842623) 7 (0x30 ∷ bytes_word ++ (8 ∷ 9 ∷ [])) 1125899906842623,
     ) ∷
-    (pure_tone [] 0 1125899906842624, 0, nine, refuses bad_row nine (number.Refused bad_row)) ∷
-    (tape_of [] [] (sound 0 0 0 1 1 1 1125899906842624) 1, 0, nine, refuses bad_row nine (number.Refused bad_row)) ∷
+    (pure_tone [] 0 1125899906842624, 0, nine, refuses BadRow nine (Err BadRow)) ∷
+    (tape_of [] [] (sound 0 0 0 1 1 1 1125899906842624) 1, 0, nine, refuses BadRow nine (Err BadRow)) ∷
     []
 
 pub readings_said : map (λ e. answered e.0 e.1 e.2) readings ≡ map (λ e. e.3) readings
-unfolding refusal_of number_unless mark_unless time_unless size_of selectable_of time_of length_or_no_room name_answer name_bytes told loading_of
+unfolding answer_no asked told_of named_or size_of selectable_of time_of length_or_no_room name_answer name_bytes told loading_of
     well_to_stop row_lasts rows_loading well_row well_block well_ranges well_numbers well_cases well_tones well_tone name_of guessed is_header
     size_name size_shown decimal digits
 readings_said = refl

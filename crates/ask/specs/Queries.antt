@@ -1,75 +1,66 @@
 -- The queries of a mounted tape (rules 28, 30, 31, 36, 112). Definitions alone; assumes nothing.
-use Rattle.std.specs.Prelude.{ℕ, zero, suc, ◌+◌, Bool, true, ◌&&◌, ◌||◌, List, ◌≡◌, leb, eqb, length}
+use Rattle.std.specs.Prelude.{ℕ, zero, suc, ◌+◌, Bool, true, ◌&&◌, ◌||◌, List, ◌≡◌, leb, eqb, length, Result, Ok, Err}
 use Rattle.law_base.specs.Rules.{◌⇒◌, ◌∣◌}
-use Rattle.refusals.specs.Refusals.{no_block, no_room, bad_row}
+use Rattle.refusals.specs.declared.Refusal.{Refusal}
+use Rattle.refusals.specs.declared.Refusal.TheVariants.{NoBlock, NoRoom, BadRow}
+use Rattle.refusals.specs.Refusals.{no_room, number}
+use Rattle.rows.specs.declared.Block.{Block}
 use Rattle.text_out.specs.Out.{fits, told}
+use Rattle.play_entries.specs.declared.Duration.{Duration}
 use Rattle.play_entries.specs.Places.{Tape, block_in}
 use Rattle.play_entries.specs.Stored.{row_lasts, rows_time}
 use Rattle.play_entries.specs.Mounted.{overfull, well_row}
 use Rattle.text_name.specs.Names.{name_of}
-use Rattle.ask.specs.declared.Number.{Number}
-use Rattle.ask.specs.declared.Number.TheVariants as number
-use Rattle.ask.specs.declared.Mark.{Mark}
-use Rattle.ask.specs.declared.Mark.TheVariants as mark
-use Rattle.ask.specs.declared.Time.{Time}
-use Rattle.ask.specs.declared.Time.TheVariants as lasting
 
 -- the number for no (rule 20); 0 where the query isn't refused
-unfoldable pub number_no : Number → ℕ
-number_no (number.Is n) = 0
-number_no (number.Refused k) = k
+unfoldable pub answer_no : {A : Type 0} → Result A Refusal → ℕ
+answer_no (Ok a) = 0
+answer_no (Err k) = number k
 
-unfoldable pub mark_no : Mark → ℕ
-mark_no (mark.Is b) = 0
-mark_no (mark.Refused k) = k
+-- what is told of a row, where the query isn't refused
+unfoldable pub told_of : {A : Type 0} → (Block → A) → Result Block Refusal → Result A Refusal
+told_of f (Ok r) = Ok (f r)
+told_of f (Err k) = Err k
 
-unfoldable pub time_no : Time → ℕ
-time_no (lasting.Lasts d) = 0
-time_no (lasting.Refused k) = k
+-- QUERIES: the row of block i; or 11 for the count, 8, 11 for the row
+unfoldable pub asked : Tape → ℕ → Result Block Refusal
+asked w i = overfull w ⇒ Err BadRow ∣ leb w.count i ⇒ Err NoBlock ∣ well_row w i ⇒ Ok (block_in w i) ∣ Err BadRow
 
--- QUERIES: 11 for the count, 8, 11 for the row; 0 where none of them is given
-unfoldable pub refusal_of : Tape → ℕ → ℕ
-refusal_of w i = overfull w ⇒ bad_row ∣ leb w.count i ⇒ no_block ∣ well_row w i ⇒ 0 ∣ bad_row
+-- 0 where none of them is given
+abbrev pub refusal_of : Tape → ℕ → ℕ
+refusal_of w i = answer_no (asked w i)
 
 -- how many blocks the tape has
-unfoldable pub len_of : Tape → Number
-len_of w = overfull w ⇒ number.Refused bad_row ∣ number.Is w.count
-
--- the answer to a query about block i, where the refusal k is none
-unfoldable pub number_unless : ℕ → Number → Number
-number_unless zero n = n
-number_unless (suc k) n = number.Refused (suc k)
-
-unfoldable pub mark_unless : ℕ → Mark → Mark
-mark_unless zero m = m
-mark_unless (suc k) m = mark.Refused (suc k)
-
-unfoldable pub time_unless : ℕ → Time → Time
-time_unless zero t = t
-time_unless (suc k) t = lasting.Refused (suc k)
+unfoldable pub len_of : Tape → Result ℕ Refusal
+len_of w = overfull w ⇒ Err BadRow ∣ Ok w.count
 
 -- a block's data size
-unfoldable pub size_of : Tape → ℕ → Number
-size_of w i = number_unless (refusal_of w i) (number.Is (block_in w i).size)
+unfoldable pub size_of : Tape → ℕ → Result ℕ Refusal
+size_of w i = told_of (λ r. r.size) (asked w i)
 
 -- its selectable mark
-unfoldable pub selectable_of : Tape → ℕ → Mark
-selectable_of w i = mark_unless (refusal_of w i) (mark.Is (eqb (block_in w i).selectable 1))
+unfoldable pub selectable_of : Tape → ℕ → Result Bool Refusal
+selectable_of w i = told_of (λ r. eqb r.selectable 1) (asked w i)
 
 -- its T-states with its pause, or that it never ends, by its row's words
-unfoldable pub time_of : Tape → ℕ → Time
-time_of w i = time_unless (refusal_of w i) (lasting.Lasts (row_lasts (block_in w i)))
+unfoldable pub time_of : Tape → ℕ → Result Duration Refusal
+time_of w i = told_of row_lasts (asked w i)
 
 -- its name, as text
 abbrev pub name_in : Tape → ℕ → List ℕ
 name_in w i = name_of w.bytes (block_in w i)
 
 -- the text's length, or that the output buffer is shorter than the text
-unfoldable pub length_or_no_room : List ℕ → List ℕ → Number
-length_or_no_room text out = fits text out ⇒ number.Is (length text) ∣ number.Refused no_room
+unfoldable pub length_or_no_room : List ℕ → List ℕ → Result ℕ Refusal
+length_or_no_room text out = fits text out ⇒ Ok (length text) ∣ Err NoRoom
 
-unfoldable pub name_answer : Tape → ℕ → List ℕ → Number
-name_answer w i out = number_unless (refusal_of w i) (length_or_no_room (name_in w i) out)
+-- .. of the name of a row, where the query isn't refused
+unfoldable pub named_or : Tape → List ℕ → Result Block Refusal → Result ℕ Refusal
+named_or w out (Ok r) = length_or_no_room (name_of w.bytes r) out
+named_or w out (Err k) = Err k
+
+unfoldable pub name_answer : Tape → ℕ → List ℕ → Result ℕ Refusal
+name_answer w i out = named_or w out (asked w i)
 
 -- the output bytes after it: a refusal writes no byte, bytes past the text stay
 unfoldable pub name_bytes : Tape → ℕ → List ℕ → List ℕ
@@ -81,17 +72,17 @@ unfoldable pub well_to_stop : Tape → ℕ → ℕ → Bool
 well_to_stop w b zero = true
 well_to_stop w b (suc n) = well_row w b && (eqb (block_in w b).endless 1 || well_to_stop w (b + 1) n)
 
-unfoldable pub loading_of : Tape → Number
+unfoldable pub loading_of : Tape → Result ℕ Refusal
 loading_of w =
-    overfull w ⇒ number.Refused bad_row
-    ∣ well_to_stop w 0 w.count ⇒ number.Is (rows_time w)
-    ∣ number.Refused bad_row
+    overfull w ⇒ Err BadRow
+    ∣ well_to_stop w 0 w.count ⇒ Ok (rows_time w)
+    ∣ Err BadRow
 
 -- the number for no (rule 20) is 0 in each answer, but for a name's where the lent bytes are shorter than it: 10
 pub record EachAnswered (w : Tape) (i : ℕ) : Type 0 where
-  pub len : number_no (len_of w) ≡ 0
-  pub size : number_no (size_of w i) ≡ 0
-  pub selectable : mark_no (selectable_of w i) ≡ 0
-  pub lasts : time_no (time_of w i) ≡ 0
-  pub name : (out : List ℕ) → number_no (name_answer w i out) ≡ (fits (name_in w i) out ⇒ 0 ∣ no_room)
-  pub loading : number_no (loading_of w) ≡ 0
+  pub len : answer_no (len_of w) ≡ 0
+  pub size : answer_no (size_of w i) ≡ 0
+  pub selectable : answer_no (selectable_of w i) ≡ 0
+  pub lasts : answer_no (time_of w i) ≡ 0
+  pub name : (out : List ℕ) → answer_no (name_answer w i out) ≡ (fits (name_in w i) out ⇒ 0 ∣ no_room)
+  pub loading : answer_no (loading_of w) ≡ 0

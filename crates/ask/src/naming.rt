@@ -1,36 +1,24 @@
 // The query of a block's name.
 ghost use Rattle.std.specs.Prelude.{◌≡◌};
-ghost use Rattle.play_entries.specs.Mounted.{tape_of};
+ghost use Rattle.play_entries.specs.Mounted.{mounted_tape};
 ghost use Rattle.ask.specs.Queries.{name_answer, name_bytes};
 
-use crate::{Number, refusal};
-use refusals::NO_ROOM;
-use rows::block_at;
+use crate::asked;
+use play_entries::Mounted;
+use refusals::Refusal;
 
 // A block's name as UTF-8 into `out`, and the name's length; a refusal writes no byte.
-pub fn block_name(
-    tape: &[u8],
-    tones: &[u64],
-    blocks: &[u64],
-    count: u64,
-    i: u64,
-    out: &mut [u8],
-) -> Number
-    ensures value { result
-        ≡ name_answer (tape_of tape.now tones.now blocks.now count) i out.old }
-    ensures out_after { out.new
-        ≡ name_bytes (tape_of tape.now tones.now blocks.now count) i out.old }
+#[tactic(auto, using(crate::proofs::Named::no_answer, crate::proofs::Named::no_bytes))]
+pub fn block_name(m: &Mounted<'_>, i: u64, out: &mut [u8]) -> Result<u64, Refusal>
+    ensures value { result ≡ name_answer (mounted_tape m.now) i out.old }
+    ensures out_after { out.new ≡ name_bytes (mounted_tape m.now) i out.old }
 {
-    let k = refusal(tape, tones, blocks, count, i);
-    if k != 0 {
-        return Number::Refused(k);
-    }
-    let r = block_at(blocks, i as usize);
+    let r = asked(m, i)?;
     let mut none = [0u8; 1];
-    let n = text_name::put_name(&mut none, 0, tape, r);
+    let n = text_name::put_name(&mut none, 0, m.tape, r);
     if out.len() < n {
-        return Number::Refused(NO_ROOM);
+        return Err(Refusal::NoRoom);
     }
-    text_name::put_name(out, 0, tape, r);
-    Number::Is(n as u64)
+    text_name::put_name(out, 0, m.tape, r);
+    Ok(n as u64)
 }

@@ -5,6 +5,7 @@ use mathlib.Core.Path.{◌≡◌, refl, sym, ap, ◌∙◌}
 use mathlib.Core.Bool.{Bool, true, false, ◌&&◌}
 use mathlib.Core.List.{List, [], ◌∷◌, ◌++◌}
 use lib.Dec.{eqb}
+use Rattle.std.specs.Prelude.{Option, Some, None}
 use lib.ListN.{length, take}
 use borrow.Author.Tests.{le-ltb, eqb-true}
 use Rattle.law_base.specs.Rules.{◌⇒◌, ◌∣◌}
@@ -14,16 +15,11 @@ use Rattle.play_entries.specs.declared.Phase.TheVariants.{Start, Tones, Data, Ed
 use Rattle.play_entries.specs.declared.Duration.{Duration}
 use Rattle.play_entries.specs.declared.Duration.TheVariants.{T, Endless}
 use Rattle.play_walk.specs.declared.Position.{Position}
-use Rattle.host_words.specs.declared.Phased.{Phased}
-use Rattle.host_words.specs.declared.Phased.TheVariants as phased
-use Rattle.host_words.specs.declared.Spanned.{Spanned}
-use Rattle.host_words.specs.declared.Spanned.TheVariants as spanned
-use Rattle.host_words.specs.declared.Placed.TheVariants as place
 use Rattle.host_words.specs.Words.{flag_of, spot, spot_of, span, span_of, words_of, unhalved, halved, phase_from, span_from}
 use Rattle.host_words.specs.Words.{joined, position_from}
 
 -- the words of a phase name it
-phase_back : (f : Phase) → phase_from (spot_of f).phase (spot_of f).item (spot_of f).part (spot_of f).half ≡ phased.Is f
+phase_back : (f : Phase) → phase_from (spot_of f).phase (spot_of f).item (spot_of f).part (spot_of f).half ≡ Some f
 unfolding phase_from spot_of unhalved halved flag_of
 phase_back Start = refl
 phase_back (Tones i p false) = refl
@@ -33,12 +29,12 @@ phase_back (Data i k true) = refl
 phase_back Edge = refl
 phase_back Pause = refl
 
-span-back : (d : Duration) → span_from (span_of d).endless (span_of d).left ≡ spanned.Is d
+span-back : (d : Duration) → span_from (span_of d).endless (span_of d).left ≡ Some d
 unfolding span_from span_of
 span-back (T n) = refl
 span-back Endless = refl
 
-position-back : (q : Position) (rest : List ℕ) → position_from (words_of q ++ rest) ≡ place.Is q
+position-back : (q : Position) (rest : List ℕ) → position_from (words_of q ++ rest) ≡ Some q
 unfolding position_from words_of joined
 position-back q rest =
     rw (le-ltb (length (words_of q ++ rest)) 7 (omega arith), phase_back q.phase, span-back q.left)
@@ -50,7 +46,7 @@ either true x y e f g = f refl e
 either false x y e f g = g refl e
 
 -- words that name a phase are its words
-bare-spot : (f g : Phase) (n a b h : ℕ) → spot_of f ≡ spot n 0 0 0 → unhalved f a b h ≡ phased.Is g → spot_of g ≡ spot n a b h
+bare-spot : (f g : Phase) (n a b h : ℕ) → spot_of f ≡ spot n 0 0 0 → unhalved f a b h ≡ Some g → spot_of g ≡ spot n a b h
 unfolding unhalved
 bare-spot f g n a b h s e =
     either (eqb a 0 && (eqb b 0 && eqb h 0)) _ _ e
@@ -66,14 +62,14 @@ bare-spot f g n a b h s e =
     (λ t q. cc)
 
 halved-spot : (f : Bool → Phase) (g : Phase) (n a b h : ℕ) → ((v : Bool) → spot_of (f v) ≡ spot n a b (flag_of v))
-    → halved f h ≡ phased.Is g → spot_of g ≡ spot n a b h
+    → halved f h ≡ Some g → spot_of g ≡ spot n a b h
 unfolding halved flag_of
 halved-spot f g n a b h s e =
     either (eqb h 0) _ _ e
     (λ t q. let same : f false ≡ g = cc in rw (eqb-true h 0 t, ← same) (s false))
     (λ t q. either (eqb h 1) _ _ q (λ u r. let same : f true ≡ g = cc in rw (eqb-true h 1 u, ← same) (s true)) (λ u r. cc))
 
-phase_words : (f a b h : ℕ) (g : Phase) → phase_from f a b h ≡ phased.Is g → spot_of g ≡ spot f a b h
+phase_words : (f a b h : ℕ) (g : Phase) → phase_from f a b h ≡ Some g → spot_of g ≡ spot f a b h
 unfolding phase_from spot_of
 phase_words f a b h g e =
     either (eqb f 0) _ _ e
@@ -91,7 +87,7 @@ phase_words f a b h g e =
     as_number : (m n : ℕ) → eqb m n ≡ true → spot n a b h ≡ spot m a b h
     as_number m n t = ap (λ (k : ℕ). spot k a b h) (sym (eqb-true m n t))
 
-span_words : (e n : ℕ) (d : Duration) → span_from e n ≡ spanned.Is d → span_of d ≡ span e n
+span_words : (e n : ℕ) (d : Duration) → span_from e n ≡ Some d → span_of d ≡ span e n
 unfolding span_from span_of
 span_words e n d q =
     either (eqb e 0) _ _ q
@@ -102,21 +98,21 @@ span_words e n d q =
     rw (eqb-true e 1 (first (eqb e 1) (eqb n 0) t), eqb-true n 0 (second (eqb e 1) (eqb n 0) t), ← same))
     (λ _ r. cc))
 
-joined_words : (b f a p h e n : ℕ) (q : Position) → joined b (phase_from f a p h) (span_from e n) ≡ place.Is q
+joined_words : (b f a p h e n : ℕ) (q : Position) → joined b (phase_from f a p h) (span_from e n) ≡ Some q
     → b ∷ f ∷ a ∷ p ∷ h ∷ e ∷ n ∷ [] ≡ words_of q
 unfolding joined words_of
 joined_words b f a p h e n q j = parts (phase_from f a p h) (span_from e n) refl refl j
   where
-    parts : (x : Phased) (y : Spanned) → phase_from f a p h ≡ x → span_from e n ≡ y → joined b x y ≡ place.Is q
+    parts : (x : Option Phase) (y : Option Duration) → phase_from f a p h ≡ x → span_from e n ≡ y → joined b x y ≡ Some q
         → b ∷ f ∷ a ∷ p ∷ h ∷ e ∷ n ∷ [] ≡ words_of q
-    parts (phased.Is g) (spanned.Is d) u v w =
-        let at : place.Is (record { block = b; phase = g; left = d }) ≡ place.Is q = w in
+    parts (Some g) (Some d) u v w =
+        let at : Some (record { block = b; phase = g; left = d }) ≡ Some q = w in
         let same : record { block = b; phase = g; left = d } ≡ q = cc in
         rw (← same, phase_words f a p h g u, span_words e n d v)
-    parts (phased.Is g) spanned.Not u v w = cc
-    parts phased.Not y u v w = cc
+    parts (Some g) None u v w = cc
+    parts None y u v w = cc
 
-words_back : (ws : List ℕ) (q : Position) → position_from ws ≡ place.Is q → take 7 ws ≡ words_of q
+words_back : (ws : List ℕ) (q : Position) → position_from ws ≡ Some q → take 7 ws ≡ words_of q
 unfolding position_from
 words_back [] q e = cc
 words_back (b ∷ []) q e = cc
@@ -130,6 +126,6 @@ words_back (b ∷ f ∷ a ∷ p ∷ h ∷ v ∷ n ∷ rest) q e =
     joined_words b f a p h v n q (rw long at e)
 
 pub position-words
-    : ((q : Position) (rest : List ℕ) → position_from (words_of q ++ rest) ≡ place.Is q)
-    × ((ws : List ℕ) (q : Position) → position_from ws ≡ place.Is q → take 7 ws ≡ words_of q)
+    : ((q : Position) (rest : List ℕ) → position_from (words_of q ++ rest) ≡ Some q)
+    × ((ws : List ℕ) (q : Position) → position_from ws ≡ Some q → take 7 ws ≡ words_of q)
 position-words = (position-back, words_back)

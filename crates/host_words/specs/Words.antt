@@ -1,5 +1,5 @@
 -- Positions as plain words, and words as positions. Definitions alone; assumes nothing.
-use Rattle.std.specs.Prelude.{ℕ, Bool, true, false, ◌&&◌, List, [], ◌∷◌, ltb, eqb, length, get_or}
+use Rattle.std.specs.Prelude.{ℕ, Bool, true, false, ◌&&◌, List, [], ◌∷◌, ltb, eqb, length, get_or, Option, Some, None}
 use Rattle.law_base.specs.Rules.{◌⇒◌, ◌∣◌}
 use Rattle.play_entries.specs.declared.Phase.{Phase}
 use Rattle.play_entries.specs.declared.Phase.TheVariants.{Start, Tones, Data, Edge, Pause}
@@ -9,12 +9,6 @@ use Rattle.play_walk.specs.declared.Position.{Position}
 use Rattle.play_walk.specs.Heads.{placed}
 use Rattle.host_words.specs.declared.Spot.{Spot}
 use Rattle.host_words.specs.declared.Span.{Span}
-use Rattle.host_words.specs.declared.Phased.{Phased}
-use Rattle.host_words.specs.declared.Phased.TheVariants as phased
-use Rattle.host_words.specs.declared.Spanned.{Spanned}
-use Rattle.host_words.specs.declared.Spanned.TheVariants as spanned
-use Rattle.host_words.specs.declared.Placed.{Placed}
-use Rattle.host_words.specs.declared.Placed.TheVariants as place
 
 -- a flag as a word
 unfoldable pub flag_of : Bool → ℕ
@@ -48,37 +42,41 @@ words_of q =
     q.block ∷ f.phase ∷ f.item ∷ f.part ∷ f.half ∷ d.endless ∷ d.left ∷ []
 
 -- a phase that uses no further word: they are 0
-unfoldable pub unhalved : Phase → ℕ → ℕ → ℕ → Phased
-unhalved f a b h = (eqb a 0 && (eqb b 0 && eqb h 0)) ⇒ phased.Is f ∣ phased.Not
+unfoldable pub unhalved : Phase → ℕ → ℕ → ℕ → Option Phase
+unhalved f a b h = (eqb a 0 && (eqb b 0 && eqb h 0)) ⇒ Some f ∣ None
+
+-- A WORD AS A FLAG, where it names one: 0 or 1
+unfoldable pub flag_from : ℕ → Option Bool
+flag_from w = eqb w 0 ⇒ Some false ∣ eqb w 1 ⇒ Some true ∣ None
 
 -- a phase with halves: the flag is 0 or 1
-unfoldable pub halved : (Bool → Phase) → ℕ → Phased
-halved f h = eqb h 0 ⇒ phased.Is (f false) ∣ eqb h 1 ⇒ phased.Is (f true) ∣ phased.Not
+unfoldable pub halved : (Bool → Phase) → ℕ → Option Phase
+halved f h = eqb h 0 ⇒ Some (f false) ∣ eqb h 1 ⇒ Some (f true) ∣ None
 
 -- WORDS AS A PHASE, where they name one
-unfoldable pub phase_from : ℕ → ℕ → ℕ → ℕ → Phased
+unfoldable pub phase_from : ℕ → ℕ → ℕ → ℕ → Option Phase
 phase_from f a b h =
     eqb f 0 ⇒ unhalved Start a b h
     ∣ eqb f 1 ⇒ halved (Tones a b) h
     ∣ eqb f 2 ⇒ halved (Data a b) h
     ∣ eqb f 3 ⇒ unhalved Pause a b h
     ∣ eqb f 4 ⇒ unhalved Edge a b h
-    ∣ phased.Not
+    ∣ None
 
 -- WORDS AS A DURATION, where they name one
-unfoldable pub span_from : ℕ → ℕ → Spanned
+unfoldable pub span_from : ℕ → ℕ → Option Duration
 span_from e n =
-    eqb e 0 ⇒ spanned.Is (T n)
-    ∣ (eqb e 1 && eqb n 0) ⇒ spanned.Is Endless
-    ∣ spanned.Not
+    eqb e 0 ⇒ Some (T n)
+    ∣ (eqb e 1 && eqb n 0) ⇒ Some Endless
+    ∣ None
 
-unfoldable pub joined : ℕ → Phased → Spanned → Placed
-joined b (phased.Is f) (spanned.Is d) = place.Is (placed b f d)
-joined b (phased.Is f) spanned.Not = place.Not
-joined b phased.Not d = place.Not
+unfoldable pub joined : ℕ → Option Phase → Option Duration → Option Position
+joined b (Some f) (Some d) = Some (placed b f d)
+joined b (Some f) None = None
+joined b None d = None
 
 -- WORDS AS A POSITION: the first seven of a lent row, where they name one; words past them are not read
-unfoldable pub position_from : List ℕ → Placed
+unfoldable pub position_from : List ℕ → Option Position
 position_from ws =
-    ltb (length ws) 7 ⇒ place.Not
+    ltb (length ws) 7 ⇒ None
     ∣ joined (get_or ws 0 0) (phase_from (get_or ws 1 0) (get_or ws 2 0) (get_or ws 3 0) (get_or ws 4 0)) (span_from (get_or ws 5 0) (get_or ws 6 0))

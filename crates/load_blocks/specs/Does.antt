@@ -1,7 +1,7 @@
 -- The shape of contracts inside a load: what a step does to every tape that its state and tables hold. Assumes nothing.
-use Rattle.std.specs.Prelude.{ℕ, List}
+use Rattle.std.specs.Prelude.{ℕ, List, Result}
 use Rattle.load_state.specs.declared.State.{State}
-use Rattle.load_state.specs.declared.Step.{Step}
+use Rattle.load_state.specs.declared.Halt.{Halt}
 use Rattle.load_state.specs.Parser.{Parsed, Out}
 use Rattle.load_state.specs.Holds.{Holds, GivesOut, block_room, tone_room}
 use Rattle.load_blocks.specs.Adds.{Lent}
@@ -10,7 +10,7 @@ use Rattle.load_blocks.specs.Adds.{Lent}
 abbrev pub lent_of : ℕ → ℕ → Lent
 lent_of B N = record { blocks = block_room B; tones = tone_room N }
 
-abbrev pub Does : (Lent → Parsed → Out) → State → Step → List ℕ → List ℕ → List ℕ → List ℕ → Type 0
+abbrev pub Does : (Lent → Parsed → Out) → State → Result State Halt → List ℕ → List ℕ → List ℕ → List ℕ → Type 0
 Does f s a bt tt bt' tt' = (B N : ℕ) (t : Parsed) → Holds B N s bt tt t → GivesOut B N a bt' tt' (f (lent_of B N) t)
 
 -- a state with another count of tone rows

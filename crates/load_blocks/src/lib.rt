@@ -8,9 +8,9 @@ ghost use Rattle.load_blocks.specs.Sounds.{no_bits, ends_after, ends_in_stop, ro
 ghost use Rattle.load_blocks.specs.Blocks.{data_sound, standard_header, standard_cycles, standard_pause, standard_sound};
 ghost use Rattle.load_blocks.specs.Does.{Does};
 
-use load_state::{State, Step, add_block, add_tone};
+use load_state::{Halt, State, add_block, add_tone};
 use play_times::{data_figure, tone_figure};
-use rows::{Block, Tone, with_sound};
+use rows::{Block, Tone};
 
 // Where a block comes from: its piece's kind, and where that piece stands in the tape.
 // What a row takes from outside its sound is a field here; no word has any of it yet.
@@ -112,33 +112,20 @@ pub fn stop_row(origin: Origin, tone: u64) -> Block
     row(origin, tone, 0, no_bits(), ending, 1)
 }
 
-// One tone row and a block.
-pub fn one_tone(s: State, blocks: &mut [u64], tones: &mut [u64], a: Tone, r: Block) -> Step
-    ensures { Does (λ lent. add_rows lent (a ∷ []) r) s result blocks.old tones.old blocks.new
-        tones.new }
-{
-    match add_tone(s, tones, a) {
-        Step::On(next) => add_block(next, blocks, r),
-        Step::No(k) => Step::No(k),
-    }
-}
-
-// Two tone rows and a block.
-pub fn two_tones(
-    s: State,
+// A block over these tone rows.
+pub fn add_rows(
+    mut s: State,
     blocks: &mut [u64],
     tones: &mut [u64],
-    a: Tone,
-    b: Tone,
+    rows: &[Tone],
     r: Block,
-) -> Step
-    ensures { Does (λ lent. add_rows lent (a ∷ b ∷ []) r) s result blocks.old tones.old blocks.new
-        tones.new }
+) -> Result<State, Halt>
+    ensures { Does (λ lent. add_rows lent rows.now r) s result blocks.old tones.old blocks.new tones.new }
 {
-    match add_tone(s, tones, a) {
-        Step::On(next) => one_tone(next, blocks, tones, b, r),
-        Step::No(k) => Step::No(k),
+    for a in rows {
+        s = add_tone(s, tones, *a)?;
     }
+    add_block(s, blocks, r)
 }
 
 // A block of a pilot, a sync and bits of data, with what they sound.
@@ -152,30 +139,25 @@ pub fn data_block(
     sync: Tone,
     bits: Bits,
     pause: u64,
-) -> Step
+) -> Result<State, Halt>
     ensures { Does (λ lent. add_sound lent tape.now origin (data_sound (pilot ∷ sync ∷ []) bits pause)) s result
         blocks.old tones.old blocks.new tones.new }
 {
     let r = data_row(origin, s.tones, 2, bits, pause);
     let sound = tone_figure(r, pilot) + tone_figure(r, sync) + data_figure(tape, r);
-    two_tones(s, blocks, tones, pilot, sync, with_sound(sound, r))
+    add_rows(s, blocks, tones, &[pilot, sync], r.with_sound(sound))
 }
 
 // Whether a standard block is a header.
+#[tactic(auto, unfolding(crate::specs::Blocks::standard_header))]
 pub fn is_header(tape: &[u8], start: u64, size: u32) -> bool
     ensures { result ≡ standard_header tape.now start size }
 {
-    if size == 0 {
-        return true;
-    }
-    if start < tape.len() as u64 {
-        tape[start as usize] < 128
-    } else {
-        true
-    }
+    size == 0 || tape.len() as u64 <= start || tape[start as usize] < 128
 }
 
 // The pilot cycles of a standard block.
+#[tactic(auto, unfolding(crate::specs::Blocks::standard_cycles))]
 fn standard_cycles(header: bool) -> u64
     ensures { result ≡ standard_cycles header }
 {
@@ -183,6 +165,7 @@ fn standard_cycles(header: bool) -> u64
 }
 
 // 10, and a block of a TAP.
+#[tactic(auto, unfolding(crate::specs::Blocks::standard_tones, crate::specs::Blocks::standard_sound))]
 pub fn standard_data_block(
     tape: &[u8],
     s: State,
@@ -193,7 +176,7 @@ pub fn standard_data_block(
     start: u64,
     size: u32,
     pause: u64,
-) -> Step
+) -> Result<State, Halt>
     ensures { Does (λ lent. add_sound lent tape.now origin (standard_sound header start size pause)) s result
         blocks.old tones.old blocks.new tones.new }
 {
@@ -220,13 +203,14 @@ pub fn standard_data_block(
 }
 
 // A block without tone rows.
-pub fn no_tone(s: State, blocks: &mut [u64], r: Block) -> Step
+pub fn no_tone(s: State, blocks: &mut [u64], r: Block) -> Result<State, Halt>
     ensures { (tt : List ℕ) → Does (λ lent. add_rows lent [] r) s result blocks.old tt blocks.new tt }
 {
     add_block(s, blocks, r)
 }
 
 // The pause of a standard block in a TAP.
+#[tactic(auto, unfolding(crate::specs::Blocks::standard_pause))]
 pub fn standard_pause(header: bool) -> u64
     ensures { result ≡ standard_pause header }
 {

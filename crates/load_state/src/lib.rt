@@ -1,6 +1,8 @@
 // The parser's state: pending name, open loop, blocks and tones so far; a row added to either table.
 // It knows no kinds and no places of pieces.
 // Every promise is of each tape that the state and the tables hold; code is safe for any state, so it minds the capacity by itself.
+// State and tables stay parameters of each step: a struct that holds both tables has to say in each contract that it lends the same two still, as long
+// as they were, and takes from a step that writes one of them what its type says now.
 #![tactic(auto)]
 
 ghost use Rattle.std.specs.Prelude.{◌≡◌, List, [], ◌∷◌, ℕ};

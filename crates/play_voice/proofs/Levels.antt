@@ -1,14 +1,12 @@
 -- THE LEVEL OF A DOCUMENT ROW'S ENTRY is the level by the line behind the rows below it. Assumes nothing.
-use Prim.Native.Nat.{ℕ, ◌+◌, ◌≤◌}
+use Prim.Native.Nat.{ℕ, ◌≤◌}
 use native.Mathlib.Omega.{arith}
-use mathlib.Core.Path.{◌≡◌, refl, sym, ap, subst, ◌∙◌}
+use mathlib.Core.Path.{◌≡◌, refl, sym, ap, ◌∙◌}
 use mathlib.Core.Bool.{Bool, true, false}
 use mathlib.Core.List.{List}
 use lib.Dec.{eqb}
 use Rattle.law_base.specs.Rules.{◌⇒◌, ◌∣◌}
 use Rattle.law_pulses.specs.Play.{low, high}
-use Rattle.rows.specs.Table.{capacity_of}
-use Rattle.rows.specs.Rows.{tone, tone_most}
 use Rattle.rows.specs.declared.Block.{Block}
 use Rattle.rows_well.specs.declared.Seen.{Seen}
 use Rattle.rows_well.specs.Seen.{seen_of, steady_seen}
@@ -19,8 +17,7 @@ use Rattle.play_entries.specs.declared.Phase.TheVariants.{Start, Tones, Data, Ed
 use Rattle.play_entries.specs.Entries.{tone_at, is_source, line_at, cycle_level, bit_level, pause_level}
 use Rattle.play_entries.specs.Places.{has_entry, level_at}
 use Rattle.play_entries.proofs.Valid.{tone-entry}
-use Rattle.play_voice.specs.Voice.{rows_below, level_by, asks_played, turned_line, ToldSeen, row_at, Standing}
-use Rattle.play_voice.specs.declared.Heard.{Heard}
+use Rattle.play_voice.specs.Voice.{rows_below, level_by, asks_played, turned_line}
 use Rattle.play_voice.proofs.Turned.{current_turned}
 
 -- by whether it is endless, and whether it is 0
@@ -80,15 +77,3 @@ module _ (tones : List ℕ) (r : Block) where
       let c = current_turned tones r (rows_below r f) (sym (ap steady_seen e) ∙ t) in
       level_same (turned_line r s) (line_at tones r (rows_below r f)) (ap (λ (x : Seen). (turned_line r x).current) e ∙ sym c) f n
       ∙ sym (level_by_lem d f)
-
--- what a document row's level asks, of the row that the code read
-abbrev Asked : List ℕ → ℕ → Phase → Heard → Block → Type 0
-Asked tones b f h r =
-    (r.tone + r.tones ≤ capacity_of tone tone_most tones)
-    × (((is_source r ≡ false) × (has_entry tones r f ≡ true)) × (h.block ≡ b → h.seen ≡ seen_of tones r.tone h.rows))
-
-pub asks_level : (tones blocks : List ℕ) (b : ℕ) (f : Phase) (h : Heard) → Standing tones blocks b f → ToldSeen tones blocks h
-    → is_source (row_at blocks b) ≡ false → (r : Block) → r ≡ row_at blocks b → Asked tones b f h r
-asks_level tones blocks b f h x told d r e =
-    subst (Asked tones b f h) (sym e)
-    (x.rows, ((d, x.entry), λ q. told ∙ ap (λ (i : ℕ). seen_of tones (row_at blocks i).tone h.rows) q))

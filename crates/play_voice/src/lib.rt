@@ -1,12 +1,10 @@
 // The levels of a block's entries: a source row's by the half, a document row's by the line that runs along its tone rows.
 #![tactic(auto)]
 
-ghost use Rattle.std.specs.Prelude.{◌≡◌, true, false, ◌+◌, ◌*◌, ◌<◌, ◌≤◌, min, eqb, length};
-ghost use Rattle.rows.specs.Table.{capacity_of};
-ghost use Rattle.rows.specs.Rows.{tone, block, tone_most};
+ghost use Rattle.std.specs.Prelude.{◌≡◌, true, false, ◌+◌, ◌*◌, ◌≤◌, min, length};
+ghost use Rattle.rows.specs.Rows.{block};
 ghost use Rattle.rows.specs.Well.{well_tones};
 ghost use Rattle.rows_well.specs.Seen.{seen_of};
-ghost use Rattle.play_levels.specs.Closed.{begin_of, flipped};
 ghost use Rattle.play_entries.specs.Entries.{is_source, line_start, line_at, start_level};
 ghost use Rattle.play_entries.specs.Signals.{line_data, line_behind};
 ghost use Rattle.play_entries.specs.Places.{has_entry, level_at};
@@ -14,10 +12,10 @@ ghost use Rattle.play_voice.specs.Voice.{pause_below, rows_below, pause_by, leve
 ghost use Rattle.play_voice.specs.Voice.{heard_to, ToldSeen};
 ghost use Rattle.play_voice.specs.Voice.{row_at, Standing};
 
-use play_entries::Phase;
+use play_entries::{Mounted, Phase};
 use play_levels::{Line, first_level, line_after};
-use play_phases::{mic, row_tone};
-use rows::{Block, Tone, block_at};
+use play_phases::{TonedRow, mic};
+use rows::Block;
 use rows_well::{Seen, none_seen, seen_steady, seen_well, tones_seen};
 
 // What was seen of a block's first tone rows.
@@ -40,12 +38,11 @@ pub fn unheard() -> Heard
 }
 
 // Whether block b's row is a source row; its callers know the row to be lent. Only that word is read.
-pub fn is_source(blocks: &[u64], b: u64) -> bool
-    requires { b * block.width + block.width ≤ length blocks.now }
-    ensures { result ≡ is_source (row_at blocks.now b) }
+pub fn is_source(m: &Mounted<'_>, b: u64) -> bool
+    requires { b * block.width + block.width ≤ length m.now.blocks.now }
+    ensures { result ≡ is_source (row_at m.now.blocks.now b) }
 {
-    let r = block_at(blocks, b as usize);
-    r.sort == 0
+    m.row(b).sort == 0
 }
 
 // The line at a row's start.
@@ -58,48 +55,40 @@ pub fn line_start(r: Block) -> Line
     }
 }
 
-// The line before a block's tone row n, or behind the last; a step a tone row. Its callers know the tone rows to be lent.
-pub fn line_at(tones: &[u64], r: Block, n: u64) -> Line
-    requires { (r.tone + r.tones ≤ capacity_of tone tone_most tones.now) × (n ≤ r.tones) }
-    ensures { result ≡ line_at tones.now r n }
+// The line before a block's tone row n, or behind the last; a step a tone row.
+#[tactic(auto, unfolding(play_entries::specs::Entries::line_at))]
+pub fn line_at(x: &TonedRow<'_>, n: u64) -> Line
+    requires { n ≤ x.now.row.tones }
+    ensures { result ≡ line_at x.now.tones.now x.now.row n }
 {
-    let mut l = line_start(r);
-    let mut i = 0;
-    while i < n {
-        l = line_after(row_tone(tones, r, i), l);
-        i += 1;
+    let mut l = line_start(x.row);
+    for i in 0..n {
+        l = line_after(x.tone(i), l);
     }
     l
 }
 
 // The level of a block's start.
+#[tactic(auto, unfolding(play_entries::specs::Entries::start_level))]
 pub fn start_level(r: Block) -> bool
     ensures { result ≡ start_level r }
 {
-    if r.sort == 0 {
-        return false;
-    }
-    r.level == 1
-}
-
-// A level, turned where h is true.
-fn flip(h: bool, v: bool) -> bool
-    ensures { result ≡ flipped h v }
-{
-    if h { !v } else { v }
+    r.sort != 0 && r.level == 1
 }
 
 // The tone rows whose line a pause's level needs.
 fn pause_below(r: Block) -> u64
     ensures { result ≡ pause_below r }
 {
-    if r.endless == 1 {
-        return 0;
+    if r.endless != 1 && r.pause == 0 {
+        r.tones
+    } else {
+        0
     }
-    if r.pause == 0 { r.tones } else { 0 }
 }
 
 // The tone rows below a document row's entry whose line its level needs.
+#[tactic(auto, unfolding(crate::specs::Voice::rows_below))]
 fn rows_below(r: Block, f: Phase) -> u64
     ensures { result ≡ rows_below r f }
 {
@@ -116,53 +105,37 @@ fn rows_below(r: Block, f: Phase) -> u64
 fn pause_by(r: Block, l: Line) -> bool
     ensures { result ≡ pause_by r l }
 {
-    if r.endless == 1 {
-        return false;
-    }
-    if r.pause == 0 {
-        return l.current;
-    }
-    false
+    r.endless != 1 && r.pause == 0 && l.current
 }
 
 // The level of a document row's entry, l being the line behind the rows below it.
-fn level_by(tones: &[u64], r: Block, f: Phase, l: Line) -> bool
-    requires tones_bound { r.tone + r.tones ≤ capacity_of tone tone_most tones.now }
-    requires f_value { has_entry tones.now r f ≡ true }
-    ensures { result ≡ level_by tones.now r f l }
+#[tactic(auto, unfolding(crate::specs::Voice::level_by))]
+fn level_by(x: &TonedRow<'_>, f: Phase, l: Line) -> bool
+    requires { has_entry x.now.tones.now x.now.row f ≡ true }
+    ensures { result ≡ level_by x.now.tones.now x.now.row f l }
 {
     match f {
-        Phase::Start => start_level(r),
+        Phase::Start => start_level(x.row),
         Phase::Tones {
             index,
             pulse,
             last_half,
-        } => flip(last_half, first_level(row_tone(tones, r, index), l, pulse)),
-        Phase::Data { last_half, .. } => flip(last_half, l.current),
+        } => last_half != first_level(x.tone(index), l, pulse),
+        Phase::Data { last_half, .. } => last_half != l.current,
         Phase::Edge => l.current,
-        Phase::Pause => pause_by(r, l),
+        Phase::Pause => pause_by(x.row, l),
     }
 }
 
-// Whether a tone begins at the level last played.
-fn begins_played(t: Tone) -> bool
-    ensures { result ≡ eqb (begin_of t) 1 }
-{
-    t.wave / 3 == 1
-}
-
-// Whether an entry's level asks for the level last played.
-fn asks_played(tones: &[u64], r: Block, f: Phase) -> bool
-    requires tones_bound { r.tone + r.tones ≤ capacity_of tone tone_most tones.now }
-    requires f_value { has_entry tones.now r f ≡ true }
-    ensures { result ≡ asks_played tones.now r f }
+// Whether an entry's level asks for the level last played: a tone of begin 1 does.
+#[tactic(auto, unfolding(crate::specs::Voice::asks_played))]
+fn asks_played(x: &TonedRow<'_>, f: Phase) -> bool
+    requires { has_entry x.now.tones.now x.now.row f ≡ true }
+    ensures { result ≡ asks_played x.now.tones.now x.now.row f }
 {
     match f {
-        Phase::Start => false,
-        Phase::Tones { index, .. } => begins_played(row_tone(tones, r, index)),
-        Phase::Data { .. } => false,
-        Phase::Edge => false,
-        Phase::Pause => false,
+        Phase::Tones { index, .. } => x.tone(index).wave / 3 == 1,
+        _ => false,
     }
 }
 
@@ -171,132 +144,124 @@ fn turned_line(r: Block, s: Seen) -> Line
     ensures { result ≡ turned_line r s }
 {
     Line {
-        current: flip(s.turns % 2 == 1, r.level == 1),
+        current: (s.turns % 2 == 1) != (r.level == 1),
         played: r.played == 1,
     }
 }
 
 // The level of a document row's entry, from what was seen of the rows below it; a step a row only where their turns don't tell it.
-fn level_seen(tones: &[u64], r: Block, f: Phase, s: Seen) -> bool
-    requires tones_bound { r.tone + r.tones ≤ capacity_of tone tone_most tones.now }
-    requires r_value { (is_source r ≡ false) × (has_entry tones.now r f ≡ true) }
-    requires s_value { s ≡ seen_of tones.now r.tone (rows_below r f) }
-    ensures { result ≡ level_at tones.now r f }
+#[tactic(auto, using(crate::proofs::Levels::below_most, crate::proofs::Levels::level_by_lem, crate::proofs::Levels::level_turned))]
+fn level_seen(x: &TonedRow<'_>, f: Phase, s: Seen) -> bool
+    requires r_value { (is_source x.now.row ≡ false) × (has_entry x.now.tones.now x.now.row f ≡ true) }
+    requires s_value { s ≡ seen_of x.now.tones.now x.now.row.tone (rows_below x.now.row f) }
+    ensures { result ≡ level_at x.now.tones.now x.now.row f }
 {
-    if seen_steady(s) {
-        if !asks_played(tones, r, f) {
-            return level_by(tones, r, f, turned_line(r, s));
-        }
+    if seen_steady(s) && !asks_played(x, f) {
+        return level_by(x, f, turned_line(x.row, s));
     }
-    level_by(tones, r, f, line_at(tones, r, rows_below(r, f)))
+    level_by(x, f, line_at(x, rows_below(x.row, f)))
 }
 
-// The first n tone rows of block b, whose row is r, on from what was heard where that is of them.
-fn seen_on(tones: &[u64], r: Block, b: u64, n: u64, h: Heard) -> Seen
-    requires tones_bound { (r.tone + r.tones ≤ capacity_of tone tone_most tones.now) × (n ≤ r.tones) }
-    requires seen_value { h.block ≡ b → h.seen ≡ seen_of tones.now r.tone h.rows }
-    ensures { result ≡ seen_of tones.now r.tone n }
+// The first n tone rows of block b, whose row is x's, on from what was heard where that is of them.
+#[tactic(auto, using(rows_well::proofs::Gathered::seen_on))]
+fn seen_on(x: &TonedRow<'_>, b: u64, n: u64, h: Heard) -> Seen
+    requires n_bound { n ≤ x.now.row.tones }
+    requires seen_value { h.block ≡ b → h.seen ≡ seen_of x.now.tones.now x.now.row.tone h.rows }
+    ensures { result ≡ seen_of x.now.tones.now x.now.row.tone n }
 {
-    if h.block == b {
-        if h.rows <= n {
-            let s = h.seen;
-            return tones_seen(tones, s, r.tone + h.rows, n - h.rows);
-        }
+    if h.block == b && h.rows <= n {
+        tones_seen(x.tones, h.seen, x.row.tone + h.rows, n - h.rows)
+    } else {
+        tones_seen(x.tones, none_seen(), x.row.tone, n)
     }
-    tones_seen(tones, none_seen(), r.tone, n)
 }
 
-// The level of an entry of block b, whose row r is a document row, on from what was heard.
-fn document_level(tones: &[u64], r: Block, b: u64, f: Phase, h: Heard) -> bool
-    requires tones_bound { r.tone + r.tones ≤ capacity_of tone tone_most tones.now }
-    requires r_value { (is_source r ≡ false) × (has_entry tones.now r f ≡ true) }
-    requires seen_value { h.block ≡ b → h.seen ≡ seen_of tones.now r.tone h.rows }
-    ensures { result ≡ level_at tones.now r f }
+// The level of an entry of block b, whose row x has is a document row, on from what was heard.
+#[tactic(auto, using(crate::proofs::Levels::below_most))]
+fn document_level(x: &TonedRow<'_>, b: u64, f: Phase, h: Heard) -> bool
+    requires r_value { (is_source x.now.row ≡ false) × (has_entry x.now.tones.now x.now.row f ≡ true) }
+    requires seen_value { h.block ≡ b → h.seen ≡ seen_of x.now.tones.now x.now.row.tone h.rows }
+    ensures { result ≡ level_at x.now.tones.now x.now.row f }
 {
-    level_seen(tones, r, f, seen_on(tones, r, b, rows_below(r, f), h))
+    level_seen(x, f, seen_on(x, b, rows_below(x.row, f), h))
 }
 
 // The level of an entry of block b. Our crates alone call it: its row and tone rows are lent, the entry one of it, and what was heard told.
-pub fn level_in(tones: &[u64], blocks: &[u64], b: u64, f: Phase, h: Heard) -> bool
-    requires standing { Standing tones.now blocks.now b f }
-    requires told_seen { ToldSeen tones.now blocks.now h }
-    ensures { result ≡ level_at tones.now (row_at blocks.now b) f }
+#[tactic(auto, using(play_entries::proofs::Sourced::source_levels))]
+pub fn level_in(m: &Mounted<'_>, b: u64, f: Phase, h: Heard) -> bool
+    requires standing { Standing m.now.tones.now m.now.blocks.now b f }
+    requires told_seen { ToldSeen m.now.tones.now m.now.blocks.now h }
+    ensures { result ≡ level_at m.now.tones.now (row_at m.now.blocks.now b) f }
 {
-    if is_source(blocks, b) {
+    if is_source(m, b) {
         return mic(f);
     }
-    document_level(tones, block_at(blocks, b as usize), b, f, h)
+    let x = TonedRow {
+        tones: m.tones,
+        row: m.row(b),
+    };
+    document_level(&x, b, f, h)
 }
 
-// The smaller of two numbers.
-fn at_most(n: u64, m: u64) -> u64
-    ensures { result ≡ min n m }
+// The tone rows of block b below an entry, on from what was heard where that is of them; the entry may be none of its row.
+pub fn hear_on(x: &TonedRow<'_>, b: u64, f: Phase, h: Heard) -> Heard
+    requires { h.block ≡ b → h.seen ≡ seen_of x.now.tones.now x.now.row.tone h.rows }
+    ensures { result ≡ heard_to x.now.tones.now x.now.row b (min (rows_below x.now.row f) x.now.row.tones) }
 {
-    if n <= m { n } else { m }
-}
-
-// The tone rows of block b below an entry, on from what was heard where that is of them; the entry may be none of its row r, whose tone
-// rows its callers know to be lent.
-pub fn hear_on(tones: &[u64], r: Block, b: u64, f: Phase, h: Heard) -> Heard
-    requires tones_bound { r.tone + r.tones ≤ capacity_of tone tone_most tones.now }
-    requires seen_value { h.block ≡ b → h.seen ≡ seen_of tones.now r.tone h.rows }
-    ensures { result ≡ heard_to tones.now r b (min (rows_below r f) r.tones) }
-{
-    let k = at_most(rows_below(r, f), r.tones);
+    let k = rows_below(x.row, f).min(x.row.tones);
     Heard {
         block: b,
         rows: k,
-        seen: seen_on(tones, r, b, k, h),
+        seen: seen_on(x, b, k, h),
     }
 }
 
 // The tone rows of block b below an entry, heard anew.
-pub fn hear(tones: &[u64], r: Block, b: u64, f: Phase) -> Heard
-    requires { r.tone + r.tones ≤ capacity_of tone tone_most tones.now }
-    ensures { result ≡ heard_to tones.now r b (min (rows_below r f) r.tones) }
+#[tactic(auto, unfolding(rows_well::specs::Seen::seen_from))]
+pub fn hear(x: &TonedRow<'_>, b: u64, f: Phase) -> Heard
+    ensures { result ≡ heard_to x.now.tones.now x.now.row b (min (rows_below x.now.row f) x.now.row.tones) }
 {
-    hear_on(tones, r, b, f, unheard())
+    hear_on(x, b, f, unheard())
 }
 
-// Whether a row's tone rows are well formed, on from those heard; its callers know them to be lent.
-pub fn heard_well(tones: &[u64], r: Block, h: Heard) -> bool
-    requires tones_bound { (r.tone + r.tones ≤ capacity_of tone tone_most tones.now) × (h.rows ≤ r.tones) }
-    requires seen_value { h.seen ≡ seen_of tones.now r.tone h.rows }
-    ensures { result ≡ well_tones tones.now r.tone r.tones }
+// Whether a row's tone rows are well formed, on from those heard.
+#[tactic(auto, using(rows_well::proofs::Gathered::seen_wells, rows_well::proofs::Gathered::seen_on))]
+pub fn heard_well(x: &TonedRow<'_>, h: Heard) -> bool
+    requires rows_bound { h.rows ≤ x.now.row.tones }
+    requires seen_value { h.seen ≡ seen_of x.now.tones.now x.now.row.tone h.rows }
+    ensures { result ≡ well_tones x.now.tones.now x.now.row.tone x.now.row.tones }
 {
-    let s = h.seen;
-    seen_well(tones_seen(tones, s, r.tone + h.rows, r.tones - h.rows))
+    let r = x.row;
+    seen_well(tones_seen(x.tones, h.seen, r.tone + h.rows, r.tones - h.rows))
 }
 
 // The line behind a document row's data.
-fn line_data(tones: &[u64], r: Block) -> Line
-    requires { r.tone + r.tones ≤ capacity_of tone tone_most tones.now }
-    ensures { result ≡ line_data tones.now r }
+#[tactic(auto, unfolding(play_entries::specs::Signals::line_data))]
+fn line_data(x: &TonedRow<'_>) -> Line
+    ensures { result ≡ line_data x.now.tones.now x.now.row }
 {
-    let l = line_at(tones, r, r.tones);
-    if r.size == 0 {
-        return l;
-    }
-    Line {
-        current: l.current,
-        played: !l.current,
+    let l = line_at(x, x.row.tones);
+    if x.row.size == 0 {
+        l
+    } else {
+        Line {
+            played: !l.current,
+            ..l
+        }
     }
 }
 
-// The line behind a document row, whose tone rows its callers know to be lent.
-pub fn line_behind(tones: &[u64], r: Block) -> Line
-    requires { r.tone + r.tones ≤ capacity_of tone tone_most tones.now }
-    ensures { result ≡ line_behind tones.now r }
+// The line behind a document row.
+#[tactic(auto, unfolding(play_entries::specs::Signals::line_behind))]
+pub fn line_behind(x: &TonedRow<'_>) -> Line
+    ensures { result ≡ line_behind x.now.tones.now x.now.row }
 {
-    let quiet = Line {
-        current: false,
-        played: false,
-    };
-    if r.endless == 1 {
-        return quiet;
+    if x.row.endless != 1 && x.row.pause == 0 {
+        line_data(x)
+    } else {
+        Line {
+            current: false,
+            played: false,
+        }
     }
-    if r.pause == 0 {
-        return line_data(tones, r);
-    }
-    quiet
 }

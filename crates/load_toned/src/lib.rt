@@ -7,12 +7,13 @@ ghost use Rattle.load_blocks.specs.Blocks.{turbo_sound, pure_sound, pure_tone_to
 ghost use Rattle.load_blocks.specs.Does.{Does};
 
 use cut_grammar::TurboData;
-use load_blocks::{Bits, Origin, bare_row, data_block, one_tone, two_tones};
-use load_state::{State, Step};
+use load_blocks::{Bits, Origin, add_rows, bare_row, data_block};
+use load_state::{Halt, State};
 use play_times::tone_figure;
-use rows::{Tone, with_sound};
+use rows::Tone;
 
 // 11
+#[tactic(auto, unfolding(load_blocks::specs::Blocks::turbo_tones, load_blocks::specs::Blocks::turbo_sound))]
 pub fn turbo_data_block(
     tape: &[u8],
     s: State,
@@ -20,7 +21,7 @@ pub fn turbo_data_block(
     tones: &mut [u64],
     origin: Origin,
     d: TurboData,
-) -> Step
+) -> Result<State, Halt>
     ensures { Does (λ lent. add_sound lent tape.now origin (turbo_sound d)) s result blocks.old tones.old
         blocks.new tones.new }
 {
@@ -48,6 +49,7 @@ pub fn turbo_data_block(
 }
 
 // 14: `bits` are the row's, the pause is in ms.
+#[tactic(auto, unfolding(load_blocks::specs::Blocks::pure_tones, load_blocks::specs::Blocks::pure_sound))]
 pub fn pure_data_block(
     tape: &[u8],
     s: State,
@@ -56,7 +58,7 @@ pub fn pure_data_block(
     origin: Origin,
     bits: Bits,
     pause: u32,
-) -> Step
+) -> Result<State, Halt>
     ensures { Does (λ lent. add_sound lent tape.now origin (pure_sound bits (ms pause))) s result blocks.old tones.old
         blocks.new tones.new }
 {
@@ -93,7 +95,7 @@ pub fn pure_tone_block(
     origin: Origin,
     half: u32,
     count: u32,
-) -> Step
+) -> Result<State, Halt>
     ensures { (tape : List ℕ) → Does (λ lent. add_sound lent tape origin (tone_sound (pure_tone_tones half count))) s result
         blocks.old tones.old blocks.new tones.new }
 {
@@ -105,13 +107,8 @@ pub fn pure_tone_block(
     };
     if count % 2 == 0 {
         let r = bare_row(origin, s.tones, 1, 0);
-        return one_tone(
-            s,
-            blocks,
-            tones,
-            whole,
-            with_sound(tone_figure(r, whole), r),
-        );
+        let sound = tone_figure(r, whole);
+        return add_rows(s, blocks, tones, &[whole], r.with_sound(sound));
     }
     let odd = Tone {
         num: 1,
@@ -121,5 +118,5 @@ pub fn pure_tone_block(
     };
     let r = bare_row(origin, s.tones, 2, 0);
     let sound = tone_figure(r, odd) + tone_figure(r, whole);
-    two_tones(s, blocks, tones, odd, whole, with_sound(sound, r))
+    add_rows(s, blocks, tones, &[odd, whole], r.with_sound(sound))
 }

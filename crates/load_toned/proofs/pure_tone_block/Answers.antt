@@ -1,6 +1,5 @@
 -- `pure_tone_block` meets its contract. Assumes nothing.
 use Prim.Native.Nat.{ℕ}
-use native.Mathlib.Omega.{arith}
 use borrow.Author.Tests.{eq-eqb, ne_eqb}
 use mathlib.Core.Path.{ap}
 use Rattle.rows.specs.declared.Block.{Block}
@@ -17,16 +16,13 @@ unfolding pure_tone_tones
 returns-then-count-eq0 c =
     λ tape. rw (eq-eqb _ _ c.if-count-eq0.true)
     (does_born tape _ (tone_sound _) c.bare_row-r.ensures
-    (one_alone tape _ _ (ap size c.bare_row-r.ensures) c.tone_figure.ensures.value c.with_sound.ensures)
-    c.one_tone.ensures)
-
-pub overflow_add-sound : goal.overflow_add-sound
-overflow_add-sound c = omega (arith, c.tone_figure-2.ensures.upper_bound, c.tone_figure-3.ensures.upper_bound)
+    (one_alone tape _ _ (ap size c.bare_row-r.ensures) c.tone_figure-sound.ensures.value c.with_sound.ensures)
+    c.add_rows.ensures)
 
 pub returns : goal.returns
 unfolding pure_tone_tones
 returns c =
     λ tape. rw (ne_eqb _ _ c.if-count-eq0.false)
     (does_born tape _ (tone_sound _) c.bare_row-r-2.ensures
-    (two_alone tape _ _ _ (ap size c.bare_row-r-2.ensures) c.tone_figure-2.ensures.value c.tone_figure-3.ensures.value
-    c.with_sound-2.ensures) c.two_tones.ensures)
+    (two_alone tape _ _ _ (ap size c.bare_row-r-2.ensures) c.tone_figure.ensures.value c.tone_figure-2.ensures.value
+    c.with_sound-2.ensures) c.add_rows-2.ensures)

@@ -10,12 +10,12 @@ use native.Mathlib.Omega.{arith}
 use Rattle.law_base.specs.Rules.{◌⇒◌, ◌∣◌}
 use Rattle.std.specs.Prelude.{Ok, Err}
 use Rattle.refusals.specs.declared.Refusal.TheVariants.{NoRoom}
-use Rattle.refusals.specs.Refusals.{no_room}
+use Rattle.refusals.specs.Refusals.{answer_no, no_room}
 use Rattle.text_out.specs.Out.{fits}
 use Rattle.play_entries.specs.Places.{Tape, block_in}
 use Rattle.play_entries.specs.Stored.{row_lasts, rows_time}
 use Rattle.play_entries.specs.Mounted.{overfull, WholeTape}
-use Rattle.ask.specs.Queries.{answer_no, told_of, asked, len_of, size_of, named_or}
+use Rattle.ask.specs.Queries.{told_of, asked, len_of, size_of, named_or}
 use Rattle.ask.specs.Queries.{selectable_of, time_of, name_in, length_or_no_room, name_answer, loading_of, EachAnswered}
 use Rattle.ask.proofs.Refusals.{asked_well}
 use Rattle.ask.proofs.Needed.{need_whole}
@@ -53,7 +53,7 @@ module _ (w : Tape) (whole : WholeTape w) where
     name_whole out = rw there
 
 pub whole_answered : (w : Tape) → WholeTape w → (i : ℕ) → i < w.count → EachAnswered w i
-unfolding answer_no length_or_no_room
+unfolding  length_or_no_room
 whole_answered w whole i h =
     record {
       len = ap answer_no (len_whole w whole);

@@ -17,7 +17,7 @@ use Rattle.play_entries.specs.Places.{Tape, block_in}
 use Rattle.play_entries.specs.Mounted.{tape_size, well_row}
 use Rattle.text_name.specs.Names.{name_of}
 use Rattle.text_name.proofs.Naming.{inside_tape}
-use Rattle.ask.specs.Queries.{answer_no, asked, length_or_no_room, name_in, named_or, name_answer, name_bytes}
+use Rattle.ask.specs.Queries.{asked, length_or_no_room, name_in, named_or, name_answer, name_bytes}
 use Rattle.ask.proofs.Refusals.{answerable}
 
 -- what `put_name` asks of a row
@@ -57,7 +57,7 @@ unfolding name_answer named_or
 no_answer w i k out e = rw (← e)
 
 pub no_bytes : (w : Tape) (i : ℕ) (k : Refusal) (out : List ℕ) → Err k ≡ asked w i → name_bytes w i out ≡ out
-unfolding name_bytes answer_no
+unfolding name_bytes
 no_bytes w i k out e = rw (← e, some_number k)
 
 module _ (w : Tape) (i : ℕ) (r : Block) (e : Ok r ≡ asked w i) where
@@ -66,7 +66,7 @@ module _ (w : Tape) (i : ℕ) (r : Block) (e : Ok r ≡ asked w i) where
 
   pub name_short : {dry dry' : List ℕ} {n : ℕ} (out : List ℕ) → Wrote dry 0 (name_of w.bytes r) dry' n → length out < n
       → NameAnswered w i out (Err NoRoom) out
-  unfolding name_answer name_bytes named_or answer_no length_or_no_room
+  unfolding name_answer name_bytes named_or length_or_no_room
   name_short out p h =
       let d = dry_short out p h in
       let d' = dry_short out (rw same at p) h in
@@ -75,7 +75,7 @@ module _ (w : Tape) (i : ℕ) (r : Block) (e : Ok r ≡ asked w i) where
   pub name_told : {dry dry' out out' : List ℕ} {n n' : ℕ} → Wrote dry 0 (name_of w.bytes r) dry' n
       → Wrote out 0 (name_of w.bytes r) out' n' → n ≤ length out
       → NameAnswered w i out (Ok n) out'
-  unfolding name_answer name_bytes named_or answer_no length_or_no_room
+  unfolding name_answer name_bytes named_or length_or_no_room
   name_told p p' h =
       let d = dry_told p p' h in
       let d' = dry_told (rw same at p) (rw same at p') h in

@@ -17,7 +17,7 @@ use Rattle.play_entries.specs.declared.Duration.TheVariants.{T, Endless}
 use Rattle.play_entries.specs.Places.{Tape}
 use Rattle.play_entries.specs.Stored.{row_lasts, rows_loading}
 use Rattle.play_entries.specs.Mounted.{tape_of, well_row}
-use Rattle.ask.specs.Queries.{answer_no, told_of, asked, refusal_of, size_of, selectable_of, time_of, length_or_no_room}
+use Rattle.ask.specs.Queries.{told_of, asked, refusal_of, size_of, selectable_of, time_of, length_or_no_room}
 use Rattle.ask.specs.Queries.{named_or, name_answer, name_bytes, well_to_stop, loading_of}
 
 -- all that is answered of a block, with the bytes that its name leaves, and the tape's loading time
@@ -212,7 +212,7 @@ readings =
     []
 
 pub readings_said : map (λ e. answered e.0 e.1 e.2) readings ≡ map (λ e. e.3) readings
-unfolding answer_no asked told_of named_or size_of selectable_of time_of length_or_no_room name_answer name_bytes told loading_of
+unfolding  asked told_of named_or size_of selectable_of time_of length_or_no_room name_answer name_bytes told loading_of
     well_to_stop row_lasts rows_loading well_row well_block well_ranges well_numbers well_cases well_tones well_tone name_of guessed is_header
     size_name size_shown decimal digits
 readings_said = refl

@@ -3,7 +3,7 @@ use Rattle.std.specs.Prelude.{ℕ, zero, suc, ◌+◌, Bool, true, ◌&&◌, ◌
 use Rattle.law_base.specs.Rules.{◌⇒◌, ◌∣◌}
 use Rattle.refusals.specs.declared.Refusal.{Refusal}
 use Rattle.refusals.specs.declared.Refusal.TheVariants.{NoBlock, NoRoom, BadRow}
-use Rattle.refusals.specs.Refusals.{no_room, number}
+use Rattle.refusals.specs.Refusals.{no_room, answer_no}
 use Rattle.rows.specs.declared.Block.{Block}
 use Rattle.text_out.specs.Out.{fits, told}
 use Rattle.play_entries.specs.declared.Duration.{Duration}
@@ -11,11 +11,6 @@ use Rattle.play_entries.specs.Places.{Tape, block_in}
 use Rattle.play_entries.specs.Stored.{row_lasts, rows_time}
 use Rattle.play_entries.specs.Mounted.{overfull, well_row}
 use Rattle.text_name.specs.Names.{name_of}
-
--- the number for no (rule 20); 0 where the query isn't refused
-unfoldable pub answer_no : {A : Type 0} → Result A Refusal → ℕ
-answer_no (Ok a) = 0
-answer_no (Err k) = number k
 
 -- what is told of a row, where the query isn't refused
 unfoldable pub told_of : {A : Type 0} → (Block → A) → Result Block Refusal → Result A Refusal

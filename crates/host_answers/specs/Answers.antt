@@ -1,26 +1,24 @@
 -- An answer as a C host gets it (rules 134, 137): number, values, and what is left of the lent row. Definitions alone; assumes nothing.
-use Rattle.std.specs.Prelude.{ℕ, ◌-◌, Bool, List, [], ◌∷◌, get_or}
+use Rattle.std.specs.Prelude.{ℕ, ◌-◌, Bool, List, [], ◌∷◌, get_or, Result, Ok, Err}
 use Rattle.law_base.specs.Rules.{◌⇒◌, ◌∣◌}
-use Rattle.refusals.specs.Refusals.{tape_bad, no_position, no_room, bad_row}
+use Rattle.refusals.specs.declared.Refusal.{Refusal}
+use Rattle.refusals.specs.Refusals.{tape_bad, no_room, number}
 use Rattle.text_out.specs.Out.{fits, told}
+use Rattle.play_entries.specs.declared.Duration.{Duration}
 use Rattle.play_walk.specs.declared.Position.{Position}
 use Rattle.play_walk.specs.declared.Stand.{Stand}
+use Rattle.play_walk.specs.declared.How.{How}
+use Rattle.play_walk.specs.declared.How.TheVariants.{At, Stopped, Ended}
 use Rattle.play_walk.specs.declared.Reached.{Reached}
-use Rattle.play_walk.specs.declared.Reached.TheVariants as reached
-use Rattle.play_deck.specs.declared.Selected.{Selected}
-use Rattle.play_deck.specs.declared.Selected.TheVariants as selected
-use Rattle.ask.specs.declared.Number.{Number}
-use Rattle.ask.specs.declared.Number.TheVariants as number
-use Rattle.ask.specs.declared.Mark.{Mark}
-use Rattle.ask.specs.declared.Mark.TheVariants as mark
-use Rattle.ask.specs.declared.Time.{Time}
-use Rattle.ask.specs.declared.Time.TheVariants as lasting
+use Rattle.play_walk.specs.declared.Fault.{Fault}
+use Rattle.play_walk.specs.Heads.{fault_no}
 use Rattle.load_source.specs.declared.Failure.{Failure}
 use Rattle.load_source.specs.declared.Failure.TheVariants as failure
 use Rattle.load_tape.specs.declared.Format.{Format}
 use Rattle.load_tape.specs.declared.Format.TheVariants.{Tap, Tzx}
 use Rattle.load_tape.specs.declared.Loaded.{Loaded}
-use Rattle.load_tape.specs.declared.Loaded.TheVariants as loaded
+use Rattle.load_tape.specs.declared.NotLoaded.{NotLoaded}
+use Rattle.load_tape.specs.declared.NotLoaded.TheVariants.{Unread, Refused}
 use Rattle.host_answers.specs.declared.Met.{Met}
 use Rattle.host_words.specs.Words.{flag_of, span_of, words_of}
 
@@ -49,42 +47,63 @@ number_of a row = fits a.values row ⇒ a.no ∣ a.short
 unfoldable pub values_of : Reply → List ℕ → List ℕ
 values_of a row = told a.values row
 
--- a number of the queries
-unfoldable pub of_number : Number → Reply
-of_number (number.Is n) = given (n ∷ [])
-of_number (number.Refused k) = refused_by k
+-- AN ANSWER: a value as its words, or a refusal
+abbrev pub reply_of : {A E : Type 0} → (A → List ℕ) → (E → Reply) → Result A E → Reply
+reply_of words no (Ok a) = given (words a)
+reply_of words no (Err e) = no e
+
+-- a refusal of the queries, and of the players
+abbrev pub by_refusal : Refusal → Reply
+by_refusal k = refused_by (number k)
+
+abbrev pub by_fault : Fault → Reply
+by_fault f = refused_by (fault_no f)
+
+-- a number
+abbrev pub number_words : ℕ → List ℕ
+number_words n = n ∷ []
+
+abbrev pub of_number : Result ℕ Refusal → Reply
+of_number a = reply_of number_words by_refusal a
 
 -- a selectable mark: 0 or 1
-unfoldable pub of_mark : Mark → Reply
-of_mark (mark.Is b) = given (flag_of b ∷ [])
-of_mark (mark.Refused k) = refused_by k
+abbrev pub mark_words : Bool → List ℕ
+mark_words b = flag_of b ∷ []
+
+abbrev pub of_mark : Result Bool Refusal → Reply
+of_mark a = reply_of mark_words by_refusal a
 
 -- what a block lasts: whether it never ends, and its T-states
-unfoldable pub of_time : Time → Reply
-of_time (lasting.Lasts d) = given ((span_of d).endless ∷ (span_of d).left ∷ [])
-of_time (lasting.Refused k) = refused_by k
+abbrev pub time_words : Duration → List ℕ
+time_words d = (span_of d).endless ∷ (span_of d).left ∷ []
+
+abbrev pub of_time : Result Duration Refusal → Reply
+of_time a = reply_of time_words by_refusal a
 
 -- a position
 unfoldable pub of_position : Position → Reply
 of_position q = given (words_of q)
 
 -- a block for a menu
-unfoldable pub of_selected : Selected → Reply
-of_selected (selected.Block b) = given (b ∷ [])
-of_selected selected.BadPosition = refused_by no_position
-of_selected selected.BadRow = refused_by bad_row
+abbrev pub of_selected : Result ℕ Fault → Reply
+of_selected a = reply_of number_words by_fault a
+
+-- how a call leaves the head: 0 it stands, 1 it has stopped at an endless pause, 2 it has ended
+abbrev pub how_number : How → ℕ
+how_number At = 0
+how_number Stopped = 1
+how_number Ended = 2
 
 -- where a call leaves the head: how it stands, the entries passed, the level, the position
 unfoldable pub stand_words : ℕ → Stand → List ℕ
 stand_words how s = how ∷ s.passed ∷ flag_of s.level ∷ words_of s.position
 
--- a player's answer: 0 it stands, 1 it has stopped at an endless pause, 2 it has ended
-unfoldable pub of_reached : Reached → Reply
-of_reached (reached.At s) = given (stand_words 0 s)
-of_reached (reached.Stopped s) = given (stand_words 1 s)
-of_reached (reached.Ended s) = given (stand_words 2 s)
-of_reached reached.NotValid = refused_by no_position
-of_reached reached.NotFormed = refused_by bad_row
+-- a player's answer
+abbrev pub reached_words : Reached → List ℕ
+reached_words a = stand_words (how_number a.how) a.stand
+
+abbrev pub of_reached : Result Reached Fault → Reply
+of_reached a = reply_of reached_words by_fault a
 
 -- where a call of n ends inside its entry, on the position's own words: a shortcut of the code, which no public contract cites
 unfoldable pub inside_words : List ℕ → ℕ → Bool → List ℕ
@@ -112,7 +131,12 @@ both_words f g =
     x.cause ∷ x.kind ∷ x.at ∷ x.place ∷ x.width ∷ x.length ∷ y.place ∷ y.width ∷ []
 
 -- a load's answer: the format, how many blocks, how many tone rows; or with 3 what both attempts met
-unfoldable pub of_loaded : Loaded → Reply
-of_loaded (loaded.Tape f b t) = given (format_number f ∷ b ∷ t ∷ [])
-of_loaded (loaded.Unread f g) = refused_with tape_bad (both_words f g)
-of_loaded (loaded.Refused k) = refused_by k
+abbrev pub loaded_words : Loaded → List ℕ
+loaded_words l = format_number l.format ∷ l.blocks ∷ l.tones ∷ []
+
+abbrev pub by_unread : NotLoaded → Reply
+by_unread (Unread f g) = refused_with tape_bad (both_words f g)
+by_unread (Refused k) = refused_by k
+
+abbrev pub of_loaded : Result Loaded NotLoaded → Reply
+of_loaded a = reply_of loaded_words by_unread a

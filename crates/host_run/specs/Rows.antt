@@ -1,12 +1,14 @@
 -- AN ANSWER OF A RUN AS TEN WORDS: a player's words; where a call is refused, its number, and the head as it was.
 -- Definitions alone; assumes nothing.
-use Rattle.std.specs.Prelude.{ℕ, refl, List, [], ◌∷◌, length, get_or}
-use Rattle.refusals.specs.Refusals.{no_position, bad_row}
+use Rattle.std.specs.Prelude.{ℕ, refl, List, [], ◌∷◌, length, get_or, Result, Ok, Err}
 use Rattle.rows.specs.Table.{Codec}
 use Rattle.play_walk.specs.declared.Position.{Position}
 use Rattle.play_walk.specs.declared.Stand.{Stand}
 use Rattle.play_walk.specs.declared.Reached.{Reached}
-use Rattle.play_walk.specs.declared.Reached.TheVariants.{At, Stopped, Ended, NotValid, NotFormed}
+use Rattle.play_walk.specs.declared.How.{How}
+use Rattle.play_walk.specs.declared.How.TheVariants.{At, Stopped, Ended}
+use Rattle.play_walk.specs.declared.Fault.{Fault}
+use Rattle.play_walk.specs.Heads.{fault_no}
 use Rattle.play_deck.specs.Calls.{position_in, passed_in, answer_level}
 use Rattle.host_words.specs.Words.{flag_of, spot_of, span_of}
 use Rattle.host_run.specs.declared.AnswerRow.{AnswerRow}
@@ -41,12 +43,14 @@ answer_row =
     }
 
 -- 0 it stands, 1 it has stopped at an endless pause, 2 it has ended; a refusal's number
-unfoldable pub how_of : Reached → ℕ
-how_of (At s) = 0
-how_of (Stopped s) = 1
-how_of (Ended s) = 2
-how_of NotValid = no_position
-how_of NotFormed = bad_row
+abbrev pub how_number : How → ℕ
+how_number At = 0
+how_number Stopped = 1
+how_number Ended = 2
+
+unfoldable pub how_of : Result Reached Fault → ℕ
+how_of (Ok a) = how_number a.how
+how_of (Err f) = fault_no f
 
 -- the words of a stand
 abbrev pub stand_row : ℕ → Stand → AnswerRow
@@ -67,5 +71,5 @@ stand_row how s =
     }
 
 -- THE ROW of a call from a position: how it came out, and where it leaves the head
-unfoldable pub call_row : Position → Reached → AnswerRow
+unfoldable pub call_row : Position → Result Reached Fault → AnswerRow
 call_row q r = stand_row (how_of r) (record { position = position_in q r; passed = passed_in r; level = answer_level r })

@@ -1,5 +1,5 @@
 -- THE NUMBERS FOR NO (rules 20 to 31), each under its name: the number that a definition or a law says. Definitions alone; assumes nothing.
-use Rattle.std.specs.Prelude.{ℕ}
+use Rattle.std.specs.Prelude.{ℕ, Result, Ok, Err}
 use Rattle.refusals.specs.declared.Refusal.{Refusal}
 use Rattle.refusals.specs.declared.Refusal.TheVariants.{BadModel, TapeLong, TapeBad, Generalised, TonesFull, BlocksFull, LastBits, NoBlock, NoPosition, NoRoom, BadRow}
 
@@ -60,3 +60,8 @@ number NoBlock = no_block
 number NoPosition = no_position
 number NoRoom = no_room
 number BadRow = bad_row
+
+-- the number for no of an answer (rule 20); 0 where it isn't refused
+abbrev pub answer_no : {A : Type 0} → Result A Refusal → ℕ
+answer_no (Ok a) = 0
+answer_no (Err k) = number k

@@ -7,20 +7,19 @@ ghost use Rattle.rows.specs.Table.{step};
 ghost use Rattle.rows.specs.Rows.{block};
 ghost use Rattle.text_name.specs.Names.{unselected, name_all};
 
-use rows::{Block, with_mark};
+use rows::{Block, put_row, row_at};
 use text_name::is_header;
 
 // One row of the pass: what a header leaves to the block after it.
+#[tactic(auto, unfolding(text_name::specs::Names::unselected))]
 fn name_row(header: bool, prefixed: bool, r: Block) -> Block
     ensures { result ≡ (header ⇒ r ∣ prefixed ⇒ unselected r ∣ r) }
 {
-    if header {
-        return r;
+    if prefixed && !header {
+        r.with_mark(0)
+    } else {
+        r
     }
-    if prefixed {
-        return with_mark(0, r);
-    }
-    r
 }
 
 // The naming pass over the first n rows; our crates alone call it.
@@ -29,12 +28,10 @@ pub fn name_blocks(tape: &[u8], blocks: &mut [u64], n: usize)
     ensures { blocks.new ≡ step block n (name_all tape.now false) blocks.old }
 {
     let mut prefixed = false;
-    let mut i = 0;
-    while i < n {
-        let r = rows::block_at(blocks, i);
+    for i in 0..n {
+        let r = row_at(blocks, i);
         let header = is_header(tape, r);
-        rows::put_block(blocks, i, name_row(header, prefixed, r));
+        put_row(blocks, i, name_row(header, prefixed, r));
         prefixed = header;
-        i += 1;
     }
 }

@@ -16,23 +16,23 @@ use Rattle.load_select.proofs.name_blocks.Goals as goal
 pub loop-i-init : goal.loop-i-init
 loop-i-init c =
     let a = c.args in
-    (omega arith, refl, refl, sym (over-rows block block-whole a.n a.blocks.now c.requires))
+    (refl, sym (over-rows block block-whole a.n a.blocks.now c.requires))
 
 pub loop-i-preserved : goal.loop-i-preserved
 loop-i-preserved c =
     let a = c.args in
     let rs = rows_of block a.blocks.now a.n in
     let h : c.loop-i.i < length rs = rw (rows-length block a.n a.blocks.now) (omega arith) in
-    let w = name_turn a.tape.now c.loop-i.i rs a.blocks.now h c.loop-i.invariant.2 c.loop-i.invariant.3 c.block_at-r.ensures
-    c.is_header-header.ensures c.name_row.ensures c.put_block.ensures in
-    (omega arith, omega arith, w.0, w.1)
+    let w = name_turn a.tape.now c.loop-i.i rs a.blocks.now h c.loop-i.invariant.0 c.loop-i.invariant.1 c.row_at-r.ensures
+    c.is_header-header.ensures c.name_row.ensures c.put_row.ensures in
+    w
 
 pub returns : goal.returns
 returns c =
     let a = c.args in
     let e : c.loop-i.i ≡ a.n = omega arith in
     let rs = rows_of block a.blocks.now a.n in
-    c.loop-i.invariant.3 ∙ rw (
+    c.loop-i.invariant.1 ∙ rw (
       e,
       turned_all (name_one a.tape.now) (next a.tape.now) false rs a.n (rows-length block a.n a.blocks.now),
       name_all-pass a.tape.now false rs,

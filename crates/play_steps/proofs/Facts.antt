@@ -4,7 +4,7 @@ use native.Mathlib.Nat.{mul-le-mul, div-mul-le_self, mul-zero}
 use native.Mathlib.Omega.{arith}
 use borrow.Author.Tests.{lt-ltb, le-ltb, eq-eqb, ne_eqb}
 use native.Mathlib.Decide.{ℕ_discrete}
-use mathlib.Core.Path.{◌≡◌, refl, sym, subst}
+use mathlib.Core.Path.{◌≡◌, sym, subst}
 use mathlib.Core.Bool.{Bool, true, false}
 use Rattle.law_base.specs.Rules.{◌⇒◌, ◌∣◌}
 use mathlib.Core.List.{List}
@@ -13,12 +13,12 @@ use Rattle.rows.specs.declared.Block.{Block}
 use Rattle.rows.specs.Well.{well_tones}
 use Rattle.rows.proofs.WellLaws.{tone-most, tones-each}
 use Rattle.play_entries.specs.declared.Phase.{Phase}
-use Rattle.play_entries.specs.declared.Phase.TheVariants.{Start, Tones, Edge, Pause}
+use Rattle.play_entries.specs.declared.Phase.TheVariants.{Tones}
 use Rattle.play_entries.specs.Entries.{tone_at, cycles_of, is_single, cycle_pulses, cycle_time}
 use Rattle.play_entries.specs.Places.{has_entry}
 use Rattle.play_entries.proofs.Bounds.{cycles-most, cycle_most}
 use Rattle.play_steps.specs.Steps.{step_to, data_from, pulse_from, tone_from, cycle_from, cycles_step, one_step, cycles_fitting}
-use Rattle.play_steps.specs.Steps.{take_cycles, take_of}
+use Rattle.play_steps.specs.Steps.{take_cycles}
 
 -- the numbers of a well-formed tone row
 pub record Small (r : Block) (t : Tone) : Type 0 where
@@ -82,31 +82,14 @@ module _ (tones : List ℕ) (r : Block) (i p t d : ℕ) (x : Tone) (n c m k : �
 
 -- a tone row with a pulse, one without, and none left
 module _ (tones : List ℕ) (r : Block) (i : ℕ) where
-  pub tone-here : i < r.tones → 0 < cycles_of r (tone_at tones r i) → tone_from tones r i ≡ Tones i 0 false
+  pub tone_here : i < r.tones → 0 < cycles_of r (tone_at tones r i) → tone_from tones r i ≡ Tones i 0 false
   unfolding tone_from pulse_from
-  tone-here h l = let e : r.tones - i ≡ suc (r.tones - (i + 1)) = omega arith in rw (e, lt-ltb 0 (cycles_of r (tone_at tones r i)) l)
+  tone_here h l = let e : r.tones - i ≡ suc (r.tones - (i + 1)) = omega arith in rw (e, lt-ltb 0 (cycles_of r (tone_at tones r i)) l)
 
-  pub tone-past : i < r.tones → cycles_of r (tone_at tones r i) ≤ 0 → tone_from tones r i ≡ tone_from tones r (i + 1)
+  pub tone_past : i < r.tones → cycles_of r (tone_at tones r i) ≤ 0 → tone_from tones r i ≡ tone_from tones r (i + 1)
   unfolding tone_from pulse_from
-  tone-past h l = let e : r.tones - i ≡ suc (r.tones - (i + 1)) = omega arith in rw (e, le-ltb 0 (cycles_of r (tone_at tones r i)) l)
+  tone_past h l = let e : r.tones - i ≡ suc (r.tones - (i + 1)) = omega arith in rw (e, le-ltb 0 (cycles_of r (tone_at tones r i)) l)
 
-  pub tone-over : r.tones ≤ i → tone_from tones r i ≡ data_from r 0
+  pub tone_over : r.tones ≤ i → tone_from tones r i ≡ data_from r 0
   unfolding tone_from pulse_from
-  tone-over h = let e : r.tones - i ≡ 0 = omega arith in rw e
-
--- entries that are taken one by one, full or not
-module _ (tape tones : List ℕ) (r : Block) (t d : ℕ) where
-  pub takes_start : (full : Bool) → one_step tones r Start t ≡ take_of tape tones r Start full t d
-  unfolding take_of
-  takes_start true = refl
-  takes_start false = refl
-
-  pub takes_edge : (full : Bool) → one_step tones r Edge t ≡ take_of tape tones r Edge full t d
-  unfolding take_of
-  takes_edge true = refl
-  takes_edge false = refl
-
-  pub takes_pause : (full : Bool) → one_step tones r Pause t ≡ take_of tape tones r Pause full t d
-  unfolding take_of
-  takes_pause true = refl
-  takes_pause false = refl
+  tone_over h = let e : r.tones - i ≡ 0 = omega arith in rw e

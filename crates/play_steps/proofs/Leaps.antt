@@ -5,6 +5,7 @@ use borrow.Author.Tests.{lt-ltb, le-ltb, ne_eqb}
 use mathlib.Core.Path.{◌≡◌, refl, sym, ap, ap₂, subst, ◌∙◌}
 use mathlib.Core.Bool.{Bool, true, false, not}
 use mathlib.Core.Logic.{⊎_elim}
+use Rattle.std.specs.Prelude.{Option, None, Some}
 use mathlib.Core.List.{List, ◌∷◌, ◌++◌, append_assoc}
 use lib.ListN.{length}
 use Rattle.law_base.proofs.Numbers.{lt_or_ge}
@@ -38,9 +39,19 @@ use Rattle.play_steps.proofs.Facts.{fit}
 abbrev pub full_at : Tape → ℕ → Phase → List (Entry Label)
 full_at w b f = left_at w b f (length_in w b f)
 
+-- what is left from the entry that comes next, full; over the block, from the next one
+abbrev pub left_from : Tape → ℕ → Option Phase → List (Entry Label)
+left_from w b None = list_from w (b + 1)
+left_from w b (Some f) = full_at w b f
+
+-- the block has it
+abbrev pub HasNext : Tape → ℕ → Option Phase → Type 0
+HasNext w b None = Unit
+HasNext w b (Some f) = has_in w b f ≡ true
+
 -- what is left behind a step
 abbrev pub left_behind : Tape → ℕ → Step → List (Entry Label)
-left_behind w b s = s.over ⇒ list_from w (b + 1) ∣ full_at w b s.phase
+left_behind w b s = left_from w b s.phase
 
 -- es is what is left from the entry of phase f, full, and the block has it
 pub record Lands (w : Tape) (b : ℕ) (f : Phase) (es : List (Entry Label)) : Type 0 where
@@ -129,7 +140,7 @@ pub record One (w : Tape) (b : ℕ) (es : List (Entry Label)) (s : Step) : Type 
   pub level : Level
   pub split : es ≡ pulse label level s.time ∷ left_behind w b s
   pub many : s.passed ≡ 1
-  pub has : s.over ≡ false → has_in w b s.phase ≡ true
+  pub has : HasNext w b s.phase
 
 -- a step over a run
 pub record Leap (w : Tape) (b : ℕ) (es : List (Entry Label)) (s : Step) (gone : List (Entry Label)) : Type 0 where
@@ -137,7 +148,7 @@ pub record Leap (w : Tape) (b : ℕ) (es : List (Entry Label)) (s : Step) (gone 
   pub split : es ≡ gone ++ left_behind w b s
   pub lasts : time gone ≡ s.time
   pub many : length gone ≡ s.passed
-  pub has : s.over ≡ false → has_in w b s.phase ≡ true
+  pub has : HasNext w b s.phase
 
 -- runs of items that last the same, whatever their labels
 same-time : {A : Type 0} (x y : ℕ → List (Entry A)) → ((i : ℕ) → Finite (x i)) → ((i : ℕ) → Finite (y i))
@@ -166,7 +177,7 @@ module _ (w : Tape) (b : ℕ) (below : b < w.count) where
         level = _;
         split = list_in w b below ∙ ap (λ (x : List (Entry Label)). start_of b (block_in w b) ∷ x) l.to;
         many = refl;
-        has = λ z. l.has;
+        has = l.has;
       }
   leap_one (Tones i p false) t h =
       let e = tone-entry w.tones (block_in w b) i p false h in
@@ -176,7 +187,7 @@ module _ (w : Tape) (b : ℕ) (below : b < w.count) where
         level = cycle_in w b i p;
         split = ap (λ (x : List (Entry Label)). pulse (label_at b (Tones i p false)) (cycle_in w b i p) t ∷ x) l.to;
         many = refl;
-        has = λ z. l.has;
+        has = l.has;
       }
   leap_one (Tones i p true) t h =
       let l = lands_cycle w b i (p + 1) (tone-entry w.tones (block_in w b) i p true h).0 in
@@ -185,7 +196,7 @@ module _ (w : Tape) (b : ℕ) (below : b < w.count) where
         level = not (cycle_in w b i p);
         split = ap (λ (x : List (Entry Label)). pulse (label_at b (Tones i p true)) (not (cycle_in w b i p)) t ∷ x) l.to;
         many = refl;
-        has = λ z. l.has;
+        has = l.has;
       }
   leap_one (Data pos k false) t h =
       let e = data_entry w.tones (block_in w b) pos k false h in
@@ -194,7 +205,7 @@ module _ (w : Tape) (b : ℕ) (below : b < w.count) where
         level = bit_in w b;
         split = refl;
         many = refl;
-        has = λ z. has_data w.tones (block_in w b) pos k true e.0 e.1;
+        has = has_data w.tones (block_in w b) pos k true e.0 e.1;
       }
   leap_one (Data pos k true) t h =
       let l = lands_bit w b pos (k + 1) (data_entry w.tones (block_in w b) pos k true h).0 in
@@ -203,7 +214,7 @@ module _ (w : Tape) (b : ℕ) (below : b < w.count) where
         level = not (bit_in w b);
         split = ap (λ (x : List (Entry Label)). pulse (label_at b (Data pos k true)) (not (bit_in w b)) t ∷ x) l.to;
         many = refl;
-        has = λ z. l.has;
+        has = l.has;
       }
   leap_one Edge t h =
       let l = lands_pause w b in
@@ -212,12 +223,9 @@ module _ (w : Tape) (b : ℕ) (below : b < w.count) where
         level = bit_in w b;
         split = ap (λ (x : List (Entry Label)). pulse (label_at b Edge) (bit_in w b) t ∷ x) l.to;
         many = refl;
-        has = λ z. l.has;
+        has = l.has;
       }
-  leap_one Pause t h = record { label = label_at b Pause; level = _; split = refl; many = refl; has = λ z. absurd (no z) }
-    where
-      no : true ≡ false → ⊥
-      no z = let y : ◌≡◌ {A = ℕ} 0 1 = ap (λ (x : Bool). x ⇒ 0 ∣ 1) z in absurd (omega arith)
+  leap_one Pause t h = record { label = label_at b Pause; level = _; split = refl; many = refl; has = tt }
 
   -- WHOLE CYCLES
   pub leap_cycles : (i p k : ℕ) → i < (block_in w b).tones → p < cycles_in w b i → p + k ≤ cycles_in w b i
@@ -241,7 +249,7 @@ module _ (w : Tape) (b : ℕ) (below : b < w.count) where
             ∙ ap (λ (x : List (Entry Label)). run item p k ++ x) to.to;
         lasts = run-time item (cycle_finite b i r t v) (cycle_time r t) p k (λ q x y. cycle_time_lem b i r t v q);
         many = run_length item (cycle_pulses r t) p k (λ q x y. cycle_length b i r t v q);
-        has = λ z. to.has;
+        has = to.has;
       }
 
   -- A BYTE
@@ -264,7 +272,7 @@ module _ (w : Tape) (b : ℕ) (below : b < w.count) where
             ∙ ap (λ (x : List (Entry Label)). item pos ++ x) to.to;
         lasts = byte_same b r c pos v;
         many = byte_length b r c pos v;
-        has = λ z. to.has;
+        has = to.has;
       }
 
 -- a run of repetitions passes some entries
@@ -277,7 +285,7 @@ pub record Took (w : Tape) (b : ℕ) (es : List (Entry Label)) (d j : ℕ) (s : 
   pub lead : Leads es d j (left_behind w b s) (d - s.time) (j + s.passed)
   pub most : s.time ≤ d
   pub some : 0 < s.passed
-  pub has : s.over ≡ false → has_in w b s.phase ≡ true
+  pub has : HasNext w b s.phase
 
 one_took : (w : Tape) (b : ℕ) (es : List (Entry Label)) (s : Step) (d j : ℕ) → One w b es s → 0 < d → s.time ≤ d
     → Took w b es d j s

@@ -1,5 +1,5 @@
 -- How a walk goes on inside a block: to the entry behind, or behind a whole run. Definitions alone; assumes nothing.
-use Rattle.std.specs.Prelude.{ℕ, zero, suc, ◌+◌, ◌-◌, ◌*◌, ◌/◌, ◌≤◌, ◌<◌, min, ◌≡◌, Bool, true, false, List, ltb, eqb}
+use Rattle.std.specs.Prelude.{ℕ, zero, suc, ◌+◌, ◌-◌, ◌*◌, ◌/◌, min, Bool, true, false, List, None, Some, ltb, eqb}
 use Rattle.law_base.specs.Rules.{◌⇒◌, ◌∣◌}
 use Rattle.law_pulses.specs.Play.{low, time}
 use Rattle.rows.specs.declared.Tone.{Tone}
@@ -28,12 +28,6 @@ pulse_from tones r i (suc n) = ltb 0 (cycles_of r (tone_at tones r i)) ⇒ Tones
 unfoldable pub tone_from : List ℕ → Block → ℕ → Phase
 tone_from tones r i = pulse_from tones r i (r.tones - i)
 
--- what a search from tone row i on comes to: the first row that has a pulse, or their number
-pub record Found (tones : List ℕ) (r : Block) (i j : ℕ) : Type 0 where
-  pub most : j ≤ r.tones
-  pub same : tone_from tones r i ≡ tone_from tones r j
-  pub some : j < r.tones → 0 < cycles_of r (tone_at tones r j)
-
 unfoldable pub cycle_from : List ℕ → Tone → Block → ℕ → ℕ → Phase
 cycle_from tones t r i p = ltb p (cycles_of r t) ⇒ Tones i p false ∣ tone_from tones r (i + 1)
 
@@ -42,11 +36,11 @@ second_from tones t r i p = is_single r t ⇒ cycle_from tones t r i (p + 1) ∣
 
 -- behind n entries of t T-states
 abbrev pub step_to : Phase → ℕ → ℕ → Step
-step_to f t n = record { phase = f; time = t; passed = n; over = false }
+step_to f t n = record { phase = Some f; time = t; passed = n }
 
 -- behind the block
 abbrev pub step_out : ℕ → Step
-step_out t = record { phase = Start; time = t; passed = 1; over = true }
+step_out t = record { phase = None; time = t; passed = 1 }
 
 -- behind k cycles from cycle p on; behind data byte pos
 unfoldable pub cycles_step : List ℕ → Tone → Block → ℕ → ℕ → ℕ → Step

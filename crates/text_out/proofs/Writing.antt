@@ -12,7 +12,7 @@ use borrow.Author.Tests.{lt-ltb, le-ltb, le-leb, lt-leb}
 use Rattle.law_base.specs.Rules.{◌⇒◌, ◌∣◌}
 use Rattle.text_out.specs.declared.Writer.{Writer}
 use Rattle.text_out.specs.Writes.{Writes}
-use Rattle.text_out.specs.Out.{Wrote, digits, decimal, latin1, each_byte, refused_text, fits, told, Fitted}
+use Rattle.text_out.specs.Out.{Wrote, digits, decimal, latin1, each_byte, refused_text, refused_line, fits, told, Fitted}
 
 pub sets_append : (d s t : List ℕ) (at : ℕ) → sets d at (s ++ t) ≡ sets (sets d at s) (at + length s) t
 sets_append d [] t at = rw add-zero
@@ -96,6 +96,10 @@ pub ruleset composed = (sets_append, length-append, decimal-length)
 pub refused_length : (k : ℕ) → length (refused_text k) ≤ 28
 unfolding refused_text
 refused_length k = simp length-append (omega (arith, decimal-length k))
+
+pub refused_line_length : (k : ℕ) → length (refused_line k) ≤ 29
+unfolding refused_line
+refused_line_length k = simp length-append (omega (arith, refused_length k))
 
 -- more digits allowed change nothing where the number has no more
 digits_more : (f n : ℕ) → n < 10 ^ suc f → digits (suc (suc f)) n ≡ digits (suc f) n

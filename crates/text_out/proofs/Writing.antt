@@ -1,5 +1,5 @@
 -- Laws of what is written: writes one after the other are one write of the whole text, and how long a text is. Assumes nothing.
-use mathlib.Core.Path.{◌≡◌, refl, sym, ap, ◌∙◌}
+use mathlib.Core.Path.{◌≡◌, refl, sym, ap, subst, ◌∙◌}
 use mathlib.Core.Bool.{Bool, true, false}
 use mathlib.Core.List.{List, [], ◌∷◌, ◌++◌}
 use Prim.Native.Nat.{ℕ, zero, suc, ◌+◌, ◌/◌, ◌%◌, ◌*◌, ◌^◌, ◌<◌, ◌≤◌}
@@ -64,6 +64,11 @@ unfolding told
 dry_short {t = t} out p h =
     let r : fits t out ≡ false = lt-leb (length t) (length out) (omega (arith, wrote_counted p)) in
     (r, rw r)
+
+-- what a writer over lent bytes leaves of them, from their front
+pub over_wrote : {w v : Writer} {d t : List ℕ} → w.out.now ≡ d → w.at ≡ 0 → Writes w t v → Wrote d 0 t v.out.now v.at
+over_wrote {w} {v} {d} {t} e z p =
+    subst (λ (l : List ℕ). Wrote l 0 t v.out.now v.at) e (subst (λ (n : ℕ). Wrote w.out.now n t v.out.now v.at) z p.wrote)
 
 -- a text that was written into bytes that have room for it, and how many of these it takes
 module _ {t out out' : List ℕ} {n : ℕ} where

@@ -2,7 +2,7 @@
 #![tactic(auto)]
 
 ghost use Rattle.std.specs.Prelude.{◌≡◌, ℕ, List, ◌+◌, ◌*◌, ◌^◌, ◌<◌, ◌≤◌, [], ◌∷◌, ◌++◌, length};
-ghost use Rattle.text_out.specs.Out.{decimal, latin1, latin, each_byte, refused_text, refused_line};
+ghost use Rattle.text_out.specs.Out.{ascii, decimal, latin1, latin, each_byte, refused_text, refused_line};
 ghost use Rattle.text_out.specs.Writes.{Writes};
 
 // Bytes lent for a text, and how far it has come: the place of its next byte, past their end too.
@@ -128,6 +128,16 @@ impl<'a> Writer<'a> {
         self.decimal(n);
     }
 
+    // The same, to the end of the line.
+    #[tactic(auto, using(crate::proofs::Writing::composed))]
+    pub fn said_line(&mut self, word: &[u8], n: u64)
+        requires { self.old.at + length word.now + 21 < 2 ^ 63 }
+        ensures { Writes self.old (word.now ++ decimal n ++ ascii "\n") self.new }
+    {
+        self.said(word, n);
+        self.byte(b'\n');
+    }
+
     // `refused n`
     #[tactic(auto, unfolding(crate::specs::Out::refused_text))]
     pub fn refused(&mut self, k: u32)
@@ -138,12 +148,11 @@ impl<'a> Writer<'a> {
     }
 
     // The same, to the end of the line.
-    #[tactic(auto, using(crate::proofs::Writing::composed, crate::proofs::Writing::refused_length), unfolding(crate::specs::Out::refused_line))]
+    #[tactic(auto, unfolding(crate::specs::Out::refused_line, crate::specs::Out::refused_text))]
     pub fn refused_line(&mut self, k: u32)
         requires { self.old.at + 32 < 2 ^ 63 }
         ensures { Writes self.old (refused_line k) self.new }
     {
-        self.refused(k);
-        self.byte(b'\n');
+        self.said_line(b"refused ", u64::from(k));
     }
 }

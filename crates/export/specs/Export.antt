@@ -1,6 +1,6 @@
 -- What a C host gets of a position as words, a load and a name: the answer, and what is left of each lent row.
 -- Definitions alone; assumes nothing.
-use Rattle.std.specs.Prelude.{ℕ, Bool, List, [], ◌∷◌, ltb, leb, eqb, length}
+use Rattle.std.specs.Prelude.{ℕ, Bool, List, [], ◌∷◌, ltb, leb, eqb, length, Option, Some, None, Result}
 use Rattle.law_base.specs.Rules.{◌⇒◌, ◌∣◌}
 use Rattle.refusals.specs.Refusals.{no_position, no_room, bad_row}
 use Rattle.play_entries.specs.Places.{Tape}
@@ -13,8 +13,7 @@ use Rattle.load_blocks.specs.Does.{lent_of}
 use Rattle.load_source.specs.Source.{Load}
 use Rattle.load_tape.specs.Load.{load_named}
 use Rattle.load_tape.specs.declared.Loaded.{Loaded}
-use Rattle.host_words.specs.declared.Placed.{Placed}
-use Rattle.host_words.specs.declared.Placed.TheVariants as place
+use Rattle.load_tape.specs.declared.NotLoaded.{NotLoaded}
 use Rattle.host_words.specs.Words.{words_of, position_from}
 use Rattle.host_run.specs.Runs.{run_no, run_table}
 use Rattle.host_answers.specs.Answers.{Reply, refused_by, number_of, of_selected, of_reached, of_loaded}
@@ -26,9 +25,9 @@ misplaced_no w [] = overfull w ⇒ bad_row ∣ no_position
 misplaced_no w (b ∷ ws) = overfull w ⇒ bad_row ∣ leb w.count b ⇒ no_position ∣ well_row w b ⇒ no_position ∣ bad_row
 
 -- WITH A POSITION as words: what f says of it, or that refusal where they name none
-unfoldable pub with_place : (Position → Reply) → Tape → List ℕ → Placed → Reply
-with_place f w ws (place.Is q) = f q
-with_place f w ws place.Not = refused_by (misplaced_no w ws)
+unfoldable pub with_place : (Position → Reply) → Tape → List ℕ → Option Position → Reply
+with_place f w ws (Some q) = f q
+with_place f w ws None = refused_by (misplaced_no w ws)
 
 -- a position's block, and both players' answers, from lent words
 abbrev pub selected_at : Tape → List ℕ → Reply
@@ -41,9 +40,9 @@ abbrev pub measured_at : Tape → List ℕ → ℕ → Reply
 measured_at w ws n = with_place (λ q. of_reached (play_measured w q n)) w ws (position_from ws)
 
 -- what f says of the position that words name, or other
-unfoldable pub from_place : {A : Type 0} → (Position → A) → A → Placed → A
-from_place f other (place.Is q) = f q
-from_place f other place.Not = other
+unfoldable pub from_place : {A : Type 0} → (Position → A) → A → Option Position → A
+from_place f other (Some q) = f q
+from_place f other None = other
 
 -- A RUN OF CALLS from lent words: its number, and what is left of the table
 abbrev pub run_number : Tape → List ℕ → List ℕ → List ℕ → ℕ
@@ -66,7 +65,7 @@ abbrev pub load_in : List ℕ → List ℕ → List ℕ → ℕ → Load
 load_in blocks tones tape model = load_named (lent_of (length blocks) (length tones)) tape model
 
 -- a load whose answer doesn't fit its row of three words is 10, before anything is read, and alters nothing
-unfoldable pub load_number : Loaded → List ℕ → ℕ
+unfoldable pub load_number : Result Loaded NotLoaded → List ℕ → ℕ
 load_number a row = ltb (length row) 3 ⇒ no_room ∣ (of_loaded a).no
 
 unfoldable pub load_table : List ℕ → List ℕ → List ℕ → List ℕ

@@ -1,7 +1,9 @@
 -- A RUN OF CALLS, each from where the one before left the head (rules 147, 148). Definitions alone; assumes nothing.
 use Rattle.std.specs.Prelude.{ℕ, ◌*◌, Bool, true, false, List, [], ◌∷◌, ltb, eqb, length, Result, Ok, Err}
 use Rattle.law_base.specs.Rules.{◌⇒◌, ◌∣◌}
-use Rattle.refusals.specs.Refusals.{no_position, no_room, bad_row}
+use Rattle.refusals.specs.declared.Refusal.{Refusal}
+use Rattle.refusals.specs.declared.Refusal.TheVariants.{NoPosition, NoRoom, BadRow}
+use Rattle.refusals.specs.Refusals.{answer_no}
 use Rattle.rows.specs.Table.{put_all}
 use Rattle.play_entries.specs.Places.{Tape}
 use Rattle.play_walk.specs.declared.Position.{Position}
@@ -42,17 +44,24 @@ unfoldable pub rows_over : Position → List (Result Reached Fault) → List Ans
 rows_over q [] = []
 rows_over q (r ∷ rs) = call_row q r ∷ rows_over (position_in q r) rs
 
--- WHAT IS RETURNED: 11 for the count, 9, 11, 9 for the position where the run begins, 10 where the table holds fewer rows; else 0
-unfoldable pub check_no : Result (Unit {0}) Fault → ℕ → ℕ
-check_no (Ok u) k = k
-check_no (Err NotValid) k = no_position
-check_no (Err NotFormed) k = bad_row
+-- WHAT IS RETURNED: 11 for the count, 9, 11, 9 for the position where the run begins, 10 where the table holds fewer rows
+unfoldable pub room_for : List ℕ → List ℕ → Result (Unit {0}) Refusal
+room_for ns table = ltb (length table) (length ns * answer_row.width) ⇒ Err NoRoom ∣ Ok tt
 
-unfoldable pub room_no : List ℕ → List ℕ → ℕ
-room_no ns table = ltb (length table) (length ns * answer_row.width) ⇒ no_room ∣ 0
+unfoldable pub checked : Result (Unit {0}) Fault → Result (Unit {0}) Refusal → Result (Unit {0}) Refusal
+checked (Ok u) r = r
+checked (Err NotValid) r = Err NoPosition
+checked (Err NotFormed) r = Err BadRow
 
-unfoldable pub run_no : Tape → Position → List ℕ → List ℕ → ℕ
-run_no w q ns table = check_no (judged w q) (room_no ns table)
+unfoldable pub run_answer : Tape → Position → List ℕ → List ℕ → Result (Unit {0}) Refusal
+run_answer w q ns table = checked (judged w q) (room_for ns table)
+
+-- its number; else 0
+abbrev pub room_no : List ℕ → List ℕ → ℕ
+room_no ns table = answer_no (room_for ns table)
+
+abbrev pub run_no : Tape → Position → List ℕ → List ℕ → ℕ
+run_no w q ns table = answer_no (run_answer w q ns table)
 
 -- WHAT IS LEFT OF THE TABLE: a row for each call from row 0 on, then the words that were there; all of them where the run is refused
 unfoldable pub run_table : Bool → Tape → Position → List ℕ → List ℕ → List ℕ

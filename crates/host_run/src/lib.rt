@@ -5,13 +5,12 @@ ghost use Rattle.std.specs.Prelude.{◌≡◌, ℕ, refl, Ok, ◌+◌, ◌*◌, 
 ghost use Rattle.std.proofs.Common.{lit<};
 ghost use Rattle.play_entries.specs.declared.Duration.TheVariants.{T};
 ghost use Rattle.law_base.specs.Rules.{◌⇒◌, ◌∣◌};
-ghost use Rattle.refusals.specs.Refusals.{answer_no};
 ghost use Rattle.rows.specs.Table.{put_all};
 ghost use Rattle.play_entries.specs.Mounted.{mounted_tape};
 ghost use Rattle.play_deck.specs.Assay.{Assayed};
 ghost use Rattle.play_deck.specs.Calls.{position_in};
 ghost use Rattle.host_run.specs.Rows.{answer_row, stand_row, call_row};
-ghost use Rattle.host_run.specs.Runs.{run_rows, room_no, run_no, run_table};
+ghost use Rattle.host_run.specs.Runs.{run_rows, room_for, room_no, run_answer, run_table};
 ghost use Rattle.host_run.specs.Inside.{with_left, inside_rows, inside_left, leads_to, Known, HoldsRows};
 
 use host_words::{flag, span_of, spot_of};
@@ -277,7 +276,7 @@ fn run_fitting<P: Player>(
     answers: &mut [u64],
 ) -> Result<(), Refusal>
     requires { Assayed (mounted_tape m.now) pos (Ok a) }
-    ensures value { answer_no result ≡ room_no counts.now answers.old }
+    ensures value { result ≡ room_for counts.now answers.old }
     ensures answers_after { answers.new
         ≡ (eqb (room_no counts.now answers.old) 0 ⇒ put_all answer_row answers.old 0
         (run_rows (P.plays (mounted_tape m.now)) pos counts.now) ∣ answers.old) }
@@ -291,7 +290,7 @@ fn run_fitting<P: Player>(
 
 // A run of calls of the measured player, or of the source's play, from a position: the position is judged once, and each row as it is
 // reached.
-#[tactic(auto, unfolding(crate::specs::Runs::run_no, crate::specs::Runs::run_table, crate::specs::Runs::check_no, crate::specs::Runs::player_of))]
+#[tactic(auto, unfolding(crate::specs::Runs::run_answer, crate::specs::Runs::run_table, crate::specs::Runs::checked, crate::specs::Runs::player_of))]
 pub fn play_run(
     m: &Mounted<'_>,
     pos: Position,
@@ -299,7 +298,7 @@ pub fn play_run(
     counts: &[u32],
     answers: &mut [u64],
 ) -> Result<(), Refusal>
-    ensures value { answer_no result ≡ run_no (mounted_tape m.now) pos counts.now answers.old }
+    ensures value { result ≡ run_answer (mounted_tape m.now) pos counts.now answers.old }
     ensures answers_after { answers.new ≡ run_table measured (mounted_tape m.now) pos counts.now answers.old }
 {
     match assay(m, pos) {

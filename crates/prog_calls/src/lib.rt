@@ -7,35 +7,39 @@ mod answers;
 
 ghost use Rattle.std.specs.Prelude.{◌≡◌, true, ◌+◌, ◌*◌, ◌^◌, ◌<◌, ◌≤◌, length};
 ghost use Rattle.rows.specs.Table.{rows_of};
-ghost use Rattle.play_entries.specs.Mounted.{tape_of};
-ghost use Rattle.play_walk.specs.Heads.{start_at, ended_in};
+ghost use Rattle.play_entries.specs.Mounted.{mounted_tape};
+ghost use Rattle.play_walk.specs.Heads.{start_at};
 ghost use Rattle.host_run.specs.Rows.{answer_row};
 ghost use Rattle.text_out.specs.Out.{Wrote, refused_line};
+ghost use Rattle.text_out.specs.Writes.{Writes};
 ghost use Rattle.prog_calls.specs.Answers.{reached_in};
 ghost use Rattle.prog_calls.specs.Playback.{is_player, number_in, counts_in, is_description};
 ghost use Rattle.prog_calls.specs.Trace.{ends_run, run_text, tape_text, described_text, trace_text, Prints};
 ghost use Rattle.prog_calls.specs.Inner.{line_in, lines_in, same_lines};
 
-use answers::{answer_at, place_in, reached_in};
-use cut_fields::{Cursor, field};
+use answers::{place_in, reached_in};
+use cut_fields::Reader;
 use host_run::{AnswerRow, play_run};
 use load_tape::{Loaded, load};
+use play_entries::Mounted;
 use play_menu::block;
-use play_walk::{Position, Reached};
+use play_walk::{How, Position, Reached};
 use prog_model::model_of;
-use refusals::{BAD_MODEL, NO_POSITION, TAPE_BAD, TAPE_LONG};
-use rows::{BLOCK_TABLE, TONE_TABLE};
-use text_trace::{put_line, put_refusal};
+use refusals::{BAD_MODEL, NO_POSITION, TAPE_LONG};
+use rows::{BLOCK_TABLE, Row, TONE_TABLE, row_at};
+use text_out::Writer;
+use text_trace::put_line;
 
 // The number of w bytes at a place; 0 where they are not all there.
 fn number(s: &[u8], at: u64, w: u64) -> u32
     ensures { result ≡ number_in s.now at w }
 {
-    let read = field(s, Cursor::At(at), w);
-    read.value
+    let mut r = Reader { tape: s, at };
+    r.number(w).unwrap_or(0)
 }
 
 // Whether a byte names a player.
+#[tactic(auto, unfolding(crate::specs::Playback::is_player))]
 fn is_player(b: u8) -> bool
     ensures { result ≡ is_player b }
 {
@@ -65,157 +69,80 @@ fn read_counts(bytes: &[u8], counts: &mut [u32])
     requires { length counts.old ≤ 1000 }
     ensures { counts.new ≡ counts_in bytes.now (length counts.old) }
 {
-    let mut i = 0;
-    while i < counts.len() {
+    for i in 0..counts.len() {
         counts[i] = number(bytes, 4 * i as u64, 4);
-        i += 1;
     }
 }
 
-// Whether an answer is the end.
-fn is_end(r: Reached) -> bool
-    ensures { result ≡ ended_in r }
-{
-    match r {
-        Reached::At(_) => false,
-        Reached::Stopped(_) => false,
-        Reached::Ended(_) => true,
-        Reached::NotValid => false,
-        Reached::NotFormed => false,
-    }
-}
-
-// Whether a run ends with a row.
+// Whether a run ends with a row: the source's with the tape.
+#[tactic(auto, unfolding(crate::specs::Trace::ends_run, play_walk::specs::Heads::ended_in))]
 fn ends_run(measured: bool, a: AnswerRow) -> bool
     ensures { result ≡ ends_run measured (reached_in a) }
 {
     if measured {
         return false;
     }
-    is_end(reached_in(a))
+    matches!(
+        reached_in(a),
+        Ok(Reached {
+            how: How::Ended,
+            ..
+        })
+    )
 }
 
 // The line of a row.
-fn put_row(
-    tape: &[u8],
-    tones: &[u64],
-    blocks: &[u64],
-    count: u64,
-    measured: bool,
-    a: AnswerRow,
-    out: &mut [u8],
-    at: usize,
-) -> usize
-    requires { at + 256 < 2 ^ 63 }
-    ensures { Wrote out.old at
-        (line_in measured (tape_of tape.now tones.now blocks.now count) a) out.new result }
+#[tactic(auto, unfolding(crate::specs::Inner::line_in))]
+fn put_row(w: &mut Writer<'_>, m: &Mounted<'_>, measured: bool, a: AnswerRow)
+    requires { w.old.at + 256 < 2 ^ 63 }
+    ensures { Writes w.old (line_in measured (mounted_tape m.now) a) w.new }
 {
-    let shown = block(tape, tones, blocks, count, place_in(a));
-    put_line(out, at, measured, reached_in(a), shown)
+    put_line(w, measured, reached_in(a), block(m, place_in(a)));
 }
 
 // The lines of a run's first n rows.
-fn put_rows(
-    tape: &[u8],
-    tones: &[u64],
-    blocks: &[u64],
-    count: u64,
-    measured: bool,
-    answers: &[u64],
-    n: usize,
-    out: &mut [u8],
-) -> usize
+fn put_rows(w: &mut Writer<'_>, m: &Mounted<'_>, measured: bool, answers: &[u64], n: usize)
     requires width_in_bounds { n * answer_row.width ≤ length answers.now }
-    requires n_bound { n ≤ 1000 }
-    ensures { Wrote out.old 0
-        (lines_in measured (tape_of tape.now tones.now blocks.now count)
-        (rows_of answer_row answers.now n)) out.new result }
+    requires n_bound { (n ≤ 1000) × (w.old.at ≤ 1024) }
+    ensures { Writes w.old (lines_in measured (mounted_tape m.now) (rows_of answer_row answers.now n)) w.new }
 {
-    let mut at = 0;
-    let mut i = 0;
-    while i < n {
-        let a = answer_at(answers, i);
-        at = put_row(tape, tones, blocks, count, measured, a, out, at);
+    for i in 0..n {
+        let a = row_at(answers, i);
+        put_row(w, m, measured, a);
         if ends_run(measured, a) {
-            return at;
+            return;
         }
-        i += 1;
     }
-    at
 }
 
 // The line of a refusal n times.
-fn put_refusals(out: &mut [u8], k: u32, n: usize) -> usize
-    requires { n ≤ 1000 }
-    ensures { Wrote out.old 0 (same_lines n (refused_line k)) out.new result }
+fn put_refusals(w: &mut Writer<'_>, k: u32, n: usize)
+    requires { (n ≤ 1000) × (w.old.at ≤ 1024) }
+    ensures { Writes w.old (same_lines n (refused_line k)) w.new }
 {
-    let mut at = 0;
-    let mut i = 0;
-    while i < n {
-        at = put_refusal(out, at, k);
-        i += 1;
+    for _ in 0..n {
+        w.refused_line(k);
     }
-    at
 }
 
 // The lines of a run; where its start is refused, so is each call.
 fn put_run(
-    tape: &[u8],
-    tones: &[u64],
-    blocks: &[u64],
-    count: u64,
+    w: &mut Writer<'_>,
+    m: &Mounted<'_>,
     measured: bool,
     from: u64,
     counts: &[u32],
     answers: &mut [u64],
-    out: &mut [u8],
-) -> usize
+)
     requires width_in_bounds { length counts.now * answer_row.width ≤ length answers.old }
-    requires counts_len_bound { length counts.now ≤ 1000 }
-    ensures { Wrote out.old 0
-        (run_text measured (tape_of tape.now tones.now blocks.now count) (start_at from)
-        counts.now) out.new result }
+    requires counts_len_bound { (length counts.now ≤ 1000) × (w.old.at ≤ 1024) }
+    ensures { Writes w.old (run_text measured (mounted_tape m.now) (start_at from) counts.now) w.new }
 {
     let pos = Position::new_at_block(from);
-    let k = play_run(tape, tones, blocks, count, pos, measured, counts, answers);
-    if k != 0 {
-        return put_refusals(out, k, counts.len());
+    match play_run(m, pos, measured, counts, answers) {
+        Ok(()) => put_rows(w, m, measured, answers, counts.len()),
+        Err(no) => put_refusals(w, no.number(), counts.len()),
     }
-    put_rows(
-        tape,
-        tones,
-        blocks,
-        count,
-        measured,
-        answers,
-        counts.len(),
-        out,
-    )
-}
-
-// The same of counts as they are read; its callers lend so many words.
-fn put_counted(
-    tape: &[u8],
-    tones: &[u64],
-    blocks: &[u64],
-    count: u64,
-    measured: bool,
-    from: u64,
-    bytes: &[u8],
-    counts: &mut [u32],
-    answers: &mut [u64],
-    out: &mut [u8],
-) -> usize
-    requires width_in_bounds { length counts.old * answer_row.width ≤ length answers.old }
-    requires counts_len_bound { length counts.old ≤ 1000 }
-    ensures { Wrote out.old 0
-        (run_text measured (tape_of tape.now tones.now blocks.now count) (start_at from)
-        (counts_in bytes.now (length counts.old))) out.new result }
-{
-    read_counts(bytes, counts);
-    put_run(
-        tape, tones, blocks, count, measured, from, counts, answers, out,
-    )
 }
 
 // Room for the counts of 1,000 calls.
@@ -227,10 +154,7 @@ fn no_counts() -> [u32; 1000]
 
 // What is printed of a run from a block's start over rows in tables; our programs call it, and lend 256 bytes a call.
 pub fn say_calls(
-    tape: &[u8],
-    tones: &[u64],
-    blocks: &[u64],
-    count: u64,
+    m: &Mounted<'_>,
     measured: bool,
     from: u64,
     counts: &[u8],
@@ -239,23 +163,15 @@ pub fn say_calls(
 ) -> usize
     requires calls_bound { calls ≤ 1000 }
     requires in_bounds { 256000 ≤ length out.old }
-    ensures { Prints (run_text measured (tape_of tape.now tones.now blocks.now count)
-        (start_at from) (counts_in counts.now calls)) result out.new }
+    ensures { Prints (run_text measured (mounted_tape m.now) (start_at from) (counts_in counts.now calls)) result
+        out.new }
 {
     let mut each = no_counts();
     let mut answers = [0u64; 10000];
-    put_counted(
-        tape,
-        tones,
-        blocks,
-        count,
-        measured,
-        from,
-        counts,
-        &mut each[..calls],
-        &mut answers,
-        out,
-    )
+    read_counts(counts, &mut each[..calls]);
+    let mut w = Writer::over(out);
+    put_run(&mut w, m, measured, from, &each[..calls], &mut answers);
+    w.at
 }
 
 // `refused n`
@@ -263,7 +179,9 @@ fn say_refused(out: &mut [u8], k: u32) -> usize
     requires { 32 ≤ length out.old }
     ensures { Prints (refused_line k) result out.new }
 {
-    put_refusal(out, 0, k)
+    let mut w = Writer::over(out);
+    w.refused_line(k);
+    w.at
 }
 
 // What is printed of a run over a tape's bytes.
@@ -284,13 +202,16 @@ fn say_tape(
     let mut blocks = [0u64; BLOCK_TABLE];
     let mut tones = [0u64; TONE_TABLE];
     match load(tape, model, &mut blocks, &mut tones) {
-        Loaded::Tape {
-            format: _,
-            blocks: n,
-            tones: _,
-        } => say_calls(tape, &tones, &blocks, n, measured, from, counts, calls, out),
-        Loaded::Unread { tzx: _, tap: _ } => say_refused(out, TAPE_BAD),
-        Loaded::Refused(k) => say_refused(out, k),
+        Ok(loaded) => {
+            let m = Mounted {
+                tape,
+                tones: &tones,
+                blocks: &blocks,
+                count: loaded.blocks,
+            };
+            say_calls(&m, measured, from, counts, calls, out)
+        }
+        Err(no) => say_refused(out, no.number()),
     }
 }
 

@@ -136,15 +136,15 @@ module _ (s : List ℕ) where
   field_stops w p h = rw (field_short w p h)
 
   -- the place past a field is inside the tape
-  pub field-inside : (c : Cursor) (w : ℕ) {e : ℕ} → (field_at s c w).cursor ≡ Ok e → e ≤ length s
+  pub field_inside : (c : Cursor) (w : ℕ) {e : ℕ} → (field_at s c w).cursor ≡ Ok e → e ≤ length s
   unfolding field_at
-  field-inside (Ok p) w {e} h =
+  field_inside (Ok p) w {e} h =
       ⊎_elim
       (λ (a : length s < p + w). let z : ◌≡◌ {A = Cursor} (short_at p w) (Ok e) = sym (field_stops w p a) ∙ h in absurd (told z))
       (λ (a : p + w ≤ length s). let z : ◌≡◌ {A = Cursor} (Ok (p + w)) (Ok e) = sym (field_moves w p a) ∙ h in
       let i : p + w ≡ e = cc in omega arith)
       (lt_or_ge (length s) (p + w))
-  field-inside (Err e) w h = absurd (told h)
+  field_inside (Err e) w h = absurd (told h)
 
   each_moves : (k w p : ℕ) → p + k * w ≤ length s → each_at s (Ok p) k w ≡ Ok (p + k * w)
   unfolding each_at

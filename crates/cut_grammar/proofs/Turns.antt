@@ -1,14 +1,8 @@
 -- One turn of each loop, as a law of its definition. Assumes nothing.
-use Prim.Native.Nat.{ℕ, zero, suc, ◌+◌, ◌-◌, ◌/◌, ◌<◌}
-use native.Mathlib.Numerals.{add-one}
+use Prim.Native.Nat.{ℕ, zero, suc, ◌-◌, ◌<◌}
 use native.Mathlib.Omega.{arith}
 use mathlib.Core.Path.{◌≡◌, refl, sym}
-use mathlib.Core.Bool.{◌&&◌}
 use mathlib.Core.List.{List}
-use lib.ListN.{length, get_or, drop}
-use lib.Seq.{drop-cons}
-use lib.Dec.{eqb}
-use borrow.Author.Tests.{ne_eqb}
 use Rattle.std.specs.Prelude.{Ok, Err}
 use Rattle.cut_fields.specs.Field.{Cursor}
 use Rattle.cut_fields.specs.Field.{field_at}
@@ -17,20 +11,12 @@ use Rattle.cut_fields.specs.Run.{each_at, groups_at}
 use Rattle.cut_fields.specs.declared.Short.{Short}
 use Rattle.cut_fields.proofs.Runs.{times-stopped, stopped, each_stopped, groups-stopped, field_stuck}
 use Rattle.cut_grammar.specs.Grammar.{counted_at, texts_at, binary_digits}
-use Rattle.cut_grammar.specs.Cut.{starts_at}
 
--- halving: 0 has no digits, and another number one more than its half
-pub digits-zero : (f : ℕ) → binary_digits f 0 ≡ 0
+-- 0 has no digits
+pub digits_zero : (f : ℕ) → binary_digits f 0 ≡ 0
 unfolding binary_digits
-digits-zero zero = refl
-digits-zero (suc f) = refl
-
-pub digits_more : (k n : ℕ) → k < 32 → (n ≡ 0 → ⊥)
-    → k + binary_digits (32 - k) n ≡ k + 1 + binary_digits (32 - (k + 1)) (n / 2)
-unfolding binary_digits
-digits_more k n h z =
-    let e : 32 - k ≡ suc (32 - (k + 1)) = omega arith in
-    rw (e, ne_eqb n 0 z) (omega arith)
+digits_zero zero = refl
+digits_zero (suc f) = refl
 
 -- the texts after one of them
 pub texts_more : (s : List ℕ) (c : Cursor) (n : ℕ) → 0 < n
@@ -41,11 +27,9 @@ texts_more s (Ok p) (suc n) h = let e : suc n - 1 ≡ n = omega arith in rw e
 texts_more s (Err x) (suc n) h =
     unfold counted_at field_at in sym (times-stopped (λ c. (counted_at s (field_at s c 1).cursor 1).cursor) (suc n - 1) stopped)
 
--- one byte of what a tape begins with
-pub starts_more : (s xs : List ℕ) (i : ℕ) → i < length xs
-    → starts_at s i (drop i xs) ≡ (eqb (get_or s i 0) (get_or xs i 0) && starts_at s (i + 1) (drop (i + 1) xs))
-unfolding starts_at
-starts_more s xs i h = rw (drop-cons xs i 0 h, add-one)
+pub texts_none : (s : List ℕ) (c : Cursor) (n : ℕ) → n ≡ 0 → texts_at s c n ≡ c
+unfolding texts_at times
+texts_none s c n z = rw z refl
 
 -- nothing is read behind a field that came up short
 module _ (s : List ℕ) (e : Short) where

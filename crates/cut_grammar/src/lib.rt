@@ -181,6 +181,19 @@ pub fn counted(r: &mut Reader, width: u64) -> Result<(u64, u32), Short>
     Ok((from, size))
 }
 
+// The numbers that 19 begins with, as they are written.
+#[derive(Clone, Copy)]
+pub struct GeneralHead {
+    pub length: u32,
+    pub pause: u32,
+    pub totp: u32,
+    pub npp: u32,
+    pub asp: u32,
+    pub totd: u32,
+    pub npd: u32,
+    pub asd: u32,
+}
+
 // A body's answer, where the piece ends with the body.
 #[tactic(auto, unfolding(crate::specs::Grammar::sealed))]
 pub fn sealed(end: u64, inner: Body) -> Body

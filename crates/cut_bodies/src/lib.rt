@@ -1,247 +1,229 @@
 // What stands after a kind byte: a function for each kind that has fields, but 19.
-#![tactic(auto)]
+#![tactic(auto, using(cut_grammar::proofs::Turns::stuck), unfolding(cut_fields::specs::Field::place_of, cut_grammar::specs::Grammar::read_at, cut_grammar::specs::Grammar::pass_at, cut_grammar::specs::Grammar::whole_at, cut_grammar::specs::Kinds::kind10, cut_grammar::specs::Kinds::kind11, cut_grammar::specs::Kinds::kind12, cut_grammar::specs::Kinds::kind13, cut_grammar::specs::Kinds::kind14, cut_grammar::specs::Kinds::kind20, cut_grammar::specs::Kinds::kind21, cut_grammar::specs::Kinds::kind24, cut_grammar::specs::Kinds::kind_2a, cut_grammar::specs::Kinds::kind30, cut_grammar::specs::Kinds::kind31, cut_grammar::specs::Kinds::info32, cut_grammar::specs::Kinds::kind32, cut_grammar::specs::Kinds::kind33, cut_grammar::specs::Kinds::kind35))]
 
 ghost use Rattle.std.specs.Prelude.{◌≡◌};
+ghost use Rattle.cut_fields.specs.Field.{cursor_of};
 ghost use Rattle.cut_grammar.specs.Grammar.{texts_at, read_at};
 ghost use Rattle.cut_grammar.specs.Kinds.{kind10, kind11, kind12, kind13, kind14, kind20, kind21, kind24, kind_2a, kind30, kind31, info32};
 ghost use Rattle.cut_grammar.specs.Kinds.{kind32, kind33, kind35};
 
-use cut_fields::{Cursor, after, each, field, groups, pass, place};
-use cut_grammar::{Body, Piece, TurboData, counted, sealed, whole};
+use cut_fields::{Reader, Short};
+use cut_grammar::{Body, Piece, TurboData, Whole, counted, sealed};
 
 // 10
-pub fn standard(tape: &[u8], c: Cursor) -> Body
-    ensures { result ≡ read_at kind10 tape.now c }
+pub fn standard(mut r: Reader) -> Body
+    ensures { result ≡ read_at kind10 r.entry.tape.now (Ok r.entry.at) }
 {
-    let pause = field(tape, c, 2);
-    let rest = pause.cursor;
-    let data = counted(tape, rest, 2);
-    let end = data.cursor;
-    whole(
-        Piece::Standard {
-            pause: pause.value,
-            from: data.from,
-            size: data.size,
-        },
-        end,
-    )
+    let pause = r.number(2)?;
+    let (from, size) = counted(&mut r, 2)?;
+    Ok(Whole {
+        piece: Piece::Standard { pause, from, size },
+        next: r.at,
+    })
 }
 
 // 11
-pub fn turbo(tape: &[u8], c: Cursor) -> Body
-    ensures { result ≡ read_at kind11 tape.now c }
+pub fn turbo(mut r: Reader) -> Body
+    ensures { result ≡ read_at kind11 r.entry.tape.now (Ok r.entry.at) }
 {
-    let pilot = field(tape, c, 2);
-    let sync1 = after(tape, pilot, 2);
-    let sync2 = after(tape, sync1, 2);
-    let zero = after(tape, sync2, 2);
-    let one = after(tape, zero, 2);
-    let pilots = after(tape, one, 2);
-    let last = after(tape, pilots, 1);
-    let pause = after(tape, last, 2);
-    let rest = pause.cursor;
-    let data = counted(tape, rest, 3);
-    let end = data.cursor;
-    whole(
-        Piece::Turbo(TurboData {
-            pilot: pilot.value,
-            sync1: sync1.value,
-            sync2: sync2.value,
-            zero: zero.value,
-            one: one.value,
-            pilots: pilots.value,
-            last: last.value,
-            pause: pause.value,
-            from: data.from,
-            size: data.size,
+    let pilot = r.number(2)?;
+    let sync1 = r.number(2)?;
+    let sync2 = r.number(2)?;
+    let zero = r.number(2)?;
+    let one = r.number(2)?;
+    let pilots = r.number(2)?;
+    let last = r.number(1)?;
+    let pause = r.number(2)?;
+    let (from, size) = counted(&mut r, 3)?;
+    Ok(Whole {
+        piece: Piece::Turbo(TurboData {
+            pilot,
+            sync1,
+            sync2,
+            zero,
+            one,
+            pilots,
+            last,
+            pause,
+            from,
+            size,
         }),
-        end,
-    )
+        next: r.at,
+    })
 }
 
 // 12
-pub fn tone(tape: &[u8], c: Cursor) -> Body
-    ensures { result ≡ read_at kind12 tape.now c }
+pub fn tone(mut r: Reader) -> Body
+    ensures { result ≡ read_at kind12 r.entry.tape.now (Ok r.entry.at) }
 {
-    let half = field(tape, c, 2);
-    let count = after(tape, half, 2);
-    let end = count.cursor;
-    whole(
-        Piece::Tone {
-            half: half.value,
-            count: count.value,
-        },
-        end,
-    )
+    let half = r.number(2)?;
+    let count = r.number(2)?;
+    Ok(Whole {
+        piece: Piece::Tone { half, count },
+        next: r.at,
+    })
 }
 
 // 13
-pub fn pulses(tape: &[u8], c: Cursor) -> Body
-    ensures { result ≡ read_at kind13 tape.now c }
+pub fn pulses(mut r: Reader) -> Body
+    ensures { result ≡ read_at kind13 r.entry.tape.now (Ok r.entry.at) }
 {
-    let count = field(tape, c, 1);
-    let from = count.cursor;
-    whole(
-        Piece::Pulses {
-            count: count.value,
-            from: place(from),
-        },
-        each(tape, from, count.value as u64, 2),
-    )
+    let count = r.number(1)?;
+    let from = r.at;
+    r.each(count as u64, 2)?;
+    Ok(Whole {
+        piece: Piece::Pulses { count, from },
+        next: r.at,
+    })
 }
 
 // 14
-pub fn pure(tape: &[u8], c: Cursor) -> Body
-    ensures { result ≡ read_at kind14 tape.now c }
+pub fn pure(mut r: Reader) -> Body
+    ensures { result ≡ read_at kind14 r.entry.tape.now (Ok r.entry.at) }
 {
-    let zero = field(tape, c, 2);
-    let one = after(tape, zero, 2);
-    let last = after(tape, one, 1);
-    let pause = after(tape, last, 2);
-    let rest = pause.cursor;
-    let data = counted(tape, rest, 3);
-    let end = data.cursor;
-    whole(
-        Piece::Pure {
-            zero: zero.value,
-            one: one.value,
-            last: last.value,
-            pause: pause.value,
-            from: data.from,
-            size: data.size,
+    let zero = r.number(2)?;
+    let one = r.number(2)?;
+    let last = r.number(1)?;
+    let pause = r.number(2)?;
+    let (from, size) = counted(&mut r, 3)?;
+    Ok(Whole {
+        piece: Piece::Pure {
+            zero,
+            one,
+            last,
+            pause,
+            from,
+            size,
         },
-        end,
-    )
+        next: r.at,
+    })
 }
 
 // 20
-pub fn pause(tape: &[u8], c: Cursor) -> Body
-    ensures { result ≡ read_at kind20 tape.now c }
+pub fn pause(mut r: Reader) -> Body
+    ensures { result ≡ read_at kind20 r.entry.tape.now (Ok r.entry.at) }
 {
-    let ms = field(tape, c, 2);
-    let end = ms.cursor;
-    whole(Piece::Pause { ms: ms.value }, end)
+    let ms = r.number(2)?;
+    Ok(Whole {
+        piece: Piece::Pause { ms },
+        next: r.at,
+    })
 }
 
 // 21
-pub fn group_start(tape: &[u8], c: Cursor) -> Body
-    ensures { result ≡ read_at kind21 tape.now c }
+pub fn group_start(mut r: Reader) -> Body
+    ensures { result ≡ read_at kind21 r.entry.tape.now (Ok r.entry.at) }
 {
-    let text = counted(tape, c, 1);
-    let end = text.cursor;
-    whole(
-        Piece::GroupStart {
-            from: text.from,
-            size: text.size,
-        },
-        end,
-    )
+    let (from, size) = counted(&mut r, 1)?;
+    Ok(Whole {
+        piece: Piece::GroupStart { from, size },
+        next: r.at,
+    })
 }
 
 // 24
-pub fn loop_start(tape: &[u8], c: Cursor) -> Body
-    ensures { result ≡ read_at kind24 tape.now c }
+pub fn loop_start(mut r: Reader) -> Body
+    ensures { result ≡ read_at kind24 r.entry.tape.now (Ok r.entry.at) }
 {
-    let times = field(tape, c, 2);
-    let end = times.cursor;
-    whole(Piece::LoopStart { times: times.value }, end)
+    let times = r.number(2)?;
+    Ok(Whole {
+        piece: Piece::LoopStart { times },
+        next: r.at,
+    })
 }
 
 // 2A
-pub fn stop48(tape: &[u8], c: Cursor) -> Body
-    ensures { result ≡ read_at kind_2a tape.now c }
+pub fn stop48(mut r: Reader) -> Body
+    ensures { result ≡ read_at kind_2a r.entry.tape.now (Ok r.entry.at) }
 {
-    let length = field(tape, c, 4);
-    let end = length.cursor;
-    whole(
-        Piece::Stop48 {
-            length: length.value,
-        },
-        end,
-    )
+    let length = r.number(4)?;
+    Ok(Whole {
+        piece: Piece::Stop48 { length },
+        next: r.at,
+    })
 }
 
 // 30
-pub fn text(tape: &[u8], c: Cursor) -> Body
-    ensures { result ≡ read_at kind30 tape.now c }
+pub fn text(mut r: Reader) -> Body
+    ensures { result ≡ read_at kind30 r.entry.tape.now (Ok r.entry.at) }
 {
-    let text = counted(tape, c, 1);
-    let end = text.cursor;
-    whole(
-        Piece::Text {
-            from: text.from,
-            size: text.size,
-        },
-        end,
-    )
+    let (from, size) = counted(&mut r, 1)?;
+    Ok(Whole {
+        piece: Piece::Text { from, size },
+        next: r.at,
+    })
 }
 
 // 31
-pub fn message(tape: &[u8], c: Cursor) -> Body
-    ensures { result ≡ read_at kind31 tape.now c }
+pub fn message(mut r: Reader) -> Body
+    ensures { result ≡ read_at kind31 r.entry.tape.now (Ok r.entry.at) }
 {
-    let text = counted(tape, pass(tape, c, 1), 1);
-    let end = text.cursor;
-    whole(Piece::Message, end)
+    r.skip(1)?;
+    counted(&mut r, 1)?;
+    Ok(Whole {
+        piece: Piece::Message,
+        next: r.at,
+    })
 }
 
 // The texts of 32: an id, a length and as many bytes each. A text at least is passed in two bytes, so n costs no more than the tape.
-fn texts(tape: &[u8], c: Cursor, n: u32) -> Cursor
-    ensures { result ≡ texts_at tape.now c n }
+#[tactic(auto, using(cut_grammar::proofs::Turns::texts_more, cut_grammar::proofs::Turns::texts_none, cut_grammar::proofs::Turns::stuck))]
+fn texts(r: &mut Reader, n: u32) -> Result<(), Short>
+    ensures tape { r.new.tape ≡ r.old.tape }
+    ensures past { texts_at r.old.tape.now (Ok r.old.at) n ≡ cursor_of result r.new.at }
 {
-    let mut at = c;
-    let mut left = n;
-    while 0 < left {
-        let id = field(tape, at, 1);
-        let rest = id.cursor;
-        let text = counted(tape, rest, 1);
-        at = text.cursor;
-        left -= 1;
+    for _ in 0..n {
+        r.skip(1)?;
+        counted(r, 1)?;
     }
-    at
+    Ok(())
 }
 
 // What the body of 32 holds; the tape is cut where the body ends.
-fn info(tape: &[u8], c: Cursor) -> Body
-    ensures { result ≡ read_at info32 tape.now c }
+fn info(mut r: Reader) -> Body
+    ensures { result ≡ read_at info32 r.entry.tape.now (Ok r.entry.at) }
 {
-    let count = field(tape, c, 1);
-    let rest = count.cursor;
-    whole(Piece::Archive, texts(tape, rest, count.value))
+    let count = r.number(1)?;
+    texts(&mut r, count)?;
+    Ok(Whole {
+        piece: Piece::Archive,
+        next: r.at,
+    })
 }
 
 // 32
-pub fn archive(tape: &[u8], c: Cursor) -> Body
-    ensures { result ≡ read_at kind32 tape.now c }
+#[tactic(auto, using(cut_grammar::proofs::Turns::stuck), unfolding(cut_grammar::specs::Grammar::read_at, cut_grammar::specs::Grammar::enclosed, cut_grammar::specs::Kinds::kind32))]
+pub fn archive(mut r: Reader) -> Body
+    ensures { result ≡ read_at kind32 r.entry.tape.now (Ok r.entry.at) }
 {
-    let length = field(tape, c, 2);
-    let from = length.cursor;
-    match pass(tape, from, length.value as u64) {
-        Cursor::At(end) => {
-            let inside = &tape[..end as usize];
-            sealed(end, info(inside, from))
-        }
-        Cursor::Short(at, width) => Body::Short(at, width),
-    }
+    let length = r.number(2)?;
+    let from = r.at;
+    r.skip(length as u64)?;
+    let end = r.at;
+    let tape = &r.tape[..end as usize];
+    sealed(end, info(Reader { tape, at: from }))
 }
 
 // 33
-pub fn hardware(tape: &[u8], c: Cursor) -> Body
-    ensures { result ≡ read_at kind33 tape.now c }
+pub fn hardware(mut r: Reader) -> Body
+    ensures { result ≡ read_at kind33 r.entry.tape.now (Ok r.entry.at) }
 {
-    let count = field(tape, c, 1);
-    let rest = count.cursor;
-    whole(
-        Piece::Hardware,
-        groups(tape, rest, count.value as u64, 1, 2, 1),
-    )
+    let count = r.number(1)?;
+    r.groups(count as u64, 1, 2, 1)?;
+    Ok(Whole {
+        piece: Piece::Hardware,
+        next: r.at,
+    })
 }
 
 // 35
-pub fn custom(tape: &[u8], c: Cursor) -> Body
-    ensures { result ≡ read_at kind35 tape.now c }
+pub fn custom(mut r: Reader) -> Body
+    ensures { result ≡ read_at kind35 r.entry.tape.now (Ok r.entry.at) }
 {
-    let body = counted(tape, pass(tape, c, 16), 4);
-    let end = body.cursor;
-    whole(Piece::Custom, end)
+    r.skip(16)?;
+    counted(&mut r, 4)?;
+    Ok(Whole {
+        piece: Piece::Custom,
+        next: r.at,
+    })
 }

@@ -2,9 +2,8 @@
 #![tactic(auto)]
 
 ghost use Rattle.std.specs.Prelude.{◌≡◌};
-ghost use Rattle.cut_fields.specs.declared.Cursor.TheVariants.{At};
 ghost use Rattle.cut_grammar.specs.Grammar.{read_at};
-ghost use Rattle.cut_grammar.specs.Kinds.{kind_of};
+ghost use Rattle.cut_grammar.specs.Kinds.{kind_5a, kind_of};
 ghost use Rattle.cut_grammar.specs.Cut.{cut_at, taken_as};
 
 use cut_bodies::{
@@ -12,62 +11,81 @@ use cut_bodies::{
     stop48, text, tone, turbo,
 };
 use cut_body19::general;
-use cut_fields::{Cursor, pass};
-use cut_grammar::{Body, Piece, Taken, whole};
+use cut_fields::{Reader, Short};
+use cut_grammar::{Body, NotCut, Piece, Taken, Whole};
 
-// What stands after a kind byte, from a place on: every kind from 0 to 255 has its row.
-#[tactic(auto, using(crate::proofs::Described::read_described))]
-fn body_of(tape: &[u8], kind: u8, from: u64, full: u32) -> Body
-    ensures { result ≡ read_at (kind_of full kind) tape.now (At from) }
+// 5A
+#[tactic(auto, using(cut_grammar::proofs::Turns::stuck), unfolding(cut_grammar::specs::Grammar::read_at, cut_grammar::specs::Grammar::pass_at, cut_grammar::specs::Grammar::whole_at, cut_grammar::specs::Kinds::kind_5a))]
+fn glue(mut r: Reader) -> Body
+    ensures { result ≡ read_at kind_5a r.entry.tape.now (Ok r.entry.at) }
 {
-    let c = Cursor::At(from);
+    r.skip(9)?;
+    Ok(Whole {
+        piece: Piece::Glue,
+        next: r.at,
+    })
+}
+
+// What stands after a kind byte: every kind from 0 to 255 has its row.
+#[tactic(auto, unfolding(cut_grammar::specs::Grammar::read_at, cut_grammar::specs::Grammar::whole_at, cut_grammar::specs::Kinds::kind22, cut_grammar::specs::Kinds::kind25, cut_grammar::specs::Kinds::kinds, cut_grammar::specs::Kinds::kind_of))]
+fn body_of(r: Reader, kind: u8, full: u32) -> Body
+    ensures { result ≡ read_at (kind_of full kind) r.entry.tape.now (Ok r.entry.at) }
+{
     match kind {
-        0x10 => standard(tape, c),
-        0x11 => turbo(tape, c),
-        0x12 => tone(tape, c),
-        0x13 => pulses(tape, c),
-        0x14 => pure(tape, c),
-        0x15..=0x18 => Body::Unknown(true),
-        0x19 => general(tape, c, full),
-        0x20 => pause(tape, c),
-        0x21 => group_start(tape, c),
-        0x22 => whole(Piece::GroupEnd, c),
-        0x23 => Body::Unknown(true),
-        0x24 => loop_start(tape, c),
-        0x25 => whole(Piece::LoopEnd, c),
-        0x26..=0x28 => Body::Unknown(true),
-        0x2A => stop48(tape, c),
-        0x2B => Body::Unknown(true),
-        0x30 => text(tape, c),
-        0x31 => message(tape, c),
-        0x32 => archive(tape, c),
-        0x33 => hardware(tape, c),
-        0x34 => Body::Unknown(true),
-        0x35 => custom(tape, c),
-        0x40 => Body::Unknown(true),
-        0x5A => whole(Piece::Glue, pass(tape, c, 9)),
-        _ => Body::Unknown(false),
+        0x10 => standard(r),
+        0x11 => turbo(r),
+        0x12 => tone(r),
+        0x13 => pulses(r),
+        0x14 => pure(r),
+        0x15..=0x18 => Err(NotCut::Unknown(true)),
+        0x19 => general(r, full),
+        0x20 => pause(r),
+        0x21 => group_start(r),
+        0x22 => Ok(Whole {
+            piece: Piece::GroupEnd,
+            next: r.at,
+        }),
+        0x23 => Err(NotCut::Unknown(true)),
+        0x24 => loop_start(r),
+        0x25 => Ok(Whole {
+            piece: Piece::LoopEnd,
+            next: r.at,
+        }),
+        0x26..=0x28 => Err(NotCut::Unknown(true)),
+        0x2A => stop48(r),
+        0x2B => Err(NotCut::Unknown(true)),
+        0x30 => text(r),
+        0x31 => message(r),
+        0x32 => archive(r),
+        0x33 => hardware(r),
+        0x34 => Err(NotCut::Unknown(true)),
+        0x35 => custom(r),
+        0x40 => Err(NotCut::Unknown(true)),
+        0x5A => glue(r),
+        _ => Err(NotCut::Unknown(false)),
     }
 }
 
 // A body under its kind and the place of its piece.
+#[tactic(auto, unfolding(cut_grammar::specs::Cut::taken_as))]
 fn named(kind: u8, at: u64, body: Body) -> Taken
     ensures { result ≡ taken_as kind at body }
 {
     match body {
-        Body::Whole(piece, next) => Taken::Whole {
+        Ok(Whole { piece, next }) => Taken::Whole {
             kind,
             at,
             next,
             piece,
         },
-        Body::Unknown(described) => Taken::Unknown { kind, described },
-        Body::Short(place, width) => Taken::Short { kind, place, width },
-        Body::Overflow(place) => Taken::Overflow { kind, place },
+        Err(NotCut::Unknown(described)) => Taken::Unknown { kind, described },
+        Err(NotCut::Short(Short { place, width })) => Taken::Short { kind, place, width },
+        Err(NotCut::Overflow(place)) => Taken::Overflow { kind, place },
     }
 }
 
 // The piece at a place of a TZX, where an alphabet of size 0 has `full` symbols.
+#[tactic(auto, unfolding(cut_grammar::specs::Cut::cut_at))]
 pub fn cut(tape: &[u8], at: u64, full: u32) -> Taken
     ensures { result ≡ cut_at tape.now at full }
 {
@@ -75,5 +93,6 @@ pub fn cut(tape: &[u8], at: u64, full: u32) -> Taken
         return Taken::End;
     }
     let kind = tape[at as usize];
-    named(kind, at, body_of(tape, kind, at + 1, full))
+    let r = Reader { tape, at: at + 1 };
+    named(kind, at, body_of(r, kind, full))
 }

@@ -2,21 +2,20 @@
 #![tactic(auto)]
 
 ghost use Rattle.std.specs.Prelude.{◌≡◌, ◌≤◌, min, length};
-ghost use Rattle.cut_fields.specs.declared.Cursor.TheVariants.{At};
 ghost use Rattle.cut_fields.specs.Field.{field_at};
 
-use cut_fields::{Cursor, field};
+use cut_fields::Reader;
 
 // The largest number of 4 bytes.
 pub const LARGEST: usize = 4294967295;
 
 // The number of the first bytes of s, at most `most`; 0 where they are not all there.
 fn number_up_to(s: &[u8], width: u64, most: usize) -> usize
-    ensures { result ≡ min (field_at s.now (At 0) width).value most }
+    ensures { result ≡ min (field_at s.now (Ok 0) width).value most }
 {
-    let read = field(s, Cursor::At(0), width);
-    let n = read.value as usize;
-    if n <= most { n } else { most }
+    let mut r = Reader { tape: s, at: 0 };
+    let n = r.number(width).unwrap_or(0) as usize;
+    n.min(most)
 }
 
 // The next n bytes, into the front of `bytes`; the gate's programs alone call it.
@@ -52,9 +51,7 @@ pub fn read_counted(bytes: &mut [u8]) -> usize
 
 // Words of 4 bytes each, as many as there are places for.
 pub fn read_words(words: &mut [u64]) {
-    let mut i = 0;
-    while i < words.len() {
-        words[i] = read_number(4, LARGEST) as u64;
-        i += 1;
+    for word in words.iter_mut() {
+        *word = read_number(4, LARGEST) as u64;
     }
 }

@@ -34,38 +34,38 @@ last true = refl
 last false = refl
 
 module _ (s : List ℕ) (g : GeneralizedData) where
-  pub single-given : (i : ℕ) → is_some (single_row s g i) ≡ ltb (symbol_number s g (i * g.nb) 0) g.asd
+  pub single_given : (i : ℕ) → is_some (single_row s g i) ≡ ltb (symbol_number s g (i * g.nb) 0) g.asd
   unfolding single_row
-  single-given i = rule g.asd (symbol_number s g (i * g.nb) 0) _ ∙ last _
+  single_given i = rule g.asd (symbol_number s g (i * g.nb) 0) _ ∙ last _
 
-  pub pair-given : (i : ℕ)
+  pub pair_given : (i : ℕ)
       → is_some (pair_row s g i)
       ≡ (ltb (symbol_number s g (2 * i * g.nb) 0) g.asd && ltb (symbol_number s g (2 * i * g.nb) 1) g.asd)
   unfolding pair_row
-  pair-given i = rule g.asd (symbol_number s g (2 * i * g.nb) 0) _ ∙ rw (rule g.asd (symbol_number s g (2 * i * g.nb) 1), last)
+  pair_given i = rule g.asd (symbol_number s g (2 * i * g.nb) 0) _ ∙ rw (rule g.asd (symbol_number s g (2 * i * g.nb) 1), last)
 
   -- a number of nb bits is below a size that every such number is below
   number_below : leb (2 ^ g.nb) g.asd ≡ true → (bit more : ℕ) → ltb (symbol_number s g bit more) g.asd ≡ true
   unfolding symbol_number
   number_below h bit more = lt-ltb _ _ (lt_of_lt_of_le (mod-lt _ (pow_pos g.nb)) (leb-true _ _ h))
 
-  pub every-single : leb (2 ^ g.nb) g.asd ≡ true → is_tones (rows_from (single_row s g) 0 g.totd) ≡ true
-  every-single h = all_given (single_row s g) 0 g.totd (λ i l. single-given i ∙ number_below h (i * g.nb) 0)
+  pub every_single : leb (2 ^ g.nb) g.asd ≡ true → is_tones (rows_from (single_row s g) 0 g.totd) ≡ true
+  every_single h = all_given (single_row s g) 0 g.totd (λ i l. single_given i ∙ number_below h (i * g.nb) 0)
 
-  pub every-pair : leb (2 ^ g.nb) g.asd ≡ true → is_tones (rows_from (pair_row s g) 0 (g.totd / 2)) ≡ true
-  every-pair h = all_given (pair_row s g) 0 (g.totd / 2)
-      (λ i l. pair-given i ∙ rw (number_below h (2 * i * g.nb) 0, number_below h (2 * i * g.nb) 1))
+  pub every_pair : leb (2 ^ g.nb) g.asd ≡ true → is_tones (rows_from (pair_row s g) 0 (g.totd / 2)) ≡ true
+  every_pair h = all_given (pair_row s g) 0 (g.totd / 2)
+      (λ i l. pair_given i ∙ rw (number_below h (2 * i * g.nb) 0, number_below h (2 * i * g.nb) 1))
 
   -- the numbers of what is given, and the tone, from the array that holds the alphabet
   module _ (i : ℕ) (e : is_some (single_row s g i) ≡ true) where
     pub single_below : symbol_number s g (i * g.nb) 0 < g.asd
-    single_below = ltb-true _ _ (sym (single-given i) ∙ e)
+    single_below = ltb-true _ _ (sym (single_given i) ∙ e)
 
-    pub single-tone : (a : List (List ℕ)) → Kept s g.symbols g.npd g.asd a → (b : ℕ)
+    pub single_tone : (a : List (List ℕ)) → Kept s g.symbols g.npd g.asd a → (b : ℕ)
         → b ≡ symbol_number s g (i * g.nb) 0
         → single_row s g i ≡ Some (plain_tone 1 (get_or (get_or a b []) 0 0) (get_or (get_or a b []) 1 0))
     unfolding single_row
-    single-tone a k b q =
+    single_tone a k b q =
         let h = single_below in
         rw (
           q,
@@ -76,16 +76,16 @@ module _ (s : List ℕ) (g : GeneralizedData) where
 
   module _ (i : ℕ) (e : is_some (pair_row s g i) ≡ true) where
     pub pair_below : symbol_number s g (2 * i * g.nb) 0 < g.asd
-    pair_below = ltb-true _ _ (first _ _ (sym (pair-given i) ∙ e))
+    pair_below = ltb-true _ _ (first _ _ (sym (pair_given i) ∙ e))
 
     pub pair_below_2 : symbol_number s g (2 * i * g.nb) 1 < g.asd
-    pair_below_2 = ltb-true _ _ (second (ltb (symbol_number s g (2 * i * g.nb) 0) g.asd) _ (sym (pair-given i) ∙ e))
+    pair_below_2 = ltb-true _ _ (second (ltb (symbol_number s g (2 * i * g.nb) 0) g.asd) _ (sym (pair_given i) ∙ e))
 
-    pub pair-tone : (a : List (List ℕ)) → Kept s g.symbols g.npd g.asd a → (b d : ℕ)
+    pub pair_tone : (a : List (List ℕ)) → Kept s g.symbols g.npd g.asd a → (b d : ℕ)
         → b ≡ symbol_number s g (2 * i * g.nb) 0 → d ≡ symbol_number s g (2 * i * g.nb) 1
         → pair_row s g i ≡ Some (plain_tone 1 (get_or (get_or a b []) 0 0) (get_or (get_or a d []) 0 0))
     unfolding pair_row
-    pair-tone a k b d q r =
+    pair_tone a k b d q r =
         rw (
           q,
           r,

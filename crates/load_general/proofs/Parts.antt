@@ -15,14 +15,14 @@ use Rattle.std.proofs.lemmas.List.FromFn.{length-range_with_len, get_or-range_wi
 use Rattle.law_base.proofs.Numbers.{lt_or_ge}
 use Rattle.law_base.specs.Rules.{◌⇒◌, ◌∣◌}
 use Rattle.cut_grammar.specs.declared.GeneralizedData.{GeneralizedData}
-use Rattle.rows.specs.Table.{put_all}
+use Rattle.rows.specs.Table.{put, put_all}
 use Rattle.rows.specs.Rows.{tone}
 use Rattle.rows.specs.declared.Tone.{Tone}
 use Rattle.std.specs.Prelude.{is_some, Option, None, Some, Ok, Err}
-use Rattle.load_general.specs.declared.NoRows.TheVariants.{Refused, Stop}
+use Rattle.load_general.specs.declared.NoRows.TheVariants.{Refused}
 use Rattle.load_general.specs.General.{Part, refused, stops, tones, before, rows_from, entry_symbol, entry_row, single_row, pair_row}
 use Rattle.load_general.specs.General.{pilot_of, singles_of, pairs_of, data_part}
-use Rattle.load_general.specs.Made.{put_given, judged_of, is_tones, part_tones}
+use Rattle.load_general.specs.Made.{judged_of, is_tones, part_tones}
 
 -- two truths
 pub differ : true ≡ false → ⊥
@@ -47,22 +47,20 @@ before-rest (Some t) refused e = refl
 before-rest (Some t) stops e = refl
 before-rest (Some t) (tones ts) e = absurd (differ e)
 
-before_row : (r : Option Tone) (p : Part) → is_tones (before r p) ≡ true → is_some r ≡ true
+pub before_tones : (r : Option Tone) (p : Part) → is_tones (before r p) ≡ true → is_tones p ≡ true
 unfolding before is_tones
-before_row None p e = e
-before_row (Some t) p e = refl
+before_tones None p e = absurd (differ (sym e))
+before_tones (Some t) refused e = e
+before_tones (Some t) stops e = e
+before_tones (Some t) (tones ts) e = refl
 
 -- a row before tones is put before them
-pub record Put (r : Option Tone) (p : Part) : Type 0 where
-  pub rest : is_tones p ≡ true
-  pub puts : (t : List ℕ) (k : ℕ) → put_all tone t k (part_tones (before r p)) ≡ put_all tone (put_given t k r) (k + 1) (part_tones p)
-
-before-put : (r : Option Tone) (p : Part) → is_tones (before r p) ≡ true → Put r p
-unfolding before is_tones part_tones put_given put_all
-before-put None p e = absurd (differ (sym e))
-before-put (Some t) refused e = absurd (differ (sym e))
-before-put (Some t) stops e = absurd (differ (sym e))
-before-put (Some t) (tones ts) e = record { rest = refl; puts = λ l k. refl }
+pub before_puts : (r : Tone) (p : Part) → is_tones p ≡ true → (t : List ℕ) (k : ℕ)
+    → put_all tone t k (part_tones (before (Some r) p)) ≡ put_all tone (put tone t k r) (k + 1) (part_tones p)
+unfolding before is_tones part_tones put_all
+before_puts r refused e t k = absurd (differ (sym e))
+before_puts r stops e t k = absurd (differ (sym e))
+before_puts r (tones ts) e t k = refl
 
 -- n rows are n tones, or refused
 pub data Rowed (n : ℕ) : Part → Type 0 where
@@ -91,24 +89,9 @@ rowed_none none e = refl
 rowed_none (all h) e = absurd (differ e)
 
 -- one turn of a loop over n rows, at row i
-module _ (row : ℕ → Option Tone) (i n : ℕ) (h : i < n) where
-  turn : rows_from row i (n - i) ≡ before (row i) (rows_from row (i + 1) (n - (i + 1)))
-  unfolding rows_from
-  turn = let e : n - i ≡ suc (n - (i + 1)) = omega arith in rw e
-
-  pub turn_row : is_tones (rows_from row i (n - i)) ≡ true → is_some (row i) ≡ true
-  turn_row e = before_row (row i) (rows_from row (i + 1) (n - (i + 1))) (rw turn at e)
-
-  pub turn-put : is_tones (rows_from row i (n - i)) ≡ true → Put (row i) (rows_from row (i + 1) (n - (i + 1)))
-  turn-put e = before-put (row i) (rows_from row (i + 1) (n - (i + 1))) (rw turn at e)
-
-  pub turn_puts : is_tones (rows_from row i (n - i)) ≡ true → (t : List ℕ) (used : ℕ)
-      → put_all tone t (used + i) (part_tones (rows_from row i (n - i)))
-      ≡ put_all tone (put_given t (used + i) (row i)) (used + (i + 1)) (part_tones (rows_from row (i + 1) (n - (i + 1))))
-  turn_puts e t used =
-      let k : used + i + 1 ≡ used + (i + 1) = omega arith in
-      rw turn ((turn-put e).puts t (used + i)
-      ∙ ap (λ (m : ℕ). put_all tone (put_given t (used + i) (row i)) m (part_tones (rows_from row (i + 1) (n - (i + 1))))) k)
+pub turn : (row : ℕ → Option Tone) (i n : ℕ) → i < n → rows_from row i (n - i) ≡ before (row i) (rows_from row (i + 1) (n - (i + 1)))
+unfolding rows_from
+turn row i n h = let e : n - i ≡ suc (n - (i + 1)) = omega arith in rw e
 
 -- rows that are all given, and rows of which one is refused
 pub all_given : (row : ℕ → Option Tone) (i n : ℕ) → ((j : ℕ) → j < i + n → is_some (row j) ≡ true) → is_tones (rows_from row i n) ≡ true
@@ -126,6 +109,14 @@ one_refused row i (suc n) k l h e =
     (λ (b : k ≤ i). let q : k ≡ i = omega arith in before-refused (row i) (rows_from row (i + 1) n) (rw q at e))
     (lt_or_ge i k)
 
+-- each row of tones is given
+pub given_each : (row : ℕ → Option Tone) (n i : ℕ) → is_tones (rows_from row 0 n) ≡ true → i < n → is_some (row i) ≡ true
+given_each row n i e h = by_cases (is_some (row i)) refl
+  where
+    by_cases : (b : Bool) → is_some (row i) ≡ b → b ≡ true
+    by_cases true q = refl
+    by_cases false q = absurd (differ (sym e ∙ one_refused row 0 n i (omega arith) (omega arith) q))
+
 -- what `all` answers of n rows
 pub judged : (row : ℕ → Option Tone) (n : ℕ) (r : Bool)
     → MatchBool r (AllWithin (λ i. i < n → is_some (row i) ≡ true) (range_with_len 0 n) 0 (length (range_with_len 0 n)))
@@ -142,10 +133,6 @@ judged row n false (k, l, m) =
     sym (one_refused row 0 n k (omega arith) (omega arith) ((rw e at (m 0)) h))
 
 -- no row is left
-pub end_tones : (row : ℕ → Option Tone) (n : ℕ) → is_tones (rows_from row n (n - n)) ≡ true
-unfolding rows_from is_tones
-end_tones row n = let e : n - n ≡ 0 = omega arith in rw e
-
 pub end_put : (row : ℕ → Option Tone) (n k : ℕ) (t : List ℕ) → put_all tone t k (part_tones (rows_from row n (n - n))) ≡ t
 unfolding rows_from part_tones put_all
 end_put row n k t = let e : n - n ≡ 0 = omega arith in rw e
@@ -160,23 +147,18 @@ some_bits zero totd e h = absurd (omega (arith, ltb-false 1 totd e))
 some_bits (suc n) totd e h = omega arith
 
 -- a part whose answer is known
-pub told-rows : (p : Part) {n : ℕ} → judged_of p ≡ Ok n → (p ≡ tones (part_tones p)) × (length (part_tones p) ≡ n)
+pub told_rows : (p : Part) {n : ℕ} → judged_of p ≡ Ok n → (p ≡ tones (part_tones p)) × (length (part_tones p) ≡ n)
 unfolding judged_of part_tones
-told-rows refused e = absurd (let z : ◌≡◌ {A = ℕ} 0 1 = cc in omega arith)
-told-rows stops e = absurd (let z : ◌≡◌ {A = ℕ} 0 1 = cc in omega arith)
-told-rows (tones ts) e = (refl, cc)
+told_rows refused e = absurd (let z : ◌≡◌ {A = ℕ} 0 1 = cc in omega arith)
+told_rows stops e = absurd (let z : ◌≡◌ {A = ℕ} 0 1 = cc in omega arith)
+told_rows (tones ts) e = (refl, cc)
 
-pub told-refused : (p : Part) → judged_of p ≡ Err Refused → p ≡ refused
-unfolding judged_of
-told-refused refused e = refl
-told-refused stops e = absurd (let z : ◌≡◌ {A = ℕ} 0 1 = cc in omega arith)
-told-refused (tones ts) e = absurd (let z : ◌≡◌ {A = ℕ} 0 1 = cc in omega arith)
+pub told_tones : (p : Part) {n : ℕ} → judged_of p ≡ Ok n → is_tones p ≡ true
+unfolding is_tones
+told_tones p e = rw (told_rows p e).0
 
-pub told-stop : (p : Part) → judged_of p ≡ Err Stop → p ≡ stops
-unfolding judged_of
-told-stop refused e = absurd (let z : ◌≡◌ {A = ℕ} 0 1 = cc in omega arith)
-told-stop stops e = refl
-told-stop (tones ts) e = absurd (let z : ◌≡◌ {A = ℕ} 0 1 = cc in omega arith)
+pub told_length : (p : Part) {n : ℕ} → judged_of p ≡ Ok n → length (part_tones p) ≡ n
+told_length p e = (told_rows p e).1
 
 -- n rows that are tones are n tones
 pub rowed_length : {n : ℕ} {p : Part} → Rowed n p → is_tones p ≡ true → length (part_tones p) ≡ n
@@ -250,6 +232,13 @@ module _ (s : List ℕ) (g : GeneralizedData) where
         let n = eqb-true g.npd 1 o in
         record { ready = (some, omega arith, some_bits g.nb g.totd b, leb-false 8 g.nb narrow); rows = rw (used, narrow, p, o, b) }
 
+    pub data_ready : (0 < g.totd) × (0 < g.npd)
+    data_ready = (some, by_cases (eqb g.npd 2) refl)
+      where
+        by_cases : (b : Bool) → eqb g.npd 2 ≡ b → 0 < g.npd
+        by_cases true q = let n = eqb-true g.npd 2 q in omega arith
+        by_cases false q = (pairs_sorted (eqb-false g.npd 2 q)).ready.1
+
 -- what the rows of a sort have from the part that they are
 module _ {Ready : Type 0} {row : ℕ → Option Tone} {n : ℕ} {p : Part} (o : Sorted Ready row n p) (e : is_tones p ≡ true) where
   pub sorted_tones : is_tones (rows_from row 0 n) ≡ true
@@ -258,7 +247,3 @@ module _ {Ready : Type 0} {row : ℕ → Option Tone} {n : ℕ} {p : Part} (o : 
   pub sorted_count : {room : ℕ} → length (part_tones p) ≤ room → n ≤ room
   sorted_count h =
       let l = rowed_length (rowed row 0 n) sorted_tones in omega (arith, ap (λ (q : Part). length (part_tones q)) o.rows)
-
-pub told-tones : (p : Part) {n : ℕ} → judged_of p ≡ Ok n → is_tones p ≡ true
-unfolding is_tones
-told-tones p e = rw (told-rows p e).0

@@ -1,14 +1,11 @@
--- Alphabets: where their symbols stand, and how an array is filled with them. Assumes nothing.
+-- Alphabets: where their symbols stand, and what an array that holds one has. Assumes nothing.
 use Prim.Native.Nat.{ℕ, ◌+◌, ◌*◌, ◌/◌, ◌%◌, ◌≤◌, ◌<◌}
-use mathlib.Core.Path.{◌≡◌, ap, ◌∙◌}
+use mathlib.Core.Path.{◌≡◌, ap}
 use mathlib.Core.List.{List, []}
-use mathlib.Core.Logic.{⊎_elim}
 use native.Mathlib.Omega.{arith}
-use native.Mathlib.Nat.{suc-mul, mul_comm, mul_assoc, mul-le-mul_right, mul-lt-mul_of_pos_right}
-use lib.ListN.{length, get_or, set}
-use lib.Seq.{get_or-set_same, get_or-set_other}
+use native.Mathlib.Nat.{mul_comm, mul_assoc, mul-lt-mul_of_pos_right}
+use lib.ListN.{length, get_or}
 use borrow.Author.Tests.{ne_eqb}
-use Rattle.law_base.proofs.Numbers.{lt_or_ge}
 use Rattle.cut_grammar.specs.declared.GeneralizedData.{GeneralizedData}
 use Rattle.cut_grammar.specs.Grammar.{held_if}
 use Rattle.cut_grammar.specs.Places.{Places}
@@ -26,19 +23,6 @@ pilot_inside s g p h = omega (arith, rw (held g.totp g.asp h) at p.entries, p.sy
 pub data_inside : (s : List ℕ) (g : GeneralizedData) → Places s g → 0 < g.totd
     → g.symbols + g.asd * (1 + g.npd * 2) ≤ length s
 data_inside s g p h = omega (arith, rw (held g.totd g.asd h) at p.from, p.inside)
-
--- thing i of n
-pub below : (i n w : ℕ) → i < n → i * w + w ≤ n * w
-below i n w h = omega (arith, mul-le-mul_right w h, suc-mul i w)
-
--- one symbol more
-pub kept_more : (s : List ℕ) (place pulses i : ℕ) (a : List (List ℕ)) (row : List ℕ) → Kept s place pulses i a → i < length a
-    → row ≡ symbol_words (symbol_at s place pulses i) → Kept s place pulses (i + 1) (set a i row)
-kept_more s place pulses i a row k h e j l =
-    ⊎_elim
-    (λ (b : j < i). get_or-set_other a i j row [] (λ q. omega arith) ∙ k j b)
-    (λ (b : i ≤ j). let q : j ≡ i = omega arith in rw q (get_or-set_same a i row [] h ∙ e))
-    (lt_or_ge j i)
 
 -- the bit of a symbol is among those of the data bytes
 pub single_bit : (i n t : ℕ) → i < t → 0 < n → i * n < n * t

@@ -1,7 +1,7 @@
 -- The answers of the code: a part's, and the piece's with the tone table that it leaves. Assumes nothing.
-use Rattle.std.specs.Prelude.{ℕ, ◌-◌, ◌≡◌, Bool, true, false, Option, None, Some, Result, Ok, Err, List, [], length, leb}
+use Rattle.std.specs.Prelude.{ℕ, ◌-◌, ◌≡◌, Bool, true, false, Result, Ok, Err, List, [], length, leb}
 use Rattle.law_base.specs.Rules.{◌⇒◌, ◌∣◌}
-use Rattle.rows.specs.Table.{put, put_all, capacity_of}
+use Rattle.rows.specs.Table.{put_all, capacity_of}
 use Rattle.rows.specs.Rows.{tone, tone_most}
 use Rattle.rows.specs.declared.Tone.{Tone}
 use Rattle.load_general.specs.declared.NoRows.{NoRows}
@@ -26,11 +26,6 @@ unfoldable pub part_tones : Part → List Tone
 part_tones refused = []
 part_tones stops = []
 part_tones (tones ts) = ts
-
--- a row is a tone or refused; a tone is put at row i
-unfoldable pub put_given : List ℕ → ℕ → Option Tone → List ℕ
-put_given table i None = table
-put_given table i (Some t) = put tone table i t
 
 -- the piece, where `room` rows remain: refusal 4 and a stop need none, and more rows than remain are Full
 unfoldable pub made_of : ℕ → Given → Result Made NoRows

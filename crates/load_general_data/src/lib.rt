@@ -1,13 +1,12 @@
 // The data part of a generalised piece (19): which symbols are given, and what the part comes to.
 #![tactic(auto)]
 
-ghost use Rattle.std.specs.Prelude.{◌≡◌, ◌&&◌, ◌/◌, ◌^◌, ◌<◌, leb, ltb, eqb};
+ghost use Rattle.std.specs.Prelude.{◌≡◌, ◌&&◌, ◌/◌, ◌^◌, ◌<◌, leb, ltb, eqb, is_some};
 ghost use Rattle.load_general.specs.General.{single_row, pair_row, rows_from, singles_of, pairs_of, data_part};
-ghost use Rattle.load_general.specs.Made.{judged_of, is_given, is_tones};
-ghost use Rattle.load_general.specs.Held.{Held};
+ghost use Rattle.load_general.specs.Made.{judged_of, is_tones};
 
 use cut_grammar::GeneralizedData;
-use load_general::{Judged, number_at, pairs_of, part_of, power};
+use load_general::{NoRows, Piece19, all_given, pairs_of, part_of, power};
 
 // Whether every number of nb bits is a symbol's: then no data symbol has to be looked at.
 fn every_number(g: GeneralizedData) -> bool
@@ -18,57 +17,40 @@ fn every_number(g: GeneralizedData) -> bool
 }
 
 // Whether data symbol i is given.
-fn single_given(tape: &[u8], g: GeneralizedData, i: u32) -> bool
-    requires { Held tape.now g × (0 < g.nb) × (g.nb < 8) × (i < g.totd) }
-    ensures { result ≡ is_given (single_row tape.now g i) }
+#[tactic(auto, using(load_general::proofs::Given::single_given))]
+fn single_given(p: &Piece19, i: u32) -> bool
+    requires { (0 < p.now.g.nb) × (p.now.g.nb < 8) × (i < p.now.g.totd) }
+    ensures { result ≡ is_some (single_row p.now.tape.now p.now.g i) }
 {
-    number_at(tape, g, i * g.nb, 0) < g.asd
+    p.number_at(i * p.g.nb, 0) < p.g.asd
 }
 
 // Whether all data symbols are given.
-fn singles_given(tape: &[u8], g: GeneralizedData) -> bool
-    requires { Held tape.now g × (0 < g.nb) × (g.nb < 8) }
-    ensures { result ≡ is_tones (rows_from (single_row tape.now g) 0 g.totd) }
+#[tactic(auto, using(load_general::proofs::Given::every_single))]
+fn singles_given(p: &Piece19) -> bool
+    requires { (0 < p.now.g.nb) × (p.now.g.nb < 8) }
+    ensures { result ≡ is_tones (rows_from (single_row p.now.tape.now p.now.g) 0 p.now.g.totd) }
 {
-    if every_number(g) {
-        return true;
-    }
-    let mut i = 0;
-    while i < g.totd {
-        if !single_given(tape, g, i) {
-            return false;
-        }
-        i += 1;
-    }
-    true
+    every_number(p.g) || all_given(p.g.totd, |i| single_given(p, i))
 }
 
 // Whether pair i of data symbols is given.
-fn pair_given(tape: &[u8], g: GeneralizedData, i: u32) -> bool
-    requires { Held tape.now g × (0 < g.nb) × (g.nb < 8) × (i < g.totd / 2) }
-    ensures { result ≡ is_given (pair_row tape.now g i) }
+#[tactic(auto, using(load_general::proofs::Given::pair_given, load_general::proofs::Symbols::pair_bit, load_general::proofs::Symbols::pair_even))]
+fn pair_given(p: &Piece19, i: u32) -> bool
+    requires { (0 < p.now.g.nb) × (p.now.g.nb < 8) × (i < p.now.g.totd / 2) }
+    ensures { result ≡ is_some (pair_row p.now.tape.now p.now.g i) }
 {
-    let bit = 2 * i * g.nb;
-    number_at(tape, g, bit, 0) < g.asd && number_at(tape, g, bit, 1) < g.asd
+    let bit = 2 * i * p.g.nb;
+    p.number_at(bit, 0) < p.g.asd && p.number_at(bit, 1) < p.g.asd
 }
 
 // Whether all pairs of data symbols are given.
-fn pairs_given(tape: &[u8], g: GeneralizedData) -> bool
-    requires { Held tape.now g × (1 < g.totd → 0 < g.nb) × (g.nb < 8) }
-    ensures { result ≡ is_tones (rows_from (pair_row tape.now g) 0 (g.totd / 2)) }
+#[tactic(auto, using(load_general::proofs::Given::every_pair))]
+fn pairs_given(p: &Piece19) -> bool
+    requires { (1 < p.now.g.totd → 0 < p.now.g.nb) × (p.now.g.nb < 8) }
+    ensures { result ≡ is_tones (rows_from (pair_row p.now.tape.now p.now.g) 0 (p.now.g.totd / 2)) }
 {
-    if every_number(g) {
-        return true;
-    }
-    let n = pairs_of(g.totd);
-    let mut i = 0;
-    while i < n {
-        if !pair_given(tape, g, i) {
-            return false;
-        }
-        i += 1;
-    }
-    true
+    every_number(p.g) || all_given(pairs_of(p.g.totd), |i| pair_given(p, i))
 }
 
 // Whether symbols of no bits are more than one.
@@ -79,46 +61,42 @@ fn no_bits(g: GeneralizedData) -> bool
 }
 
 // What the data part comes to where its symbols have two pulses.
-fn singles_part(tape: &[u8], g: GeneralizedData) -> Judged
-    requires { Held tape.now g × (0 < g.totd) × (g.npd ≡ 2) × (g.nb < 8) }
-    ensures { result ≡ judged_of (singles_of tape.now g) }
+#[tactic(auto, unfolding(load_general::specs::General::singles_of, load_general::specs::Made::judged_of))]
+fn singles_part(p: &Piece19) -> Result<u32, NoRows>
+    requires { (0 < p.now.g.totd) × (p.now.g.npd ≡ 2) × (p.now.g.nb < 8) }
+    ensures { result ≡ judged_of (singles_of p.now.tape.now p.now.g) }
 {
-    if g.nb == 0 {
-        Judged::Refused
+    if p.g.nb == 0 {
+        Err(NoRows::Refused)
     } else {
-        part_of(singles_given(tape, g), g.totd)
+        part_of(singles_given(p), p.g.totd)
     }
 }
 
 // What the data part comes to where its symbols have one pulse.
-fn pairs_part(tape: &[u8], g: GeneralizedData) -> Judged
-    requires { Held tape.now g × (0 < g.totd) × (g.npd ≡ 1) × (g.nb < 8) }
-    ensures { result ≡ judged_of (pairs_of tape.now g) }
+#[tactic(auto, using(load_general::proofs::Parts::some_bits), unfolding(load_general::specs::General::pairs_of, load_general::specs::Made::judged_of))]
+fn pairs_part(p: &Piece19) -> Result<u32, NoRows>
+    requires { (0 < p.now.g.totd) × (p.now.g.npd ≡ 1) × (p.now.g.nb < 8) }
+    ensures { result ≡ judged_of (pairs_of p.now.tape.now p.now.g) }
 {
-    if no_bits(g) {
-        Judged::Refused
+    if no_bits(p.g) {
+        Err(NoRows::Refused)
     } else {
-        part_of(pairs_given(tape, g), pairs_of(g.totd))
+        part_of(pairs_given(p), pairs_of(p.g.totd))
     }
 }
 
-// What the data part comes to where it is no ordinary data block; its callers know the piece to be one of this tape.
-#[tactic(auto, using(crate::proofs::Wide::wide_refused))]
-pub fn data_part(tape: &[u8], g: GeneralizedData) -> Judged
-    requires { Held tape.now g }
-    ensures { result ≡ judged_of (data_part tape.now g) }
+// What the data part comes to where it is no ordinary data block.
+#[tactic(auto, unfolding(load_general::specs::General::data_part, load_general::specs::Made::judged_of))]
+pub fn data_part(p: &Piece19) -> Result<u32, NoRows>
+    ensures { result ≡ judged_of (data_part p.now.tape.now p.now.g) }
 {
-    if g.totd == 0 {
-        return Judged::Refused;
+    if p.g.totd == 0 || 8 <= p.g.nb {
+        return Err(NoRows::Refused);
     }
-    if 8 <= g.nb {
-        return Judged::Refused;
+    match p.g.npd {
+        2 => singles_part(p),
+        1 => pairs_part(p),
+        _ => Err(NoRows::Stop),
     }
-    if g.npd == 2 {
-        return singles_part(tape, g);
-    }
-    if g.npd == 1 {
-        return pairs_part(tape, g);
-    }
-    Judged::Stop
 }

@@ -1,96 +1,87 @@
 -- What the piece gives, from what its parts are, and the answer and the tone table that go with it. Assumes nothing.
-use Prim.Native.Nat.{ℕ, zero, suc, ◌+◌, ◌-◌, ◌<◌}
-use mathlib.Core.Path.{◌≡◌, refl, sym, ◌∙◌}
+use Prim.Native.Nat.{ℕ, ◌+◌, ◌-◌, ◌<◌}
+use mathlib.Core.Path.{◌≡◌, refl, sym, ap, ◌∙◌}
 use mathlib.Core.Bool.{Bool, true, false, ◌&&◌}
+use native.Mathlib.Omega.{arith}
 use mathlib.Core.List.{List, ◌++◌}
 use lib.ListN.{length, length-append}
-use lib.Dec.{leb, ltb, eqb, eqb-suc-zero, leb-suc-zero}
+use lib.Dec.{leb, ltb}
 use borrow.Author.Tests.{ltb-true, eqb-true}
 use Rattle.rows.specs.Table.{put_all, capacity_of}
 use Rattle.rows.specs.Rows.{tone, tone_most}
 use Rattle.rows.specs.declared.Tone.{Tone}
 use Rattle.rows.proofs.Tables.{put_all_append}
 use Rattle.cut_grammar.specs.declared.GeneralizedData.{GeneralizedData}
-use Rattle.load_general.specs.declared.Made.TheVariants as made
-use Rattle.load_general.specs.General.{Part, refused, stops, tones, symbol_at, ordinary, used_bits, data_part, pilot_of, refused4, stop, plain}
-use Rattle.load_general.specs.General.{toned, with_data, with_pilot, general_of}
-use Rattle.load_general.specs.Made.{made_of, leaves, MadeDone}
-use Rattle.load_general.proofs.Parts.{differ}
+use Rattle.std.specs.Prelude.{Ok, Err}
+use Rattle.load_general.specs.declared.NoRows.{NoRows}
+use Rattle.load_general.specs.declared.NoRows.TheVariants.{Refused, Full, Stop}
+use Rattle.load_general.specs.declared.Made.TheVariants.{Data, Tones}
+use Rattle.load_general.specs.General.{Part, refused, stops, tones, symbol_at, ordinary, used_bits, data_part, plain}
+use Rattle.load_general.specs.General.{toned, with_data, with_pilot}
+use Rattle.load_general.specs.Made.{judged_of, part_tones, made_of, leaves, MadeDone}
+use Rattle.load_general.proofs.Parts.{differ, told_rows}
 
--- no rows fit where no room is
-pub none-fits : (n : ℕ) → eqb n 0 ≡ leb n 0
-none-fits zero = refl
-none-fits (suc n) = eqb-suc-zero n ∙ sym (leb-suc-zero n)
-
--- refused and stopped pieces alter nothing
+-- what the piece comes to, by what is judged of its parts
 module _ (used : ℕ) (t : List ℕ) where
-  pub done_refused : MadeDone refused4 used t t made.Refused
-  unfolding made_of leaves
-  done_refused = record { answer = refl; table = refl }
+  -- a part that is refused or a stop alters nothing
+  pub data_none : (ps : List Tone) (p : Part) {e : NoRows} → judged_of p ≡ Err e → MadeDone (with_data ps p) used t t (Err e)
+  unfolding judged_of with_data made_of leaves
+  data_none ps refused {e} q = let k : e ≡ Refused = cc in record { answer = ap (λ (x : NoRows). Err x) k; table = refl }
+  data_none ps stops {e} q = let k : e ≡ Stop = cc in record { answer = ap (λ (x : NoRows). Err x) k; table = refl }
+  data_none ps (tones ts) q = absurd (let z : ◌≡◌ {A = ℕ} 0 1 = cc in omega arith)
 
-  pub done-stop : MadeDone stop used t t made.Stop
-  unfolding made_of leaves
-  done-stop = record { answer = refl; table = refl }
+  pub pilot_none : (s : List ℕ) (g : GeneralizedData) (p : Part) {e : NoRows} → judged_of p ≡ Err e → MadeDone (with_pilot s g p) used t t (Err e)
+  unfolding judged_of with_pilot made_of leaves
+  pilot_none s g refused {e} q = let k : e ≡ Refused = cc in record { answer = ap (λ (x : NoRows). Err x) k; table = refl }
+  pilot_none s g stops {e} q = let k : e ≡ Stop = cc in record { answer = ap (λ (x : NoRows). Err x) k; table = refl }
+  pilot_none s g (tones ts) q = absurd (let z : ◌≡◌ {A = ℕ} 0 1 = cc in omega arith)
 
   -- a data block of n pilot rows
-  module _ (ps : List Tone) (nil one last n : ℕ) (e : length ps ≡ n) where
-    pub plain_fits : leb n (capacity_of tone tone_most t - used) ≡ true
-        → MadeDone (plain ps nil one last) used t (put_all tone t used ps) (made.Data n nil one last)
-    unfolding made_of leaves
-    plain_fits b = record { answer = rw (e, b); table = rw (e, b) }
+  module _ (s : List ℕ) (g : GeneralizedData) (p : Part) {n : ℕ} (q : judged_of p ≡ Ok n) (b : (ltb 0 g.totd && ordinary s g) ≡ true) where
+    plain_given : (p ≡ tones (part_tones p)) → with_pilot s g p ≡ plain (part_tones p) (symbol_at s g.symbols 2 0).first (symbol_at s g.symbols 2 1).first (used_bits g.totd)
+    unfolding with_pilot
+    plain_given e = ap (with_pilot s g) e ∙ rw b
 
-    pub plain-full : leb n (capacity_of tone tone_most t - used) ≡ false → MadeDone (plain ps nil one last) used t t made.Full
+    pub plain_fits : leb n (capacity_of tone tone_most t - used) ≡ true
+        → MadeDone (with_pilot s g p) used t (put_all tone t used (part_tones p))
+        (Ok (Data n (symbol_at s g.symbols 2 0).first (symbol_at s g.symbols 2 1).first (used_bits g.totd)))
     unfolding made_of leaves
-    plain-full b = record { answer = rw (e, b); table = rw (e, b) }
+    plain_fits f =
+        let o = told_rows p q in
+        rw (plain_given o.0) (record { answer = rw (o.1, f); table = rw (o.1, f) })
+
+    pub plain_full : leb n (capacity_of tone tone_most t - used) ≡ false → MadeDone (with_pilot s g p) used t t (Err Full)
+    unfolding made_of leaves
+    plain_full f =
+        let o = told_rows p q in
+        rw (plain_given o.0) (record { answer = rw (o.1, f); table = rw (o.1, f) })
 
   -- a block of n and m rows
-  module _ (ps ts : List Tone) (n m : ℕ) (e : length ps ≡ n) (f : length ts ≡ m) where
-    both : length (ps ++ ts) ≡ n + m
-    both = rw (length-append, e, f)
+  module _ (p d : Part) {n m : ℕ} (q : judged_of p ≡ Ok n) (r : judged_of d ≡ Ok m) where
+    toned_given : d ≡ tones (part_tones d) → with_data (part_tones p) d ≡ toned (part_tones p ++ part_tones d)
+    unfolding with_data
+    toned_given e = ap (with_data (part_tones p)) e
 
-    pub toned-fits : leb (n + m) (capacity_of tone tone_most t - used) ≡ true
-        → MadeDone (toned (ps ++ ts)) used t (put_all tone (put_all tone t used ps) (used + n) ts) (made.Tones (n + m))
+    both : length (part_tones p ++ part_tones d) ≡ n + m
+    both = rw (length-append, (told_rows p q).1, (told_rows d r).1)
+
+    pub toned_fits : leb (n + m) (capacity_of tone tone_most t - used) ≡ true
+        → MadeDone (with_data (part_tones p) d) used t (put_all tone (put_all tone t used (part_tones p)) (used + n) (part_tones d)) (Ok (Tones (n + m)))
     unfolding made_of leaves
-    toned-fits b =
-        let j : put_all tone t used (ps ++ ts) ≡ put_all tone (put_all tone t used ps) (used + n) ts =
-        rw (put_all_append tone t used ps ts, e) in
-        record { answer = rw (both, b); table = rw (both, b) (sym j) }
+    toned_fits f =
+        let j : put_all tone t used (part_tones p ++ part_tones d) ≡ put_all tone (put_all tone t used (part_tones p)) (used + n) (part_tones d) =
+        rw (put_all_append tone t used (part_tones p) (part_tones d), (told_rows p q).1) in
+        rw (toned_given (told_rows d r).0) (record { answer = rw (both, f); table = rw (both, f) (sym j) })
 
-    pub toned-full : leb (n + m) (capacity_of tone tone_most t - used) ≡ false → MadeDone (toned (ps ++ ts)) used t t made.Full
+    pub toned_full : leb (n + m) (capacity_of tone tone_most t - used) ≡ false → MadeDone (with_data (part_tones p) d) used t t (Err Full)
     unfolding made_of leaves
-    toned-full b = record { answer = rw (both, b); table = rw (both, b) }
+    toned_full f = rw (toned_given (told_rows d r).0) (record { answer = rw (both, f); table = rw (both, f) })
 
--- what the parts make of the piece
-pub data_tones : {p : Part} (ps ts : List Tone) → p ≡ tones ts → with_data ps p ≡ toned (ps ++ ts)
-unfolding with_data
-data_tones ps ts e = rw e
-
-pub data_refused : {p : Part} (ps : List Tone) → p ≡ refused → with_data ps p ≡ refused4
-unfolding with_data
-data_refused ps e = rw e
-
-pub data_stop : {p : Part} (ps : List Tone) → p ≡ stops → with_data ps p ≡ stop
-unfolding with_data
-data_stop ps e = rw e
-
-module _ (s : List ℕ) (g : GeneralizedData) where
-  pub pilot_refused : pilot_of s g ≡ refused → general_of s g ≡ refused4
-  unfolding general_of with_pilot
-  pilot_refused e = rw e
-
-  pub pilot_stop : pilot_of s g ≡ stops → general_of s g ≡ stop
-  unfolding general_of with_pilot
-  pilot_stop e = rw e
-
-  module _ {p : Part} (ps : List Tone) (e : p ≡ tones ps) where
-    pub pilot_plain : (ltb 0 g.totd && ordinary s g) ≡ true
-        → with_pilot s g p ≡ plain ps (symbol_at s g.symbols 2 0).first (symbol_at s g.symbols 2 1).first (used_bits g.totd)
-    unfolding with_pilot
-    pilot_plain b = rw (e, b)
-
-    pub pilot_data : (ltb 0 g.totd && ordinary s g) ≡ false → with_pilot s g p ≡ with_data ps (data_part s g)
-    unfolding with_pilot
-    pilot_data b = rw (e, b)
+-- where the data is no ordinary block, the piece is its pilot's tones and the data part
+pub pilot_data : (s : List ℕ) (g : GeneralizedData) (p : Part) {n : ℕ} → judged_of p ≡ Ok n → (ltb 0 g.totd && ordinary s g) ≡ false
+    → with_pilot s g p ≡ with_data (part_tones p) (data_part s g)
+unfolding with_pilot
+pilot_data s g p q b = ap (with_pilot s g) (told_rows p q).0 ∙ rw b
 
 -- an ordinary block has two symbols of two pulses
 pub record Plain (g : GeneralizedData) : Type 0 where

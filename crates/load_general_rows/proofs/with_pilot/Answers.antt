@@ -1,50 +1,19 @@
 -- `with_pilot` meets its contract. Assumes nothing.
-use Rattle.load_general_rows.proofs.Answers.{pilot_data, data_refused, data_stop, done_refused, done-stop}
-use Rattle.load_general.proofs.Parts.{told-rows, told-refused, told-stop}
-use Rattle.load_general.specs.Made.{part_tones}
+use Rattle.std.proofs.Common.{rules, ◌≡◌, Err, sym, ◌∙◌}
 use Rattle.load_general.specs.General.{pilot_of, data_part}
-use mathlib.Core.Path.{sym, ◌∙◌}
+use Rattle.load_general.specs.Made.{part_tones}
+use Rattle.load_general_rows.proofs.Answers.{pilot_data, data_none}
 use Rattle.load_general_rows.proofs.with_pilot.Goals as goal
 
-pub data_block-requires : goal.data_block-requires
-data_block-requires c =
-    let p = c.requires in
-    (p.0, p.1, sym c.ordinary.ensures ∙ c.if-ordinary.true)
+pub returns-in_err-m : goal.returns-in_err-m
+returns-in_err-m c =
+    let p = c.args.p.now in
+    let q = pilot_of p.tape.now p.g in
+    let e : c.from_residual.result ≡ Err c.in_err-m.field-0.0 = search rules in
+    rw (e, pilot_data p.tape.now p.g q c.requires (sym c.ordinary.ensures ∙ c.if-ordinary.false))
+    (data_none c.args.used c.args.tones.now (part_tones q) (data_part p.tape.now p.g) (sym c.data_part.ensures ∙ c.in_err-m.was))
 
-pub tone_block-requires : goal.tone_block-requires
-tone_block-requires c =
-    let p = c.requires in
-    (p.0, p.1, sym c.data_part.ensures ∙ c.in-Rows.is)
-
-pub returns-in-Refused : goal.returns-in-Refused
-returns-in-Refused c =
-    let a = c.args in
-    let s = a.tape.now in
-    let g = a.g in
-    let o = told-rows (pilot_of s g) c.requires.1 in
-    rw (
-      pilot_data s g (part_tones (pilot_of s g)) o.0 (sym c.ordinary.ensures ∙ c.if-ordinary.false),
-      data_refused (part_tones (pilot_of s g))
-          (told-refused (data_part s g) (sym c.data_part.ensures ∙ c.in-Refused.is)),
-    ) (done_refused a.used a.tones.now)
-
-pub returns-in-Stop : goal.returns-in-Stop
-returns-in-Stop c =
-    let a = c.args in
-    let s = a.tape.now in
-    let g = a.g in
-    let o = told-rows (pilot_of s g) c.requires.1 in
-    rw (
-      pilot_data s g (part_tones (pilot_of s g)) o.0 (sym c.ordinary.ensures ∙ c.if-ordinary.false),
-      data_stop (part_tones (pilot_of s g))
-          (told-stop (data_part s g) (sym c.data_part.ensures ∙ c.in-Stop.is)),
-    ) (done-stop a.used a.tones.now)
-
-pub returns-in-Rows : goal.returns-in-Rows
-returns-in-Rows c =
-    let a = c.args in
-    let s = a.tape.now in
-    let g = a.g in
-    let o = told-rows (pilot_of s g) c.requires.1 in
-    rw (pilot_data s g (part_tones (pilot_of s g)) o.0 (sym c.ordinary.ensures ∙ c.if-ordinary.false))
-    c.tone_block.ensures
+pub returns : goal.returns
+returns c =
+    let p = c.args.p.now in
+    rw (pilot_data p.tape.now p.g (pilot_of p.tape.now p.g) c.requires (sym c.ordinary.ensures ∙ c.if-ordinary.false)) c.tone_block.ensures

@@ -1,9 +1,0 @@
--- `no_bits` meets its contract. Assumes nothing.
-use borrow.Author.Tests.{eq-eqb, ne_eqb}
-use Rattle.load_general_data.proofs.no_bits.Goals as goal
-
-pub returns-then-g-eq0 : goal.returns-then-g-eq0
-returns-then-g-eq0 c = rw (eq-eqb _ _ c.if-g-eq0.true)
-
-pub returns-else-g-eq0 : goal.returns-else-g-eq0
-returns-else-g-eq0 c = rw (ne_eqb _ _ c.if-g-eq0.false)

@@ -18,6 +18,8 @@ sed -n '/^## Numbers for no/,/^## The crates/s/^| \([0-9]*\) |.*/\1/p' README.md
 [ "$(wc -l < "$room/code")" -eq 11 ] || bad "crates/refusals/src/lib.rt doesn't have eleven numbers"
 cmp -s "$room/code" "$room/definitions" || bad "crates/refusals: src/lib.rt and specs/Refusals.antt differ: $(diff "$room/code" "$room/definitions" | grep '^[<>]' | tr '\n' ' ')"
 cmp -s "$room/code" "$room/header" || bad "crates/refusals and include/glyvrask.h differ: $(diff "$room/code" "$room/header" | grep '^[<>]' | tr '\n' ' ')"
+sed -n 's/^    \([A-Z][A-Za-z]*\) = \([0-9]*\),$/\2 \1/p' crates/refusals/src/lib.rt | sed 's/\([a-z]\)\([A-Z]\)/\1_\2/g' | tr a-z A-Z > "$room/variants"
+cmp -s "$room/code" "$room/variants" || bad "crates/refusals: the constants and the variants of Refusal differ: $(diff "$room/code" "$room/variants" | grep '^[<>]' | tr '\n' ' ')"
 [ "$(cut -d' ' -f1 "$room/code")" = "$(cat "$room/readme")" ] || bad "README.md's 'Numbers for no' are not those of crates/refusals"
 
 # ---- bare numbers

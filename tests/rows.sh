@@ -8,9 +8,14 @@ bad() { # WORDS
     exit 1
 }
 
-# The number that follows a name in a file.
-number() { # FILE NAME
-    sed -n "s/^.*[^A-Z_]$2\( \|: usize = \)\([0-9][0-9]*\);*\$/\2/p" "$1"
+# The words of a struct's row, as crates/rows says of it.
+wide() { # STRUCT
+    sed -n "/^impl Row for $1 {/,/^}/s/^    const WORDS: usize = \([0-9][0-9]*\);\$/\1/p" crates/rows/src/lib.rt
+}
+
+# The number that follows a name in the header.
+number() { # NAME
+    sed -n "s/^.*[^A-Z_]$1 \([0-9][0-9]*\)\$/\1/p" include/glyvrask.h
 }
 
 # The fields of a struct of crates/rows, in order.
@@ -29,9 +34,9 @@ readme() { # HEADING
 }
 
 one() { # STRUCT NAME HEADING
-    wanted=$(number crates/rows/src/lib.rt "$2")
+    wanted=$(wide "$1")
     [ "$(fields "$1" | wc -l)" -eq "$wanted" ] || bad "a $1 has not $wanted fields"
-    [ "$(number include/glyvrask.h "GLYVRASK_$2")" = "$wanted" ] || bad "include/glyvrask.h: GLYVRASK_$2 is not $wanted"
+    [ "$(number "GLYVRASK_$2")" = "$wanted" ] || bad "include/glyvrask.h: GLYVRASK_$2 is not $wanted"
     words=$(fields "$1" | awk '{ print NR - 1, $0 }')
     [ "$(header "the words of $3")" = "$words" ] || bad "include/glyvrask.h: the words of $3 are not those of a $1"
     [ "$(readme "of $3")" = "$words" ] || bad "README.md: the words of $3 are not those of a $1"

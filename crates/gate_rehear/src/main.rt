@@ -7,34 +7,16 @@
 ghost use Rattle.std.specs.Prelude.{◌≤◌};
 
 use gate_input::{LARGEST, read_bytes, read_count, read_number, read_words};
+use play_entries::Mounted;
 use prog_calls::say_calls;
-use rows::{BLOCK_TABLE, BLOCK_WORDS, TONE_TABLE, TONE_WORDS};
+use rows::{BLOCK_TABLE, Block, Row, TONE_TABLE, Tone};
 
 // What is printed of a run.
-fn print(
-    tape: &[u8],
-    blocks: &[u64],
-    tones: &[u64],
-    count: usize,
-    measured: bool,
-    from: usize,
-    counts: &[u8],
-    calls: usize,
-)
+fn print(m: &Mounted<'_>, measured: bool, from: usize, counts: &[u8], calls: usize)
     requires { calls ≤ 1000 }
 {
     let mut out = [0u8; 256000];
-    let k = say_calls(
-        tape,
-        tones,
-        blocks,
-        count as u64,
-        measured,
-        from as u64,
-        counts,
-        calls,
-        &mut out,
-    );
+    let k = say_calls(m, measured, from as u64, counts, calls, &mut out);
     io::write_all(1, &out[..k]);
 }
 
@@ -55,21 +37,27 @@ fn run(
     read_words(blocks);
     read_words(tones);
     io::read_full(0, tape);
-    print(tape, blocks, tones, count, measured, from, &counts, calls);
+    let m = Mounted {
+        tape,
+        tones,
+        blocks,
+        count: count as u64,
+    };
+    print(&m, measured, from, &counts, calls);
 }
 
 // One run.
 fn rehear(bytes: &mut [u8], blocks: &mut [u64], tones: &mut [u64]) {
     let player = read_number(1, 255);
-    let count = read_number(2, blocks.len() / BLOCK_WORDS);
-    let others = read_number(2, tones.len() / TONE_WORDS);
+    let count = read_number(2, blocks.len() / Block::WORDS);
+    let others = read_number(2, tones.len() / Tone::WORDS);
     let from = read_number(4, LARGEST);
     let calls = read_number(2, 1000);
     let n = read_number(4, bytes.len());
     run(
         &mut bytes[..n],
-        &mut blocks[..BLOCK_WORDS * count],
-        &mut tones[..TONE_WORDS * others],
+        &mut blocks[..Block::WORDS * count],
+        &mut tones[..Tone::WORDS * others],
         count,
         player == b'm' as usize,
         from,
@@ -79,10 +67,8 @@ fn rehear(bytes: &mut [u8], blocks: &mut [u64], tones: &mut [u64]) {
 
 // n runs.
 fn rehear_all(bytes: &mut [u8], blocks: &mut [u64], tones: &mut [u64], n: usize) {
-    let mut left = n;
-    while 0 < left {
+    for _ in 0..n {
         rehear(bytes, blocks, tones);
-        left -= 1;
     }
 }
 

@@ -15,10 +15,8 @@ fn retrace(bytes: &mut [u8]) {
 
 // n runs.
 fn retrace_all(bytes: &mut [u8], n: usize) {
-    let mut left = n;
-    while 0 < left {
+    for _ in 0..n {
         retrace(bytes);
-        left -= 1;
     }
 }
 

@@ -1,4 +1,5 @@
-// What a generalised piece (19) comes to, its rows put in the tone table.
+// What a generalised piece (19) comes to, its rows put in the tone table. The C host lends that table, and the load's state counts its rows:
+// so table and count are passed side by side.
 #![tactic(auto)]
 
 ghost use Rattle.std.specs.Prelude.{◌≡◌, ℕ, true, Option, Some, is_some, ◌&&◌, ◌-◌, ◌/◌, ◌≤◌, ◌<◌, length, leb, ltb};
@@ -172,7 +173,8 @@ fn with_pilot(p: &Piece19, tones: &mut [u64], used: usize, n: u32) -> Result<Mad
 }
 
 // What a 19 comes to, its rows put after the first `used` of the tone table: the answer decides, and nothing is written
-// but the rows of `Ok`. Our crates call it with what `cut_piece::cut` gave for this tape, where 0 means 255.
+// but the rows of `Ok`. Our crates call it with what `cut_piece::cut` gave for this tape, where 0 means 255; docs/PROMISES.md names it, so tape and
+// numbers stay apart.
 #[tactic(auto, unfolding(load_general::specs::General::general_of))]
 pub fn general(
     tape: &[u8],

@@ -6,6 +6,7 @@ use mathlib.Core.List.{List, ◌++◌}
 use native.Mathlib.Omega.{arith}
 use lib.ListN.{length, length-append}
 use lib.Dec.{leb}
+use Rattle.std.specs.Prelude.{Result, Ok, Err}
 use lib.Seq.{get_or-append-add}
 use borrow.Author.Tests.{le-leb, lt-leb, leb-true, leb-false}
 use Rattle.refusals.specs.Refusals.{generalised, tones_full}
@@ -18,13 +19,14 @@ use Rattle.rows.proofs.Tables.{put_all_next, get_row}
 use Rattle.play_entries.specs.Figures.{Owns}
 use Rattle.cut_grammar.specs.declared.GeneralizedData.{GeneralizedData}
 use Rattle.load_general.specs.declared.Made.{Made}
-use Rattle.load_general.specs.declared.Made.TheVariants.{Refused, Full, Stop, Data, Tones}
+use Rattle.load_general.specs.declared.Made.TheVariants.{Data, Tones}
+use Rattle.load_general.specs.declared.NoRows.{NoRows}
+use Rattle.load_general.specs.declared.NoRows.TheVariants.{Refused, Full, Stop}
 use Rattle.load_general.specs.General.{Given, refused4, stop, plain, toned}
 use Rattle.load_general.specs.Made.{made_of, leaves, MadeDone}
 use Rattle.load_state.specs.declared.State.{State}
 use Rattle.load_state.specs.declared.Halt.TheVariants.{Refusal}
-use Rattle.load_state.specs.declared.Step.{Step}
-use Rattle.load_state.specs.declared.Step.TheVariants.{No}
+use Rattle.load_state.specs.declared.Halt.{Halt}
 use Rattle.load_state.specs.Parser.{Parsed, no, ◌⟫◌, with_tones, add_tones, add_block}
 use Rattle.load_state.specs.Holds.{Holds, GivesOut, refuses, tone_room, block_room}
 use Rattle.load_blocks.specs.declared.Origin.{Origin}
@@ -37,71 +39,71 @@ use Rattle.load_blocks.proofs.Laws.{one_sound}
 use Rattle.load_blocks.specs.Does.{lent_of, with_used}
 
 -- which side of a test an answer comes from
-left_of_lem : {x y z : Made} (b : Bool) → z ≡ (b ⇒ x ∣ y) → (z ≡ y → ⊥) → (b ≡ true) × (z ≡ x)
+left_of_lem : {x y z : Result Made NoRows} (b : Bool) → z ≡ (b ⇒ x ∣ y) → (z ≡ y → ⊥) → (b ≡ true) × (z ≡ x)
 left_of_lem true e k = (refl, e)
 left_of_lem false e k = absurd (k e)
 
-right_of : {x y z : Made} (b : Bool) → z ≡ (b ⇒ x ∣ y) → (z ≡ x → ⊥) → (b ≡ false) × (z ≡ y)
+right_of : {x y z : Result Made NoRows} (b : Bool) → z ≡ (b ⇒ x ∣ y) → (z ≡ x → ⊥) → (b ≡ false) × (z ≡ y)
 right_of true e k = absurd (k e)
 right_of false e k = (refl, e)
 
 -- refusal 4 and a stop are the 19's own
 module _ (room : ℕ) where
-  made-refused : (given : Given) → Refused ≡ made_of room given → given ≡ refused4
+  made-refused : (given : Given) → Err Refused ≡ made_of room given → given ≡ refused4
   unfolding made_of
   made-refused refused4 e = refl
-  made-refused stop e = absurd (let z : ◌≡◌ {A = ℕ} 0 1 = cc in omega arith)
+  made-refused stop e = absurd (cc)
   made-refused (plain ts nil one last) e =
-      let q : Refused ≡ Data (length ts) nil one last =
-      (left_of_lem (leb (length ts) room) e (λ p. let z : ◌≡◌ {A = ℕ} 0 1 = cc in omega arith)).1 in
-      absurd (let z : ◌≡◌ {A = ℕ} 0 1 = cc in omega arith)
+      let q : Err Refused ≡ Ok (Data (length ts) nil one last) =
+      (left_of_lem (leb (length ts) room) e (λ p. cc)).1 in
+      absurd (cc)
   made-refused (toned ts) e =
-      let q : Refused ≡ Tones (length ts) = (left_of_lem (leb (length ts) room) e (λ p. let z : ◌≡◌ {A = ℕ} 0 1 = cc in omega arith)).1 in
-      absurd (let z : ◌≡◌ {A = ℕ} 0 1 = cc in omega arith)
+      let q : Err Refused ≡ Ok (Tones (length ts)) = (left_of_lem (leb (length ts) room) e (λ p. cc)).1 in
+      absurd (cc)
 
-  made-stop : (given : Given) → Stop ≡ made_of room given → given ≡ stop
+  made-stop : (given : Given) → Err Stop ≡ made_of room given → given ≡ stop
   unfolding made_of
-  made-stop refused4 e = absurd (let z : ◌≡◌ {A = ℕ} 0 1 = cc in omega arith)
+  made-stop refused4 e = absurd (cc)
   made-stop stop e = refl
   made-stop (plain ts nil one last) e =
-      let q : Stop ≡ Data (length ts) nil one last =
-      (left_of_lem (leb (length ts) room) e (λ p. let z : ◌≡◌ {A = ℕ} 0 1 = cc in omega arith)).1 in
-      absurd (let z : ◌≡◌ {A = ℕ} 0 1 = cc in omega arith)
+      let q : Err Stop ≡ Ok (Data (length ts) nil one last) =
+      (left_of_lem (leb (length ts) room) e (λ p. cc)).1 in
+      absurd (cc)
   made-stop (toned ts) e =
-      let q : Stop ≡ Tones (length ts) = (left_of_lem (leb (length ts) room) e (λ p. let z : ◌≡◌ {A = ℕ} 0 1 = cc in omega arith)).1 in
-      absurd (let z : ◌≡◌ {A = ℕ} 0 1 = cc in omega arith)
+      let q : Err Stop ≡ Ok (Tones (length ts)) = (left_of_lem (leb (length ts) room) e (λ p. cc)).1 in
+      absurd (cc)
 
   -- so many rows, and they fit
-  made_data : (given : Given) {n nil one last : ℕ} → Data n nil one last ≡ made_of room given
+  made_data : (given : Given) {n nil one last : ℕ} → Ok (Data n nil one last) ≡ made_of room given
       → (ts : List Tone) × (given ≡ plain ts nil one last) × (n ≡ length ts) × (leb (length ts) room ≡ true)
   unfolding made_of
-  made_data refused4 e = absurd (let z : ◌≡◌ {A = ℕ} 0 1 = cc in omega arith)
-  made_data stop e = absurd (let z : ◌≡◌ {A = ℕ} 0 1 = cc in omega arith)
+  made_data refused4 e = absurd (cc)
+  made_data stop e = absurd (cc)
   made_data (plain ts a b d) {n} {nil} {one} {last} e =
-      let l = left_of_lem (leb (length ts) room) e (λ p. let z : ◌≡◌ {A = ℕ} 0 1 = cc in omega arith) in
-      let q : Data n nil one last ≡ Data (length ts) a b d = l.1 in
+      let l = left_of_lem (leb (length ts) room) e (λ p. cc) in
+      let q : Ok (Data n nil one last) ≡ Ok (Data (length ts) a b d) = l.1 in
       let i : a ≡ nil = cc in
       let j : b ≡ one = cc in
       let k : d ≡ last = cc in
       let m : n ≡ length ts = cc in
       (ts, rw (i, j, k), m, l.0)
   made_data (toned ts) {n} {nil} {one} {last} e =
-      let q : Data n nil one last ≡ Tones (length ts) =
-      (left_of_lem (leb (length ts) room) e (λ p. let z : ◌≡◌ {A = ℕ} 0 1 = cc in omega arith)).1 in
-      absurd (let z : ◌≡◌ {A = ℕ} 0 1 = cc in omega arith)
+      let q : Ok (Data n nil one last) ≡ Ok (Tones (length ts)) =
+      (left_of_lem (leb (length ts) room) e (λ p. cc)).1 in
+      absurd (cc)
 
-  made-tones : (given : Given) {n : ℕ} → Tones n ≡ made_of room given
+  made-tones : (given : Given) {n : ℕ} → Ok (Tones n) ≡ made_of room given
       → (ts : List Tone) × (given ≡ toned ts) × (n ≡ length ts) × (leb (length ts) room ≡ true)
   unfolding made_of
-  made-tones refused4 e = absurd (let z : ◌≡◌ {A = ℕ} 0 1 = cc in omega arith)
-  made-tones stop e = absurd (let z : ◌≡◌ {A = ℕ} 0 1 = cc in omega arith)
+  made-tones refused4 e = absurd (cc)
+  made-tones stop e = absurd (cc)
   made-tones (plain ts a b d) {n} e =
-      let q : Tones n ≡ Data (length ts) a b d =
-      (left_of_lem (leb (length ts) room) e (λ p. let z : ◌≡◌ {A = ℕ} 0 1 = cc in omega arith)).1 in
-      absurd (let z : ◌≡◌ {A = ℕ} 0 1 = cc in omega arith)
+      let q : Ok (Tones n) ≡ Ok (Data (length ts) a b d) =
+      (left_of_lem (leb (length ts) room) e (λ p. cc)).1 in
+      absurd (cc)
   made-tones (toned ts) {n} e =
-      let l = left_of_lem (leb (length ts) room) e (λ p. let z : ◌≡◌ {A = ℕ} 0 1 = cc in omega arith) in
-      let q : Tones n ≡ Tones (length ts) = l.1 in
+      let l = left_of_lem (leb (length ts) room) e (λ p. cc) in
+      let q : Ok (Tones n) ≡ Ok (Tones (length ts)) = l.1 in
       (ts, refl, cc, l.0)
 
 -- rows that do not fit
@@ -112,26 +114,26 @@ unfolding add_sound add_rows add_tones ◌⟫◌
 no_room lent tape origin d t h = rw (lt-leb (length t.tones + length d.tones) lent.tones h)
 
 made-full : (lent : Lent) (tape : List ℕ) (model : ℕ) (origin : Origin) (g : GeneralizedData) (t : Parsed) (given : Given)
-    → Full ≡ made_of (lent.tones - length t.tones) given
+    → Err Full ≡ made_of (lent.tones - length t.tones) given
     → does lent tape model origin (general_deed g given) t ≡ no (Refusal tones_full)
 unfolding made_of does general_deed
-made-full lent tape model origin g t refused4 e = absurd (let z : ◌≡◌ {A = ℕ} 0 1 = cc in omega arith)
-made-full lent tape model origin g t stop e = absurd (let z : ◌≡◌ {A = ℕ} 0 1 = cc in omega arith)
+made-full lent tape model origin g t refused4 e = absurd (cc)
+made-full lent tape model origin g t stop e = absurd (cc)
 made-full lent tape model origin g t (plain ts nil one last) e =
-    let b = (right_of (leb (length ts) (lent.tones - length t.tones)) e (λ p. let z : ◌≡◌ {A = ℕ} 0 1 = cc in omega arith)).0 in
+    let b = (right_of (leb (length ts) (lent.tones - length t.tones)) e (λ p. cc)).0 in
     one_sound lent tape origin _ t ∙ no_room lent tape origin _ t (omega (arith, leb-false (length ts) (lent.tones - length t.tones) b))
 made-full lent tape model origin g t (toned ts) e =
-    let b = (right_of (leb (length ts) (lent.tones - length t.tones)) e (λ p. let z : ◌≡◌ {A = ℕ} 0 1 = cc in omega arith)).0 in
+    let b = (right_of (leb (length ts) (lent.tones - length t.tones)) e (λ p. cc)).0 in
     one_sound lent tape origin _ t ∙ no_room lent tape origin _ t (omega (arith, leb-false (length ts) (lent.tones - length t.tones) b))
 
 -- the rows of an answer fit after those in use
-pub data_fits : {given : Given} {used n nil one last : ℕ} {tt tt' : List ℕ} {r : Made} → MadeDone given used tt tt' r
-    → r ≡ Data n nil one last → n ≤ capacity_of tone tone_most tt - used
+pub data_fits : {given : Given} {used n nil one last : ℕ} {tt tt' : List ℕ} {r : Result Made NoRows} → MadeDone given used tt tt' r
+    → r ≡ Ok (Data n nil one last) → n ≤ capacity_of tone tone_most tt - used
 data_fits {given} {used} {tt = tt} d e =
     let m = made_data (capacity_of tone tone_most tt - used) given (sym e ∙ d.answer) in
     omega (arith, m.2, leb-true (length m.0) (capacity_of tone tone_most tt - used) m.3)
 
-pub tones_fit : {given : Given} {used n : ℕ} {tt tt' : List ℕ} {r : Made} → MadeDone given used tt tt' r → r ≡ Tones n
+pub tones_fit : {given : Given} {used n : ℕ} {tt tt' : List ℕ} {r : Result Made NoRows} → MadeDone given used tt tt' r → r ≡ Ok (Tones n)
     → n ≤ capacity_of tone tone_most tt - used
 tones_fit {given} {used} {tt = tt} d e =
     let m = made-tones (capacity_of tone tone_most tt - used) given (sym e ∙ d.answer) in
@@ -142,7 +144,7 @@ module _ {B N : ℕ} {s : State} {bt tt : List ℕ} {t : Parsed} (h : Holds B N 
   room_left = rw (h.len_t, h.nt)
 
   -- rows put after the tape's own, and the block over them
-  rows_then : {x : Step} {bt' tt' : List ℕ} {n : ℕ} (tape : List ℕ) (origin : Origin) (d : Sound)
+  rows_then : {x : Result State Halt} {bt' tt' : List ℕ} {n : ℕ} (tape : List ℕ) (origin : Origin) (d : Sound)
       → n ≡ length d.tones → length d.tones ≤ capacity_of tone tone_most tt - s.tones
       → tt' ≡ put_all tone tt s.tones d.tones → length tt' ≡ length tt
       → (Holds B N (with_used (s.tones + n) s) bt tt' (with_tones d.tones t)
@@ -166,19 +168,19 @@ module _ {B N : ℕ} {s : State} {bt tt : List ℕ} {t : Parsed} (h : Holds B N 
         is_t = p ∙ put_all_next tone tone_most t.tones ts N s.tones h.is_t h.nt f;
       }))
 
-  module _ (g : GeneralizedData) (tape : List ℕ) (model : ℕ) (origin : Origin) {given : Given} {r : Made} {tt' : List ℕ}
+  module _ (g : GeneralizedData) (tape : List ℕ) (model : ℕ) (origin : Origin) {given : Given} {r : Result Made NoRows} {tt' : List ℕ}
       (d : MadeDone given s.tones tt tt' r) where
-    pub general_no4 : {bt' tt'' : List ℕ} → r ≡ Refused
-        → GivesOut B N (No (Refusal generalised)) bt' tt'' (does (lent_of B N) tape model origin (general_deed g given) t)
+    pub general_no4 : {bt' tt'' : List ℕ} → r ≡ Err Refused
+        → GivesOut B N (Err (Refusal generalised)) bt' tt'' (does (lent_of B N) tape model origin (general_deed g given) t)
     unfolding does general_deed
     general_no4 e = rw (made-refused (capacity_of tone tone_most tt - s.tones) given (sym e ∙ d.answer)) refuses
 
-    pub general_no5 : {bt' tt'' : List ℕ} → r ≡ Full
-        → GivesOut B N (No (Refusal tones_full)) bt' tt'' (does (lent_of B N) tape model origin (general_deed g given) t)
+    pub general_no5 : {bt' tt'' : List ℕ} → r ≡ Err Full
+        → GivesOut B N (Err (Refusal tones_full)) bt' tt'' (does (lent_of B N) tape model origin (general_deed g given) t)
     general_no5 e =
         rw (made-full (lent_of B N) tape model origin g t given (sym e ∙ d.answer ∙ ap (λ (n : ℕ). made_of n given) room_left)) refuses
 
-    pub general_stop : {x : Step} {bt' : List ℕ} → r ≡ Stop → GivesOut B N x bt' tt (add_sound (lent_of B N) tape origin stop_sound t)
+    pub general_stop : {x : Result State Halt} {bt' : List ℕ} → r ≡ Err Stop → GivesOut B N x bt' tt (add_sound (lent_of B N) tape origin stop_sound t)
         → GivesOut B N x bt' tt' (does (lent_of B N) tape model origin (general_deed g given) t)
     unfolding does general_deed leaves
     general_stop e k =
@@ -187,12 +189,12 @@ module _ {B N : ℕ} {s : State} {bt tt : List ℕ} {t : Parsed} (h : Holds B N 
         rw (q, w, one_sound (lent_of B N) tape origin stop_sound t) k
 
     -- what the block over so many rows gives, whatever they are
-    abbrev Over : Step → List ℕ → ℕ → Bits → Type 0
+    abbrev Over : Result State Halt → List ℕ → ℕ → Bits → Type 0
     Over x bt' n bits = (ts : List Tone) → length ts ≡ n → Holds B N (with_used (s.tones + n) s) bt tt' (with_tones ts t)
         → GivesOut B N x bt' tt'
         (add_block (block_room B) (row_of tape origin (data_sound ts bits (ms g.pause)) s.tones) (with_tones ts t))
 
-    pub general_data : {x : Step} {bt' : List ℕ} {n nil one last : ℕ} → r ≡ Data n nil one last → length tt' ≡ length tt
+    pub general_data : {x : Result State Halt} {bt' : List ℕ} {n nil one last : ℕ} → r ≡ Ok (Data n nil one last) → length tt' ≡ length tt
         → Over x bt' n (data_bits g.from g.size nil one last)
         → GivesOut B N x bt' tt' (does (lent_of B N) tape model origin (general_deed g given) t)
     unfolding does general_deed leaves
@@ -204,7 +206,7 @@ module _ {B N : ℕ} {s : State} {bt tt : List ℕ} {t : Parsed} (h : Holds B N 
         rw (m.1, one_sound (lent_of B N) tape origin d t)
         (rows_then tape origin d m.2 (leb-true (length ts) (capacity_of tone tone_most tt - s.tones) m.3) w l (k ts (sym m.2)))
 
-    pub general_tones : {x : Step} {bt' : List ℕ} {n : ℕ} → r ≡ Tones n → length tt' ≡ length tt → Over x bt' n no_bits
+    pub general_tones : {x : Result State Halt} {bt' : List ℕ} {n : ℕ} → r ≡ Ok (Tones n) → length tt' ≡ length tt → Over x bt' n no_bits
         → GivesOut B N x bt' tt' (does (lent_of B N) tape model origin (general_deed g given) t)
     unfolding does general_deed leaves
     general_tones e l k =

@@ -5,8 +5,6 @@ use mathlib.Core.List.{List}
 use lib.ListN.{length}
 use Rattle.rows.specs.declared.Block.{Block}
 use Rattle.rows.specs.declared.Tone.{Tone}
-use Rattle.load_state.specs.declared.State.{State}
-use Rattle.load_state.specs.Holds.{Holds}
 use Rattle.load_state.specs.Parser.{with_tones}
 use Rattle.play_entries.specs.Figures.{Owns, sounding}
 use Rattle.load_blocks.specs.Sounds.{ms, ends_after, row_for, row_of}
@@ -26,5 +24,4 @@ returns c =
     subst (λ (y : Block). (us : List Tone) → Owns a.tones.now y us → c.sounding.result ≡ sounding a.tape.now us y) v
     c.sounding.ensures ts (owns t.tones ts N r h.is_t h.len_t h.room_t e refl) in
     rw (← born)
-    (c.add_block.ensures B N _ (with_tones ts t)
-    (subst (λ (y : State). Holds B N y a.blocks.now a.tones.now (with_tones ts t)) (sym c.with_used-used.ensures) h))
+    (c.add_block.ensures B N _ (with_tones ts t) h)

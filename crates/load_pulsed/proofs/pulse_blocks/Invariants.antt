@@ -1,7 +1,5 @@
 -- The loops of `pulse_blocks`.
-use Prim.Native.Nat.{ℕ, ◌+◌, ◌*◌}
-use mathlib.Core.Path.{◌≡◌}
-use lib.ListN.{length}
+use Prim.Native.Nat.{ℕ, ◌-◌, ◌*◌}
 use Rattle.load_state.specs.Parser.{Parsed}
 use Rattle.load_state.specs.Holds.{Holds}
 use Rattle.load_state.proofs.Laws.{Going}
@@ -11,11 +9,8 @@ use Rattle.load_blocks.specs.Does.{lent_of}
 use Rattle.load_blocks.proofs.Laws.{Any}
 use Rattle.load_pulsed.proofs.pulse_blocks.Given as goal
 
-abbrev pub invariant-loop-left : goal.invariant-loop-left
-invariant-loop-left l = (length l.blocks ≡ length l.initial.blocks) × (length l.tones ≡ length l.initial.tones) × (l.i + l.left * 2 ≡ l.n * 2)
-    × ((B N : ℕ) (t : Parsed) → Holds B N l.initial.s l.initial.blocks l.initial.tones t
-    → Going Any B N l.s l.blocks l.tones (add_sounds (lent_of B N) l.tape l.origin (pair_sounds l.tape l.from l.i l.left))
-    (add_sounds (lent_of B N) l.tape l.origin (pair_sounds l.tape l.from 0 l.n) t))
-
-abbrev pub decreases-loop-left : goal.decreases-loop-left
-decreases-loop-left l = l.left
+abbrev pub invariant-loop-i : goal.invariant-loop-i
+invariant-loop-i l =
+    (B N : ℕ) (t : Parsed) → Holds B N l.initial.s l.initial.blocks l.initial.tones t
+    → Going Any B N l.s l.blocks l.tones (add_sounds (lent_of B N) l.tape l.origin (pair_sounds l.tape l.from (2 * l.i) (l.n - l.i)))
+    (add_sounds (lent_of B N) l.tape l.origin (pair_sounds l.tape l.from 0 l.n) t)

@@ -1,4 +1,6 @@
 // What stands after a kind byte: a function for each kind that has fields, but 19.
+// Kinds that read alike (20, 24 and 2A; 21 and 30) stay apart: each answers for its own row of the grammar, which one function for all
+// would have to be told, in a longer contract.
 #![tactic(auto, using(cut_grammar::proofs::Turns::stuck), unfolding(cut_fields::specs::Field::place_of, cut_grammar::specs::Grammar::read_at, cut_grammar::specs::Grammar::pass_at, cut_grammar::specs::Grammar::whole_at, cut_grammar::specs::Kinds::kind10, cut_grammar::specs::Kinds::kind11, cut_grammar::specs::Kinds::kind12, cut_grammar::specs::Kinds::kind13, cut_grammar::specs::Kinds::kind14, cut_grammar::specs::Kinds::kind20, cut_grammar::specs::Kinds::kind21, cut_grammar::specs::Kinds::kind24, cut_grammar::specs::Kinds::kind_2a, cut_grammar::specs::Kinds::kind30, cut_grammar::specs::Kinds::kind31, cut_grammar::specs::Kinds::info32, cut_grammar::specs::Kinds::kind32, cut_grammar::specs::Kinds::kind33, cut_grammar::specs::Kinds::kind35))]
 
 ghost use Rattle.std.specs.Prelude.{◌≡◌};

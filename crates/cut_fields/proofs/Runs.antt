@@ -1,10 +1,10 @@
 -- Runs of equal steps: where each step moves by g bytes or stops, n of them are a product, or the first that stops. Assumes nothing.
-use Prim.Native.Nat.{ℕ, zero, suc, ◌+◌, ◌*◌, ◌-◌, ◌/◌, ◌≤◌, ◌<◌}
+use Prim.Native.Nat.{ℕ, zero, suc, ◌+◌, ◌*◌, ◌≤◌, ◌<◌}
 use mathlib.Core.List.{List}
 use mathlib.Core.Path.{◌≡◌, refl, sym, ap, ◌∙◌}
 use mathlib.Core.Logic.{⊎_elim}
 use native.Mathlib.Omega.{arith}
-use native.Mathlib.Nat.{zero-mul, mul-zero, suc-mul, mul-le-mul_right, div-mul-le_self, div-add-mod', mod-lt, not-suc-le-zero}
+use native.Mathlib.Nat.{zero-mul, suc-mul, not-suc-le-zero}
 use lib.ListN.{length}
 use borrow.Author.Tests.{le-leb, lt-leb}
 use Rattle.law_base.proofs.Numbers.{lt_or_ge}
@@ -95,29 +95,6 @@ module _ (f : Cursor → Cursor) (g l : ℕ) (moves : (p : ℕ) → p + g ≤ l 
   unfolding place_of
   times_stood n (Ok p) e = record { began = refl; moved = times_moved n p e }
   times_stood n (Err x) e = absurd (not_there stopped (sym (times-stopped f n (stopped {e = x})) ∙ e))
-
--- how many are whole, by division
-pub wholes_none : (l p n g : ℕ) → l < p → Wholes l p n g 0
-wholes_none l p n g h =
-    let z = zero-mul g in record { few = omega arith; there = λ k. absurd (omega arith); fits = omega arith; most = λ _. omega arith }
-
-pub wholes_empty : (l p n : ℕ) → p ≤ l → Wholes l p n 0 n
-wholes_empty l p n h =
-    let z = mul-zero n in record { few = omega arith; there = λ _. h; fits = omega arith; most = λ k. absurd (omega arith) }
-
-pub wholes_all : (l p n g : ℕ) → p ≤ l → n < (l - p) / g → Wholes l p n g n
-wholes_all l p n g h k =
-    let a = div-mul-le_self (l - p) g in
-    let b : n ≤ (l - p) / g = omega arith in
-    let d = mul-le-mul_right g b in
-    record { few = omega arith; there = λ _. h; fits = omega arith; most = λ k. absurd (omega arith) }
-
-pub wholes_some : (l p n g : ℕ) → p ≤ l → 0 < g → (l - p) / g ≤ n → Wholes l p n g ((l - p) / g)
-wholes_some l p n g h k j =
-    let a = div-mul-le_self (l - p) g in
-    let b = div-add-mod' (l - p) g in
-    let d = mod-lt (l - p) k in
-    record { few = j; there = λ _. h; fits = a; most = λ _. omega arith }
 
 module _ (s : List ℕ) where
   -- a field that is there, and one that is not

@@ -160,7 +160,8 @@ pub enum TakenTap {
     Short { place: u64, width: u64 },
 }
 
-// What a tape begins with.
+// What a tape begins with: what stands at its head, as `Taken` and `TakenTap` say it of other places. As a Result it would be no plainer:
+// one function alone reads it, and its match of three arms is shorter than the conversion that `?` would ask for.
 #[derive(Clone, Copy)]
 pub enum Heading {
     Version { major: u8, minor: u8 },

@@ -7,7 +7,7 @@ ghost use Rattle.cut_fields.specs.Field.{field_at};
 use cut_fields::Reader;
 
 // The largest number of 4 bytes.
-pub const LARGEST: usize = 4294967295;
+pub const LARGEST: usize = u32::MAX as usize;
 
 // The number of the first bytes of s, at most `most`; 0 where they are not all there.
 fn number_up_to(s: &[u8], width: u64, most: usize) -> usize

@@ -29,9 +29,9 @@ by_count true n k = omega arith
 by_count false true k = omega arith
 by_count false false k = omega arith
 
-pub cycles-most : (r : Block) (t : Tone) → cycles_of r t ≤ max 1 t.num
+pub cycles_most : (r : Block) (t : Tone) → cycles_of r t ≤ max 1 t.num
 unfolding cycles_of times_of
-cycles-most r t = by_count (is_source r) (eqb (pulses_of t) 0) t.num
+cycles_most r t = by_count (is_source r) (eqb (pulses_of t) 0) t.num
 
 by_half : (o : Bool) (n : ℕ) → (o ⇒ 0 ∣ n) ≤ n
 by_half true n = omega arith
@@ -43,7 +43,7 @@ cycle_most r t = omega (arith, by_half (is_single r t) t.len2)
 pub product_most : (r : Block) (t : Tone) → well_tone t ≡ true → cycles_of r t * cycle_time r t ≤ 8589672450
 product_most r t e =
     let h = tone-most t e in
-    let m : cycles_of r t ≤ 65535 = omega (arith, cycles-most r t) in
+    let m : cycles_of r t ≤ 65535 = omega (arith, cycles_most r t) in
     let n : cycle_time r t ≤ 131070 = omega (arith, cycle_most r t) in
     let k : cycles_of r t * cycle_time r t ≤ 65535 * 131070 = mul-le-mul m n in
     omega arith

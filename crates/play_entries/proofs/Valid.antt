@@ -14,6 +14,8 @@ use Rattle.play_entries.specs.declared.Phase.{Phase}
 use Rattle.play_entries.specs.declared.Phase.TheVariants.{Start, Tones, Data, Edge, Pause}
 use Rattle.play_entries.specs.declared.Duration.{Duration}
 use Rattle.play_entries.specs.declared.Duration.TheVariants.{T, Endless}
+use Rattle.rows.specs.Well.{well_numbers}
+use Rattle.play_entries.proofs.Bounds.{bits_most}
 use Rattle.play_entries.specs.Entries.{cycles_of, is_single, tone_at, bits_at}
 use Rattle.play_entries.specs.Places.{Tape, has_entry, length_at, remains, is_start, is_none, valid, has_in, length_in}
 
@@ -92,6 +94,23 @@ in_tones tones r {i = i} {p = p} {h = h} g e = tone-entry tones r i p h (subst (
 pub in_data : (tones : List ℕ) (r : Block) {f : Phase} {pos k : ℕ} {h : Bool}
     → f ≡ Data pos k h → has_entry tones r f ≡ true → (pos < r.size) × (k < bits_at r pos)
 in_data tones r {pos = pos} {k = k} {h = h} g e = data_entry tones r pos k h (subst (λ (f : Phase). has_entry tones r f ≡ true) g e)
+
+-- the same place by place, as a check looks for them
+module _ (tones : List ℕ) (r : Block) (f : Phase) where
+  pub tone_index : (i p : ℕ) (h : Bool) → f ≡ Tones i p h → has_entry tones r f ≡ true → i < r.tones
+  tone_index i p h g e = (in_tones tones r g e).0
+
+  pub cycle_index : (i p : ℕ) (h : Bool) → f ≡ Tones i p h → has_entry tones r f ≡ true → p < cycles_of r (tone_at tones r i)
+  cycle_index i p h g e = (in_tones tones r g e).1
+
+  pub byte_index : (pos k : ℕ) (h : Bool) → f ≡ Data pos k h → has_entry tones r f ≡ true → pos < r.size
+  byte_index pos k h g e = (in_data tones r g e).0
+
+  pub bit_index : (pos k : ℕ) (h : Bool) → f ≡ Data pos k h → has_entry tones r f ≡ true → k < bits_at r pos
+  bit_index pos k h g e = (in_data tones r g e).1
+
+  pub bit_below : (pos k : ℕ) (h : Bool) → f ≡ Data pos k h → has_entry tones r f ≡ true → well_numbers r ≡ true → k < 8
+  bit_below pos k h g e w = omega (arith, bit_index pos k h g e, bits_most r pos w (byte_index pos k h g e))
 
 -- an entry of a block below the count
 pub record Stands (w : Tape) (b : ℕ) (f : Phase) (left : Duration) : Type 0 where

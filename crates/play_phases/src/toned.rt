@@ -48,7 +48,7 @@ impl TonedRow<'_> {
     }
 
     // The length of the block's entry. Our crates alone call it: its data are lent, its numbers well formed, the entry one of it.
-    #[tactic(auto, unfolding(play_entries::specs::Places::length_at))]
+    #[tactic(auto, using(play_entries::proofs::Valid::tone_index, play_entries::proofs::Valid::byte_index, play_entries::proofs::Valid::bit_below), unfolding(play_entries::specs::Places::length_at))]
     pub fn length_at(&self, tape: &[u8], f: Phase) -> Duration
         requires size_in_bounds { self.now.row.start + self.now.row.size ≤ length tape.now }
         requires r_value { well_numbers self.now.row ≡ true }

@@ -16,7 +16,7 @@ use Rattle.play_entries.specs.declared.Phase.{Phase}
 use Rattle.play_entries.specs.declared.Phase.TheVariants.{Tones}
 use Rattle.play_entries.specs.Entries.{tone_at, cycles_of, is_single, cycle_pulses, cycle_time}
 use Rattle.play_entries.specs.Places.{has_entry}
-use Rattle.play_entries.proofs.Bounds.{cycles-most, cycle_most}
+use Rattle.play_entries.proofs.Bounds.{cycles_most, cycle_most}
 use Rattle.play_steps.specs.Steps.{step_to, data_from, pulse_from, tone_from, cycle_from, cycles_step, one_step, cycles_fitting}
 use Rattle.play_steps.specs.Steps.{take_cycles}
 
@@ -35,7 +35,7 @@ pub tone_small : (tones : List ℕ) (r : Block) → well_tones tones r.tone r.to
 tone_small tones r w i h =
     let m = tone-most _ (tones-each tones r.tone r.tones i w h) in
     let t = tone_at tones r i in
-    record { cycles = omega (arith, cycles-most r t); lasts = omega (arith, cycle_most r t); pulses = by-pulses (is_single r t) }
+    record { cycles = omega (arith, cycles_most r t); lasts = omega (arith, cycle_most r t); pulses = by-pulses (is_single r t) }
 
 -- of the tone row that the code read
 pub small_of : (tones : List ℕ) (r : Block) (i : ℕ) (x : Tone) → x ≡ tone_at tones r i

@@ -104,7 +104,7 @@ pub fn cycle_from(x: &TonedRow<'_>, t: Tone, i: u64, p: u64) -> Phase
 }
 
 // The first entry behind the first pulse of repetition p of tone row i. Our crates alone call it: the row has that pulse.
-#[tactic(auto, unfolding(crate::specs::Steps::second_from))]
+#[tactic(auto, using(play_entries::proofs::Bounds::cycles_most), unfolding(crate::specs::Steps::second_from))]
 fn second_from(x: &TonedRow<'_>, t: Tone, i: u64, p: u64) -> Phase
     requires i_bound { i < x.now.row.tones }
     requires p_bound { p < cycles_of x.now.row t }
@@ -144,7 +144,7 @@ fn step_out(t: u64) -> Step
 }
 
 // Behind a half of cycle p of tone row i, which its callers know to be there.
-#[tactic(auto, unfolding(crate::specs::Steps::one_step))]
+#[tactic(auto, using(play_entries::proofs::Bounds::cycles_most), unfolding(crate::specs::Steps::one_step))]
 fn tone_step(x: &TonedRow<'_>, i: u64, p: u64, last: bool, t: u64) -> Step
     requires i_bound { i < x.now.row.tones }
     requires p_bound { p < cycles_of x.now.row (tone_at x.now.tones.now x.now.row i) }
@@ -176,7 +176,7 @@ fn bit_step(x: &TonedRow<'_>, pos: u64, k: u64, last: bool, t: u64) -> Step
 }
 
 // Behind one entry. Our crates alone call it: it is there.
-#[tactic(auto, unfolding(crate::specs::Steps::one_step))]
+#[tactic(auto, using(play_entries::proofs::Valid::tone_index, play_entries::proofs::Valid::cycle_index, play_entries::proofs::Valid::byte_index, play_entries::proofs::Valid::bit_index), unfolding(crate::specs::Steps::one_step))]
 pub fn one_step(x: &TonedRow<'_>, f: Phase, t: u64) -> Step
     requires { has_entry x.now.tones.now x.now.row f ≡ true }
     ensures { result ≡ one_step x.now.tones.now x.now.row f t }
@@ -278,7 +278,7 @@ fn take_bit(
 }
 
 // One turn of the measured walk. Our crates alone call it: from an entry that is there, in a well-formed row.
-#[tactic(auto, unfolding(crate::specs::Steps::take_of))]
+#[tactic(auto, using(play_entries::proofs::Valid::tone_index, play_entries::proofs::Valid::cycle_index, play_entries::proofs::Valid::byte_index, play_entries::proofs::Valid::bit_index, play_entries::proofs::Lent::row_lent), unfolding(crate::specs::Steps::take_of))]
 pub fn take(tape: &[u8], x: &TonedRow<'_>, f: Phase, full: bool, t: u64, d: u64) -> Step
     requires r_value { well_block (tape_size tape.now) x.now.tones.now x.now.row ≡ true }
     requires f_value { has_entry x.now.tones.now x.now.row f ≡ true }

@@ -109,7 +109,7 @@ fn pause_by(r: Block, l: Line) -> bool
 }
 
 // The level of a document row's entry, l being the line behind the rows below it.
-#[tactic(auto, unfolding(crate::specs::Voice::level_by))]
+#[tactic(auto, using(play_entries::proofs::Valid::tone_index), unfolding(crate::specs::Voice::level_by))]
 fn level_by(x: &TonedRow<'_>, f: Phase, l: Line) -> bool
     requires { has_entry x.now.tones.now x.now.row f ≡ true }
     ensures { result ≡ level_by x.now.tones.now x.now.row f l }
@@ -128,7 +128,7 @@ fn level_by(x: &TonedRow<'_>, f: Phase, l: Line) -> bool
 }
 
 // Whether an entry's level asks for the level last played: a tone of begin 1 does.
-#[tactic(auto, unfolding(crate::specs::Voice::asks_played))]
+#[tactic(auto, using(play_entries::proofs::Valid::tone_index), unfolding(crate::specs::Voice::asks_played))]
 fn asks_played(x: &TonedRow<'_>, f: Phase) -> bool
     requires { has_entry x.now.tones.now x.now.row f ≡ true }
     ensures { result ≡ asks_played x.now.tones.now x.now.row f }

@@ -7,7 +7,7 @@ ghost use Rattle.text_codes.specs.Encoding.{table, encoded, spelled, flat_texts,
 
 use text_out::{Spelling, Writer};
 
-// The texts of all codes, one after the other.
+// The texts of all codes, one after the other; not an array of 256 slices: of those the proof does not end (antt's step limit).
 const FLAT: [u8; 534] =
     *b" !\"#$%&'()*+,-./0123456789:;<=>?@ABCDEFGHIJKLMNOPQRSTUVWXYZ[\\]\xE2\x86\x91_\xC2\xA3abcdefghijklmnopqrstuvwxyz{|}~\xC2\xA9 \
     \xE2\x96\x9D\xE2\x96\x98\

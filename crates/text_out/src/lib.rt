@@ -104,7 +104,7 @@ impl<'a> Writer<'a> {
         self.each::<Latin1>(s);
     }
 
-    // n in decimal.
+    // n in decimal; not by std's Display, which promises its bytes on an Ok alone, and no Ok: no text here may fail.
     #[tactic(auto, using(crate::proofs::Writing::composed, crate::proofs::Writing::decimal_one, crate::proofs::Writing::decimal_more))]
     pub fn decimal(&mut self, n: u64)
         requires { self.old.at + 20 < 2 ^ 63 }

@@ -14,7 +14,7 @@ pub use figures::put_head;
 use rows::{Tone, row_at};
 use text_out::{Spelling, Writer};
 
-// The digit of a number below 16.
+// The digit of a number below 16; `char::from_digit` is no plainer: it answers an Option of a char.
 #[tactic(auto, unfolding(crate::specs::Dump::digit))]
 fn digit(d: u8) -> u8
     requires { d < 16 }

@@ -13,15 +13,16 @@ use Rattle.cut_grammar.specs.declared.NotCut.TheVariants as not_cut
 use Rattle.cut_grammar.specs.Grammar.{read_at, pass_at, whole_at, fitting_at}
 use Rattle.cut_grammar.specs.Kinds.{stream19, kind19}
 use Rattle.cut_grammar.specs.Steps.{head19, tables19}
-use Rattle.cut_grammar.proofs.Turns.{each_stuck}
+use Rattle.cut_fields.proofs.Runs.{each_stuck}
 use Prim.Native.Nat.{◌*◌, ◌+◌, ◌^◌}
 use native.Mathlib.Nat.{mul-le-mul}
 use native.Mathlib.Omega.{arith}
 
-pub bits_fit : (bits : ℕ) (g : GeneralizedData) (tape : List ℕ) (from : ℕ) → bits ≤ 4294967295
-    → read_at (stream19 bits g) tape (Ok from) ≡ whole_at (Generalized g) (each_at tape (Ok from) g.size 1)
+pub bits_fit : (bits : ℕ) (g : GeneralizedData) (tape : List ℕ) (c : Cursor) → bits ≤ 4294967295
+    → read_at (stream19 bits g) tape c ≡ whole_at (Generalized g) (each_at tape c g.size 1)
 unfolding stream19 read_at pass_at fitting_at
-bits_fit bits g tape from h = rw (le-leb _ _ h)
+bits_fit bits g tape (Ok p) h = rw (le-leb _ _ h)
+bits_fit bits g tape (Err e) h = refl
 
 pub bits_over : (bits : ℕ) (g : GeneralizedData) (tape : List ℕ) (from : ℕ) → 4294967295 < bits
     → read_at (stream19 bits g) tape (Ok from) ≡ Err (not_cut.Overflow from)

@@ -13,8 +13,8 @@ use cut_grammar::{Body, GeneralHead, GeneralizedData, NotCut, Piece, Whole};
 #[tactic(auto, using(cut_grammar::proofs::Turns::stuck), unfolding(cut_grammar::specs::Steps::head19))]
 fn head(r: &mut Reader) -> Result<GeneralHead, Short>
     ensures tape { r.new.tape ≡ r.old.tape }
-    ensures there { IfOk result (λ h. head19 r.old.tape.now (Ok r.old.at) ≡ headed h r.new.at) }
-    ensures short { IfErr result (λ e. (head19 r.old.tape.now (Ok r.old.at)).cursor ≡ Err e) }
+    ensures there { IfOk result (λ h. head19 r.old.tape.now r.old.at ≡ headed h r.new.at) }
+    ensures short { IfErr result (λ e. (r.new.at ≡ Err e) × ((head19 r.old.tape.now r.old.at).cursor ≡ Err e)) }
 {
     let length = r.number(4)?;
     let pause = r.number(2)?;
@@ -61,37 +61,34 @@ fn symbol_bits(size: u32) -> u32
 }
 
 // The data bytes of 19, whose count of bits is tested before them.
-#[tactic(auto, using(crate::proofs::Fitting::bits_fit, crate::proofs::Fitting::bits_over), unfolding(cut_grammar::specs::Grammar::whole_at))]
+#[tactic(auto, using(crate::proofs::Fitting::bits_fit, crate::proofs::Fitting::bits_over, crate::proofs::Fitting::stream_stuck), unfolding(cut_grammar::specs::Grammar::whole_at))]
 fn stream(mut r: Reader, bits: u64, general: GeneralizedData) -> Body
-    ensures { result ≡ read_at (stream19 bits general) r.entry.tape.now (Ok r.entry.at) }
+    ensures { result ≡ read_at (stream19 bits general) r.entry.tape.now r.entry.at }
 {
     if bits > u32::MAX as u64 {
-        return Err(NotCut::Overflow(r.at));
+        return Err(NotCut::Overflow(r.at?));
     }
-    r.each(general.size, 1)?;
+    let next = r.each(general.size, 1)?;
     Ok(Whole {
         piece: Piece::Generalized(general),
-        next: r.at,
+        next,
     })
 }
 
 // 19
 #[tactic(auto, using(crate::proofs::Fitting::read19, crate::proofs::Fitting::stream_stuck, crate::proofs::Fitting::bits_product, cut_grammar::proofs::Turns::stuck), unfolding(cut_fields::specs::Field::place_of, cut_grammar::specs::Steps::tables19))]
 pub fn general(mut r: Reader, full: u32) -> Body
-    ensures { result ≡ read_at (kind19 full) r.entry.tape.now (Ok r.entry.at) }
+    ensures { result ≡ read_at (kind19 full) r.entry.tape.now r.entry.at }
 {
     let h = head(&mut r)?;
     let asp = or_full(full, h.asp);
     let asd = or_full(full, h.asd);
     let nb = symbol_bits(asd);
     let bits = nb as u64 * h.totd as u64;
-    let pilot = r.at;
-    r.groups(held_if(h.totp, asp) as u64, 1, h.npp, 2)?;
-    let entries = r.at;
-    r.groups(h.totp as u64, 1, 1, 2)?;
-    let symbols = r.at;
-    r.groups(held_if(h.totd, asd) as u64, 1, h.npd, 2)?;
-    let from = r.at;
+    let pilot = r.at?;
+    let entries = r.groups(held_if(h.totp, asp) as u64, 1, h.npp, 2)?;
+    let symbols = r.groups(h.totp as u64, 1, 1, 2)?;
+    let from = r.groups(held_if(h.totd, asd) as u64, 1, h.npd, 2)?;
     stream(
         r,
         bits,

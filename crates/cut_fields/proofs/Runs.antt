@@ -131,6 +131,9 @@ module _ (s : List ℕ) where
   unfolding each_at
   each_stopped k w h = times-stopped (λ c. (field_at s c w).cursor) k h
 
+  pub each_stuck : (e : Short) (k w : ℕ) → each_at s (Err e) k w ≡ Err e
+  each_stuck e k w = each_stopped k w stopped
+
   -- no field is read behind one that came up short
   pub field_stuck : (e : Short) (w : ℕ) → field_at s (Err e) w ≡ record { value = 0; cursor = Err e }
   unfolding field_at
@@ -179,9 +182,9 @@ module _ (s : List ℕ) where
       times_wholes (λ c. each_at s (field_at s c h).cursor k w) (h + k * w) (length s) (group_moves h k w) t
       (group_stops h k w (p + q * (h + k * w))) l
 
-  pub groups_stuck : (h k w : ℕ) {n p q : ℕ} {e : Short} → Wholes (length s) p n (h + k * w) q → q < n
+  pub groups_behind : (h k w : ℕ) {n p q : ℕ} {e : Short} → Wholes (length s) p n (h + k * w) q → q < n
       → (field_at s (Ok (p + q * (h + k * w))) h).cursor ≡ Err e → groups_at s (Ok p) n h k w ≡ Err e
-  groups_stuck h k w {e = e} t l r = groups_short h k w t l ∙ rw r (each_stopped k w stopped)
+  groups_behind h k w {e = e} t l r = groups_short h k w t l ∙ rw r (each_stopped k w stopped)
 
   pub groups_all : (h k w : ℕ) {n p q : ℕ} → Wholes (length s) p n (h + k * w) q → n ≤ q
       → groups_at s (Ok p) n h k w ≡ Ok (p + q * (h + k * w))
@@ -191,6 +194,9 @@ module _ (s : List ℕ) where
   pub groups-stopped : (n h k w : ℕ) {c : Cursor} → Stopped c → groups_at s c n h k w ≡ c
   unfolding groups_at
   groups-stopped n h k w t = times-stopped (λ c. each_at s (field_at s c h).cursor k w) n t
+
+  pub groups_stuck : (e : Short) (n h k w : ℕ) → groups_at s (Err e) n h k w ≡ Err e
+  groups_stuck e n h k w = groups-stopped n h k w stopped
 
   -- fields and groups that are all there
   pub each_stood : (n w : ℕ) (c : Cursor) {q : ℕ} → each_at s c n w ≡ Ok q → Stood c (n * w) q

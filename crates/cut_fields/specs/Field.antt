@@ -36,12 +36,7 @@ unfoldable pub place_of : Cursor → ℕ
 place_of (Ok p) = p
 place_of (Err e) = 0
 
--- what a reader gives, and its place behind it, as a cursor
-abbrev pub cursor_of : {A : Type 0} → Result A Short → ℕ → Cursor
-cursor_of (Ok v) at = Ok at
-cursor_of (Err e) at = Err e
-
--- and as a field
-abbrev pub read_of : Result ℕ Short → ℕ → Read
-read_of (Ok v) at = record { value = v; cursor = Ok at }
-read_of (Err e) at = record { value = 0; cursor = Err e }
+-- what a reader gives of a field, and its cursor behind it
+abbrev pub read_of : Result ℕ Short → Cursor → Read
+read_of (Ok v) c = record { value = v; cursor = c }
+read_of (Err e) c = record { value = 0; cursor = Err e }

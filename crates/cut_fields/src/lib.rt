@@ -2,7 +2,7 @@
 #![tactic(auto)]
 
 ghost use Rattle.std.specs.Prelude.{◌≡◌, ◌+◌, ◌≤◌, ◌<◌, IfOk, IfErr, length};
-ghost use Rattle.cut_fields.specs.Field.{le_at, number_at, field_at, read_of, cursor_of};
+ghost use Rattle.cut_fields.specs.Field.{le_at, number_at, field_at, read_of};
 ghost use Rattle.cut_fields.specs.Run.{Wholes, each_at, groups_at};
 
 // The place and the width of the first field in reading order that came up short.
@@ -12,11 +12,11 @@ pub struct Short {
     pub width: u64,
 }
 
-// A tape, and the place in it from which the next field is read.
+// A tape, and the place in it from which the next field is read, or the first field that came up short: that one stays.
 #[derive(Clone, Copy)]
 pub struct Reader<'a> {
     pub tape: &'a [u8],
-    pub at: u64,
+    pub at: Result<u64, Short>,
 }
 
 // The number of `width` bytes at `at`, the lowest first; its callers know the bytes to be there.
@@ -74,58 +74,62 @@ fn wholes(tape: &[u8], at: u64, n: u64, size: u64) -> u64
 
 impl<'a> Reader<'a> {
     // One field's number.
-    #[tactic(auto, using(crate::proofs::Runs::field_there, crate::proofs::Runs::field_short))]
+    #[tactic(auto, using(crate::proofs::Runs::field_there, crate::proofs::Runs::field_short, crate::proofs::Runs::field_stuck))]
     pub fn number(&mut self, width: u64) -> Result<u32, Short>
         ensures tape { self.new.tape ≡ self.old.tape }
-        ensures read { field_at self.old.tape.now (Ok self.old.at) width ≡ read_of result self.new.at }
+        ensures read { field_at self.old.tape.now self.old.at width ≡ read_of result self.new.at }
+        ensures short { IfErr result (λ e. self.new.at ≡ Err e) }
     {
-        let next = past(self.tape, self.at, width)?;
-        let value = number(self.tape, self.at, width);
-        self.at = next;
-        Ok(value)
+        let at = self.at?;
+        self.skip(width)?;
+        Ok(number(self.tape, at, width))
     }
 
-    // One field whose number nobody asks: a body, a text or data, of its length.
-    #[tactic(auto, using(crate::proofs::Runs::field_moves, crate::proofs::Runs::field_stops))]
-    pub fn skip(&mut self, width: u64) -> Result<(), Short>
+    // One field whose number nobody asks: a body, a text or data, of its length. The place past it.
+    #[tactic(auto, using(crate::proofs::Runs::field_moves, crate::proofs::Runs::field_stops, crate::proofs::Runs::field_stuck))]
+    pub fn skip(&mut self, width: u64) -> Result<u64, Short>
         ensures tape { self.new.tape ≡ self.old.tape }
-        ensures past { (field_at self.old.tape.now (Ok self.old.at) width).cursor ≡ cursor_of result self.new.at }
+        ensures past { result ≡ (field_at self.old.tape.now self.old.at width).cursor }
+        ensures at { self.new.at ≡ result }
     {
-        self.at = past(self.tape, self.at, width)?;
-        Ok(())
+        let at = self.at?;
+        self.at = past(self.tape, at, width);
+        self.at
     }
 
-    // n fields of one width, one after the other, at no cost a field.
-    #[tactic(auto, using(crate::proofs::Runs::each_all, crate::proofs::Runs::each_short))]
-    pub fn each(&mut self, n: u64, width: u64) -> Result<(), Short>
+    // n fields of one width, one after the other, at no cost a field. The place past them.
+    #[tactic(auto, using(crate::proofs::Runs::each_all, crate::proofs::Runs::each_short, crate::proofs::Runs::each_stuck))]
+    pub fn each(&mut self, n: u64, width: u64) -> Result<u64, Short>
         ensures tape { self.new.tape ≡ self.old.tape }
-        ensures past { each_at self.old.tape.now (Ok self.old.at) n width ≡ cursor_of result self.new.at }
+        ensures past { result ≡ each_at self.old.tape.now self.old.at n width }
+        ensures at { self.new.at ≡ result }
     {
-        let whole = wholes(self.tape, self.at, n, width);
-        self.at += whole * width;
-        if whole == n {
-            Ok(())
+        let at = self.at?;
+        let whole = wholes(self.tape, at, n, width);
+        let place = at + whole * width;
+        self.at = if whole == n {
+            Ok(place)
         } else {
-            Err(Short {
-                place: self.at,
-                width,
-            })
-        }
+            Err(Short { place, width })
+        };
+        self.at
     }
 
-    // n groups, each a field of `head` bytes and k fields of `width` bytes, at no cost a group.
-    #[tactic(auto, using(crate::proofs::Runs::groups_all, crate::proofs::Runs::groups_short, crate::proofs::Runs::groups_stuck))]
-    pub fn groups(&mut self, n: u64, head: u32, k: u32, width: u32) -> Result<(), Short>
+    // n groups, each a field of `head` bytes and k fields of `width` bytes, at no cost a group. The place past them.
+    #[tactic(auto, using(crate::proofs::Runs::groups_all, crate::proofs::Runs::groups_short, crate::proofs::Runs::groups_stuck, crate::proofs::Runs::groups_behind))]
+    pub fn groups(&mut self, n: u64, head: u32, k: u32, width: u32) -> Result<u64, Short>
         ensures tape { self.new.tape ≡ self.old.tape }
-        ensures past { groups_at self.old.tape.now (Ok self.old.at) n head k width ≡ cursor_of result self.new.at }
+        ensures past { result ≡ groups_at self.old.tape.now self.old.at n head k width }
+        ensures at { self.new.at ≡ result }
     {
+        let at = self.at?;
         let size = head as u64 + k as u64 * width as u64;
-        let whole = wholes(self.tape, self.at, n, size);
-        self.at += whole * size;
+        let whole = wholes(self.tape, at, n, size);
+        self.at = Ok(at + whole * size);
         if whole < n {
             self.skip(head as u64)?;
             self.each(k as u64, width as u64)?;
         }
-        Ok(())
+        self.at
     }
 }

@@ -7,9 +7,8 @@ use Rattle.std.specs.Prelude.{Ok, Err}
 use Rattle.cut_fields.specs.Field.{Cursor}
 use Rattle.cut_fields.specs.Field.{field_at}
 use Rattle.cut_fields.specs.Run.{times}
-use Rattle.cut_fields.specs.Run.{each_at, groups_at}
 use Rattle.cut_fields.specs.declared.Short.{Short}
-use Rattle.cut_fields.proofs.Runs.{times-stopped, stopped, each_stopped, groups-stopped, field_stuck}
+use Rattle.cut_fields.proofs.Runs.{times-stopped, stopped, field_stuck, each_stuck, groups_stuck}
 use Rattle.cut_grammar.specs.Grammar.{counted_at, texts_at, binary_digits}
 
 -- 0 has no digits
@@ -36,12 +35,6 @@ module _ (s : List ℕ) (e : Short) where
   pub counted_stuck : (w : ℕ) → (counted_at s (Err e) w).cursor ≡ Err e
   unfolding counted_at
   counted_stuck w = rw (field_stuck s e w) (rw (field_stuck s e 0) refl)
-
-  pub each_stuck : (n w : ℕ) → each_at s (Err e) n w ≡ Err e
-  each_stuck n w = each_stopped s n w stopped
-
-  pub groups_stuck : (n h k w : ℕ) → groups_at s (Err e) n h k w ≡ Err e
-  groups_stuck n h k w = groups-stopped s n h k w stopped
 
   pub texts_stuck : (n : ℕ) → texts_at s (Err e) n ≡ Err e
   unfolding texts_at

@@ -50,8 +50,8 @@ pub data Layout : Type 0 where
   -- no row of ours, though the format may describe the kind
   unknown : Bool → Layout
 
-abbrev pub span : ℕ → ℕ → ℕ → Span
-span from size p = record { from = from; size = size; cursor = Ok p }
+abbrev pub span : ℕ → ℕ → Cursor → Span
+span from size c = record { from = from; size = size; cursor = c }
 
 unfoldable pub counted_at : List ℕ → Cursor → ℕ → Span
 counted_at s c w =

@@ -1,5 +1,5 @@
 -- Where the code cuts a long layout into functions: what the first part of 19 hands on, and the rest of it. Assumes nothing.
-use Rattle.std.specs.Prelude.{ℕ, ◌+◌, ◌*◌, ◌-◌, ◌/◌, List, Ok}
+use Rattle.std.specs.Prelude.{ℕ, ◌+◌, ◌*◌, ◌-◌, ◌/◌, List}
 use Rattle.cut_fields.specs.Field.{Cursor, field_at, place_of}
 use Rattle.cut_fields.specs.Run.{groups_at}
 use Rattle.cut_grammar.specs.declared.GeneralHead.{GeneralHead}
@@ -11,8 +11,8 @@ pub record Head19 : Type 0 where
   pub head : GeneralHead
   pub cursor : Cursor
 
-abbrev pub headed : GeneralHead → ℕ → Head19
-headed h p = record { head = h; cursor = Ok p }
+abbrev pub headed : GeneralHead → Cursor → Head19
+headed h c = record { head = h; cursor = c }
 
 unfoldable pub head19 : List ℕ → Cursor → Head19
 head19 s c =

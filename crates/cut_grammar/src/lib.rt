@@ -5,7 +5,7 @@
 
 ghost use Rattle.std.specs.Prelude.{◌≡◌, ◌≤◌, IfOk, IfErr, length};
 ghost use Rattle.cut_grammar.specs.Grammar.{counted_at, span, sealed};
-ghost use Rattle.cut_grammar.specs.Cut.{signature, starts_at, head_at, tap_at};
+ghost use Rattle.cut_grammar.specs.Cut.{signature, starts_at, head_at, tap_block, tap_at};
 ghost use Rattle.cut_grammar.specs.declared.NotCut.TheVariants as not_cut;
 
 use cut_fields::{Reader, Short};
@@ -173,11 +173,11 @@ pub enum Heading {
 #[tactic(auto, using(cut_fields::proofs::Runs::field_stuck), unfolding(crate::specs::Grammar::counted_at, cut_fields::specs::Field::place_of))]
 pub fn counted(r: &mut Reader, width: u64) -> Result<(u64, u32), Short>
     ensures tape { r.new.tape ≡ r.old.tape }
-    ensures there { IfOk result (λ x. counted_at r.old.tape.now (Ok r.old.at) width ≡ span x.0 x.1 r.new.at) }
-    ensures short { IfErr result (λ e. (counted_at r.old.tape.now (Ok r.old.at) width).cursor ≡ Err e) }
+    ensures there { IfOk result (λ x. counted_at r.old.tape.now r.old.at width ≡ span x.0 x.1 r.new.at) }
+    ensures short { IfErr result (λ e. (r.new.at ≡ Err e) × ((counted_at r.old.tape.now r.old.at width).cursor ≡ Err e)) }
 {
     let size = r.number(width)?;
-    let from = r.at;
+    let from = r.at?;
     r.skip(size as u64)?;
     Ok((from, size))
 }
@@ -203,6 +203,18 @@ pub fn sealed(end: u64, inner: Body) -> Body
     inner.map(|whole| Whole { next: end, ..whole })
 }
 
+// A length of 2 bytes and data.
+#[tactic(auto, unfolding(crate::specs::Cut::tap_block))]
+fn tap_block(tape: &[u8], at: u64) -> Result<TakenTap, Short>
+    ensures there { IfOk result (λ t. tap_block (counted_at tape.now (Ok at) 2) (counted_at tape.now (Ok at) 2).cursor ≡ t) }
+    ensures short { IfErr result (λ e. (counted_at tape.now (Ok at) 2).cursor ≡ Err e) }
+{
+    let mut r = Reader { tape, at: Ok(at) };
+    let (from, size) = counted(&mut r, 2)?;
+    let next = r.at?;
+    Ok(TakenTap::Block { from, size, next })
+}
+
 // The block at a place of a TAP.
 #[tactic(auto, unfolding(crate::specs::Cut::tap_at, crate::specs::Cut::tap_block))]
 pub fn cut_tap(tape: &[u8], at: u64) -> TakenTap
@@ -215,13 +227,8 @@ pub fn cut_tap(tape: &[u8], at: u64) -> TakenTap
     if at + 1 == end {
         return TakenTap::Lone;
     }
-    let mut r = Reader { tape, at };
-    match counted(&mut r, 2) {
-        Ok((from, size)) => TakenTap::Block {
-            from,
-            size,
-            next: r.at,
-        },
+    match tap_block(tape, at) {
+        Ok(block) => block,
         Err(Short { place, width }) => TakenTap::Short { place, width },
     }
 }

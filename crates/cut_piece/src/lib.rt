@@ -17,20 +17,21 @@ use cut_grammar::{Body, NotCut, Piece, Taken, Whole};
 // 5A
 #[tactic(auto, using(cut_grammar::proofs::Turns::stuck), unfolding(cut_grammar::specs::Grammar::read_at, cut_grammar::specs::Grammar::pass_at, cut_grammar::specs::Grammar::whole_at, cut_grammar::specs::Kinds::kind_5a))]
 fn glue(mut r: Reader) -> Body
-    ensures { result ≡ read_at kind_5a r.entry.tape.now (Ok r.entry.at) }
+    ensures { result ≡ read_at kind_5a r.entry.tape.now r.entry.at }
 {
-    r.skip(9)?;
+    let next = r.skip(9)?;
     Ok(Whole {
         piece: Piece::Glue,
-        next: r.at,
+        next,
     })
 }
 
-// What stands after a kind byte: every kind from 0 to 255 has its row.
+// What stands after a kind byte, from a place on: every kind from 0 to 255 has its row.
 #[tactic(auto, unfolding(cut_grammar::specs::Grammar::read_at, cut_grammar::specs::Grammar::whole_at, cut_grammar::specs::Kinds::kind22, cut_grammar::specs::Kinds::kind25, cut_grammar::specs::Kinds::kinds, cut_grammar::specs::Kinds::kind_of))]
-fn body_of(r: Reader, kind: u8, full: u32) -> Body
-    ensures { result ≡ read_at (kind_of full kind) r.entry.tape.now (Ok r.entry.at) }
+fn body_of(tape: &[u8], kind: u8, from: u64, full: u32) -> Body
+    ensures { result ≡ read_at (kind_of full kind) tape.now (Ok from) }
 {
+    let r = Reader { tape, at: Ok(from) };
     match kind {
         0x10 => standard(r),
         0x11 => turbo(r),
@@ -43,13 +44,13 @@ fn body_of(r: Reader, kind: u8, full: u32) -> Body
         0x21 => group_start(r),
         0x22 => Ok(Whole {
             piece: Piece::GroupEnd,
-            next: r.at,
+            next: from,
         }),
         0x23 => Err(NotCut::Unknown(true)),
         0x24 => loop_start(r),
         0x25 => Ok(Whole {
             piece: Piece::LoopEnd,
-            next: r.at,
+            next: from,
         }),
         0x26..=0x28 => Err(NotCut::Unknown(true)),
         0x2A => stop48(r),
@@ -93,6 +94,5 @@ pub fn cut(tape: &[u8], at: u64, full: u32) -> Taken
         return Taken::End;
     }
     let kind = tape[at as usize];
-    let r = Reader { tape, at: at + 1 };
-    named(kind, at, body_of(r, kind, full))
+    named(kind, at, body_of(tape, kind, at + 1, full))
 }

@@ -13,7 +13,7 @@ pub const LARGEST: usize = u32::MAX as usize;
 fn number_up_to(s: &[u8], width: u64, most: usize) -> usize
     ensures { result ≡ min (field_at s.now (Ok 0) width).value most }
 {
-    let mut r = Reader { tape: s, at: 0 };
+    let mut r = Reader { tape: s, at: Ok(0) };
     let n = r.number(width).unwrap_or(0) as usize;
     n.min(most)
 }

@@ -6,5 +6,5 @@ use Rattle.cut_bodies.proofs.archive.Goals as goal
 
 pub slice_bounds-tape-end : goal.slice_bounds-tape-end
 slice_bounds-tape-end c =
-    let t = c.in_ok-skip.ensures.tape in
-    rw t (sym (length-take-le _ _ (field_inside c.number.new.self.tape.now _ _ c.in_ok-skip.ensures.past)))
+    let t = c.in_ok-end.ensures.tape in
+    rw t (sym (length-take-le _ _ (field_inside c.number.new.self.tape.now _ _ (sym c.in_ok-end.ensures.past))))

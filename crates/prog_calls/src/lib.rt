@@ -34,7 +34,7 @@ use text_trace::put_line;
 fn number(s: &[u8], at: u64, w: u64) -> u32
     ensures { result ≡ number_in s.now at w }
 {
-    let mut r = Reader { tape: s, at };
+    let mut r = Reader { tape: s, at: Ok(at) };
     r.number(w).unwrap_or(0)
 }
 

@@ -23,7 +23,8 @@ pub fn row_lasts(r: Block) -> Duration
 }
 
 // What is summed up so far: the T-states of all rows before the first stop, where the last sound ended, and whether a stop was met.
-#[derive(Clone, Copy)]
+// The flag is no Option of a sum: both sums are read behind a stop too.
+#[derive(Clone, Copy, Default)]
 pub struct Loading {
     pub sum: u64,
     pub end: u64,
@@ -34,11 +35,7 @@ pub struct Loading {
 pub fn none() -> Loading
     ensures { result ≡ no_loading }
 {
-    Loading {
-        sum: 0,
-        end: 0,
-        over: false,
-    }
+    Loading::default()
 }
 
 // Where the last sound ends, a row's included: a sound of no length is no end.

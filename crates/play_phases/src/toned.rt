@@ -12,7 +12,8 @@ use crate::{bits_at, cycle_half, edge_time, half_of, has_pulse, is_edged, pause_
 use play_entries::{Duration, Phase};
 use rows::{Block, Tone, row_at};
 
-// A tone table and a block's row, whose tone rows are all in it.
+// A tone table and a block's row, whose tone rows are all in it. That its data are lent and its numbers well formed is no part of the type:
+// `has_entry` may ask no more than it did.
 #[derive(Clone, Copy)]
 pub struct TonedRow<'a> {
     pub tones: &'a [u64],

@@ -1,4 +1,5 @@
 // The times of tones and data, each a step a tone row and a data byte: what a row sounds, which a load writes in it.
+// Lent data and well-formed numbers stay clauses: a load times rows that no table has yet, so a type around them would be one more wrapper a call.
 #![tactic(auto)]
 
 ghost use Rattle.std.specs.Prelude.{◌≡◌, true, List, ℕ, ◌+◌, ◌<◌, ◌≤◌, length};

@@ -45,9 +45,9 @@ unfolding number_of values_of told
 tell_refused k row = (rw (le-leb 0 (length row) (omega arith)), rw (le-leb 0 (length row) (omega arith)))
 
 -- the number of a refusal with words stands, whatever row is lent
-pub number-stands : (k : ℕ) (ws row : List ℕ) → k ≡ number_of (refused_with k ws) row
+pub number_stands : (k : ℕ) (ws row : List ℕ) → k ≡ number_of (refused_with k ws) row
 unfolding number_of
-number-stands k ws row = either (fits ws row)
+number_stands k ws row = either (fits ws row)
   where
     either : (b : Bool) → k ≡ (b ⇒ k ∣ k)
     either true = refl

@@ -5,7 +5,9 @@ use mathlib.Core.List.{List, [], ◌∷◌, ◌++◌}
 use lib.ListN.{length}
 use Rattle.play_entries.specs.Places.{Tape}
 use Rattle.play_walk.specs.declared.Position.{Position}
+use Rattle.std.specs.Prelude.{Result}
 use Rattle.play_walk.specs.declared.Reached.{Reached}
+use Rattle.play_walk.specs.declared.Fault.{Fault}
 use Rattle.play_deck.specs.Deck.{play_measured, play_source}
 use Rattle.play_deck.specs.Calls.{position_in, passed_in, answer_level, counting, run_calls, run_sources}
 use Rattle.host_words.specs.Words.{words_of, flag_of}
@@ -14,7 +16,7 @@ use Rattle.host_run.specs.Rows.{encode_answer, how_of, call_row}
 use Rattle.host_run.specs.Runs.{answers_of, tallied, last_answer, run_rows, rows_over}
 
 -- a row has the player's ten words: how it stands, the entries passed, the level, the position
-pub row_words : (q : Position) (r : Reached)
+pub row_words : (q : Position) (r : Result Reached Fault)
     → encode_answer (call_row q r) ≡ how_of r ∷ passed_in r ∷ flag_of (answer_level r) ∷ words_of (position_in q r)
 unfolding call_row words_of
 row_words q r = refl
@@ -35,7 +37,7 @@ module _ (w : Tape) where
   run-sources q n (m ∷ ms) = run-sources (position_in q (play_source w q n)) m ms
 
 -- a run is as long as its calls, and cut in two it is two runs, the second from where the first leaves the head
-module _ (play : Position → ℕ → Reached) where
+module _ (play : Position → ℕ → Result Reached Fault) where
   -- the rows are those of the answers
   pub rows-answers : (q : Position) (ns : List ℕ) → run_rows play q ns ≡ rows_over q (answers_of play q ns)
   unfolding run_rows rows_over answers_of

@@ -1,17 +1,14 @@
 -- CALLS THAT END INSIDE ONE ENTRY, and a turn of a run: shortcuts of the code, which no public contract cites.
 -- Definitions alone; assumes nothing.
-use Rattle.std.specs.Prelude.{ℕ, ◌-◌, ◌*◌, ◌≤◌, List, [], ◌∷◌, ltb, length, drop, Result}
+use Rattle.std.specs.Prelude.{ℕ, ◌-◌, ◌*◌, ◌≤◌, Bool, List, [], ◌∷◌, ltb, length, drop}
 use Rattle.law_base.specs.Rules.{◌⇒◌, ◌∣◌}
 use Rattle.rows.specs.Table.{put_all}
 use Rattle.play_entries.specs.Places.{Tape}
-use Rattle.play_walk.specs.declared.Position.{Position}
-use Rattle.play_walk.specs.declared.Reached.{Reached}
-use Rattle.play_walk.specs.declared.Fault.{Fault}
 use Rattle.play_deck.specs.Assay.{Assayed}
 use Rattle.host_run.specs.declared.AnswerRow.{AnswerRow}
 use Rattle.host_run.specs.declared.Going.{Going}
 use Rattle.host_run.specs.Rows.{answer_row}
-use Rattle.host_run.specs.Runs.{run_rows}
+use Rattle.host_run.specs.Runs.{player_of, run_rows}
 
 -- a row with so much left
 abbrev pub with_left : AnswerRow → ℕ → AnswerRow
@@ -40,8 +37,8 @@ inside_left t [] = t
 inside_left t (n ∷ ns) = ltb n t ⇒ inside_left (t - n) ns ∣ t
 
 -- the table that a run still leads to
-abbrev pub leads_to : (Position → ℕ → Result Reached Fault) → List ℕ → List ℕ → Going → List ℕ
-leads_to play ns table g = put_all answer_row table g.next (run_rows play g.position (drop g.next ns))
+abbrev pub leads_to : Bool → Tape → List ℕ → List ℕ → Going → List ℕ
+leads_to measured w ns table g = put_all answer_row table g.next (run_rows (player_of measured w) g.position (drop g.next ns))
 
 -- where a run stands: what its position comes to is known
 abbrev pub Known : Tape → Going → Type 0

@@ -7,14 +7,15 @@ ghost use Rattle.play_entries.specs.declared.Duration.TheVariants.{T};
 ghost use Rattle.law_base.specs.Rules.{◌⇒◌, ◌∣◌};
 ghost use Rattle.rows.specs.Table.{put_all};
 ghost use Rattle.play_entries.specs.Mounted.{mounted_tape};
+ghost use Rattle.play_walk.specs.Heads.{Lands};
 ghost use Rattle.play_deck.specs.Assay.{Assayed};
 ghost use Rattle.play_deck.specs.Calls.{position_in};
 ghost use Rattle.host_run.specs.Rows.{answer_row, stand_row, call_row};
-ghost use Rattle.host_run.specs.Runs.{run_rows, room_for, room_no, run_answer, run_table};
+ghost use Rattle.host_run.specs.Runs.{player_of, run_rows, room_for, room_no, run_answer, run_table};
 ghost use Rattle.host_run.specs.Inside.{with_left, inside_rows, inside_left, leads_to, Known, HoldsRows};
 
 use host_words::{flag, span_of, spot_of};
-use play_deck::{Finding, Measured, Player, Source, assay, assay_after, call_by};
+use play_deck::{Finding, Measured, Source, assay, assay_after, call_by};
 use play_entries::{Duration, Mounted};
 use play_walk::{Fault, Position, Reached, Stand};
 use refusals::Refusal;
@@ -129,6 +130,27 @@ fn position_in(pos: Position, r: Result<Reached, Fault>) -> Position
     }
 }
 
+// One call of either player, by what its position came to: the one place where a run asks which player it is of. The rest is said once over
+// `player_of`, which theorems about runs cite; a type for the player would say it twice.
+#[tactic(auto, using(crate::proofs::Players::by_measured, crate::proofs::Players::by_source))]
+fn call(
+    m: &Mounted<'_>,
+    measured: bool,
+    pos: Position,
+    n: u32,
+    a: Result<Finding, Fault>,
+) -> Result<Reached, Fault>
+    requires { Assayed (mounted_tape m.now) pos a }
+    ensures value { result ≡ player_of measured (mounted_tape m.now) pos n }
+    ensures lands { Lands (mounted_tape m.now) result }
+{
+    if measured {
+        call_by::<Measured>(m, pos, n, a)
+    } else {
+        call_by::<Source>(m, pos, n, a)
+    }
+}
+
 // The call behind those that ended inside an entry, and what they left of it.
 #[derive(Clone, Copy)]
 struct Ran {
@@ -170,8 +192,9 @@ struct Going {
 }
 
 // The calls that end inside the entry of which t T-states are left, known to be fine.
-fn go_inside<P: Player>(
+fn go_inside(
     m: &Mounted<'_>,
+    measured: bool,
     counts: &[u32],
     answers: &mut [u64],
     g: Going,
@@ -183,8 +206,8 @@ fn go_inside<P: Player>(
     requires holds_rows { HoldsRows counts.now answers.old × (g.next ≤ length counts.now) }
     ensures known_2 { Known (mounted_tape m.now) result }
     ensures next_le_next { (g.next ≤ result.next) × (result.next ≤ length counts.now) }
-    ensures result_after { leads_to (P.plays (mounted_tape m.now)) counts.now answers.new result
-        ≡ leads_to (P.plays (mounted_tape m.now)) counts.now answers.old g }
+    ensures result_after { leads_to measured (mounted_tape m.now) counts.now answers.new result
+        ≡ leads_to measured (mounted_tape m.now) counts.now answers.old g }
     ensures answers_len_unchanged { length answers.new ≡ length answers.old }
 {
     let here = Stand {
@@ -205,19 +228,19 @@ fn go_inside<P: Player>(
 }
 
 // The next call, whatever it meets; its callers know that there is one.
-fn go_on<P: Player>(m: &Mounted<'_>, counts: &[u32], answers: &mut [u64], g: Going) -> Going
+fn go_on(m: &Mounted<'_>, measured: bool, counts: &[u32], answers: &mut [u64], g: Going) -> Going
     requires known { Known (mounted_tape m.now) g }
     requires holds_rows { HoldsRows counts.now answers.old × (g.next < length counts.now) }
     ensures known_2 { Known (mounted_tape m.now) result }
     ensures next_value { result.next ≡ g.next + 1 }
-    ensures result_after { leads_to (P.plays (mounted_tape m.now)) counts.now answers.new result
-        ≡ leads_to (P.plays (mounted_tape m.now)) counts.now answers.old g }
+    ensures result_after { leads_to measured (mounted_tape m.now) counts.now answers.new result
+        ≡ leads_to measured (mounted_tape m.now) counts.now answers.old g }
     ensures answers_len_unchanged { length answers.new ≡ length answers.old }
 {
     let pos = g.position;
     let a = g.finding;
     let i = g.next;
-    let r = call_by::<P>(m, pos, counts[i], a);
+    let r = call(m, measured, pos, counts[i], a);
     put_row(answers, i, row_of(pos, r));
     Going {
         position: position_in(pos, r),
@@ -227,24 +250,25 @@ fn go_on<P: Player>(m: &Mounted<'_>, counts: &[u32], answers: &mut [u64], g: Goi
 }
 
 // As far as calls end inside the entry where the run stands.
-fn go_far<P: Player>(m: &Mounted<'_>, counts: &[u32], answers: &mut [u64], g: Going) -> Going
+fn go_far(m: &Mounted<'_>, measured: bool, counts: &[u32], answers: &mut [u64], g: Going) -> Going
     requires known { Known (mounted_tape m.now) g }
     requires holds_rows { HoldsRows counts.now answers.old × (g.next ≤ length counts.now) }
     ensures known_2 { Known (mounted_tape m.now) result }
     ensures next_le_next { (g.next ≤ result.next) × (result.next ≤ length counts.now) }
-    ensures result_after { leads_to (P.plays (mounted_tape m.now)) counts.now answers.new result
-        ≡ leads_to (P.plays (mounted_tape m.now)) counts.now answers.old g }
+    ensures result_after { leads_to measured (mounted_tape m.now) counts.now answers.new result
+        ≡ leads_to measured (mounted_tape m.now) counts.now answers.old g }
     ensures answers_len_unchanged { length answers.new ≡ length answers.old }
 {
     match (g.finding, g.position.left) {
-        (Ok(a), Duration::T(t)) => go_inside::<P>(m, counts, answers, g, a, t),
+        (Ok(a), Duration::T(t)) => go_inside(m, measured, counts, answers, g, a, t),
         _ => g,
     }
 }
 
 // Every call of a run from a position that its callers know to be fine, into a table that they know to hold their rows.
-fn run<P: Player>(
+fn run(
     m: &Mounted<'_>,
+    measured: bool,
     pos: Position,
     a: Result<Finding, Fault>,
     counts: &[u32],
@@ -252,7 +276,7 @@ fn run<P: Player>(
 )
     requires assayed { Assayed (mounted_tape m.now) pos a }
     requires holds_rows { HoldsRows counts.now answers.old }
-    ensures { answers.new ≡ put_all answer_row answers.old 0 (run_rows (P.plays (mounted_tape m.now)) pos counts.now) }
+    ensures { answers.new ≡ put_all answer_row answers.old 0 (run_rows (player_of measured (mounted_tape m.now)) pos counts.now) }
 {
     let mut g = Going {
         position: pos,
@@ -260,16 +284,17 @@ fn run<P: Player>(
         next: 0,
     };
     while g.next < counts.len() {
-        g = go_far::<P>(m, counts, answers, g);
+        g = go_far(m, measured, counts, answers, g);
         if g.next < counts.len() {
-            g = go_on::<P>(m, counts, answers, g);
+            g = go_on(m, measured, counts, answers, g);
         }
     }
 }
 
 // The same, or 10 where the table does not hold their rows.
-fn run_fitting<P: Player>(
+fn run_fitting(
     m: &Mounted<'_>,
+    measured: bool,
     pos: Position,
     a: Finding,
     counts: &[u32],
@@ -279,12 +304,12 @@ fn run_fitting<P: Player>(
     ensures value { result ≡ room_for counts.now answers.old }
     ensures answers_after { answers.new
         ≡ (eqb (room_no counts.now answers.old) 0 ⇒ put_all answer_row answers.old 0
-        (run_rows (P.plays (mounted_tape m.now)) pos counts.now) ∣ answers.old) }
+        (run_rows (player_of measured (mounted_tape m.now)) pos counts.now) ∣ answers.old) }
 {
     if answers.len() / AnswerRow::WORDS < counts.len() {
         return Err(Refusal::NoRoom);
     }
-    run::<P>(m, pos, Ok(a), counts, answers);
+    run(m, measured, pos, Ok(a), counts, answers);
     Ok(())
 }
 
@@ -302,8 +327,7 @@ pub fn play_run(
     ensures answers_after { answers.new ≡ run_table measured (mounted_tape m.now) pos counts.now answers.old }
 {
     match assay(m, pos) {
-        Ok(a) if measured => run_fitting::<Measured>(m, pos, a, counts, answers),
-        Ok(a) => run_fitting::<Source>(m, pos, a, counts, answers),
+        Ok(a) => run_fitting(m, measured, pos, a, counts, answers),
         Err(Fault::NotValid) => Err(Refusal::NoPosition),
         Err(Fault::NotFormed) => Err(Refusal::BadRow),
     }

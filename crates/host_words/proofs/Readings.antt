@@ -5,6 +5,7 @@ use mathlib.Core.Bool.{true, false}
 use mathlib.Core.List.{List, [], ◌∷◌, map}
 use Rattle.play_entries.specs.declared.Phase.TheVariants.{Start, Tones, Data, Edge, Pause}
 use Rattle.play_entries.specs.declared.Duration.TheVariants.{T, Endless}
+use Rattle.play_walk.specs.declared.Position.{Position}
 use Rattle.play_walk.specs.Heads.{placed}
 use Rattle.std.specs.Prelude.{Option, Some, None}
 use Rattle.host_words.specs.Words.{unhalved, halved, phase_from, span_from, joined, position_from}

@@ -3,7 +3,7 @@
 
 ghost use Rattle.std.specs.Prelude.{◌≡◌};
 ghost use Rattle.play_entries.specs.declared.Phase.TheVariants.{Tones, Data};
-ghost use Rattle.host_words.specs.Words.{flag_of, spot_of, span_of, unhalved, halved, flag_from, phase_from, span_from, position_from};
+ghost use Rattle.host_words.specs.Words.{flag_of, spot, spot_of, span_of, unhalved, halved, flag_from, phase_from, span_from, position_from};
 
 use play_entries::{Duration, Phase};
 use play_walk::Position;
@@ -31,30 +31,46 @@ pub fn flag(b: bool) -> u64
     u64::from(b)
 }
 
+// A phase's number alone: it uses no further word.
+fn bare(phase: u64) -> Spot
+    ensures { result ≡ spot phase 0 0 0 }
+{
+    Spot {
+        phase,
+        item: 0,
+        part: 0,
+        half: 0,
+    }
+}
+
 #[tactic(auto, unfolding(crate::specs::Words::spot_of))]
 pub fn spot_of(f: Phase) -> Spot
     ensures { result ≡ spot_of f }
 {
-    let (phase, item, part, half) = match f {
-        Phase::Start => (0, 0, 0, false),
+    match f {
+        Phase::Start => bare(0),
         Phase::Tones {
             index,
             pulse,
             last_half,
-        } => (1, index, pulse, last_half),
+        } => Spot {
+            phase: 1,
+            item: index,
+            part: pulse,
+            half: flag(last_half),
+        },
         Phase::Data {
             pos,
             bit,
             last_half,
-        } => (2, pos, bit, last_half),
-        Phase::Edge => (4, 0, 0, false),
-        Phase::Pause => (3, 0, 0, false),
-    };
-    Spot {
-        phase,
-        item,
-        part,
-        half: flag(half),
+        } => Spot {
+            phase: 2,
+            item: pos,
+            part: bit,
+            half: flag(last_half),
+        },
+        Phase::Edge => bare(4),
+        Phase::Pause => bare(3),
     }
 }
 

@@ -1,7 +1,7 @@
 -- `run` meets its contract. Assumes nothing.
 use native.Mathlib.Omega.{arith}
 use mathlib.Core.Path.{refl, sym, ◌∙◌}
-use Rattle.play_entries.specs.Mounted.{tape_of}
+use Rattle.play_entries.specs.Mounted.{mounted_tape}
 use Rattle.host_run.proofs.Runs.{gone_all}
 use Rattle.host_run.proofs.run.Goals as goal
 
@@ -35,5 +35,5 @@ loop-g-preserved c =
 pub returns : goal.returns
 returns c =
     let a = c.args in
-    let w = tape_of a.tape.now a.tones.now a.blocks.now a.count in
+    let w = mounted_tape a.m.now in
     sym (gone_all a.measured w a.counts.now c.loop-g.answers c.loop-g.g (omega arith)) ∙ c.loop-g.invariant.1.1.1

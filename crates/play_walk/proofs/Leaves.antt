@@ -19,8 +19,10 @@ use Rattle.play_entries.specs.Entries.{Label, label_at, start_level}
 use Rattle.play_entries.specs.Places.{Tape, block_in, list_from, from_tone, head_of, left_of}
 use Rattle.play_entries.specs.Mounted.{cut_to}
 use Rattle.play_entries.proofs.Follows.{list_in, list_out}
-use Rattle.play_walk.specs.declared.Reached.TheVariants.{At, Stopped, Ended, NotFormed}
-use Rattle.play_walk.specs.Heads.{placed, start_at, stand, level_here, rest_level, told_as, told_reached, walked}
+use Rattle.std.specs.Prelude.{Err}
+use Rattle.play_walk.specs.declared.How.TheVariants.{At, Stopped, Ended}
+use Rattle.play_walk.specs.declared.Fault.TheVariants.{NotFormed}
+use Rattle.play_walk.specs.Heads.{placed, start_at, stand, level_here, rest_level, told_as, told_reached, walked, came}
 
 over-nil : (A : Type 0) (m : ℕ) → over {A = A} [] m ≡ m
 unfolding over
@@ -69,28 +71,28 @@ module _ (w v : Tape) {es : List (Entry Label)} {n : ℕ} where
   -- standing in an entry
   pub tells_at : (b : ℕ) (f : Phase) (x : Level) (t : ℕ) (fs : List (Entry Label)) (m i : ℕ)
       → Leads es n 0 (pulse (label_at b f) x t ∷ fs) m i
-      → (m ≡ 0) ⊎ (m < t) → walked w v (answer es n) ≡ At (stand (placed b f (T (t - m))) i x)
+      → (m ≡ 0) ⊎ (m < t) → walked w v (answer es n) ≡ came At (stand (placed b f (T (t - m))) i x)
   unfolding walked told_reached told_as level_here head_of left_of
   tells_at b f x t fs m i l h = rw (answer_in (label_at b f) x t fs m i l h)
 
   pub tells_stop : (b : ℕ) (f : Phase) (x : Level) (fs : List (Entry Label)) (m i : ℕ)
       → Leads es n 0 (endless (label_at b f) x ∷ fs) m i
-      → walked w v (answer es n) ≡ Stopped (stand (placed b f Endless) i x)
+      → walked w v (answer es n) ≡ came Stopped (stand (placed b f Endless) i x)
   unfolding walked told_reached told_as level_here head_of left_of
   tells_stop b f x fs m i l = rw (answer-stop (label_at b f) x fs m i l)
 
   -- at the end of v with T-states left: the tape's end, or a row that is not well formed
   pub tells_end : (m i : ℕ) → Leads es n 0 [] m i → 0 < m → w.count ≤ v.count
-      → walked w v (answer es n) ≡ Ended (stand (start_at v.count) i false)
+      → walked w v (answer es n) ≡ came Ended (stand (start_at v.count) i false)
   unfolding walked told_reached told_as level_here rest_level head_of left_of
   tells_end m i l h e = rw (answer_end m i l, status-over {A = Label} [] m h, le-ltb v.count w.count e)
 
-  pub tells_bad : (m i : ℕ) → Leads es n 0 [] m i → 0 < m → v.count < w.count → walked w v (answer es n) ≡ NotFormed
+  pub tells_bad : (m i : ℕ) → Leads es n 0 [] m i → 0 < m → v.count < w.count → walked w v (answer es n) ≡ Err NotFormed
   unfolding walked
   tells_bad m i l h e = rw (answer_end m i l, status-over {A = Label} [] m h, lt-ltb v.count w.count e)
 
   pub tells_last : (i : ℕ) → Leads es n 0 [] 0 i
-      → walked w v (answer es n) ≡ At (stand (start_at v.count) i (rest_level w v.count))
+      → walked w v (answer es n) ≡ came At (stand (start_at v.count) i (rest_level w v.count))
   unfolding walked told_reached told_as level_here head_of left_of status_here
   tells_last i l = rw (answer_end 0 i l, status_left {A = Label} [] 0 refl)
 
@@ -102,16 +104,16 @@ rest_start w b h = rw (lt-ltb b w.count h)
 module _ (w : Tape) (k : ℕ) (few : k ≤ w.count) {es : List (Entry Label)} {n : ℕ} where
   -- at the start of the block behind b, with nothing left to spend
   pub tells_next : (b m i : ℕ) → Leads es n 0 (list_from (cut_to w k) (b + 1)) m i → m ≡ 0 → b < k
-      → walked w (cut_to w k) (answer es n) ≡ At (stand (start_at (b + 1)) i (rest_level w (b + 1)))
+      → walked w (cut_to w k) (answer es n) ≡ came At (stand (start_at (b + 1)) i (rest_level w (b + 1)))
   tells_next b m i l z h =
       let v = cut_to w k in
       ⊎_elim
       (λ g.
       let y : 0 - m ≡ 0 = omega arith in
       tells_at w v (b + 1) Start (start_level (block_in w (b + 1))) 0 (from_tone v (b + 1) 0) m i (lead_by (list_in v (b + 1) g) l) (inl z)
-      ∙ ap₂ (λ (x : ℕ) (c : Level). At (stand (placed (b + 1) Start (T x)) i c)) y (rest_start w (b + 1) (omega arith)))
+      ∙ ap₂ (λ (x : ℕ) (c : Level). came At (stand (placed (b + 1) Start (T x)) i c)) y (rest_start w (b + 1) (omega arith)))
       (λ g.
       let e : k ≡ b + 1 = omega arith in
       tells_last w v i (lead_as 0 i z refl (lead_by (list_out v (b + 1) g) l))
-      ∙ ap (λ (x : ℕ). At (stand (start_at x) i (rest_level w x))) e)
+      ∙ ap (λ (x : ℕ). came At (stand (start_at x) i (rest_level w x))) e)
       (lt_or_ge (b + 1) k)

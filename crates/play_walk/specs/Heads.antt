@@ -1,5 +1,5 @@
 -- Where a head stands, and what a player answers of a list. Definitions alone; assumes nothing.
-use Rattle.std.specs.Prelude.{ℕ, ◌≤◌, ◌<◌, ◌≡◌, Bool, true, false, ◌&&◌, List, [], ◌∷◌, ltb, eqb}
+use Rattle.std.specs.Prelude.{ℕ, ◌≤◌, ◌<◌, ◌≡◌, Bool, true, false, ◌&&◌, List, [], ◌∷◌, ltb, eqb, Option, Some, None, Result, Ok, Err}
 use Rattle.law_base.specs.Rules.{◌⇒◌, ◌∣◌}
 use Rattle.refusals.specs.Refusals.{no_position, bad_row}
 use Rattle.law_pulses.specs.Play.{Level, low, Entry, pulse, endless, Status, standing, stopped, ended, Answer, answer}
@@ -9,28 +9,31 @@ use Rattle.rows.specs.Rows.{block, block_most}
 use Rattle.play_entries.specs.declared.Phase.{Phase}
 use Rattle.play_entries.specs.declared.Phase.TheVariants.{Start}
 use Rattle.play_entries.specs.declared.Duration.{Duration}
-use Rattle.play_entries.specs.declared.Duration.TheVariants.{T}
+use Rattle.play_entries.specs.declared.Duration.TheVariants.{T, Endless}
 use Rattle.play_entries.specs.Entries.{Label, start_level}
 use Rattle.play_entries.specs.Places.{Tape, block_in, left_at, valid, head_of, left_of, is_start, level_in}
 use Rattle.play_entries.specs.Mounted.{well_row, formed}
 use Rattle.play_walk.specs.declared.Position.{Position}
 use Rattle.play_walk.specs.declared.Stand.{Stand}
+use Rattle.play_walk.specs.declared.How.{How}
+use Rattle.play_walk.specs.declared.How.TheVariants.{At, Stopped, Ended}
 use Rattle.play_walk.specs.declared.Reached.{Reached}
-use Rattle.play_walk.specs.declared.Reached.TheVariants.{At, Stopped, Ended, NotValid, NotFormed}
-use Rattle.play_walk.specs.declared.Next.{Next}
-use Rattle.play_walk.specs.declared.Next.TheVariants.{Into, Left}
+use Rattle.play_walk.specs.declared.Fault.{Fault}
+use Rattle.play_walk.specs.declared.Fault.TheVariants.{NotValid, NotFormed}
 
--- the number for no (rule 20); 0 where the call isn't refused
-unfoldable pub reached_no : Reached → ℕ
-reached_no (At s) = 0
-reached_no (Stopped s) = 0
-reached_no (Ended s) = 0
-reached_no NotValid = no_position
-reached_no NotFormed = bad_row
+-- a fault's number for no (rule 20)
+abbrev pub fault_no : Fault → ℕ
+fault_no NotValid = no_position
+fault_no NotFormed = bad_row
+
+-- the number for no; 0 where the call isn't refused
+unfoldable pub reached_no : Result Reached Fault → ℕ
+reached_no (Ok a) = 0
+reached_no (Err f) = fault_no f
 
 -- the refusal of this number
-abbrev pub not_reached : ℕ → Reached
-not_reached n = eqb n no_position ⇒ NotValid ∣ NotFormed
+abbrev pub not_reached : ℕ → Result Reached Fault
+not_reached n = Err (eqb n no_position ⇒ NotValid ∣ NotFormed)
 
 abbrev pub placed : ℕ → Phase → Duration → Position
 placed b f left = record { block = b; phase = f; left = left }
@@ -41,6 +44,18 @@ start_at b = placed b Start (T 0)
 
 abbrev pub stand : Position → ℕ → Level → Stand
 stand q k v = record { position = q; passed = k; level = v }
+
+abbrev pub reached : How → Stand → Reached
+reached h s = record { how = h; stand = s }
+
+-- an answer that is no refusal
+abbrev pub came : How → Stand → Result Reached Fault
+came h s = Ok (reached h s)
+
+-- how a call comes out that leaves the head in an entry of which so much is left
+abbrev pub how_left : Duration → How
+how_left (T t) = At
+how_left Endless = Stopped
 
 -- what is left to play from a position
 abbrev pub ahead : Tape → Position → List (Entry Label)
@@ -60,37 +75,42 @@ level_here c (endless a v ∷ es) = v
 unfoldable pub rest_level : Tape → ℕ → Level
 rest_level w b = ltb b w.count ⇒ start_level (block_in w b) ∣ low
 
-unfoldable pub told_as : Status → Stand → Reached
-told_as standing s = At s
-told_as stopped s = Stopped s
-told_as ended s = Ended s
+abbrev pub how_of : Status → How
+how_of standing = At
+how_of stopped = Stopped
+how_of ended = Ended
+
+unfoldable pub told_as : Status → Stand → Result Reached Fault
+told_as st s = came (how_of st) s
+
+abbrev pub is_end : How → Bool
+is_end At = false
+is_end Stopped = false
+is_end Ended = true
 
 -- whether an answer is the end
-unfoldable pub ended_in : Reached → Bool
-ended_in (At s) = false
-ended_in (Stopped s) = false
-ended_in (Ended s) = true
-ended_in NotValid = false
-ended_in NotFormed = false
+unfoldable pub ended_in : Result Reached Fault → Bool
+ended_in (Ok a) = is_end a.how
+ended_in (Err f) = false
 
 -- a list's answer, as a player gives it: v is the tape w, or it cut
-unfoldable pub told_reached : Tape → Tape → Answer Label → Reached
+unfoldable pub told_reached : Tape → Tape → Answer Label → Result Reached Fault
 told_reached w v a = told_as a.tells (stand (position_of v a.place) a.passed (level_here (rest_level w v.count) a.place))
 
 -- a walk that reaches a bad row answers 11: it came to the end of v, which is cut there, with T-states left
-unfoldable pub walked : Tape → Tape → Answer Label → Reached
+unfoldable pub walked : Tape → Tape → Answer Label → Result Reached Fault
 walked w v a = (is_ended a.tells && ltb v.count w.count) ⇒ not_reached bad_row ∣ told_reached w v a
 
--- at the start of block b, behind the one before, with d T-states left and i entries passed: into it, or where the walk has left
-unfoldable pub next_of : Tape → ℕ → ℕ → ℕ → Next
+-- at the start of block b, behind the one before, with d T-states left and i entries passed: none into it, or where the walk has left
+unfoldable pub next_of : Tape → ℕ → ℕ → ℕ → Option (Result Reached Fault)
 next_of w b d i =
-    eqb d 0 ⇒ Left (At (stand (start_at b) i (rest_level w b)))
-    ∣ eqb b w.count ⇒ Left (Ended (stand (start_at w.count) i low))
-    ∣ well_row w b ⇒ Into
-    ∣ Left (not_reached bad_row)
+    eqb d 0 ⇒ Some (came At (stand (start_at b) i (rest_level w b)))
+    ∣ eqb b w.count ⇒ Some (came Ended (stand (start_at w.count) i low))
+    ∣ well_row w b ⇒ None
+    ∣ Some (not_reached bad_row)
 
 -- THE MEASURED WALK of n T-states from a position
-unfoldable pub walk_from : Tape → Position → ℕ → Reached
+unfoldable pub walk_from : Tape → Position → ℕ → Result Reached Fault
 walk_from w q n = walked w (formed w q.block) (answer (ahead (formed w q.block) q) n)
 
 -- the sum of the finite entries that the source's play drops uncharged in a call of n from a position
@@ -114,9 +134,6 @@ abbrev pub Landed : Tape → Stand → Type 0
 Landed w s = is_start s.position.phase ≡ false → GoesOn w s
 
 -- of an answer
-unfoldable pub Lands : Tape → Reached → Type 0
-Lands w (At s) = Landed w s
-Lands w (Stopped s) = Landed w s
-Lands w (Ended s) = Landed w s
-Lands w NotValid = Unit {0}
-Lands w NotFormed = Unit {0}
+unfoldable pub Lands : Tape → Result Reached Fault → Type 0
+Lands w (Ok a) = Landed w a.stand
+Lands w (Err f) = Unit {0}

@@ -1,25 +1,24 @@
 // Positions, and the measured walk over a tape's entries, which both players stand on.
 #![tactic(auto)]
 
-ghost use Rattle.std.specs.Prelude.{◌≡◌, true, false, List, ℕ, ◌+◌, ◌≤◌};
+ghost use Rattle.std.specs.Prelude.{◌≡◌, false, ◌≤◌};
 ghost use Rattle.rows.specs.Table.{capacity_of};
 ghost use Rattle.rows.specs.Rows.{block, block_most};
-ghost use Rattle.play_entries.specs.Places.{level_at};
-ghost use Rattle.play_voice.specs.Voice.{ToldSeen, row_at, Standing};
+ghost use Rattle.play_entries.specs.Places.{level_in};
+ghost use Rattle.play_voice.specs.Voice.{ToldSeen, Standing};
 ghost use Rattle.play_entries.specs.Source.{level_of};
-ghost use Rattle.play_entries.specs.Mounted.{tape_of};
-ghost use Rattle.play_walk.specs.Heads.{placed, start_at, stand, rest_level, next_of, Walkable, walk_from, Lands};
-ghost use Rattle.play_entries.specs.declared.Duration.TheVariants.{T, Endless};
-ghost use Rattle.play_walk.specs.declared.Reached.TheVariants.{At, Stopped, Ended};
+ghost use Rattle.play_entries.specs.Mounted.{mounted_tape};
+ghost use Rattle.play_walk.specs.Heads.{placed, start_at, stand, reached, how_left, fault_no, rest_level, next_of, Walkable, walk_from, Lands};
+ghost use Rattle.play_walk.specs.declared.How.TheVariants.{Ended};
 
-use play_entries::{Duration, Phase};
-use play_phases::{length_at, mic, row_well};
+use play_entries::{Duration, Mounted, Phase};
+use play_phases::{TonedRow, mic};
 use play_steps::take;
 use play_voice::{Heard, level_in, start_level};
-use rows::{Block, block_at};
+use refusals::{BAD_ROW, NO_POSITION};
 
 // Where a head stands: its block, its entry there, and what is left of it; the Rust's `TapePos`.
-#[derive(Clone, Copy)]
+#[derive(Clone, Copy, PartialEq, Eq)]
 pub struct Position {
     pub block: u64,
     pub phase: Phase,
@@ -47,8 +46,7 @@ impl Position {
     pub fn mic(self) -> bool
         ensures { result ≡ level_of self.phase }
     {
-        let f = self.phase;
-        mic(f)
+        mic(self.phase)
     }
 
     pub fn real_block(self) -> u64
@@ -65,148 +63,136 @@ impl Position {
 }
 
 // Where a call leaves the head: its position, the entries passed and the level there.
-#[derive(Clone, Copy)]
+#[derive(Clone, Copy, PartialEq, Eq)]
 pub struct Stand {
     pub position: Position,
     pub passed: u64,
     pub level: bool,
 }
 
-// A player's answer: it stands, at an endless pause, or has ended; or refusal 9, or 11.
-#[derive(Clone, Copy)]
-pub enum Reached {
-    At(Stand),
-    Stopped(Stand),
-    Ended(Stand),
+// How a call comes out: the head stands at an entry, has stopped at an endless pause, or the tape has ended.
+#[derive(Clone, Copy, PartialEq, Eq)]
+pub enum How {
+    At,
+    Stopped,
+    Ended,
+}
+
+// A player's answer where the call isn't refused.
+#[derive(Clone, Copy, PartialEq, Eq)]
+pub struct Reached {
+    pub how: How,
+    pub stand: Stand,
+}
+
+impl Reached {
+    // The head at a position, of this level: stopped where its entry never ends.
+    pub fn here(position: Position, passed: u64, level: bool) -> Reached
+        ensures { result ≡ reached (how_left position.left) (stand position passed level) }
+    {
+        let how = match position.left {
+            Duration::T(_) => How::At,
+            Duration::Endless => How::Stopped,
+        };
+        Reached {
+            how,
+            stand: Stand {
+                position,
+                passed,
+                level,
+            },
+        }
+    }
+
+    // The tape has ended: the head rests at the count's start.
+    pub fn end(count: u64, passed: u64) -> Reached
+        ensures { result ≡ reached Ended (stand (start_at count) passed false) }
+    {
+        Reached {
+            how: How::Ended,
+            stand: Stand {
+                position: Position::new_at_block(count),
+                passed,
+                level: false,
+            },
+        }
+    }
+}
+
+// Why a call or a query with a position is refused: the position is not valid, or a row is not well formed or the count over the capacity.
+#[derive(Clone, Copy, PartialEq, Eq)]
+pub enum Fault {
     NotValid,
     NotFormed,
 }
 
-// The head stands in this entry, which its callers know to be one of a block whose row and tone rows are lent.
+impl Fault {
+    // The number for no.
+    pub fn number(self) -> u32
+        ensures { result ≡ fault_no self }
+    {
+        match self {
+            Fault::NotValid => NO_POSITION,
+            Fault::NotFormed => BAD_ROW,
+        }
+    }
+}
+
+// The head in this entry, which its callers know to be one of a block whose row and tone rows are lent.
 fn stands(
-    tones: &[u64],
-    blocks: &[u64],
+    m: &Mounted<'_>,
     block: u64,
     phase: Phase,
-    left: u64,
+    left: Duration,
     passed: u64,
     h: Heard,
 ) -> Reached
-    requires standing { Standing tones.now blocks.now block phase }
-    requires told_seen { ToldSeen tones.now blocks.now h }
+    requires standing { Standing m.now.tones.now m.now.blocks.now block phase }
+    requires told_seen { ToldSeen m.now.tones.now m.now.blocks.now h }
     ensures { result
-        ≡ At (stand (placed block phase (T left)) passed (level_at tones.now (row_at blocks.now block) phase)) }
+        ≡ reached (how_left left)
+        (stand (placed block phase left) passed (level_in (mounted_tape m.now) block phase)) }
 {
-    Reached::At(Stand {
-        position: Position {
-            block,
-            phase,
-            left: Duration::T(left),
-        },
-        passed,
-        level: level_in(tones, blocks, block, phase, h),
-    })
-}
-
-// The head stands at an endless pause, which its callers know to be one of a block whose row and tone rows are lent.
-fn stops(tones: &[u64], blocks: &[u64], block: u64, phase: Phase, passed: u64, h: Heard) -> Reached
-    requires standing { Standing tones.now blocks.now block phase }
-    requires told_seen { ToldSeen tones.now blocks.now h }
-    ensures { result
-        ≡ Stopped
-        (stand (placed block phase Endless) passed (level_at tones.now (row_at blocks.now block) phase)) }
-{
-    Reached::Stopped(Stand {
-        position: Position {
-            block,
-            phase,
-            left: Duration::Endless,
-        },
-        passed,
-        level: level_in(tones, blocks, block, phase, h),
-    })
+    let position = Position { block, phase, left };
+    Reached::here(position, passed, level_in(m, block, phase, h))
 }
 
 // The level at block b's start, where a head comes to rest; its callers know the rows up to the count to be lent.
-pub fn rest_level(blocks: &[u64], count: u64, b: u64) -> bool
-    requires { (b ≤ count) × (count ≤ capacity_of block block_most blocks.now) }
-    ensures { (tape tones : List ℕ) → result ≡ rest_level (tape_of tape tones blocks.now count) b }
+#[tactic(auto, unfolding(crate::specs::Heads::rest_level))]
+pub fn rest_level(m: &Mounted<'_>, b: u64) -> bool
+    requires { (b ≤ m.now.count) × (m.now.count ≤ capacity_of block block_most m.now.blocks.now) }
+    ensures { result ≡ rest_level (mounted_tape m.now) b }
 {
-    if b < count {
-        return start_level(block_at(blocks, b as usize));
-    }
-    false
+    b < m.count && start_level(m.row(b))
 }
 
-// The head rests at a block's start, at this level.
-fn rests(b: u64, passed: u64, level: bool) -> Reached
-    ensures { result ≡ At (stand (start_at b) passed level) }
-{
-    let s = Stand {
-        position: Position::new_at_block(b),
-        passed,
-        level,
-    };
-    Reached::At(s)
-}
-
-// The tape has ended: the head rests at the count's start.
-pub fn ends(count: u64, passed: u64) -> Reached
-    ensures { result ≡ Ended (stand (start_at count) passed false) }
-{
-    Reached::Ended(Stand {
-        position: Position::new_at_block(count),
-        passed,
-        level: false,
-    })
-}
-
-// How a walk goes on behind a block: into the next one, or it has left.
-#[derive(Clone, Copy)]
-pub enum Next {
-    Into,
-    Left(Reached),
-}
-
-// At the start of block b with these T-states left; its callers know the rows up to the count to be lent, and b to be at most the count.
-fn next_block(
-    tape: &[u8],
-    tones: &[u64],
-    blocks: &[u64],
-    count: u64,
-    b: u64,
-    left: u64,
-    passed: u64,
-) -> Next
-    requires { (b ≤ count) × (count ≤ capacity_of block block_most blocks.now) }
-    ensures { result ≡ next_of (tape_of tape.now tones.now blocks.now count) b left passed }
+// At the start of block b with these T-states left: none where the walk goes into it, or the answer where it leaves;
+// its callers know the rows up to the count to be lent, and b to be at most the count.
+#[tactic(auto, unfolding(crate::specs::Heads::next_of))]
+fn next_block(m: &Mounted<'_>, b: u64, left: u64, passed: u64) -> Option<Result<Reached, Fault>>
+    requires { (b ≤ m.now.count) × (m.now.count ≤ capacity_of block block_most m.now.blocks.now) }
+    ensures { result ≡ next_of (mounted_tape m.now) b left passed }
 {
     if left == 0 {
-        return Next::Left(rests(b, passed, rest_level(blocks, count, b)));
+        let start = Position::new_at_block(b);
+        return Some(Ok(Reached::here(start, passed, rest_level(m, b))));
     }
-    if b == count {
-        return Next::Left(ends(count, passed));
+    if b == m.count {
+        return Some(Ok(Reached::end(b, passed)));
     }
-    if row_well(tape, tones, blocks, b) {
-        return Next::Into;
+    if m.row_well(b) {
+        return None;
     }
-    Next::Left(Reached::NotFormed)
+    Some(Err(Fault::NotFormed))
 }
 
 // The measured walk of n T-states from a position known to be valid, below the count, in a well-formed row; h: rows gone through already.
-pub fn walk(
-    tape: &[u8],
-    tones: &[u64],
-    blocks: &[u64],
-    count: u64,
-    pos: Position,
-    n: u64,
-    h: Heard,
-) -> Reached
-    requires walkable { Walkable (tape_of tape.now tones.now blocks.now count) pos }
-    requires told_seen { ToldSeen tones.now blocks.now h }
-    ensures value { result ≡ walk_from (tape_of tape.now tones.now blocks.now count) pos n }
-    ensures lands { Lands (tape_of tape.now tones.now blocks.now count) result }
+// No `for` over the blocks: the first one is entered in its middle, and whether the next is entered the walk of this one tells.
+pub fn walk(m: &Mounted<'_>, pos: Position, n: u64, h: Heard) -> Result<Reached, Fault>
+    requires walkable { Walkable (mounted_tape m.now) pos }
+    requires told_seen { ToldSeen m.now.tones.now m.now.blocks.now h }
+    ensures value { result ≡ walk_from (mounted_tape m.now) pos n }
+    ensures lands { Lands (mounted_tape m.now) result }
 {
     let mut block = pos.block;
     let mut phase = pos.phase;
@@ -215,30 +201,29 @@ pub fn walk(
     let mut d = n;
     let mut passed: u64 = 0;
     'blocks: loop {
-        let r = block_at(blocks, block as usize);
+        let x = TonedRow {
+            tones: m.tones,
+            row: m.row(block),
+        };
         'entries: loop {
             let Duration::T(t) = left else {
-                break 'blocks stops(tones, blocks, block, phase, passed, h);
+                break 'blocks Ok(stands(m, block, phase, left, passed, h));
             };
-            if d == 0 {
-                break 'blocks stands(tones, blocks, block, phase, t, passed, h);
+            if d == 0 || d < t {
+                break 'blocks Ok(stands(m, block, phase, Duration::T(t - d), passed, h));
             }
-            if d < t {
-                break 'blocks stands(tones, blocks, block, phase, t - d, passed, h);
-            }
-            let s = take(tape, tones, r, phase, full, t, d);
+            let s = take(m.tape, &x, phase, full, t, d);
             d -= s.time;
             passed += s.passed;
-            if s.over {
+            let Some(f) = s.phase else {
                 break 'entries;
-            }
-            phase = s.phase;
-            left = length_at(tape, tones, r, phase);
+            };
+            phase = f;
+            left = x.length_at(m.tape, f);
             full = true;
         }
         block += 1;
-        let next = next_block(tape, tones, blocks, count, block, d, passed);
-        if let Next::Left(answer) = next {
+        if let Some(answer) = next_block(m, block, d, passed) {
             break 'blocks answer;
         }
         phase = Phase::Start;

@@ -3,7 +3,7 @@ use Prim.Native.Nat.{ℕ, zero, suc, ◌+◌, ◌-◌, ◌≤◌, ◌<◌}
 use native.Mathlib.Omega.{arith}
 use borrow.Author.Tests.{lt-leb, le-leb, eq-eqb, ne_eqb}
 use native.Mathlib.Decide.{ℕ_discrete}
-use mathlib.Core.Path.{◌≡◌, refl, ap, ◌∙◌}
+use mathlib.Core.Path.{◌≡◌, ap, ◌∙◌}
 use mathlib.Core.Bool.{Bool, true, false}
 use Rattle.law_base.specs.Rules.{◌⇒◌, ◌∣◌}
 use mathlib.Core.Logic.{⊎_elim}
@@ -26,43 +26,41 @@ use Rattle.play_entries.proofs.Valid.{tone-entry, data_entry, remains-full, stan
 use Rattle.play_entries.proofs.Parts.{left_part}
 use Rattle.play_steps.specs.declared.Step.{Step}
 use Rattle.play_steps.specs.Steps.{cycles_step, byte_step, one_step}
-use Rattle.play_ahead.specs.Drops.{no_step, drop_one, drop_entry, second_time, drop_of}
-use Rattle.play_steps.proofs.Leaps.{full_at, left_behind, One, Leap, leap_one, leap_cycles, leap_byte, runs_some, one_time}
+use Rattle.std.specs.Prelude.{Option, Some, None}
+use Rattle.play_ahead.specs.Drops.{drop_one, drop_entry, second_time, drop_of}
+use Rattle.play_steps.proofs.Leaps.{full_at, left_behind, HasNext, One, Leap, leap_one, leap_cycles, leap_byte, runs_some, one_time}
 
--- what a turn drops of es, d being the count left
-pub record Sheds (w : Tape) (b : ℕ) (es : List (Entry Label)) (d : ℕ) (s : Step) : Type 0 where
-  pub goes : (s.passed ≡ 0 → ⊥) → drops es d ≡ s.time + drops (left_behind w b s) d
-  pub less : (s.passed ≡ 0 → ⊥) → length (left_behind w b s) < length es
-  pub rests : s.passed ≡ 0 → drops es d ≡ 0
-  pub has : s.over ≡ false → has_in w b s.phase ≡ true
+-- a step that is dropped of es, d being the count left
+pub record Shed (w : Tape) (b : ℕ) (es : List (Entry Label)) (d : ℕ) (s : Step) : Type 0 where
+  pub goes : drops es d ≡ s.time + drops (left_behind w b s) d
+  pub less : length (left_behind w b s) < length es
+  pub has : HasNext w b s.phase
 
-one_sheds : (w : Tape) (b : ℕ) (es : List (Entry Label)) (s : Step) (d : ℕ) → One w b es s → s.time ≤ d → Sheds w b es d s
+-- what a turn drops of es, if it does
+abbrev pub Sheds : Tape → ℕ → List (Entry Label) → ℕ → Option Step → Type 0
+Sheds w b es d (Some s) = Shed w b es d s
+Sheds w b es d None = drops es d ≡ 0
+
+one_sheds : (w : Tape) (b : ℕ) (es : List (Entry Label)) (s : Step) (d : ℕ) → One w b es s → s.time ≤ d → Shed w b es d s
 one_sheds w b es s d o h =
     record {
-      goes = λ n. ap (λ (x : List (Entry Label)). drops x d) o.split
+      goes = ap (λ (x : List (Entry Label)). drops x d) o.split
           ∙ drops_past o.label o.level s.time (left_behind w b s) d h;
-      less = λ n. omega (arith, ap length o.split);
-      rests = λ z. absurd (omega (arith, o.many));
+      less = omega (arith, ap length o.split);
       has = o.has;
     }
 
 leap_sheds : (w : Tape) (b : ℕ) (es : List (Entry Label)) (s : Step) {gone : List (Entry Label)} (d : ℕ) → Leap w b es s gone
-    → Within gone d → 0 < s.passed → Sheds w b es d s
+    → Within gone d → 0 < s.passed → Shed w b es d s
 leap_sheds w b es s {gone} d l h p =
     record {
       goes =
-          λ n.
           ap (λ (x : List (Entry Label)). drops x d) l.split
           ∙ drops_run gone (left_behind w b s) d h
           ∙ ap (λ (x : ℕ). x + drops (left_behind w b s) d) l.lasts;
-      less = λ n. omega (arith, ap length l.split, length-append gone (left_behind w b s), l.many);
-      rests = λ z. absurd (omega arith);
+      less = omega (arith, ap length l.split, length-append gone (left_behind w b s), l.many);
       has = l.has;
     }
-
-none_sheds : (w : Tape) (b : ℕ) (f : Phase) (es : List (Entry Label)) (d : ℕ) → has_in w b f ≡ true → drops es d ≡ 0
-    → Sheds w b es d (no_step f)
-none_sheds w b f es d h e = record { goes = λ n. absurd (n refl); less = λ n. absurd (n refl); rests = λ z. e; has = λ z. h }
 
 half_within : (r : Block) (d x : ℕ) → r.zero ≤ d → r.one ≤ d → half_of r x ≤ d
 unfolding half_of
@@ -103,16 +101,13 @@ module _ (w : Tape) (b : ℕ) (below : b < w.count) (d : ℕ) where
       (λ l.
       let x = left_part w b below f (T t) v in
       rw (lt-leb t d l)
-      (none_sheds w b f (left_at w b f (T t)) d h
-      (ap (λ (y : List (Entry Label)). drops y d) x.rest ∙ drops_here (label_at b f) (level_in w b f) t x.next d l)))
+      (ap (λ (y : List (Entry Label)). drops y d) x.rest ∙ drops_here (label_at b f) (level_in w b f) t x.next d l))
       (λ g.
       rw (le-leb t d g)
       (one_sheds w b (left_at w b f (T t)) (one_step w.tones (block_in w b) f t) d (leap_one w b below f t h)
       (one_time w.tones (block_in w b) f t d g)))
       (lt_or_ge d t)
-  shed_left f Endless h v =
-      let x = left_part w b below f Endless v in
-      none_sheds w b f (left_at w b f Endless) d h (ap (λ (y : List (Entry Label)). drops y d) x.rest)
+  shed_left f Endless h v = ap (λ (y : List (Entry Label)). drops y d) (left_part w b below f Endless v).rest
 
   pub full-valid : (f : Phase) → has_in w b f ≡ true → valid w b f (length_in w b f) ≡ true
   full-valid f h = stands-valid w b f (length_in w b f) (record { below = below; entry = h; some = remains-full (length_in w b f) })

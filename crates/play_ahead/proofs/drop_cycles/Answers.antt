@@ -9,56 +9,45 @@ use Rattle.play_entries.specs.Entries.{cycles_of}
 use Rattle.play_entries.proofs.Lent.{row_lent}
 use Rattle.play_entries.proofs.Valid.{in_tones}
 use Rattle.play_steps.proofs.Facts as facts
+use Rattle.std.specs.Prelude.{Some}
 use Rattle.play_ahead.proofs.Cycles as cycles
 use Rattle.play_ahead.proofs.drop_cycles.Goals as goal
 
-pub row_tone-x-requires : goal.row_tone-x-requires
-row_tone-x-requires c =
+pub tone-t-requires : goal.tone-t-requires
+tone-t-requires c =
     let a = c.args in
-    ((row_lent a.tape.now a.tones.now a.r c.requires.r_value).rows, (in_tones a.tones.now a.r refl c.requires.false_value).0)
-
-pub returns-then-d-x : goal.returns-then-d-x
-returns-then-d-x c =
-    let a = c.args in
-    cycles.drops_first a.tape.now a.tones.now a.r a.i a.p a.d c.row_tone-x.result c.row_tone-x.ensures _
-    c.if-d-x.true c.drop_entry.ensures
-
-pub returns-then-d-second_time : goal.returns-then-d-second_time
-returns-then-d-second_time c =
-    let a = c.args in
-    cycles.drops_second a.tape.now a.tones.now a.r a.i a.p a.d c.row_tone-x.result c.row_tone-x.ensures _
-    c.if-d-x.false (omega (arith, c.if-d-second_time.true, c.second_time.ensures)) c.drop_entry-then-d-second_time.ensures
+    (in_tones a.x.now.tones.now a.x.now.row refl c.requires.false_value).0
 
 pub overflow_sub-k : goal.overflow_sub-k
 overflow_sub-k c =
     let a = c.args in
-    let h = in_tones a.tones.now a.r refl c.requires.false_value in
-    let g = row_lent a.tape.now a.tones.now a.r c.requires.r_value in
-    let l = facts.small_of a.tones.now a.r a.i c.row_tone-x.result c.row_tone-x.ensures g.each h.0 in
-    omega (arith, c.cycles_of.ensures, ap (cycles_of a.r) c.row_tone-x.ensures, h.1)
+    let h = in_tones a.x.now.tones.now a.x.now.row refl c.requires.false_value in
+    let g = row_lent a.tape.now a.x.now.tones.now a.x.now.row c.requires.r_value in
+    let l = facts.small_of a.x.now.tones.now a.x.now.row a.i c.tone-t.result c.tone-t.ensures g.each h.0 in
+    omega (arith, c.cycles_of.ensures, ap (cycles_of a.x.now.row) c.tone-t.ensures, h.1)
 
 pub cycle_time-c-requires : goal.cycle_time-c-requires
 cycle_time-c-requires c =
     let a = c.args in
-    let h = in_tones a.tones.now a.r refl c.requires.false_value in
-    let g = row_lent a.tape.now a.tones.now a.r c.requires.r_value in
-    let l = facts.small_of a.tones.now a.r a.i c.row_tone-x.result c.row_tone-x.ensures g.each h.0 in
-    ap well_tone c.row_tone-x.ensures ∙ tones-each a.tones.now a.r.tone a.r.tones a.i g.each h.0
+    let h = in_tones a.x.now.tones.now a.x.now.row refl c.requires.false_value in
+    let g = row_lent a.tape.now a.x.now.tones.now a.x.now.row c.requires.r_value in
+    let l = facts.small_of a.x.now.tones.now a.x.now.row a.i c.tone-t.result c.tone-t.ensures g.each h.0 in
+    ap well_tone c.tone-t.ensures ∙ tones-each a.x.now.tones.now a.x.now.row.tone a.x.now.row.tones a.i g.each h.0
 
 pub cycle_from-requires : goal.cycle_from-requires
 cycle_from-requires c =
     let a = c.args in
-    let h = in_tones a.tones.now a.r refl c.requires.false_value in
-    let g = row_lent a.tape.now a.tones.now a.r c.requires.r_value in
-    let l = facts.small_of a.tones.now a.r a.i c.row_tone-x.result c.row_tone-x.ensures g.each h.0 in
-    (g.rows, h.0)
+    let h = in_tones a.x.now.tones.now a.x.now.row refl c.requires.false_value in
+    let g = row_lent a.tape.now a.x.now.tones.now a.x.now.row c.requires.r_value in
+    let l = facts.small_of a.x.now.tones.now a.x.now.row a.i c.tone-t.result c.tone-t.ensures g.each h.0 in
+    h.0
 
 pub overflow_mul-k : goal.overflow_mul-k
 overflow_mul-k c =
     let a = c.args in
-    let h = in_tones a.tones.now a.r refl c.requires.false_value in
-    let g = row_lent a.tape.now a.tones.now a.r c.requires.r_value in
-    let l = facts.small_of a.tones.now a.r a.i c.row_tone-x.result c.row_tone-x.ensures g.each h.0 in
+    let h = in_tones a.x.now.tones.now a.x.now.row refl c.requires.false_value in
+    let g = row_lent a.tape.now a.x.now.tones.now a.x.now.row c.requires.r_value in
+    let l = facts.small_of a.x.now.tones.now a.x.now.row a.i c.tone-t.result c.tone-t.ensures g.each h.0 in
     let m : c.cycles_of.result - a.p ≤ 65535 = omega (arith, c.cycles_of.ensures, l.cycles) in
     let n : c.cycle_time-c.result ≤ 131070 = omega (arith, c.cycle_time-c.ensures, l.lasts) in
     let z : (c.cycles_of.result - a.p) * c.cycle_time-c.result ≤ 65535 * 131070 = mul-le-mul m n in
@@ -67,9 +56,9 @@ overflow_mul-k c =
 pub overflow_mul-k-2 : goal.overflow_mul-k-2
 overflow_mul-k-2 c =
     let a = c.args in
-    let h = in_tones a.tones.now a.r refl c.requires.false_value in
-    let g = row_lent a.tape.now a.tones.now a.r c.requires.r_value in
-    let l = facts.small_of a.tones.now a.r a.i c.row_tone-x.result c.row_tone-x.ensures g.each h.0 in
+    let h = in_tones a.x.now.tones.now a.x.now.row refl c.requires.false_value in
+    let g = row_lent a.tape.now a.x.now.tones.now a.x.now.row c.requires.r_value in
+    let l = facts.small_of a.x.now.tones.now a.x.now.row a.i c.tone-t.result c.tone-t.ensures g.each h.0 in
     let m : c.cycles_of.result - a.p ≤ 65535 = omega (arith, c.cycles_of.ensures, l.cycles) in
     let n : c.cycle_pulses-m.result ≤ 2 = omega (arith, c.cycle_pulses-m.ensures, l.pulses) in
     let z : (c.cycles_of.result - a.p) * c.cycle_pulses-m.result ≤ 65535 * 2 = mul-le-mul m n in
@@ -78,12 +67,12 @@ overflow_mul-k-2 c =
 pub returns : goal.returns
 returns c =
     let a = c.args in
-    let h = in_tones a.tones.now a.r refl c.requires.false_value in
-    let g = row_lent a.tape.now a.tones.now a.r c.requires.r_value in
-    let l = facts.small_of a.tones.now a.r a.i c.row_tone-x.result c.row_tone-x.ensures g.each h.0 in
-    c.step_to.ensures
+    let h = in_tones a.x.now.tones.now a.x.now.row refl c.requires.false_value in
+    let g = row_lent a.tape.now a.x.now.tones.now a.x.now.row c.requires.r_value in
+    let l = facts.small_of a.x.now.tones.now a.x.now.row a.i c.tone-t.result c.tone-t.ensures g.each h.0 in
+    ap Some c.step_to.ensures
     ∙ rw c.cycle_from.ensures
-    (cycles.drops_cycles a.tape.now a.tones.now a.r a.i a.p a.d c.row_tone-x.result c.row_tone-x.ensures
+    (cycles.drops_cycles a.tape.now a.x.now.tones.now a.x.now.row a.i a.p a.d c.tone-t.result c.tone-t.ensures
     c.cycles_of.result c.cycle_time-c.result c.cycle_pulses-m.result c.cycles_of.ensures
-    c.cycle_time-c.ensures c.cycle_pulses-m.ensures c.if-d-x.false
-    (omega (arith, c.if-d-second_time.false, c.second_time.ensures)))
+    c.cycle_time-c.ensures c.cycle_pulses-m.ensures (omega arith)
+    (omega (arith, c.second_time.ensures)))

@@ -1,219 +1,78 @@
 -- `ran_ahead` meets its contract. Assumes nothing.
-use Rattle.play_entries.proofs.Lent.{row_lent}
-use Rattle.rows.proofs.Clauses.{failed, passed}
-use Prim.Native.Nat.{ℕ, ◌+◌, ◌-◌}
-use native.Mathlib.Omega.{arith}
-use mathlib.Core.Path.{refl, sym, ap, ◌∙◌}
-use Rattle.law_pulses.proofs.Ahead.{drops}
-use Rattle.play_entries.proofs.Follows.{list_out}
-use Rattle.play_walk.specs.declared.Position.{Position}
-use Rattle.play_entries.specs.Mounted.{well_row, cut_to, tape_of}
-use Rattle.play_walk.proofs.Needed.{well_before, bad_there}
-use Rattle.play_walk.proofs.Turns.{cut_of, rows_of, on_has, on-first, asks, asks_has}
-use Rattle.play_ahead.proofs.Drops.{cur_out, drops_nil, off_first, off_start, start_cur, shed_goes, shed_less}
-use Rattle.play_ahead.proofs.Drops.{shed_rests, shed_off, dropped-stop, dropped-short, dropped-behind}
+use Rattle.std.proofs.Common.{sym, ◌∙◌, arith}
+use Rattle.play_walk.proofs.Turns as turns
+use Rattle.play_ahead.proofs.Drops as drops
 use Rattle.play_ahead.proofs.ran_ahead.Goals as goal
+use Rattle.play_ahead.proofs.ran_ahead.Goals.{then-block-m-via-then-block-m, then-block-m-via-else-block-m+then-not-row_well}
 
 pub returns-in_default : goal.returns-in_default
-returns-in_default c =
-    let a = c.args in
-    let w = tape_of a.tape.now a.tones.now a.blocks.now a.count in
-    dropped-stop w a.pos c.requires a.n c.in_default.is
+returns-in_default c = drops.dropped-stop _ _ c.requires _ c.in_default.is
 
 pub returns-then-n-t : goal.returns-then-n-t
-returns-then-n-t c =
-    let a = c.args in
-    let w = tape_of a.tape.now a.tones.now a.blocks.now a.count in
-    dropped-short w a.pos c.requires a.n _ c.in-T.is c.if-n-t.true
+returns-then-n-t c = drops.dropped-short _ _ c.requires _ _ c.in-T.is c.if-n-t.true
 
-pub block_at-requires : goal.block_at-requires
-block_at-requires c =
-    omega (arith, c.requires.below, c.requires.lent)
+pub invariant_of-own : goal.invariant_of-own
+invariant_of-own c = record { lent = (turns.gone_lends c.requires (turns.gone_first _ _ 0 c.requires) _ c.row.ensures).rows }
 
 pub one_step-first-requires : goal.one_step-first-requires
-one_step-first-requires c =
-    let a = c.args in
-    let w = tape_of a.tape.now a.tones.now a.blocks.now a.count in
-    let q : Position = a.pos in
-    let k = cut_of w q in
-    let x = rows_of w q c.requires in
-    let o = on-first w q k c.requires x in record {
-      tones_bound = (row_lent a.tape.now a.tones.now c.block_at.result
-          (asks x q.block (omega arith) o.below c.block_at.result c.block_at.ensures)).rows;
-      f_value = asks_has w q.block q.phase c.block_at.result c.block_at.ensures (on_has o);
-    }
+one_step-first-requires c = turns.gone_has c.requires (turns.gone_first _ _ 0 c.requires) _ c.row.ensures
 
 pub blocks-2-init : goal.blocks-2-init
-blocks-2-init c =
-    let a = c.args in
-    let w = tape_of a.tape.now a.tones.now a.blocks.now a.count in
-    let q : Position = a.pos in (
-      refl,
-      (
-        off_first w q c.requires a.n _ c.in-T.is (omega (arith, c.if-n-t.false)) c.block_at.result
-            c.block_at.ensures c.one_step-first.result c.one_step-first.ensures,
-        omega arith,
-      ),
-    )
+blocks-2-init c = drops.gone_first c.requires _ c.in-T.is (omega arith) _ c.row.ensures _ c.one_step-first.ensures
 
-pub block_at-r-requires : goal.block_at-r-requires
-block_at-r-requires c =
-    let a = c.args in
-    let w = tape_of a.tape.now a.tones.now a.blocks.now a.count in
-    let x = rows_of w a.pos c.requires in
-    omega (arith, c.blocks-2.invariant.1.0.below, x.most, c.requires.lent)
+pub row-requires-in-blocks-2 : goal.row-requires-in-blocks-2
+row-requires-in-blocks-2 c = drops.gone_lent c.requires c.blocks-2.invariant
 
-pub entries-init : goal.entries-init
-entries-init c = λ k o. (refl, o)
+pub invariant_of-x : goal.invariant_of-x
+invariant_of-x c = record { lent = (drops.gone_lends c.requires c.loop-phase.invariant _ c.row-in-blocks-2.ensures).rows }
 
-pub drop-s-requires : goal.drop-s-requires
-drop-s-requires c =
-    let a = c.args in
-    let w = tape_of a.tape.now a.tones.now a.blocks.now a.count in
-    let k = cut_of w a.pos in
-    let x = rows_of w a.pos c.requires in
-    let i = c.entries.invariant k c.blocks-2.invariant.1.0 in record { r_value = asks x c.blocks-2.block c.blocks-2.invariant.1.1 i.1.below c.block_at-r.result c.block_at-r.ensures; f_value = asks_has w c.blocks-2.block c.entries.phase c.block_at-r.result c.block_at-r.ensures (i.1.has c.if-over.false) }
+pub drop-requires : goal.drop-requires
+drop-requires c =
+    let g = c.loop-phase.invariant in
+    record {
+      r_value = drops.gone_well c.requires g _ c.row-in-blocks-2.ensures;
+      f_value = drops.gone_has c.requires g _ c.in-Some.is _ c.row-in-blocks-2.ensures;
+    }
 
 pub overflow_add-sum : goal.overflow_add-sum
 overflow_add-sum c =
-    let a = c.args in
-    let w = tape_of a.tape.now a.tones.now a.blocks.now a.count in
-    let k = cut_of w a.pos in
-    let i = c.entries.invariant k c.blocks-2.invariant.1.0 in
     omega (
       arith,
-      shed_goes w c.blocks-2.block c.entries.phase c.entries.over (a.n - c.in-T.t) i.1.has c.if-over.false
-          c.block_at-r.result c.block_at-r.ensures c.drop-s.result c.drop-s.ensures k i.1.below
-          c.if-s-eq0.false c.entries.sum,
-      i.1.few,
+      drops.gone_fits c.requires c.loop-phase.invariant _ c.in-Some.is _ c.row-in-blocks-2.ensures _
+          (sym c.in-Some-drop.is ∙ c.drop.ensures),
     )
 
-pub entries-smaller : goal.entries-smaller
-entries-smaller c =
-    let a = c.args in
-    let w = tape_of a.tape.now a.tones.now a.blocks.now a.count in
-    let k = cut_of w a.pos in
-    let i = c.entries.invariant k c.blocks-2.invariant.1.0 in
-    shed_less w c.blocks-2.block c.entries.phase c.entries.over (a.n - c.in-T.t) i.1.has c.if-over.false
-    c.block_at-r.result c.block_at-r.ensures c.drop-s.result c.drop-s.ensures c.if-s-eq0.false
+pub loop-phase-smaller : goal.loop-phase-smaller
+loop-phase-smaller c =
+    drops.gone_falls c.requires c.loop-phase.invariant _ c.in-Some.is _ c.row-in-blocks-2.ensures _
+    (sym c.in-Some-drop.is ∙ c.drop.ensures)
 
-pub entries-preserved : goal.entries-preserved
-entries-preserved c =
-    let a = c.args in
-    let w = tape_of a.tape.now a.tones.now a.blocks.now a.count in
-    λ j o.
-    let g = c.entries.invariant j o in (
-      g.0
-          ∙ shed_goes w c.blocks-2.block c.entries.phase c.entries.over (a.n - c.in-T.t) g.1.has c.if-over.false
-          c.block_at-r.result c.block_at-r.ensures c.drop-s.result c.drop-s.ensures j g.1.below
-          c.if-s-eq0.false c.entries.sum,
-      shed_off w c.blocks-2.block c.entries.phase c.entries.over (a.n - c.in-T.t) g.1.has c.if-over.false
-          c.block_at-r.result c.block_at-r.ensures c.drop-s.result c.drop-s.ensures j c.entries.sum g.1
-          c.if-s-eq0.false,
-    )
+pub loop-phase-preserved : goal.loop-phase-preserved
+loop-phase-preserved c =
+    drops.gone_on c.requires c.loop-phase.invariant _ c.in-Some.is _ c.row-in-blocks-2.ensures _
+    (sym c.in-Some-drop.is ∙ c.drop.ensures)
 
 pub overflow_add-block : goal.overflow_add-block
-overflow_add-block c =
-    let a = c.args in
-    let w = tape_of a.tape.now a.tones.now a.blocks.now a.count in
-    let k = cut_of w a.pos in
-    let x = rows_of w a.pos c.requires in
-    let i = c.entries.invariant k c.blocks-2.invariant.1.0 in
-    omega (arith, i.1.below, x.most, c.requires.lent)
+overflow_add-block c = omega (arith, drops.gone_below c.requires c.loop-phase.invariant)
 
 pub row_well-requires : goal.row_well-requires
-row_well-requires c =
-    let a = c.args in
-    let w = tape_of a.tape.now a.tones.now a.blocks.now a.count in
-    let k = cut_of w a.pos in
-    let x = rows_of w a.pos c.requires in
-    let i = c.entries.invariant k c.blocks-2.invariant.1.0 in
-    omega (arith, i.1.below, x.most, c.requires.lent, c.if-block-count.false)
+row_well-requires c = omega (arith, drops.gone_below c.requires c.loop-phase.invariant, c.requires.lent)
 
 pub blocks-2-smaller : goal.blocks-2-smaller
-blocks-2-smaller c =
-    let a = c.args in
-    let w = tape_of a.tape.now a.tones.now a.blocks.now a.count in
-    let k = cut_of w a.pos in
-    let x = rows_of w a.pos c.requires in
-    let i = c.entries.invariant k c.blocks-2.invariant.1.0 in
-    omega (arith, i.1.below, x.most, c.if-block-count.false)
+blocks-2-smaller c = omega (arith, drops.gone_below c.requires c.loop-phase.invariant)
 
 pub blocks-2-preserved : goal.blocks-2-preserved
-unfolding well_row
 blocks-2-preserved c =
-    let a = c.args in
-    let w = tape_of a.tape.now a.tones.now a.blocks.now a.count in
-    let k = cut_of w a.pos in
-    let x = rows_of w a.pos c.requires in
-    let i = c.entries.invariant k c.blocks-2.invariant.1.0 in
-    let o = off_start x c.blocks-2.block c.entries.phase c.entries.over (a.n - c.in-T.t) c.entries.sum c.if-over.true i.1
-    (well_before x (c.blocks-2.block + 1) (omega (arith, i.1.below)) (omega (arith, i.1.below, x.most, c.if-block-count.false))
-    (passed c.row_well.ensures c.if-not-row_well.false-raw)) in (
-      c.blocks-2.invariant.0 ∙ i.0
-          ∙ ap (λ (y : ℕ). c.entries.sum + y)
-          (cur_out (cut_to w k) c.blocks-2.block c.entries.phase c.entries.over (a.n - c.in-T.t) c.if-over.true
-          ∙ ap (λ y. drops y (a.n - c.in-T.t)) (sym (start_cur (cut_to w k) (c.blocks-2.block + 1)))),
-      (o, omega (arith, c.blocks-2.invariant.1.1)),
-    )
+    drops.gone_next c.requires c.loop-phase.invariant c.in_default-phase.is (omega arith) (cc)
 
-pub returns-then-s-eq0 : goal.returns-then-s-eq0
-returns-then-s-eq0 c =
-    let a = c.args in
-    let w = tape_of a.tape.now a.tones.now a.blocks.now a.count in
-    let q : Position = a.pos in
-    let k = cut_of w q in
-    let i = c.entries.invariant k c.blocks-2.invariant.1.0 in
-    omega (
-      arith,
-      dropped-behind w q c.requires a.n _ c.in-T.is (omega (arith, c.if-n-t.false))
-          c.block_at.result c.block_at.ensures c.one_step-first.result
-          c.one_step-first.ensures,
-      c.blocks-2.invariant.0,
-      i.0,
-      shed_rests w c.blocks-2.block c.entries.phase c.entries.over (a.n - c.in-T.t) i.1.has c.if-over.false
-          c.block_at-r.result c.block_at-r.ensures c.drop-s.result c.drop-s.ensures k i.1.below
-          c.if-s-eq0.true,
-    )
+pub returns-in_default-drop : goal.returns-in_default-drop
+returns-in_default-drop c =
+    drops.gone_rests c.requires c.loop-phase.invariant _ c.in-Some.is _ c.row-in-blocks-2.ensures
+    (sym c.in_default-drop.is ∙ c.drop.ensures)
 
-pub returns-then-block-count : goal.returns-then-block-count
-returns-then-block-count c =
-    let a = c.args in
-    let w = tape_of a.tape.now a.tones.now a.blocks.now a.count in
-    let q : Position = a.pos in
-    let k = cut_of w q in
-    let x = rows_of w q c.requires in
-    let i = c.entries.invariant k c.blocks-2.invariant.1.0 in
-    omega (
-      arith,
-      dropped-behind w q c.requires a.n _ c.in-T.is (omega (arith, c.if-n-t.false))
-          c.block_at.result c.block_at.ensures c.one_step-first.result
-          c.one_step-first.ensures,
-      c.blocks-2.invariant.0,
-      i.0,
-      cur_out (cut_to w k) c.blocks-2.block c.entries.phase c.entries.over (a.n - c.in-T.t) c.if-over.true,
-      drops_nil (cut_to w k) (c.blocks-2.block + 1) (a.n - c.in-T.t)
-          (list_out (cut_to w k) (c.blocks-2.block + 1) (omega (arith, c.if-block-count.true, x.most))),
-    )
-
-pub returns-then-not-row_well : goal.returns-then-not-row_well
-unfolding well_row
-returns-then-not-row_well c =
-    let a = c.args in
-    let w = tape_of a.tape.now a.tones.now a.blocks.now a.count in
-    let q : Position = a.pos in
-    let k = cut_of w q in
-    let x = rows_of w q c.requires in
-    let i = c.entries.invariant k c.blocks-2.invariant.1.0 in
-    let e = bad_there x (c.blocks-2.block + 1) (omega (arith, c.blocks-2.invariant.1.1)) (omega (arith, i.1.below))
-    (failed c.row_well.ensures c.if-not-row_well.true-raw) in
-    omega (
-      arith,
-      dropped-behind w q c.requires a.n _ c.in-T.is (omega (arith, c.if-n-t.false))
-          c.block_at.result c.block_at.ensures c.one_step-first.result
-          c.one_step-first.ensures,
-      c.blocks-2.invariant.0,
-      i.0,
-      cur_out (cut_to w k) c.blocks-2.block c.entries.phase c.entries.over (a.n - c.in-T.t) c.if-over.true,
-      drops_nil (cut_to w k) (c.blocks-2.block + 1) (a.n - c.in-T.t) (list_out (cut_to w k) (c.blocks-2.block + 1) (omega (arith, e))),
-    )
+pub returns-then-block-m : goal.returns-then-block-m
+returns-then-block-m c =
+    elim c.then-block-m.branch [
+      | then-block-m-via-then-block-m w ↦ drops.gone_last c.requires c.loop-phase.invariant c.in_default-phase.is w.if-block-m.true
+      | then-block-m-via-else-block-m+then-not-row_well w ↦ drops.gone_bad c.requires c.loop-phase.invariant c.in_default-phase.is (cc)
+    ]

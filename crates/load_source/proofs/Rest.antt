@@ -4,11 +4,11 @@ use mathlib.Core.Path.{◌≡◌, refl, sym, ap, subst, ◌∙◌}
 use mathlib.Core.List.{List}
 use native.Mathlib.Omega.{arith}
 use lib.ListN.{length, get_or}
+use Rattle.std.specs.Prelude.{Result, Ok, Err, IsErrAnd}
+use Rattle.std.proofs.lemmas.Result.{err_from_is_err_and}
 use borrow.Author.Tests.{le-leb}
 use Rattle.load_state.specs.declared.State.{State}
 use Rattle.load_state.specs.declared.Halt.{Halt}
-use Rattle.load_state.specs.declared.Step.{Step}
-use Rattle.load_state.specs.declared.Step.TheVariants.{On, No}
 use Rattle.load_state.specs.Parser.{Parsed, Out, empty}
 use Rattle.load_state.specs.Holds.{Holds, GivesOut}
 use Rattle.load_state.proofs.Laws.{went_on, was_refused}
@@ -19,15 +19,21 @@ use Rattle.load_general.proofs.Holding.{cut_held}
 use Rattle.cut_grammar.specs.declared.Taken.{Taken}
 use Rattle.cut_grammar.specs.declared.Taken.TheVariants.{Whole}
 use Rattle.cut_grammar.specs.declared.TakenTap.{TakenTap}
+use Rattle.cut_grammar.specs.declared.TakenTap.TheVariants as tap
+use mathlib.Core.Logic.{◌⊎◌, inl, inr}
 use Rattle.cut_grammar.specs.Cut.{cut_at, tap_at}
 use Rattle.load_source.specs.declared.Failure.{Failure}
-use Rattle.load_source.specs.declared.Reading.{Reading}
-use Rattle.load_source.specs.declared.Reading.TheVariants.{Done, Failed, Refused}
+use Rattle.load_source.specs.declared.NotRead.{NotRead}
+use Rattle.load_source.specs.declared.NotRead.TheVariants.{Failed, Refused}
 use Rattle.load_blocks.specs.Adds.{Lent}
 use Rattle.load_blocks.specs.Sounds.{origin_at}
 use Rattle.load_source.specs.Source.{See, the_end, bad, refuses as sees4, thing, Verdict, seeing, read_on, fold_from, halted, full}
 use Rattle.load_source.specs.Source.{act, tzx_of, tzx_see, tap_of, tap_see}
 use Rattle.load_source.specs.Does.{Fit, Blank, Finds, ends, fails, refuses}
+
+-- what a `?` returns where a step halts
+abbrev pub Halts : Halt → Result State NotRead → Type 0
+Halts k r = IsErrAnd r (λ e. (B N : ℕ) (bt tt : List ℕ) → Finds B N (Err e) bt tt (halted k))
 
 -- a tape that the state holds, and fuel enough for the bytes left, with which the rest gives the goal
 pub record Rest (size : ℕ) (see : ℕ → See) (B N at : ℕ) (s : State) (bt tt : List ℕ) (goal : Verdict) : Type 0 where
@@ -53,25 +59,28 @@ module _ {size : ℕ} {see : ℕ → See} {B N at : ℕ} {s : State} {bt tt : Li
   step : (x : See) → see at ≡ x → seeing x rest.here (fold_from see (rest.fuel - 1)) ≡ goal
   step x q = rw q at (sym (turn rest.fuel size see at rest.here rest.stops rest.enough) ∙ rest.same)
 
-  pub rest_over : see at ≡ the_end → Finds B N (Done s) bt tt goal
+  pub rest_over : see at ≡ the_end → Finds B N (Ok s) bt tt goal
   unfolding seeing
-  rest_over q = subst (λ (r : Verdict). Finds B N (Done s) bt tt r) (step the_end q) (ends rest.holds)
+  rest_over q = subst (λ (r : Verdict). Finds B N (Ok s) bt tt r) (step the_end q) (ends rest.holds)
 
-  pub rest-bad : {f : Failure} → see at ≡ bad f → Finds B N (Failed f) bt tt goal
+  pub rest-bad : {f : Failure} → see at ≡ bad f → Finds B N (Err (Failed f)) bt tt goal
   unfolding seeing
-  rest-bad {f} q = subst (λ (r : Verdict). Finds B N (Failed f) bt tt r) (step (bad f) q) fails
+  rest-bad {f} q = subst (λ (r : Verdict). Finds B N (Err (Failed f)) bt tt r) (step (bad f) q) fails
 
-  pub rest-refuses : {k : ℕ} → see at ≡ sees4 k → Finds B N (Refused k) bt tt goal
+  pub rest-refuses : {k : ℕ} → see at ≡ sees4 k → Finds B N (Err (Refused k)) bt tt goal
   unfolding seeing
-  rest-refuses {k} q = subst (λ (r : Verdict). Finds B N (Refused k) bt tt r) (step (sees4 k) q) refuses
+  rest-refuses {k} q = subst (λ (r : Verdict). Finds B N (Err (Refused k)) bt tt r) (step (sees4 k) q) refuses
 
-  module _ {next : ℕ} {does : Parsed → Out} (q : see at ≡ thing next does) {x : Step} {bt' tt' : List ℕ}
+  module _ {next : ℕ} {does : Parsed → Out} (q : see at ≡ thing next does) {x : Result State Halt} {bt' tt' : List ℕ}
       (e : GivesOut B N x bt' tt' (does rest.here)) where
-    pub rest-no : {k : Halt} {r : Reading} → x ≡ No k → Finds B N r bt' tt' (halted k) → Finds B N r bt' tt' goal
+    pub rest-no : {k : Halt} {r : Result State NotRead} → x ≡ Err k → Halts k r → Finds B N r bt' tt' goal
     unfolding seeing read_on
-    rest-no {k} {r} i f = subst (λ (g : Verdict). Finds B N r bt' tt' g) (rw (was_refused e i) at (step (thing next does) q)) f
+    rest-no {k} {r} i d =
+        let p = err_from_is_err_and r d in
+        rw p.1 (subst (λ (g : Verdict). Finds B N (Err p.0) bt' tt' g) (rw (was_refused e i) at (step (thing next does) q))
+        (p.2 B N bt' tt'))
 
-    pub rest-on : {s' : State} → x ≡ On s' → at < next → Rest size see B N next s' bt' tt' goal
+    pub rest-on : {s' : State} → x ≡ Ok s' → at < next → Rest size see B N next s' bt' tt' goal
     unfolding seeing read_on
     rest-on i f =
         let w = went_on e i in
@@ -105,6 +114,12 @@ module _ (lent : Lent) (s : List ℕ) where
   pub tap_sees : (at : ℕ) {x : TakenTap} → x ≡ tap_at s at → tap_see lent s at ≡ tap_of lent s at x
   unfolding tap_see
   tap_sees at q = rw q
+
+  -- nothing more, or a lone byte
+  pub tap_over : (at : ℕ) {x : TakenTap} → x ≡ tap_at s at → (x ≡ tap.End) ⊎ (x ≡ tap.Lone) → tap_see lent s at ≡ the_end
+  unfolding tap_of
+  tap_over at q (inl e) = tap_sees at q ∙ rw e
+  tap_over at q (inr e) = tap_sees at q ∙ rw e
 
 -- blank tables hold a tape of which nothing is read
 pub blank_holds : {s : State} {bt tt : List ℕ} → Blank bt → Blank tt

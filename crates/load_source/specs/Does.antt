@@ -1,5 +1,5 @@
 -- What the run takes a piece to be, and what its answer says of the tables. Assumes nothing.
-use Rattle.std.specs.Prelude.{ℕ, ◌+◌, ◌*◌, ◌≤◌, ◌≡◌, List, length}
+use Rattle.std.specs.Prelude.{ℕ, ◌+◌, ◌*◌, ◌≤◌, ◌≡◌, List, length, Result, Ok, Err}
 use Rattle.rows.specs.Table.{zeros}
 use Rattle.load_general.specs.Held.{Held}
 use Rattle.cut_grammar.specs.declared.GeneralizedData.{GeneralizedData}
@@ -9,8 +9,8 @@ use Rattle.load_state.specs.declared.State.{State}
 use Rattle.load_state.specs.Parser.{Parsed}
 use Rattle.load_state.specs.Holds.{Holds}
 use Rattle.load_source.specs.declared.Failure.{Failure}
-use Rattle.load_source.specs.declared.Reading.{Reading}
-use Rattle.load_source.specs.declared.Reading.TheVariants.{Done, Failed, Refused}
+use Rattle.load_source.specs.declared.NotRead.{NotRead}
+use Rattle.load_source.specs.declared.NotRead.TheVariants.{Failed, Refused}
 use Rattle.load_source.specs.Source.{Verdict, done, failed, refused}
 
 -- what the code takes a piece of this tape to be: its pulses inside the tape, a 19 as `Held` says
@@ -23,7 +23,7 @@ abbrev pub Blank : List ℕ → Type 0
 Blank t = t ≡ zeros (length t)
 
 -- a reading's answer is the definition's; where it is done, the state and tables hold the tape
-pub data Finds (B N : ℕ) : Reading → List ℕ → List ℕ → Verdict → Type 0 where
-  ends : {s : State} {bt tt : List ℕ} {t : Parsed} → Holds B N s bt tt t → Finds B N (Done s) bt tt (done t)
-  fails : {f : Failure} {bt tt : List ℕ} → Finds B N (Failed f) bt tt (failed f)
-  refuses : {k : ℕ} {bt tt : List ℕ} → Finds B N (Refused k) bt tt (refused k)
+pub data Finds (B N : ℕ) : Result State NotRead → List ℕ → List ℕ → Verdict → Type 0 where
+  ends : {s : State} {bt tt : List ℕ} {t : Parsed} → Holds B N s bt tt t → Finds B N (Ok s) bt tt (done t)
+  fails : {f : Failure} {bt tt : List ℕ} → Finds B N (Err (Failed f)) bt tt (failed f)
+  refuses : {k : ℕ} {bt tt : List ℕ} → Finds B N (Err (Refused k)) bt tt (refused k)

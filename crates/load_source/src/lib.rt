@@ -4,7 +4,7 @@
 mod run;
 mod whole;
 
-ghost use Rattle.std.specs.Prelude.{List, ℕ};
+ghost use Rattle.std.specs.Prelude.{List, ℕ, Err};
 ghost use Rattle.load_source.specs.Source.{act, halted};
 ghost use Rattle.load_blocks.specs.Does.{Does};
 ghost use Rattle.load_source.specs.Does.{Fit, Finds};
@@ -14,7 +14,7 @@ use load_blocks::{Bits, Origin, is_header, standard_data_block};
 use load_groups::{group_end, pend};
 use load_loops::{loop_end, loop_start};
 use load_pulsed::{generalized_data_block, pulse_blocks};
-use load_state::{Halt, Pending, State, Step};
+use load_state::{Halt, Pending, State};
 use load_stops::{pause_block, stop_on_48};
 use load_toned::{pure_data_block, pure_tone_block, turbo_data_block};
 pub use run::read_pieces;
@@ -42,22 +42,23 @@ pub enum Failure {
     },
 }
 
-// A reading's answer: the state at the end of the tape, a failure, or the refusal's number.
+// Why a reading gives no state at the end of the tape: a failure, or the refusal's number.
 #[derive(Clone, Copy)]
-pub enum Reading {
-    Done(State),
+pub enum NotRead {
     Failed(Failure),
     Refused(u32),
 }
 
 // A reading that halts: a refusal, or a failure.
-pub fn halted(k: Halt) -> Reading
-    ensures { (B N : ℕ) (bt tt : List ℕ) → Finds B N result bt tt (halted k) }
-{
-    match k {
-        Halt::Refusal(number) => Reading::Refused(number),
-        Halt::Length { kind, at, length } => {
-            Reading::Failed(Failure::Length { kind, at, length })
+impl From<Halt> for NotRead {
+    ghost from_gives = { λ k e. (B N : ℕ) (bt tt : List ℕ) → Finds B N (Err e) bt tt (halted k) };
+
+    fn from(k: Halt) -> NotRead {
+        match k {
+            Halt::Refusal(number) => NotRead::Refused(number),
+            Halt::Length { kind, at, length } => {
+                NotRead::Failed(Failure::Length { kind, at, length })
+            }
         }
     }
 }
@@ -71,7 +72,7 @@ pub fn act(
     tones: &mut [u64],
     origin: Origin,
     piece: Piece,
-) -> Step
+) -> Result<State, Halt>
     requires { Fit tape.now piece }
     ensures { Does (λ lent. act lent tape.now model origin piece) s result blocks.old tones.old
         blocks.new tones.new }
@@ -108,20 +109,16 @@ pub fn act(
         Piece::Pause { ms } => pause_block(s, blocks, origin, ms),
         Piece::GroupStart { from, size } => {
             let chars = size as u64;
-            Step::On(pend(s, Pending::First { text: from, chars }))
+            Ok(pend(s, Pending::First { text: from, chars }))
         }
-        Piece::GroupEnd => Step::On(group_end(s, blocks)),
-        Piece::LoopStart { times } => Step::On(loop_start(s, times)),
+        Piece::GroupEnd => Ok(group_end(s, blocks)),
+        Piece::LoopStart { times } => Ok(loop_start(s, times)),
         Piece::LoopEnd => loop_end(s, blocks),
         Piece::Stop48 { length } => stop_on_48(model, s, blocks, origin, length),
         Piece::Text { from, size } => {
             let chars = size as u64;
-            Step::On(pend(s, Pending::Text { text: from, chars }))
+            Ok(pend(s, Pending::Text { text: from, chars }))
         }
-        Piece::Message => Step::On(s),
-        Piece::Archive => Step::On(s),
-        Piece::Hardware => Step::On(s),
-        Piece::Custom => Step::On(s),
-        Piece::Glue => Step::On(s),
+        Piece::Message | Piece::Archive | Piece::Hardware | Piece::Custom | Piece::Glue => Ok(s),
     }
 }

@@ -6,6 +6,16 @@ use Rattle.load_blocks.specs.Sounds.{add_sounds}
 use Rattle.load_blocks.proofs.Laws.{does_one}
 use Rattle.load_state.specs.Holds.{goes}
 use native.Mathlib.Omega.{arith}
+use Prim.Native.Nat.{ℕ}
+use mathlib.Core.Path.{◌≡◌}
+use mathlib.Core.List.{List}
+use mathlib.Core.Logic.{◌⊎◌, inl, inr}
+use Rattle.cut_grammar.specs.declared.Piece.{Piece}
+use Rattle.cut_grammar.specs.declared.Piece.TheVariants.{Message, Archive, Hardware, Custom, Glue}
+use Rattle.load_state.specs.Parser.{Parsed, on}
+use Rattle.load_blocks.specs.declared.Origin.{Origin}
+use Rattle.load_blocks.specs.Adds.{Lent}
+use Rattle.load_blocks.specs.Does.{lent_of}
 use Rattle.load_source.proofs.act.Goals as goal
 
 pub pulse_blocks-requires : goal.pulse_blocks-requires
@@ -76,22 +86,15 @@ pub returns-in-Text : goal.returns-in-Text
 unfolding act deed_of does
 returns-in-Text c = λ B N t h. rw c.in-Text.is (c.pend-in-Text.ensures B N _ _ t h)
 
+-- a piece that is skipped
+idle : (lent : Lent) (s : List ℕ) (model : ℕ) (origin : Origin) (t : Parsed) {p : Piece}
+    → (p ≡ Message) ⊎ ((p ≡ Archive) ⊎ ((p ≡ Hardware) ⊎ ((p ≡ Custom) ⊎ (p ≡ Glue)))) → act lent s model origin p t ≡ on t
+unfolding act deed_of does add_sounds
+idle lent s model origin t (inl e) = rw e
+idle lent s model origin t (inr (inl e)) = rw e
+idle lent s model origin t (inr (inr (inl e))) = rw e
+idle lent s model origin t (inr (inr (inr (inl e)))) = rw e
+idle lent s model origin t (inr (inr (inr (inr e)))) = rw e
+
 pub returns-in-Message : goal.returns-in-Message
-unfolding act deed_of does add_sounds
-returns-in-Message c = λ B N t h. rw c.in-Message.is (goes h)
-
-pub returns-in-Archive : goal.returns-in-Archive
-unfolding act deed_of does add_sounds
-returns-in-Archive c = λ B N t h. rw c.in-Archive.is (goes h)
-
-pub returns-in-Hardware : goal.returns-in-Hardware
-unfolding act deed_of does add_sounds
-returns-in-Hardware c = λ B N t h. rw c.in-Hardware.is (goes h)
-
-pub returns-in-Custom : goal.returns-in-Custom
-unfolding act deed_of does add_sounds
-returns-in-Custom c = λ B N t h. rw c.in-Custom.is (goes h)
-
-pub returns-in-Glue : goal.returns-in-Glue
-unfolding act deed_of does add_sounds
-returns-in-Glue c = λ B N t h. rw c.in-Glue.is (goes h)
+returns-in-Message c = λ B N t h. rw (idle (lent_of B N) c.args.tape.now c.args.model c.args.origin t c.in-Message.is) (goes h)

@@ -36,34 +36,26 @@ act-requires c =
     cut_fit a.tape.now c.loop-at.at _ (λ i. (c.type_inv.tape i).fits)
     (sym c.cut.ensures ∙ c.in-Whole.is)
 
-pub loop-at-smaller-in-On : goal.loop-at-smaller-in-On
-loop-at-smaller-in-On c =
+pub loop-at-smaller-in-Whole : goal.loop-at-smaller-in-Whole
+loop-at-smaller-in-Whole c =
     let a = c.args in
     let f = cut_forward a.tape.now c.loop-at.at 255
     (sym c.cut.ensures ∙ c.in-Whole.is) in
     omega (arith, f.0, c.loop-at-test.true)
 
-pub loop-at-preserved-in-On : goal.loop-at-preserved-in-On
-loop-at-preserved-in-On c =
+pub loop-at-preserved-in-Whole : goal.loop-at-preserved-in-Whole
+loop-at-preserved-in-Whole c =
     let a = c.args in
     let q = sym c.in-Whole.is ∙ c.cut.ensures in
     rest-on c.loop-at.invariant (sees_piece (lent_of (length a.blocks.now) (length a.tones.now)) a.tape.now a.model c.loop-at.at q)
-    (c.act.ensures _ _ c.loop-at.invariant.here c.loop-at.invariant.holds) c.in-On.is (cut_forward a.tape.now c.loop-at.at 255 (sym q)).0
+    (c.act.ensures _ _ c.loop-at.invariant.here c.loop-at.invariant.holds) c.in_ok-s-in-Whole.was (cut_forward a.tape.now c.loop-at.at 255 (sym q)).0
 
-pub shape_of-blocks-in-No : goal.shape_of-blocks-in-No
-shape_of-blocks-in-No c =
-    c.act.auto.blocks ∙ c.loop-at.invariant.holds.len_b
-
-pub shape_of-tones-in-No : goal.shape_of-tones-in-No
-shape_of-tones-in-No c =
-    c.act.auto.tones ∙ c.loop-at.invariant.holds.len_t
-
-pub returns-in-No : goal.returns-in-No
-returns-in-No c =
+pub returns-in_err-s-in-Whole : goal.returns-in_err-s-in-Whole
+returns-in_err-s-in-Whole c =
     let a = c.args in
     let q = sym c.in-Whole.is ∙ c.cut.ensures in
     rest-no c.loop-at.invariant (sees_piece (lent_of (length a.blocks.now) (length a.tones.now)) a.tape.now a.model c.loop-at.at q)
-    (c.act.ensures _ _ c.loop-at.invariant.here c.loop-at.invariant.holds) c.in-No.is (c.halted.ensures _ _ _ _)
+    (c.act.ensures _ _ c.loop-at.invariant.here c.loop-at.invariant.holds) c.in_err-s-in-Whole.was c.from_residual.ensures.1
 
 pub loop-at-preserved : goal.loop-at-preserved
 unfolding tzx_of

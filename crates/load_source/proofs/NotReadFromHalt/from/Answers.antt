@@ -1,7 +1,7 @@
--- `halted` meets its contract. Assumes nothing.
+-- What `from` gives is what `halted` says. Assumes nothing.
 use Rattle.load_source.specs.Source.{halted}
 use Rattle.load_source.specs.Does.{refuses, fails}
-use Rattle.load_source.proofs.halted.Goals as goal
+use Rattle.load_source.proofs.NotReadFromHalt.from.Goals as goal
 
 pub returns-in-Refusal : goal.returns-in-Refusal
 unfolding halted

@@ -6,12 +6,13 @@ use mathlib.Core.Bool.{false}
 use mathlib.Core.List.{List}
 use lib.ListN.{length, length-replicate}
 use lib.Dec.{leb, ltb}
+use Rattle.std.specs.Prelude.{Result, Ok, Err}
 use Rattle.refusals.specs.Refusals.{bad_model, tape_long}
 use Rattle.rows.specs.Table.{zeros}
 use Rattle.load_state.specs.declared.State.{State}
 use Rattle.load_source.specs.declared.Failure.{Failure}
-use Rattle.load_source.specs.declared.Reading.{Reading}
-use Rattle.load_source.specs.declared.Reading.TheVariants.{Done, Failed, Refused}
+use Rattle.load_source.specs.declared.NotRead.{NotRead}
+use Rattle.load_source.specs.declared.NotRead.TheVariants.{Failed, Refused}
 use Rattle.load_blocks.specs.Adds.{Lent}
 use Rattle.load_source.specs.Source.{Verdict, Load, both_err, no, or_tap, or_else, read_tzx, read_tap, load_of}
 use Rattle.load_blocks.specs.Does.{lent_of}
@@ -19,55 +20,50 @@ use Rattle.load_source.specs.Does.{Blank, Finds}
 use Rattle.load_source.proofs.Judged.{found_done, found_failed, found_refused}
 use Rattle.load_tape.specs.declared.Format.TheVariants.{Tap, Tzx}
 use Rattle.load_tape.specs.declared.Loaded.{Loaded}
-use Rattle.load_tape.specs.declared.Loaded.TheVariants.{Tape, Unread, Refused as No}
-use Rattle.load_tape.specs.Load.{answer_of, block_table, tone_table, Leaves}
+use Rattle.load_tape.specs.declared.NotLoaded.{NotLoaded}
+use Rattle.load_tape.specs.declared.NotLoaded.TheVariants.{Unread, Refused as No}
+use Rattle.load_tape.specs.Load.{loaded_of, not_loaded, answer_of, block_table, tone_table, Leaves}
 
 -- any two outcomes that the contract permits are equal
-pub one_outcome : {B N : ℕ} {l : Load} {a a' : Loaded} {bt bt' tt tt' : List ℕ} → Leaves B N l a bt tt
+pub one_outcome : {B N : ℕ} {l : Load} {a a' : Result Loaded NotLoaded} {bt bt' tt tt' : List ℕ} → Leaves B N l a bt tt
     → Leaves B N l a' bt' tt' → (a ≡ a') × (bt ≡ bt') × (tt ≡ tt')
 one_outcome x y = (x.answer ∙ sym y.answer, x.blocks ∙ sym y.blocks, x.tones ∙ sym y.tones)
 
 pub blanked : {t : List ℕ} (n : ℕ) → t ≡ zeros n → Blank t
 blanked n e = e ∙ ap zeros (sym (ap length e ∙ length-replicate n 0))
 
-pub no-leaves : {B N k : ℕ} {bt tt : List ℕ} → bt ≡ zeros B → tt ≡ zeros N → Leaves B N (no k) (No k) bt tt
+pub refusal_leaves : {B N : ℕ} (why : NotLoaded) {bt tt : List ℕ} → bt ≡ zeros B → tt ≡ zeros N
+    → Leaves B N (not_loaded why) (Err why) bt tt
 unfolding answer_of block_table tone_table
-no-leaves b t = record { answer = refl; blocks = b; tones = t }
+refusal_leaves (Unread f g) b t = record { answer = refl; blocks = b; tones = t }
+refusal_leaves (No k) b t = record { answer = refl; blocks = b; tones = t }
 
-pub both_leave : {B N : ℕ} {f g : Failure} {bt tt : List ℕ} → bt ≡ zeros B → tt ≡ zeros N → Leaves B N (both_err f g) (Unread f g) bt tt
-unfolding answer_of block_table tone_table
-both_leave b t = record { answer = refl; blocks = b; tones = t }
-
-module _ {B N : ℕ} {r : Reading} {bt tt : List ℕ} {o : Verdict} (f : Finds B N r bt tt o) where
-  pub tap_leaves : (x : Failure) {s : State} → r ≡ Done s → Leaves B N (or_tap x o) (Tape Tap s.blocks s.tones) bt tt
+module _ {B N : ℕ} {r : Result State NotRead} {bt tt : List ℕ} {o : Verdict} (f : Finds B N r bt tt o) where
+  pub tap_leaves : (x : Failure) {s : State} → r ≡ Ok s → Leaves B N (or_tap x o) (Ok (loaded_of Tap s.blocks s.tones)) bt tt
   unfolding or_tap answer_of block_table tone_table
   tap_leaves x {s} e =
       let d = found_done f e in
-      let n : Tape Tap s.blocks s.tones ≡ Tape Tap (length d.0.blocks) (length d.0.tones) =
-      ap (λ (x : ℕ). Tape Tap x s.tones) d.2.nb ∙ ap (λ (x : ℕ). Tape Tap (length d.0.blocks) x) d.2.nt in
-      rw d.1 (record { answer = n; blocks = d.2.is_b; tones = d.2.is_t })
+      rw d.1 (record { answer = rw (← d.2.nb, ← d.2.nt); blocks = d.2.is_b; tones = d.2.is_t })
 
-  pub tap_fails : (x : Failure) {y : Failure} → r ≡ Failed y → or_tap x o ≡ both_err x y
+  pub tap_fails : (x : Failure) {y : Failure} → r ≡ Err (Failed y) → or_tap x o ≡ both_err x y
   unfolding or_tap
   tap_fails x e = rw (found_failed f e)
 
-  pub tap_refuses : (x : Failure) {k : ℕ} → r ≡ Refused k → or_tap x o ≡ no k
+  pub tap_refuses : (x : Failure) {k : ℕ} → r ≡ Err (Refused k) → or_tap x o ≡ no k
   unfolding or_tap
   tap_refuses x e = rw (found_refused f e)
 
-  pub tzx-leaves : (other : Verdict) {s : State} → r ≡ Done s → Leaves B N (or_else o other) (Tape Tzx s.blocks s.tones) bt tt
+  pub tzx-leaves : (other : Verdict) {s : State} → r ≡ Ok s → Leaves B N (or_else o other) (Ok (loaded_of Tzx s.blocks s.tones)) bt tt
   unfolding or_else answer_of block_table tone_table
   tzx-leaves other {s} e =
       let d = found_done f e in
-      let n : Tape Tzx s.blocks s.tones ≡ Tape Tzx (length d.0.blocks) (length d.0.tones) =
-      ap (λ (x : ℕ). Tape Tzx x s.tones) d.2.nb ∙ ap (λ (x : ℕ). Tape Tzx (length d.0.blocks) x) d.2.nt in
-      rw d.1 (record { answer = n; blocks = d.2.is_b; tones = d.2.is_t })
+      rw d.1 (record { answer = rw (← d.2.nb, ← d.2.nt); blocks = d.2.is_b; tones = d.2.is_t })
 
-  pub tzx-fails : (other : Verdict) {x : Failure} → r ≡ Failed x → or_else o other ≡ or_tap x other
+  pub tzx-fails : (other : Verdict) {x : Failure} → r ≡ Err (Failed x) → or_else o other ≡ or_tap x other
   unfolding or_else
   tzx-fails other e = rw (found_failed f e)
 
-  pub tzx-refuses : (other : Verdict) {k : ℕ} → r ≡ Refused k → or_else o other ≡ no k
+  pub tzx-refuses : (other : Verdict) {k : ℕ} → r ≡ Err (Refused k) → or_else o other ≡ no k
   unfolding or_else
   tzx-refuses other e = rw (found_refused f e)
 
@@ -91,20 +87,17 @@ module _ {B N B' N' : ℕ} (b : B ≡ B') (n : N ≡ N') where
   moved : (P : ℕ → ℕ → Type 0) → P B N → P B' N'
   moved P x = subst (λ (i : ℕ). P i N') b (subst (λ (i : ℕ). P B i) n x)
 
-  pub finds_tap : (s : List ℕ) {r : Reading} {bt tt : List ℕ} → Finds B N r bt tt (read_tap (lent_of B N) s)
+  pub finds_tap : (s : List ℕ) {r : Result State NotRead} {bt tt : List ℕ} → Finds B N r bt tt (read_tap (lent_of B N) s)
       → Finds B' N' r bt tt (read_tap (lent_of B' N') s)
   finds_tap s {r} {bt} {tt} f = moved (λ x y. Finds x y r bt tt (read_tap (lent_of x y) s)) f
 
-  pub finds_tzx : (s : List ℕ) (model : ℕ) {r : Reading} {bt tt : List ℕ} → Finds B N r bt tt (read_tzx (lent_of B N) s model)
+  pub finds_tzx : (s : List ℕ) (model : ℕ) {r : Result State NotRead} {bt tt : List ℕ} → Finds B N r bt tt (read_tzx (lent_of B N) s model)
       → Finds B' N' r bt tt (read_tzx (lent_of B' N') s model)
   finds_tzx s model {r} {bt} {tt} f = moved (λ x y. Finds x y r bt tt (read_tzx (lent_of x y) s model)) f
 
-  pub leaves-no : {k : ℕ} {a : Loaded} {bt tt : List ℕ} → Leaves B N (no k) a bt tt → Leaves B' N' (no k) a bt tt
-  leaves-no {k} {a} {bt} {tt} l = moved (λ x y. Leaves x y (no k) a bt tt) l
+  pub leaves-same : {l : Load} {a : Result Loaded NotLoaded} {bt tt : List ℕ} → Leaves B N l a bt tt → Leaves B' N' l a bt tt
+  leaves-same {l} {a} {bt} {tt} h = moved (λ x y. Leaves x y l a bt tt) h
 
-  pub leaves-both : {f g : Failure} {a : Loaded} {bt tt : List ℕ} → Leaves B N (both_err f g) a bt tt → Leaves B' N' (both_err f g) a bt tt
-  leaves-both {f} {g} {a} {bt} {tt} l = moved (λ x y. Leaves x y (both_err f g) a bt tt) l
-
-  pub leaves_tap : (s : List ℕ) (f : Failure) {a : Loaded} {bt tt : List ℕ} → Leaves B N (or_tap f (read_tap (lent_of B N) s)) a bt tt
+  pub leaves_tap : (s : List ℕ) (f : Failure) {a : Result Loaded NotLoaded} {bt tt : List ℕ} → Leaves B N (or_tap f (read_tap (lent_of B N) s)) a bt tt
       → Leaves B' N' (or_tap f (read_tap (lent_of B' N') s)) a bt tt
   leaves_tap s f {a} {bt} {tt} l = moved (λ x y. Leaves x y (or_tap f (read_tap (lent_of x y) s)) a bt tt) l

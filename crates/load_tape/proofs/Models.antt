@@ -9,7 +9,9 @@ use Rattle.load_blocks.specs.Does.{lent_of}
 use Rattle.load_source.specs.Source.{Load}
 use Rattle.load_source.specs.Reached.{reaches_2a}
 use Rattle.load_source.proofs.Models.{models_equal, models_agree}
+use Rattle.std.specs.Prelude.{Result}
 use Rattle.load_tape.specs.declared.Loaded.{Loaded}
+use Rattle.load_tape.specs.declared.NotLoaded.{NotLoaded}
 use Rattle.load_tape.specs.Load.{named_load, load_named, Leaves}
 use Rattle.load_tape.proofs.Leaving.{one_outcome}
 
@@ -29,7 +31,7 @@ module _ (lent : Lent) (s : List ℕ) where
   named_as_lem e (suc (suc zero)) h = sym named_equal
   named_as_lem e (suc (suc (suc m))) h = absurd (not-suc-le-zero (le_of_suc-le-suc (le_of_suc-le-suc (le_of_suc-le-suc h))))
 
-module _ {B N : ℕ} (s : List ℕ) {a a' : Loaded} {bt bt' tt tt' : List ℕ} where
+module _ {B N : ℕ} (s : List ℕ) {a a' : Result Loaded NotLoaded} {bt bt' tt tt' : List ℕ} where
   same : {l l' : Load} → l ≡ l' → Leaves B N l a bt tt → Leaves B N l' a' bt' tt'
       → (a ≡ a') × (bt ≡ bt') × (tt ≡ tt')
   same e x y = one_outcome (subst (λ (l : Load). Leaves B N l a bt tt) e x) y

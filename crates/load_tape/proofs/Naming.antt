@@ -12,11 +12,11 @@ use Rattle.rows.proofs.Tables.{flat-length}
 use Rattle.text_name.specs.Names.{name_all}
 use Rattle.text_name.proofs.Selecting.{name_all-length, named_table}
 use Rattle.load_source.specs.Source.{Load, tzx, tapped, both_err, no}
-use Rattle.load_tape.specs.declared.Format.{Format}
 use Rattle.load_tape.specs.declared.Format.TheVariants.{Tap, Tzx}
+use Rattle.std.specs.Prelude.{Result, Ok, Err}
 use Rattle.load_tape.specs.declared.Loaded.{Loaded}
-use Rattle.load_tape.specs.declared.Loaded.TheVariants.{Tape, Unread, Refused as No}
-use Rattle.load_tape.specs.Load.{answer_of, block_table, tone_table, named_tape, named_load, Leaves}
+use Rattle.load_tape.specs.declared.NotLoaded.{NotLoaded}
+use Rattle.load_tape.specs.Load.{loaded_of, answer_of, block_table, tone_table, named_tape, named_load, Leaves}
 
 -- a table of rows has the words of its rows at the least
 over_room : (rs : List Block) (N : ℕ) → length rs * block.width ≤ length (table_of block rs N)
@@ -27,49 +27,48 @@ room : {t : List ℕ} (rs : List Block) (N n : ℕ) → t ≡ table_of block rs 
 room rs N n e k = rw (e, k) (over_room rs N)
 
 -- what an answer says of its blocks
-abbrev count_of : Loaded → ℕ
-count_of (Tape f n m) = n
-count_of (Unread f g) = 0
-count_of (No k) = 0
+abbrev pub count_of : Result Loaded NotLoaded → ℕ
+count_of (Ok l) = l.blocks
+count_of (Err e) = 0
 
-abbrev pub is_tape : Loaded → Bool
-is_tape (Tape f n m) = true
-is_tape (Unread f g) = false
-is_tape (No k) = false
+abbrev pub is_tape : Result Loaded NotLoaded → Bool
+is_tape (Ok l) = true
+is_tape (Err e) = false
 
 module _ {B N : ℕ} where
   -- the pass has room for its rows
-  pub named_room : (l : Load) {a : Loaded} {bt tt : List ℕ} {f : Format} {n m : ℕ} → Leaves B N l a bt tt → a ≡ Tape f n m
-      → n * block.width ≤ length bt
+  pub named_room : (l : Load) {a : Result Loaded NotLoaded} {bt tt : List ℕ} {d : Loaded} → Leaves B N l a bt tt → a ≡ Ok d
+      → d.blocks * block.width ≤ length bt
   unfolding answer_of block_table
-  named_room (tzx t) {n = n} x e = room t.blocks B n x.blocks (ap count_of (sym e ∙ x.answer))
-  named_room (tapped t) {n = n} x e = room t.blocks B n x.blocks (ap count_of (sym e ∙ x.answer))
+  named_room (tzx t) {d = d} x e = room t.blocks B d.blocks x.blocks (ap count_of (sym e ∙ x.answer))
+  named_room (tapped t) {d = d} x e = room t.blocks B d.blocks x.blocks (ap count_of (sym e ∙ x.answer))
   named_room (both_err f g) x e = absurd (false≢true (ap is_tape (sym x.answer ∙ e)))
   named_room (no k) x e = absurd (false≢true (ap is_tape (sym x.answer ∙ e)))
 
   -- and leaves the tape with its blocks named
-  pub named-leaves : (s : List ℕ) (l : Load) {a : Loaded} {bt bt' tt : List ℕ} {f : Format} {n m : ℕ} → Leaves B N l a bt tt
-      → a ≡ Tape f n m → bt' ≡ step block n (name_all s false) bt → Leaves B N (named_load s l) (Tape f n m) bt' tt
+  pub named-leaves : (s : List ℕ) (l : Load) {a : Result Loaded NotLoaded} {bt bt' tt : List ℕ} {d : Loaded}
+      → Leaves B N l a bt tt → a ≡ Ok d → bt' ≡ step block d.blocks (name_all s false) bt
+      → Leaves B N (named_load s l) (Ok d) bt' tt
   unfolding answer_of block_table tone_table named_load named_tape
-  named-leaves s (tzx t) {n = n} x e p =
+  named-leaves s (tzx t) {d = d} x e p =
       let k : length t.blocks ≡ length (name_all s false t.blocks) = sym (name_all-length s false t.blocks) in
       record {
-        answer = sym e ∙ x.answer ∙ ap (λ (i : ℕ). Tape Tzx i (length t.tones)) k;
-        blocks = named_table s t.blocks B n x.blocks (ap count_of (sym e ∙ x.answer)) p;
+        answer = sym e ∙ x.answer ∙ ap (λ (i : ℕ). Ok (loaded_of Tzx i (length t.tones))) k;
+        blocks = named_table s t.blocks B d.blocks x.blocks (ap count_of (sym e ∙ x.answer)) p;
         tones = x.tones;
       }
-  named-leaves s (tapped t) {n = n} x e p =
+  named-leaves s (tapped t) {d = d} x e p =
       let k : length t.blocks ≡ length (name_all s false t.blocks) = sym (name_all-length s false t.blocks) in
       record {
-        answer = sym e ∙ x.answer ∙ ap (λ (i : ℕ). Tape Tap i (length t.tones)) k;
-        blocks = named_table s t.blocks B n x.blocks (ap count_of (sym e ∙ x.answer)) p;
+        answer = sym e ∙ x.answer ∙ ap (λ (i : ℕ). Ok (loaded_of Tap i (length t.tones))) k;
+        blocks = named_table s t.blocks B d.blocks x.blocks (ap count_of (sym e ∙ x.answer)) p;
         tones = x.tones;
       }
   named-leaves s (both_err f g) x e p = absurd (false≢true (ap is_tape (sym x.answer ∙ e)))
   named-leaves s (no k) x e p = absurd (false≢true (ap is_tape (sym x.answer ∙ e)))
 
   -- a refusal is left as it is
-  pub named_refusal : (s : List ℕ) (l : Load) {a : Loaded} {bt tt : List ℕ} → Leaves B N l a bt tt → is_tape a ≡ false
+  pub named_refusal : (s : List ℕ) (l : Load) {a : Result Loaded NotLoaded} {bt tt : List ℕ} → Leaves B N l a bt tt → is_tape a ≡ false
       → Leaves B N (named_load s l) a bt tt
   unfolding answer_of named_load
   named_refusal s (tzx t) x e = absurd (false≢true (sym e ∙ ap is_tape x.answer))

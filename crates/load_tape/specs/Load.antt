@@ -1,6 +1,6 @@
 -- What a load is and what it leaves: the source reading, then the naming pass; its answer, and every word of both lent tables.
 -- Assumes nothing.
-use Rattle.std.specs.Prelude.{ℕ, ◌≡◌, false, List, length}
+use Rattle.std.specs.Prelude.{ℕ, ◌≡◌, false, List, length, Result, Ok, Err}
 use Rattle.refusals.specs.Refusals.{tape_bad}
 use Rattle.rows.specs.Table.{table_of, zeros}
 use Rattle.rows.specs.Rows.{block, tone}
@@ -8,9 +8,11 @@ use Rattle.load_state.specs.Parser.{Parsed, parsed_of}
 use Rattle.load_blocks.specs.Adds.{Lent}
 use Rattle.load_source.specs.Source.{Load, tzx, tapped, both_err, no, load_of}
 use Rattle.text_name.specs.Names.{name_all}
+use Rattle.load_tape.specs.declared.Format.{Format}
 use Rattle.load_tape.specs.declared.Format.TheVariants.{Tap, Tzx}
 use Rattle.load_tape.specs.declared.Loaded.{Loaded}
-use Rattle.load_tape.specs.declared.Loaded.TheVariants.{Tape, Unread, Refused}
+use Rattle.load_tape.specs.declared.NotLoaded.{NotLoaded}
+use Rattle.load_tape.specs.declared.NotLoaded.TheVariants.{Unread, Refused}
 
 -- the naming pass of `Tape::new`, over the blocks of a tape that was read from the bytes s
 unfoldable pub named_tape : List ℕ → Parsed → Parsed
@@ -28,17 +30,28 @@ unfoldable pub load_named : Lent → List ℕ → ℕ → Load
 load_named lent s model = named_load s (load_of lent s model)
 
 -- the values of a loaded tape (rule 134); what both attempts met, or a refusal's number alone (rule 33)
-unfoldable pub answer_of : Load → Loaded
-answer_of (tzx t) = Tape Tzx (length t.blocks) (length t.tones)
-answer_of (tapped t) = Tape Tap (length t.blocks) (length t.tones)
-answer_of (both_err f g) = Unread f g
-answer_of (no k) = Refused k
+abbrev pub loaded_of : Format → ℕ → ℕ → Loaded
+loaded_of format blocks tones = record { format = format; blocks = blocks; tones = tones }
+
+unfoldable pub answer_of : Load → Result Loaded NotLoaded
+answer_of (tzx t) = Ok (loaded_of Tzx (length t.blocks) (length t.tones))
+answer_of (tapped t) = Ok (loaded_of Tap (length t.blocks) (length t.tones))
+answer_of (both_err f g) = Err (Unread f g)
+answer_of (no k) = Err (Refused k)
+
+-- a load of such an answer
+abbrev pub not_loaded : NotLoaded → Load
+not_loaded (Unread f g) = both_err f g
+not_loaded (Refused k) = no k
 
 -- THE NUMBER FOR NO of an answer, 0 for none: where both attempts err it is 3
-unfoldable pub refusal_no : Loaded → ℕ
-refusal_no (Tape f b t) = 0
-refusal_no (Unread f g) = tape_bad
-refusal_no (Refused k) = k
+abbrev pub not_loaded_no : NotLoaded → ℕ
+not_loaded_no (Unread f g) = tape_bad
+not_loaded_no (Refused k) = k
+
+unfoldable pub refusal_no : Result Loaded NotLoaded → ℕ
+refusal_no (Ok l) = 0
+refusal_no (Err e) = not_loaded_no e
 
 -- the rows, then zeros up to the lent words; all zeros after a refusal
 unfoldable pub block_table : ℕ → Load → List ℕ
@@ -53,7 +66,7 @@ tone_table N (tapped t) = table_of tone t.tones N
 tone_table N (both_err f g) = zeros N
 tone_table N (no k) = zeros N
 
-pub record Leaves (B N : ℕ) (l : Load) (a : Loaded) (bt tt : List ℕ) : Type 0 where
+pub record Leaves (B N : ℕ) (l : Load) (a : Result Loaded NotLoaded) (bt tt : List ℕ) : Type 0 where
   pub answer : a ≡ answer_of l
   pub blocks : bt ≡ block_table B l
   pub tones : tt ≡ tone_table N l

@@ -1,6 +1,7 @@
 -- `load` meets its contract. Assumes nothing.
 use mathlib.Core.Path.{ap}
 use lib.ListN.{length}
+use Rattle.std.proofs.lemmas.Result.{err_from_is_err_and}
 use Rattle.load_blocks.specs.Does.{lent_of}
 use Rattle.load_source.specs.Source.{load_of}
 use Rattle.load_tape.specs.Load.{load_named}
@@ -12,26 +13,19 @@ pub name_blocks-requires : goal.name_blocks-requires
 name_blocks-requires c =
     let a = c.args in
     let l = load_of (lent_of (length a.blocks.now) (length a.tones.now)) a.tape.now a.model in
-    omega (arith, named_room l c.read-loaded.ensures c.in-Tape.is)
+    omega (arith, named_room l c.read.ensures c.in_ok-loaded.was)
 
-pub returns-in-Tape : goal.returns-in-Tape
+pub returns-in_err-loaded : goal.returns-in_err-loaded
 unfolding load_named
-returns-in-Tape c =
+returns-in_err-loaded c =
     let a = c.args in
     let l = load_of (lent_of (length a.blocks.now) (length a.tones.now)) a.tape.now a.model in
-    named-leaves a.tape.now l c.read-loaded.ensures c.in-Tape.is c.name_blocks.ensures
+    let p = err_from_is_err_and c.from_residual.result c.from_residual.ensures.1 in
+    rw (p.1, p.2, ← c.in_err-loaded.was) (named_refusal a.tape.now l c.read.ensures (ap is_tape c.in_err-loaded.was))
 
-pub returns-in-Unread : goal.returns-in-Unread
+pub returns : goal.returns
 unfolding load_named
-returns-in-Unread c =
+returns c =
     let a = c.args in
     let l = load_of (lent_of (length a.blocks.now) (length a.tones.now)) a.tape.now a.model in
-    named_refusal a.tape.now l c.read-loaded.ensures (ap is_tape c.in-Unread.is)
-
-pub returns-in-Refused : goal.returns-in-Refused
-unfolding load_named
-returns-in-Refused c =
-    let a = c.args in
-    let l = load_of (lent_of (length a.blocks.now) (length a.tones.now)) a.tape.now a.model in
-    rw c.in-Refused.is at
-    (named_refusal a.tape.now l c.read-loaded.ensures (ap is_tape c.in-Refused.is))
+    named-leaves a.tape.now l c.read.ensures c.in_ok-loaded.was c.name_blocks.ensures

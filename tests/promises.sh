@@ -8,7 +8,7 @@ bad=$(cat docs/PROMISES.md docs/GUIDE.md | tr -s ' \n' ' ' | grep -o '`[^` ]*\.\
         continue
     fi
     case $file in
-        *.rt) declares='(fn|enum|struct|const) ' ;;
+        *.rt) declares='(fn|enum|struct|const|trait|type) ' ;;
         *) declares='^ *((unfoldable|abbrev|pub|record|data) )*' ;;
     esac
     for name in $names; do

@@ -12,9 +12,10 @@ use Rattle.rows.specs.Rows.{block, tone, block_most}
 use Rattle.load_state.specs.Parser.{Parsed}
 use Rattle.load_blocks.specs.Does.{lent_of}
 use Rattle.load_source.specs.Source.{Load, tzx, tapped, both_err, no, load_of}
-use Rattle.load_tape.specs.declared.Format.{Format}
-use Rattle.load_tape.specs.declared.Loaded.TheVariants as loaded
+use Rattle.std.specs.Prelude.{Ok}
+use Rattle.load_tape.specs.declared.Loaded.{Loaded}
 use Rattle.load_tape.specs.Load.{named_tape, named_load, load_named, answer_of, block_table, tone_table, Leaves}
+use Rattle.load_tape.proofs.Naming.{count_of}
 use Rattle.text_name.specs.Names.{name_all}
 use Rattle.text_name.proofs.Selecting.{name_all-length}
 use Rattle.play_entries.specs.Places as entries
@@ -31,19 +32,17 @@ pub record Left (B N : ℕ) (s : List ℕ) (a : Load) (n : ℕ) (bt tt : List �
   pub blocks : bt ≡ table_of block (name_all s false tape.blocks) B
   pub tones : tt ≡ table_of tone tape.tones N
 
-pub left_of_lem : {B N : ℕ} (s : List ℕ) (a : Load) {f : Format} {n k : ℕ} {bt tt : List ℕ}
-    → Leaves B N (named_load s a) (loaded.Tape f n k) bt tt → Left B N s a n bt tt
+pub left_of_lem : {B N : ℕ} (s : List ℕ) (a : Load) {d : Loaded} {bt tt : List ℕ}
+    → Leaves B N (named_load s a) (Ok d) bt tt → Left B N s a d.blocks bt tt
 unfolding named_load named_tape answer_of block_table tone_table
-left_of_lem s (tzx t) {n = n} l =
-    let e = l.answer in
-    let c : n ≡ length (name_all s false t.blocks) = cc in
+left_of_lem s (tzx t) {d = d} l =
+    let c : d.blocks ≡ length (name_all s false t.blocks) = ap count_of l.answer in
     record { tape = t; reads = as_tzx; count = c ∙ name_all-length s false t.blocks; blocks = l.blocks; tones = l.tones }
-left_of_lem s (tapped t) {n = n} l =
-    let e = l.answer in
-    let c : n ≡ length (name_all s false t.blocks) = cc in
+left_of_lem s (tapped t) {d = d} l =
+    let c : d.blocks ≡ length (name_all s false t.blocks) = ap count_of l.answer in
     record { tape = t; reads = as_tap; count = c ∙ name_all-length s false t.blocks; blocks = l.blocks; tones = l.tones }
-left_of_lem s (both_err f g) l = let e = l.answer in absurd (let z : ◌≡◌ {A = ℕ} 0 1 = cc in omega arith)
-left_of_lem s (no j) l = let e = l.answer in absurd (let z : ◌≡◌ {A = ℕ} 0 1 = cc in omega arith)
+left_of_lem s (both_err f g) l = let e = l.answer in absurd (cc)
+left_of_lem s (no j) l = let e = l.answer in absurd (cc)
 
 -- a tape mounted over equal tables
 pub mounted-same : (s : List ℕ) {tt tt₀ bt bt₀ : List ℕ} {n n₀ : ℕ} → tt ≡ tt₀ → bt ≡ bt₀ → n ≡ n₀
@@ -53,20 +52,20 @@ mounted-same s {tt₀ = tt₀} {bt} {bt₀} {n} p q e =
     ∙ ap (λ (x : ℕ). tape_of s tt₀ bt₀ x) e
 
 -- A LOAD THAT LEFT n BLOCKS left a whole tape
-module _ (B N : ℕ) (s : List ℕ) (model : ℕ) {f : Format} {n k : ℕ} {bt tt : List ℕ} (b : Bytes s)
-    (l : Leaves B N (load_named (lent_of B N) s model) (loaded.Tape f n k) bt tt) where
-  pub left : Left B N s (load_of (lent_of B N) s model) n bt tt
+module _ (B N : ℕ) (s : List ℕ) (model : ℕ) {d : Loaded} {bt tt : List ℕ} (b : Bytes s)
+    (l : Leaves B N (load_named (lent_of B N) s model) (Ok d) bt tt) where
+  pub left : Left B N s (load_of (lent_of B N) s model) d.blocks bt tt
   unfolding load_named
   left = left_of_lem s (load_of (lent_of B N) s model) l
 
-  pub left_fits : overfull (tape_of s tt bt n) ≡ false
+  pub left_fits : overfull (tape_of s tt bt d.blocks) ≡ false
   left_fits = let q = left in ap overfull (mounted-same s q.tones q.blocks q.count) ∙ loaded_fits B N s model b q.reads
 
-  pub left_well : (i : ℕ) → i < n → well_row (tape_of s tt bt n) i ≡ true
+  pub left_well : (i : ℕ) → i < d.blocks → well_row (tape_of s tt bt d.blocks) i ≡ true
   left_well i h =
       let q = left in
       ap (λ (w : entries.Tape). well_row w i) (mounted-same s q.tones q.blocks q.count)
       ∙ loaded_well B N s model b q.reads i (omega (arith, q.count))
 
-  pub left_whole : WholeTape (tape_of s tt bt n)
-  left_whole = record { lent = ltb-false (capacity_of block block_most bt) n left_fits; rows = left_well }
+  pub left_whole : WholeTape (tape_of s tt bt d.blocks)
+  left_whole = record { lent = ltb-false (capacity_of block block_most bt) d.blocks left_fits; rows = left_well }

@@ -17,8 +17,8 @@ use Rattle.cut_grammar.specs.declared.TakenTap.TheVariants as tap
 use Rattle.cut_grammar.specs.declared.Heading.{Heading}
 use Rattle.cut_grammar.specs.declared.Heading.TheVariants as heading
 use Rattle.cut_grammar.specs.Cut.{cut_at, tap_at, head_at}
-use Rattle.load_state.specs.declared.Loop.{Loop}
-use Rattle.load_state.specs.declared.Loop.TheVariants.{Closed, Open}
+use Rattle.std.specs.Prelude.{Option, Some, None}
+use Rattle.load_state.specs.declared.Body.{Body}
 use Rattle.load_state.specs.declared.Halt.TheVariants.{Refusal, Length}
 use Rattle.load_state.specs.Parser.{Parsed, Out, on, no as halt, empty, ◌⟫◌, add_tones, add_block, pend, end_group, open_loop, copy_rows}
 use Rattle.load_state.specs.Parser.{copies, closed, close_loop}
@@ -98,10 +98,10 @@ unfolding copies
 copies_says most zero rs t = goes
 copies_says most (suc n) rs t = then_says (row_says most rs t) (λ u. copies_says most n rs u)
 
-pub closed_says : (most : ℕ) (l : Loop) (t : Parsed) → HaltsBy tones_full blocks_full (closed most l t)
+pub closed_says : (most : ℕ) (l : Option Body) (t : Parsed) → HaltsBy tones_full blocks_full (closed most l t)
 unfolding closed
-closed_says most Closed t = goes
-closed_says most (Open start times) t = copies_says most times _ _
+closed_says most None t = goes
+closed_says most (Some b) t = copies_says most b.times _ _
 
 module _ (lent : Lent) (s : List ℕ) where
   pub sound_says : (origin : Origin) (d : Sound) (t : Parsed) → HaltsBy tones_full blocks_full (add_sound lent s origin d t)

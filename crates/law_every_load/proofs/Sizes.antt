@@ -11,24 +11,24 @@ use lib.Seq.{get_or-take}
 use lib.Dec.{leb, eqb}
 use Rattle.law_base.proofs.Numbers.{lt_or_ge}
 use Rattle.law_base.specs.Rules.{◌⇒◌, ◌∣◌}
-use Rattle.cut_fields.specs.declared.Cursor.{Cursor}
-use Rattle.cut_fields.specs.declared.Cursor.TheVariants.{At}
-use Rattle.cut_fields.specs.declared.Cursor.TheVariants as cursor
-use Rattle.cut_fields.specs.Field.{le_at, number_at, field_at, place_of}
+use Rattle.std.specs.Prelude.{Ok, Err}
+use Rattle.cut_fields.specs.Field.{Cursor, short_at, le_at, number_at, field_at, place_of}
 use Rattle.cut_fields.proofs.Le.{le_small}
-use Rattle.cut_fields.proofs.Runs.{field_there, field-short}
+use Rattle.cut_fields.proofs.Runs.{field_there, field_short}
 use Rattle.cut_grammar.specs.declared.Piece.{Piece}
-use Rattle.cut_grammar.specs.declared.Body.{Body}
-use Rattle.cut_grammar.specs.declared.Body.TheVariants.{Whole, Unknown, Short, Overflow}
+use Rattle.cut_grammar.specs.declared.Whole.{Whole}
+use Rattle.cut_grammar.specs.declared.NotCut.{NotCut}
+use Rattle.cut_grammar.specs.declared.NotCut.TheVariants.{Overflow}
 use Rattle.cut_grammar.specs.declared.Taken.TheVariants as taken
 use Rattle.cut_grammar.specs.declared.TakenTap.{TakenTap}
 use Rattle.cut_grammar.specs.declared.TakenTap.TheVariants as tap
 use Rattle.cut_grammar.specs.Grammar.{Layout, number, counted, here, pass, within, fitting, whole, unknown, counted_at, pass_at, whole_at}
-use Rattle.cut_grammar.specs.Grammar.{sealed, enclosed, fitting_at, unknown_at, read_at}
+use Rattle.cut_grammar.specs.Grammar.{Body, whole_body, sealed, enclosed, fitting_at, unknown_at, read_at}
 use Rattle.cut_grammar.specs.Kinds.{kind10, kind11, kind12, kind13, kind14, stream19, kind19, kind20, kind21, kind22, kind24, kind25}
 use Rattle.cut_grammar.specs.Kinds.{kind_2a, kind30, kind31, info32, kind32, kind33, kind35, kind_5a, unread, kinds, kind_of}
 use Rattle.cut_grammar.specs.Cut.{taken_as, cut_at, tap_block, tap_at}
 use Rattle.cut_grammar.proofs.Layouts.{forward}
+use Rattle.cut_grammar.proofs.Bodies.{whole_same}
 use Rattle.cut_grammar.proofs.Cutting.{cut_there, cut_inside}
 use Rattle.cut_grammar.proofs.Others.{Every, no_more, ◌&◌, found_every, unnamed}
 use Rattle.cut_grammar.specs.Ends.{Ends, ends, none, short, wide, stuck}
@@ -47,25 +47,25 @@ number_small s b p w = by_cases (leb w 4)
 
 field_small : (s : List ℕ) → Bytes s → (c : Cursor) (w : ℕ) → (field_at s c w).value < 256 ^ w
 unfolding field_at
-field_small s b (At p) w =
+field_small s b (Ok p) w =
     ⊎_elim
-    (λ (t : length s < p + w). rw (field-short s w p t) (omega (arith, le_small s b p w)))
+    (λ (t : length s < p + w). rw (field_short s w p t) (omega (arith, le_small s b p w)))
     (λ (t : p + w ≤ length s). rw (field_there s w p t) (number_small s b p w))
     (lt_or_ge (length s) (p + w))
-field_small s b (cursor.Short p v) w = omega (arith, le_small s b p w)
+field_small s b (Err e) w = omega (arith, le_small s b 0 w)
 
 -- a field past which a cursor stands is inside the tape
-field-ends : (s : List ℕ) (c : Cursor) (w : ℕ) {e : ℕ} → (field_at s c w).cursor ≡ At e → place_of c + w ≤ length s
+field-ends : (s : List ℕ) (c : Cursor) (w : ℕ) {e : ℕ} → (field_at s c w).cursor ≡ Ok e → place_of c + w ≤ length s
 unfolding field_at place_of
-field-ends s (At p) w {e} q =
+field-ends s (Ok p) w {e} q =
     ⊎_elim
-    (λ (t : length s < p + w). let z : ◌≡◌ {A = Cursor} (cursor.Short p w) (At e) = sym (rw (field-short s w p t)) ∙ q in
-    absurd (let n : ◌≡◌ {A = ℕ} 0 1 = cc in omega arith))
+    (λ (t : length s < p + w). let z : ◌≡◌ {A = Cursor} (short_at p w) (Ok e) = sym (rw (field_short s w p t)) ∙ q in
+    absurd (cc))
     (λ (t : p + w ≤ length s). t)
     (lt_or_ge (length s) (p + w))
-field-ends s (cursor.Short p v) w q = absurd (let z : ◌≡◌ {A = ℕ} 0 1 = cc in omega arith)
+field-ends s (Err e) w q = absurd (cc)
 
-counted-inside : (s : List ℕ) (c : Cursor) (w : ℕ) {e : ℕ} → (counted_at s c w).cursor ≡ At e
+counted-inside : (s : List ℕ) (c : Cursor) (w : ℕ) {e : ℕ} → (counted_at s c w).cursor ≡ Ok e
     → (counted_at s c w).from + (counted_at s c w).size ≤ length s
 unfolding counted_at
 counted-inside s c w q = field-ends s (field_at s c w).cursor (field_at s c w).value q
@@ -74,7 +74,7 @@ counted_small : (s : List ℕ) → Bytes s → (c : Cursor) (w : ℕ) → (count
 unfolding counted_at
 counted_small s b c w = field_small s b c w
 
-counted_range : (s : List ℕ) → Bytes s → (c : Cursor) (w : ℕ) {most e : ℕ} → (counted_at s c w).cursor ≡ At e
+counted_range : (s : List ℕ) → Bytes s → (c : Cursor) (w : ℕ) {most e : ℕ} → (counted_at s c w).cursor ≡ Ok e
     → length s ≤ most → Range most (256 ^ w) (counted_at s c w).from (counted_at s c w).size
 counted_range s b c w q h = record { inside = omega (arith, counted-inside s c w q); small = counted_small s b c w }
 
@@ -89,54 +89,48 @@ take-bytes s b n i =
 
 -- an answer of which a whole piece has P
 data Gives (P : Piece → Type 0) : Body → Type 0 where
-  has : {x : Piece} {p : ℕ} → P x → Gives P (Whole x p)
-  not_known : {d : Bool} → Gives P (Unknown d)
-  too_short : {p w : ℕ} → Gives P (Short p w)
-  too_wide : {p : ℕ} → Gives P (Overflow p)
+  has : {x : Whole} → P x.piece → Gives P (Ok x)
+  nothing : {e : NotCut} → Gives P (Err e)
 
 module _ {P : Piece → Type 0} where
-  gives_piece : {b : Body} {x : Piece} {p : ℕ} → Gives P b → b ≡ Whole x p → P x
-  gives_piece {x = x} (has {x = y} h) e = let i : y ≡ x = cc in rw i at h
-  gives_piece not_known e = absurd (let z : ◌≡◌ {A = ℕ} 0 1 = cc in omega arith)
-  gives_piece too_short e = absurd (let z : ◌≡◌ {A = ℕ} 0 1 = cc in omega arith)
-  gives_piece too_wide e = absurd (let z : ◌≡◌ {A = ℕ} 0 1 = cc in omega arith)
+  gives_piece : {b : Body} {x : Piece} {p : ℕ} → Gives P b → b ≡ whole_body x p → P x
+  gives_piece (has h) e = let i = (whole_same e).0 in rw i at h
+  gives_piece nothing e = absurd (cc)
 
   -- a reading that came up short gives no piece
   gives_none : {n : ℕ} {b : Body} → Ends (n + 1) n b → Gives P b
   gives_none (ends h k) = absurd (omega arith)
-  gives_none none = not_known
-  gives_none short = too_short
-  gives_none wide = too_wide
+  gives_none none = nothing
+  gives_none short = nothing
+  gives_none wide = nothing
 
   whole_gives : (x : Piece) (c : Cursor) → P x → Gives P (whole_at x c)
   unfolding whole_at
-  whole_gives x (At p) h = has h
-  whole_gives x (cursor.Short p w) h = too_short
+  whole_gives x (Ok p) h = has h
+  whole_gives x (Err e) h = nothing
 
   unknown_gives : (described : Bool) (c : Cursor) → Gives P (unknown_at described c)
-  unknown_gives described (At p) = not_known
-  unknown_gives described (cursor.Short p w) = too_short
+  unknown_gives described (Ok p) = nothing
+  unknown_gives described (Err e) = nothing
 
   sealed_gives : (end : ℕ) {b : Body} → Gives P b → Gives P (sealed end b)
   unfolding sealed
   sealed_gives end (has h) = has h
-  sealed_gives end not_known = not_known
-  sealed_gives end too_short = too_short
-  sealed_gives end too_wide = too_wide
+  sealed_gives end nothing = nothing
 
   enclosed_gives : (inner : ℕ → Body) (c : Cursor) → ((end : ℕ) → Gives P (inner end)) → Gives P (enclosed inner c)
   unfolding enclosed
-  enclosed_gives inner (At end) h = sealed_gives end (h end)
-  enclosed_gives inner (cursor.Short p w) h = too_short
+  enclosed_gives inner (Ok end) h = sealed_gives end (h end)
+  enclosed_gives inner (Err e) h = nothing
 
   fitting_gives : (bits : ℕ) (c : Cursor) (rest : Body) → Gives P rest → Gives P (fitting_at bits c rest)
   unfolding fitting_at
-  fitting_gives bits (At p) rest h = by_cases (leb bits 4294967295)
+  fitting_gives bits (Ok p) rest h = by_cases (leb bits 4294967295)
     where
-      by_cases : (t : Bool) → Gives P (t ⇒ rest ∣ Overflow p)
+      by_cases : (t : Bool) → Gives P (t ⇒ rest ∣ Err (Overflow p))
       by_cases true = h
-      by_cases false = too_wide
-  fitting_gives bits (cursor.Short p w) rest h = h
+      by_cases false = nothing
+  fitting_gives bits (Err e) rest h = h
 
 -- A LAYOUT ALLOWS P: whatever numbers of their widths and ranges among the first `most` bytes it reads, its piece has P
 module _ (P : Piece → Type 0) (most : ℕ) where
@@ -158,8 +152,8 @@ module _ (P : Piece → Type 0) (most : ℕ) where
     where
       by_end : (d : Cursor) → (counted_at s c w).cursor ≡ d
           → Gives P (read_at (rest (counted_at s c w).from (counted_at s c w).size) s (counted_at s c w).cursor)
-      by_end (At e) q = go (counted_range s b c w q h)
-      by_end (cursor.Short p v) q =
+      by_end (Ok e) q = go (counted_range s b c w q h)
+      by_end (Err e) q =
           gives_none
           (forward (rest (counted_at s c w).from (counted_at s c w).size) s (length s + 1) (counted_at s c w).cursor (rw q stuck))
 
@@ -219,9 +213,9 @@ module _ (most : ℕ) where
   kinds_allow full kind = found_every (Allows (Numbers most) most) (kinds full) kind (unknown _) (each_allows full) tt
 
 module _ (s : List ℕ) (at : ℕ) {k a next : ℕ} {piece : Piece} (e : cut_at s at full ≡ taken.Whole k a next piece) where
-  body : read_at (kind_of full (get_or s at 0)) s (At (at + 1)) ≡ Whole piece next
+  body : read_at (kind_of full (get_or s at 0)) s (Ok (at + 1)) ≡ whole_body piece next
   body = unnamed (get_or s at 0)
-      at (read_at (kind_of full (get_or s at 0)) s (At (at + 1))) (sym (cut_there s at full (cut_inside s at full e)) ∙ e)
+      at (read_at (kind_of full (get_or s at 0)) s (Ok (at + 1))) (sym (cut_there s at full (cut_inside s at full e)) ∙ e)
 
   -- a piece is named by its own byte and place
   pub cut_named : cut_at s at full ≡ taken.Whole (get_or s at 0) at next piece
@@ -232,7 +226,7 @@ module _ (s : List ℕ) (at : ℕ) {k a next : ℕ} {piece : Piece} (e : cut_at 
   pub cut_sized : Bytes s → Sized s piece
   cut_sized b =
       let g = allowed (Numbers (length s)) (length s) (kind_of full (get_or s at 0)) (kinds_allow (length s) full (get_or s at 0)) s b
-      (le_refl (length s)) (At (at + 1)) in
+      (le_refl (length s)) (Ok (at + 1)) in
       record { numbers = gives_piece g body; fit = cut_fit s at piece b e }
 
 -- what a TAP gives of which a block has its range
@@ -244,14 +238,14 @@ data GivesTap (most : ℕ) : TakenTap → Type 0 where
 
 tap_gives : (s : List ℕ) → Bytes s → (at : ℕ) → GivesTap (length s) (tap_at s at)
 unfolding tap_at tap_block
-tap_gives s b at = by_cases (leb (length s) at) (eqb (at + 1) (length s)) (counted_at s (At at) 2).cursor refl
+tap_gives s b at = by_cases (leb (length s) at) (eqb (at + 1) (length s)) (counted_at s (Ok at) 2).cursor refl
   where
-    by_cases : (t u : Bool) (d : Cursor) → (counted_at s (At at) 2).cursor ≡ d
-        → GivesTap (length s) (t ⇒ tap.End ∣ u ⇒ tap.Lone ∣ tap_block (counted_at s (At at) 2) d)
+    by_cases : (t u : Bool) (d : Cursor) → (counted_at s (Ok at) 2).cursor ≡ d
+        → GivesTap (length s) (t ⇒ tap.End ∣ u ⇒ tap.Lone ∣ tap_block (counted_at s (Ok at) 2) d)
     by_cases true u d q = end
     by_cases false true d q = lone
-    by_cases false false (At e) q = block (counted_range s b (At at) 2 q (le_refl (length s)))
-    by_cases false false (cursor.Short p w) q = too_few
+    by_cases false false (Ok e) q = block (counted_range s b (Ok at) 2 q (le_refl (length s)))
+    by_cases false false (Err e) q = too_few
 
 -- what a block of a TAP is
 pub tap_sized : (s : List ℕ) (at : ℕ) {from size next : ℕ} → tap_at s at ≡ tap.Block from size next → Bytes s

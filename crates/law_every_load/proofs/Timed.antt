@@ -22,8 +22,8 @@ use Rattle.load_state.specs.Parser.{Parsed}
 use Rattle.load_state.proofs.Kept.{all_get}
 use Rattle.load_blocks.specs.Does.{lent_of}
 use Rattle.load_source.specs.Source.{load_of}
-use Rattle.load_tape.specs.declared.Format.{Format}
-use Rattle.load_tape.specs.declared.Loaded.TheVariants as loaded
+use Rattle.std.specs.Prelude.{Ok}
+use Rattle.load_tape.specs.declared.Loaded.{Loaded}
 use Rattle.load_tape.specs.Load.{load_named, Leaves}
 use Rattle.text_name.specs.Names.{name_all}
 use Rattle.text_name.proofs.Selecting.{name_all-length}
@@ -65,9 +65,9 @@ module _ (B N : ℕ) (s : List ℕ) (model : ℕ) {t : Parsed} (bytes : Bytes s)
   }
 
 -- A LOAD THAT LEFT n BLOCKS left a timed tape
-module _ (B N : ℕ) (s : List ℕ) (model : ℕ) {f : Format} {n k : ℕ} {bt tt : List ℕ} (b : Bytes s)
-    (l : Leaves B N (load_named (lent_of B N) s model) (loaded.Tape f n k) bt tt) where
-  pub left_timed : Timed (tape_of s tt bt n)
+module _ (B N : ℕ) (s : List ℕ) (model : ℕ) {d : Loaded} {bt tt : List ℕ} (b : Bytes s)
+    (l : Leaves B N (load_named (lent_of B N) s model) (Ok d) bt tt) where
+  pub left_timed : Timed (tape_of s tt bt d.blocks)
   left_timed =
       let q = left B N s model b l in
       subst Timed (sym (mounted-same s q.tones q.blocks q.count)) (loaded_timed B N s model b q.reads)

@@ -10,8 +10,7 @@ use Rattle.cut_fields.proofs.Le.{le_small}
 use Rattle.rows.specs.declared.Tone.{Tone}
 use Rattle.rows.specs.Well.{Halves}
 use Rattle.cut_grammar.specs.declared.GeneralizedData.{GeneralizedData}
-use Rattle.load_general.specs.declared.Row.{Row}
-use Rattle.load_general.specs.declared.Row.TheVariants.{Refused, Gives}
+use Rattle.std.specs.Prelude.{Option, Some, None}
 use Rattle.load_general.specs.General as general
 use Rattle.load_general.specs.General.{Symbol, symbol_at, Part, before, rows_from, cycles, entry_symbol, entry_repeat, entry_row, pilot_of}
 use Rattle.load_general.specs.General.{ordinary, used_bits, symbol_number, single_row, pair_row, singles_of, pairs_of, data_part, with_data}
@@ -21,9 +20,9 @@ use Rattle.load_state.specs.Kept.{All, nil, cons}
 use Rattle.law_every_load.specs.Sizes.{Bytes}
 
 -- rows, parts and pieces of which every tone is small
-data FineRow : Row → Type 0 where
-  refused : FineRow Refused
-  gives : {t : Tone} → Halves t → FineRow (Gives t)
+data FineRow : Option Tone → Type 0 where
+  refused : FineRow None
+  gives : {t : Tone} → Halves t → FineRow (Some t)
 
 data FinePart : Part → Type 0 where
   refused : FinePart general.refused
@@ -38,7 +37,7 @@ pub data Fine : general.Given → Type 0 where
   toned : {ts : List Tone} → All Halves ts → Fine (general.toned ts)
 
 -- a rule's answer has what both answers have
-either_row : (b : Bool) {x y : Row} → FineRow x → FineRow y → FineRow (b ⇒ x ∣ y)
+either_row : (b : Bool) {x y : Option Tone} → FineRow x → FineRow y → FineRow (b ⇒ x ∣ y)
 either_row true h k = h
 either_row false h k = k
 
@@ -46,14 +45,14 @@ either_part : (b : Bool) {x y : Part} → FinePart x → FinePart y → FinePart
 either_part true h k = h
 either_part false h k = k
 
-before_fine : {r : Row} {p : Part} → FineRow r → FinePart p → FinePart (before r p)
+before_fine : {r : Option Tone} {p : Part} → FineRow r → FinePart p → FinePart (before r p)
 unfolding before
 before_fine FineRow.refused k = FinePart.refused
 before_fine (gives h) FinePart.refused = FinePart.refused
 before_fine (gives h) stops = stops
 before_fine (gives h) (small k) = small (cons h k)
 
-rows_fine : {row : ℕ → Row} → ((i : ℕ) → FineRow (row i)) → (i n : ℕ) → FinePart (rows_from row i n)
+rows_fine : {row : ℕ → Option Tone} → ((i : ℕ) → FineRow (row i)) → (i n : ℕ) → FinePart (rows_from row i n)
 unfolding rows_from
 rows_fine h i zero = small nil
 rows_fine h i (suc n) = before_fine (h i) (rows_fine h (i + 1) n)

@@ -7,6 +7,7 @@ use mathlib.Core.Bool.{Bool, true, false}
 use mathlib.Core.List.{List, [], ◌∷◌}
 use lib.ListN.{length}
 use lib.Dec.{ltb, leb, eqb}
+use Rattle.std.specs.Prelude.{Option, None, Some}
 use Rattle.refusals.specs.Refusals.{tones_full, blocks_full}
 use Rattle.law_base.specs.Rules.{◌⇒◌, ◌∣◌}
 use Rattle.rows.specs.declared.Block.{Block}
@@ -21,8 +22,7 @@ use Rattle.cut_grammar.specs.declared.Taken.TheVariants as taken
 use Rattle.cut_grammar.specs.Cut.{cut_at}
 use Rattle.load_general.specs.General.{Given, refused4, stop, plain, toned, general_of}
 use Rattle.load_state.specs.declared.Halt.TheVariants.{Refusal}
-use Rattle.load_state.specs.declared.Loop.{Loop}
-use Rattle.load_state.specs.declared.Loop.TheVariants.{Closed, Open}
+use Rattle.load_state.specs.declared.Body.{Body}
 use Rattle.load_state.specs.Parser.{Parsed, Out, on, no, ◌⟫◌, with_tones, with_block, with_body, opened, add_tones, add_block, pend}
 use Rattle.load_state.specs.Parser.{end_group, open_loop}
 use Rattle.load_state.specs.Kept.{Sure, sure, none}
@@ -37,7 +37,7 @@ use Rattle.load_source.specs.Source.{act, full, thing, tzx_of, tzx_see}
 use Rattle.law_tzx.specs.Format.{PulseLength}
 use Rattle.law_tzx.specs.Kept.{Plays}
 use Rattle.law_tzx.specs.Departs.{repeated_lengths, source_times, Between, nothing_more, one_more}
-use Rattle.law_tzx.proofs.Loops.{loop_plays}
+use Rattle.law_tzx.proofs.Loops.{opened_at, loop_plays}
 
 -- a step that leaves the loop as it is
 abbrev Stays : Parsed → Out → Type 0
@@ -87,11 +87,11 @@ module _ (lent : Lent) (origin : Origin) (s : List ℕ) where
       by_length false c e = none
 
 -- a 24 in an open loop is ignored
-nested_same : (k m start n : ℕ) (l : Loop) → l ≡ Open start n → opened k m l ≡ l
-nested_same k m start n Closed e = absurd (let z : ◌≡◌ {A = ℕ} 0 1 = cc in omega arith)
-nested_same k m start n (Open p q) e = refl
+nested_same : (k m start n : ℕ) (l : Option Body) → l ≡ opened_at start n → opened k m l ≡ l
+nested_same k m start n None e = absurd (let z : ◌≡◌ {A = ℕ} 0 1 = cc in omega arith)
+nested_same k m start n (Some b) e = refl
 
-piece_stays : (lent : Lent) (origin : Origin) (s : List ℕ) (model start n : ℕ) (piece : Piece) (t : Parsed) → t.body ≡ Open start n
+piece_stays : (lent : Lent) (origin : Origin) (s : List ℕ) (model start n : ℕ) (piece : Piece) (t : Parsed) → t.body ≡ opened_at start n
     → (piece ≡ LoopEnd → ⊥) → Stays t (act lent s model origin piece t)
 unfolding act deed_of does pend end_group open_loop add_sounds
 piece_stays lent origin s model start n (Standard pause from size) t o h = sounds_stay lent origin s (_ ∷ []) t
@@ -116,8 +116,8 @@ piece_stays lent origin s model start n Glue t o h = sure refl
 module _ (lent : Lent) (s : List ℕ) (model start n : ℕ) where
   -- what stands at a place, no 25
   seen_stays : (at : ℕ) {next : ℕ} {d : Parsed → Out} {t u : Parsed} (x : Taken) → tzx_of lent s model at x ≡ thing next d
-      → ((kind from past : ℕ) → x ≡ taken.Whole kind from past LoopEnd → ⊥) → t.body ≡ Open start n → d t ≡ on u
-      → u.body ≡ Open start n
+      → ((kind from past : ℕ) → x ≡ taken.Whole kind from past LoopEnd → ⊥) → t.body ≡ opened_at start n → d t ≡ on u
+      → u.body ≡ opened_at start n
   unfolding tzx_of
   seen_stays at taken.End e h o q = absurd (let z : ◌≡◌ {A = ℕ} 0 1 = cc in omega arith)
   seen_stays at {d = d} {t} {u} (taken.Whole kind from past piece) e h o q =
@@ -133,25 +133,25 @@ module _ (lent : Lent) (s : List ℕ) (model start n : ℕ) where
   seen_stays at (taken.Short kind p w) e h o q = absurd (let z : ◌≡◌ {A = ℕ} 0 1 = cc in omega arith)
   seen_stays at (taken.Overflow kind p) e h o q = absurd (let z : ◌≡◌ {A = ℕ} 0 1 = cc in omega arith)
 
-  between_stays : {at end : ℕ} {t u : Parsed} → Between lent s model at t end u → t.body ≡ Open start n
-      → u.body ≡ Open start n
+  between_stays : {at end : ℕ} {t u : Parsed} → Between lent s model at t end u → t.body ≡ opened_at start n
+      → u.body ≡ opened_at start n
   unfolding tzx_see
   between_stays nothing_more o = o
   between_stays (one_more {at = at} e h q rest) o = between_stays rest (seen_stays at (cut_at s at full) e h o q)
 
 -- a 24 where no loop is open
-opens : {start n : ℕ} {l : Loop} → l ≡ Closed → opened start n l ≡ Open start n
+opens : {start n : ℕ} {l : Option Body} → l ≡ None → opened start n l ≡ opened_at start n
 opens {start} {n} e = ap (opened start n) e
 
 -- THE THEOREM: a 24 of n where no loop is open, then pieces but no 25, then a 25: what they played is played n + 1 times
 pub every_loop : (lent : Lent) (s : List ℕ) (model n next end : ℕ) (first last : Origin) (ls : List PulseLength) (t t₀ u : Parsed)
-    → t.body ≡ Closed → act lent s model first (LoopStart n) t ≡ on t₀ → Between lent s model next t₀ end u
+    → t.body ≡ None → act lent s model first (LoopStart n) t ≡ on t₀ → Between lent s model next t₀ end u
     → Plays s ls t₀ u
     → Sure (Plays s (repeated_lengths (source_times n) ls) t₀) (act lent s model last LoopEnd u)
 unfolding act deed_of does open_loop
 every_loop lent s model n next end first last ls t t₀ u c e b p =
     let i : with_body (opened (length t.blocks) n t.body) t ≡ t₀ = cc in
     let bs : t.blocks ≡ t₀.blocks = ap (λ (v : Parsed). v.blocks) i in
-    let o : t₀.body ≡ Open (length t.blocks) n = ap (λ (v : Parsed). v.body) (sym i) ∙ opens c in
-    let w : t₀.body ≡ Open (length t₀.blocks) n = o ∙ ap (λ (l : List Block). Open (length l) n) bs in
+    let o : t₀.body ≡ opened_at (length t.blocks) n = ap (λ (v : Parsed). v.body) (sym i) ∙ opens c in
+    let w : t₀.body ≡ opened_at (length t₀.blocks) n = o ∙ ap (λ (l : List Block). opened_at (length l) n) bs in
     loop_plays lent last s model n ls t₀ u (between_stays lent s model (length t₀.blocks) n b w) p

@@ -7,13 +7,13 @@ use mathlib.Core.Bool.{Bool, true, false, ◌&&◌, ◌||◌, not}
 use mathlib.Core.List.{List, [], ◌∷◌, ◌++◌, append-nil}
 use lib.Dec.{ltb, leb, eqb}
 use borrow.Author.Tests.{ltb-true, lt-ltb, lt-leb, eqb-true, eqb-false, eq-eqb, ne_eqb}
+use Rattle.std.specs.Prelude.{Option, None, Some}
 use Rattle.law_base.specs.Rules.{◌⇒◌, ◌∣◌}
 use Rattle.law_base.proofs.Tests.{first, second, other}
 use Rattle.cut_grammar.specs.declared.GeneralizedData.{GeneralizedData}
 use Rattle.cut_grammar.specs.Grammar.{binary_digits, bits_of}
 use Rattle.cut_grammar.specs.Places.{Places}
-use Rattle.load_general.specs.declared.Row.{Row}
-use Rattle.load_general.specs.declared.Row.TheVariants.{Refused, Gives}
+use Rattle.rows.specs.declared.Tone.{Tone}
 use Rattle.load_general.specs.General.{Symbol, symbol_at, plain_tone, refused, stops, tones, rows_from, cycles, entry_symbol, entry_repeat}
 use Rattle.load_general.specs.General.{entry_row, pilot_of, equal_halves, ordinary, used_bits, symbol_number, single_row, pair_row, singles_of}
 use Rattle.load_general.specs.General.{pairs_of, data_part}
@@ -45,16 +45,16 @@ none-heard f n e = ap (λ (k : ℕ). long (each f 0 k)) (sym e)
 
 -- a symbol below an alphabet of two gives its pulses
 given_two : (s : List ℕ) (place n y : ℕ) → y < 2
-    → (leb 2 y ⇒ Refused ∣ Gives (plain_tone 1 (symbol_at s place n y).first (symbol_at s place n y).second))
-    ≡ Gives (plain_tone 1 (first_pulse s place n y) (second_pulse s place n y))
+    → (leb 2 y ⇒ None ∣ Some (plain_tone 1 (symbol_at s place n y).first (symbol_at s place n y).second))
+    ≡ Some (plain_tone 1 (first_pulse s place n y) (second_pulse s place n y))
 given_two s place n y l =
-    rw (lt-leb 2 y l) (ap₂ (λ (a b : ℕ). Gives (plain_tone 1 a b)) (first-same s place n y) (second_same s place n y))
+    rw (lt-leb 2 y l) (ap₂ (λ (a b : ℕ). Some (plain_tone 1 a b)) (first-same s place n y) (second_same s place n y))
 
 given_pair : (s : List ℕ) (place n y z : ℕ) → y < 2 → z < 2
-    → (leb 2 y ⇒ Refused ∣ leb 2 z ⇒ Refused ∣ Gives (plain_tone 1 (symbol_at s place n y).first (symbol_at s place n z).first))
-    ≡ Gives (plain_tone 1 (first_pulse s place n y) (first_pulse s place n z))
+    → (leb 2 y ⇒ None ∣ leb 2 z ⇒ None ∣ Some (plain_tone 1 (symbol_at s place n y).first (symbol_at s place n z).first))
+    ≡ Some (plain_tone 1 (first_pulse s place n y) (first_pulse s place n z))
 given_pair s place n y z l m =
-    rw (lt-leb 2 y l, lt-leb 2 z m) (ap₂ (λ (a b : ℕ). Gives (plain_tone 1 a b)) (first-same s place n y) (first-same s place n z))
+    rw (lt-leb 2 y l, lt-leb 2 z m) (ap₂ (λ (a b : ℕ). Some (plain_tone 1 a b)) (first-same s place n y) (first-same s place n z))
 
 -- one pulse alone
 one_heard : (s : List ℕ) (place y : ℕ) → long (first_pulse s place 1 y ∷ []) ≡ long (wave_of s place 1 y)
@@ -196,8 +196,8 @@ module _ (s : List ℕ) (g : GeneralizedData) where
     unfolding single_row symbol_pulses kept_symbol each
     single_wave i n e =
         let y = data_number s g i in
-        let row : ℕ → ℕ → ℕ → Row = λ asd npd b. leb asd b ⇒ Refused
-        ∣ Gives (plain_tone 1 (symbol_at s g.symbols npd b).first (symbol_at s g.symbols npd b).second) in
+        let row : ℕ → ℕ → ℕ → Option Tone = λ asd npd b. leb asd b ⇒ None
+        ∣ Some (plain_tone 1 (symbol_at s g.symbols npd b).first (symbol_at s g.symbols npd b).second) in
         let a = first_pulse s g.symbols 2 y in
         let b = second_pulse s g.symbols 2 y in
         let same : symbol_number s g (i * g.nb) 0 ≡ y = single_bit s g d.bits i ∙ sym (number_bit s g d.bits i) in
@@ -215,8 +215,8 @@ module _ (s : List ℕ) (g : GeneralizedData) where
     pair_wave i n =
         let y = data_number s g (2 * i) in
         let z = data_number s g (2 * i + 1) in
-        let row : ℕ → ℕ → ℕ → ℕ → Row = λ asd npd b c. leb asd b ⇒ Refused ∣ leb asd c ⇒ Refused
-        ∣ Gives (plain_tone 1 (symbol_at s g.symbols npd b).first (symbol_at s g.symbols npd c).first) in
+        let row : ℕ → ℕ → ℕ → ℕ → Option Tone = λ asd npd b c. leb asd b ⇒ None ∣ leb asd c ⇒ None
+        ∣ Some (plain_tone 1 (symbol_at s g.symbols npd b).first (symbol_at s g.symbols npd c).first) in
         let p : symbol_number s g (2 * i * g.nb) 0 ≡ y = single_bit s g d.bits (2 * i) ∙ sym (number_bit s g d.bits (2 * i)) in
         let q : symbol_number s g (2 * i * g.nb) 1 ≡ z = second_bit s g d.bits i ∙ sym (number_bit s g d.bits (2 * i + 1)) in
         record {

@@ -6,6 +6,7 @@ use mathlib.Core.Bool.{Bool, true, false}
 use mathlib.Core.List.{List, [], ◌∷◌, ◌++◌, append-nil}
 use lib.ListN.{length, get_or}
 use lib.Dec.{eqb}
+use Rattle.std.specs.Prelude.{Result, Ok}
 use Rattle.law_base.specs.Rules.{◌⇒◌, ◌∣◌}
 use Rattle.law_pulses.specs.Play.{Entry}
 use Rattle.law_pulses.specs.Runs.{run}
@@ -21,9 +22,11 @@ use Rattle.text_name.specs.Names.{is_header, unselected, name_one, name_all}
 use Rattle.load_state.specs.Parser.{Parsed, empty}
 use Rattle.load_blocks.specs.Does.{lent_of}
 use Rattle.load_source.specs.Source.{Load, tzx, tapped, both_err, no, load_of}
-use Rattle.load_tape.specs.declared.Format.TheVariants.{Tzx}
-use Rattle.load_tape.specs.declared.Loaded.TheVariants as answer
-use Rattle.load_tape.specs.Load.{named_tape, named_load, load_named, answer_of, block_table, tone_table, Leaves}
+use Rattle.load_tape.specs.declared.Format.{Format}
+use Rattle.load_tape.specs.declared.Format.TheVariants.{Tap, Tzx}
+use Rattle.load_tape.specs.declared.Loaded.{Loaded}
+use Rattle.load_tape.specs.declared.NotLoaded.{NotLoaded}
+use Rattle.load_tape.specs.Load.{named_tape, named_load, load_named, answer_of, block_table, tone_table, Leaves, loaded_of}
 use Rattle.law_tzx.specs.Format.{PulseLength, lasting}
 use Rattle.law_tzx.specs.Kept.{lengths, entries_from, Plays}
 use Rattle.law_tzx.specs.Tapes.{kept_tape, format_tape}
@@ -63,11 +66,22 @@ record Left (B N : ℕ) (s : List ℕ) (a : Load) (n : ℕ) (bt tt : List ℕ) :
   blocks : bt ≡ table_of block (name_all s false tape.blocks) B
   tones : tt ≡ table_of tone tape.tones N
 
-left_tzx : {B N : ℕ} (s : List ℕ) (a : Load) {n k : ℕ} {bt tt : List ℕ} → Leaves B N (named_load s a) (answer.Tape Tzx n k) bt tt
+-- answers that are one tell one format and one count
+answered : (f g : Format) (n m k j : ℕ)
+    → ◌≡◌ {A = Result Loaded NotLoaded} (Ok (loaded_of f n k)) (Ok (loaded_of g m j)) → (f ≡ g) × (n ≡ m)
+answered f g n m k j e =
+    let r : loaded_of f n k ≡ loaded_of g m j = cc in
+    (ap (λ (d : Loaded). d.format) r, ap (λ (d : Loaded). d.blocks) r)
+
+left_tzx : {B N : ℕ} (s : List ℕ) (a : Load) {n k : ℕ} {bt tt : List ℕ} → Leaves B N (named_load s a) (Ok (loaded_of Tzx n k)) bt tt
     → Left B N s a n bt tt
 unfolding named_load named_tape answer_of block_table tone_table
-left_tzx s (tzx t) l = let e = l.answer in record { tape = t; read = refl; count = cc; blocks = l.blocks; tones = l.tones }
-left_tzx s (tapped t) l = let e = l.answer in absurd (let z : ◌≡◌ {A = ℕ} 0 1 = cc in omega arith)
+left_tzx s (tzx t) {n} {k} l =
+    let c = answered Tzx Tzx n (length (name_all s false t.blocks)) k (length t.tones) l.answer in
+    record { tape = t; read = refl; count = c.1; blocks = l.blocks; tones = l.tones }
+left_tzx s (tapped t) {n} {k} l =
+    let e = (answered Tzx Tap n (length (name_all s false t.blocks)) k (length t.tones) l.answer).0 in
+    absurd (let z : ◌≡◌ {A = ℕ} 0 1 = cc in omega arith)
 left_tzx s (both_err f g) l = let e = l.answer in absurd (let z : ◌≡◌ {A = ℕ} 0 1 = cc in omega arith)
 left_tzx s (no j) l = let e = l.answer in absurd (let z : ◌≡◌ {A = ℕ} 0 1 = cc in omega arith)
 
@@ -93,7 +107,7 @@ whole-plays {s} {ls} {t} p N =
 
 -- WHAT A LOAD LEAVES: the list of the mounted tape, in lengths, is what the format plays
 pub load_keeps : (B N : ℕ) (s : List ℕ) (model : ℕ) {n k : ℕ} {bt tt : List ℕ}
-    → Leaves B N (load_named (lent_of B N) s model) (answer.Tape Tzx n k) bt tt → kept_tape s ≡ true
+    → Leaves B N (load_named (lent_of B N) s model) (Ok (loaded_of Tzx n k)) bt tt → kept_tape s ≡ true
     → lasting (lengths (list_from (tape_of s tt bt n) 0)) ≡ lasting (format_tape (eqb model 0) s)
 unfolding load_named
 load_keeps B N s model {n} {k} {bt} {tt} l e =

@@ -7,6 +7,7 @@ use mathlib.Core.List.{List, [], ◌∷◌, ◌++◌, append_assoc, append-nil}
 use lib.ListN.{length, drop, length-append}
 use lib.Seq.{drop_at}
 use lib.Dec.{ltb}
+use Rattle.std.specs.Prelude.{Option, None, Some}
 use Rattle.refusals.specs.Refusals.{blocks_full}
 use Rattle.law_base.specs.Rules.{◌⇒◌, ◌∣◌}
 use Rattle.law_pulses.specs.Play.{Entry}
@@ -17,8 +18,7 @@ use Rattle.rows.specs.declared.Tone.{Tone}
 use Rattle.play_entries.specs.Entries.{Label}
 use Rattle.cut_grammar.specs.declared.Piece.TheVariants.{LoopEnd}
 use Rattle.load_state.specs.declared.Halt.TheVariants.{Refusal}
-use Rattle.load_state.specs.declared.Loop.{Loop}
-use Rattle.load_state.specs.declared.Loop.TheVariants.{Closed, Open}
+use Rattle.load_state.specs.declared.Body.{Body}
 use Rattle.load_state.specs.Parser.{Parsed, on, no, named, nameless, with_block, with_body, add_block, copy_rows, copies}
 use Rattle.load_state.specs.Parser.{closed, close_loop}
 use Rattle.load_state.specs.Kept.{Sure, sure, none}
@@ -105,19 +105,23 @@ module _ (s : List ℕ) (ls : List PulseLength) (rs : List Block) where
       sure_then (copies most n rs) (copied_rows s most rs t) (λ u p.
       sure_also (λ v q. plays_then (copied_plays h p) q) (copies_play most n u (subst Heard (sym p.under) h)))
 
+-- a loop that is open: its body begins at a block, and its end adds so many more
+abbrev pub opened_at : ℕ → ℕ → Option Body
+opened_at start times = Some (record { start = start; times = times })
+
 -- WHAT A LOOP'S END ADDS: n further copies of the body, which stands from block `start` on
 pub end_plays : (lent : Lent) (origin : Origin) (s : List ℕ) (model start n : ℕ) (ls : List PulseLength) (u : Parsed)
-    → u.body ≡ Open start n
+    → u.body ≡ opened_at start n
     → Heard s ls (drop start u.blocks) u.tones → Sure (Plays s (repeated_lengths n ls) u) (act lent s model origin LoopEnd u)
 unfolding act deed_of does close_loop closed
 end_plays lent origin s model start n ls u e h =
-    subst (Sure (Plays s (repeated_lengths n ls) u)) (sym (ap (λ (l : Loop). closed lent.blocks l u) e))
+    subst (Sure (Plays s (repeated_lengths n ls) u)) (sym (ap (λ (l : Option Body). closed lent.blocks l u) e))
     (sure_also (λ v p. record { blocks = p.blocks; tones = p.tones; added = p.added; under = p.under; plays = p.plays })
-    (copies_play s ls (drop start u.blocks) lent.blocks n (with_body Closed u) h))
+    (copies_play s ls (drop start u.blocks) lent.blocks n (with_body None u) h))
 
 -- A LOOP OF n, which began at the tape t: what was played since, one body, is played n + 1 times when the loop has ended
 pub loop_plays : (lent : Lent) (origin : Origin) (s : List ℕ) (model n : ℕ) (ls : List PulseLength) (t u : Parsed)
-    → u.body ≡ Open (length t.blocks) n → Plays s ls t u
+    → u.body ≡ opened_at (length t.blocks) n → Plays s ls t u
     → Sure (Plays s (repeated_lengths (source_times n) ls) t) (act lent s model origin LoopEnd u)
 unfolding repeated_lengths source_times
 loop_plays lent origin s model n ls t u e p =

@@ -6,12 +6,11 @@ use mathlib.Core.Bool.{Bool, true, false, not}
 use mathlib.Core.List.{List, [], ◌∷◌, ◌++◌}
 use lib.Dec.{ltb, eqb}
 use borrow.Author.Tests.{ltb-true, eqb-true, eqb-false, ne_eqb}
+use Rattle.std.specs.Prelude.{Option, Some}
 use Rattle.law_base.specs.Rules.{◌⇒◌, ◌∣◌}
 use Rattle.law_base.proofs.Tests.{first, second}
 use Rattle.cut_fields.specs.Field.{le_at}
 use Rattle.rows.specs.declared.Tone.{Tone}
-use Rattle.load_general.specs.declared.Row.{Row}
-use Rattle.load_general.specs.declared.Row.TheVariants.{Gives}
 use Rattle.load_general.specs.General.{symbol_at, plain_tone, Part, tones, before, rows_from, cycles}
 use Rattle.law_tzx.specs.Format.{PulseLength, each, again, wave_from, symbol_pulse, wave_of, every, lasting}
 use Rattle.law_tzx.specs.Kept.{even_count, first_pulse, second_pulse, whole_wave, kept_times}
@@ -34,9 +33,9 @@ every_of f p zero h = refl
 every_of f p (suc n) h = rw (h p (omega arith) (omega arith)) (every_of f (p + 1) n (λ i l k. h i (omega arith) (omega arith)))
 
 -- a row that gives a tone of this wave
-pub record Waves (row : Row) (w : List ℕ) : Type 0 where
+pub record Waves (row : Option Tone) (w : List ℕ) : Type 0 where
   pub tone : Tone
-  pub given : row ≡ Gives tone
+  pub given : row ≡ Some tone
   pub heard : long (wave_in tone) ≡ long w
 
 -- a part that is tones of this wave
@@ -46,7 +45,7 @@ pub record Parts (part : Part) (w : List ℕ) : Type 0 where
   pub heard : long (waves_of rows) ≡ long w
 
 -- ROWS ONE AFTER THE OTHER
-pub rows_wave : (row : ℕ → Row) (f : ℕ → List ℕ) (p n : ℕ) → ((i : ℕ) → p ≤ i → i < p + n → Waves (row i) (f i))
+pub rows_wave : (row : ℕ → Option Tone) (f : ℕ → List ℕ) (p n : ℕ) → ((i : ℕ) → p ≤ i → i < p + n → Waves (row i) (f i))
     → Parts (rows_from row p n) (each f p n)
 unfolding rows_from before each waves_of
 rows_wave row f p zero h = record { rows = []; given = refl; heard = refl }

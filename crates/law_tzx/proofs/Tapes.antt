@@ -6,17 +6,16 @@ use mathlib.Core.Bool.{Bool, true, false, ◌&&◌, not}
 use mathlib.Core.List.{List, []}
 use lib.ListN.{length, get_or}
 use lib.Dec.{leb, ltb, eqb}
+use Rattle.std.specs.Prelude.{Ok, Err}
 use Rattle.refusals.specs.Refusals.{bad_model, tape_long, last_bits}
 use Rattle.law_base.specs.Rules.{◌⇒◌, ◌∣◌}
 use Rattle.law_base.proofs.Tests.{first, second}
-use Rattle.cut_fields.specs.declared.Cursor.TheVariants.{At}
-use Rattle.cut_grammar.specs.declared.Body.{Body}
-use Rattle.cut_grammar.specs.declared.Body.TheVariants as body
+use Rattle.cut_grammar.specs.declared.NotCut.TheVariants as not_cut
 use Rattle.cut_grammar.specs.declared.Taken.{Taken}
 use Rattle.cut_grammar.specs.declared.Taken.TheVariants as taken
 use Rattle.cut_grammar.specs.declared.Heading.{Heading}
 use Rattle.cut_grammar.specs.declared.Heading.TheVariants as heading
-use Rattle.cut_grammar.specs.Grammar.{read_at}
+use Rattle.cut_grammar.specs.Grammar.{Body, read_at}
 use Rattle.cut_grammar.specs.Kinds.{kind_of}
 use Rattle.cut_grammar.specs.Cut.{taken_as, cut_at, head_at}
 use Rattle.load_state.specs.declared.Halt.TheVariants.{Refusal, Length}
@@ -68,20 +67,20 @@ went k (none {k = Length kind at n}) e = absurd (let z : ◌≡◌ {A = ℕ} 0 1
 -- the end is the end to both
 named-on : (kind at : ℕ) (b : Body) → taken_as kind at b ≡ taken.End → ⊥
 unfolding taken_as
-named-on kind at (body.Whole piece next) e = let z : ◌≡◌ {A = ℕ} 0 1 = cc in omega arith
-named-on kind at (body.Unknown described) e = let z : ◌≡◌ {A = ℕ} 0 1 = cc in omega arith
-named-on kind at (body.Short p w) e = let z : ◌≡◌ {A = ℕ} 0 1 = cc in omega arith
-named-on kind at (body.Overflow p) e = let z : ◌≡◌ {A = ℕ} 0 1 = cc in omega arith
+named-on kind at (Ok x) e = let z : ◌≡◌ {A = ℕ} 0 1 = cc in omega arith
+named-on kind at (Err (not_cut.Unknown described)) e = let z : ◌≡◌ {A = ℕ} 0 1 = cc in omega arith
+named-on kind at (Err (not_cut.Short x)) e = let z : ◌≡◌ {A = ℕ} 0 1 = cc in omega arith
+named-on kind at (Err (not_cut.Overflow p)) e = let z : ◌≡◌ {A = ℕ} 0 1 = cc in omega arith
 
 end_same : (s : List ℕ) (at : ℕ) → cut_at s at source.full ≡ taken.End → format_cut s at ≡ taken.End
 unfolding cut_at
 end_same s at e = by_cases (leb (length s) at) e
   where
     by_cases : (b : Bool)
-        → (b ⇒ taken.End ∣ taken_as (get_or s at 0) at (read_at (kind_of source.full (get_or s at 0)) s (At (at + 1)))) ≡ taken.End
-        → (b ⇒ taken.End ∣ taken_as (get_or s at 0) at (read_at (layout_of (get_or s at 0)) s (At (at + 1)))) ≡ taken.End
+        → (b ⇒ taken.End ∣ taken_as (get_or s at 0) at (read_at (kind_of source.full (get_or s at 0)) s (Ok (at + 1)))) ≡ taken.End
+        → (b ⇒ taken.End ∣ taken_as (get_or s at 0) at (read_at (layout_of (get_or s at 0)) s (Ok (at + 1)))) ≡ taken.End
     by_cases true q = refl
-    by_cases false q = absurd (named-on (get_or s at 0) at (read_at (kind_of source.full (get_or s at 0)) s (At (at + 1))) q)
+    by_cases false q = absurd (named-on (get_or s at 0) at (read_at (kind_of source.full (get_or s at 0)) s (Ok (at + 1))) q)
 
 module _ (lent : Lent) (s : List ℕ) (model : ℕ) where
   -- one piece, then the others

@@ -1,8 +1,7 @@
 -- THE PIECE THAT THE FORMAT CUTS at a place. Its rows are the grammar's, with an alphabet size of 0 meaning 256; but a 19 is as long as its
 -- length says, which the source reading makes no use of. Definitions alone; assumes nothing.
-use Rattle.std.specs.Prelude.{ℕ, ◌+◌, List, length, get_or, leb, eqb}
+use Rattle.std.specs.Prelude.{ℕ, ◌+◌, List, length, get_or, leb, eqb, Ok}
 use Rattle.law_base.specs.Rules.{◌⇒◌, ◌∣◌}
-use Rattle.cut_fields.specs.declared.Cursor.TheVariants.{At}
 use Rattle.cut_grammar.specs.declared.Taken.{Taken}
 use Rattle.cut_grammar.specs.declared.Taken.TheVariants as taken
 use Rattle.cut_grammar.specs.Grammar.{Layout, number, within, read_at}
@@ -21,4 +20,4 @@ layout_of kind = eqb kind 0x19 ⇒ layout19 ∣ kind_of format_full kind
 abbrev pub format_cut : List ℕ → ℕ → Taken
 format_cut s at =
     leb (length s) at ⇒ taken.End
-    ∣ taken_as (get_or s at 0) at (read_at (layout_of (get_or s at 0)) s (At (at + 1)))
+    ∣ taken_as (get_or s at 0) at (read_at (layout_of (get_or s at 0)) s (Ok (at + 1)))

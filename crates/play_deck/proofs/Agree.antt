@@ -1,4 +1,6 @@
 -- DEMAND 3's CLAUSE on the source's play, on the answers that both players give. Assumes nothing.
+use Rattle.std.specs.Prelude.{Result}
+use Rattle.play_walk.specs.declared.Fault.{Fault}
 use Prim.Native.Nat.{ℕ, ◌+◌, ◌<◌}
 use native.Mathlib.Omega.{arith}
 use mathlib.Core.Path.{◌≡◌, sym, ap, ap₂, ◌∙◌}
@@ -28,7 +30,7 @@ module _ (w : Tape) (whole : WholeTape w) (q : Position) (n : ℕ) (ms : List �
   calls_place : ahead w (position_in q (run_calls w q n ms)) ≡ (calls (ahead w q) n ms).place
   unfolding answer
   calls_place =
-      ap (λ (r : Reached). ahead w (position_in q r)) (cut_at_will w whole q n ms v p h)
+      ap (λ (r : Result Reached Fault). ahead w (position_in q r)) (cut_at_will w whole q n ms v p h)
       ∙ (play_place w whole q (n + sum ms) v (omega arith)).0
       ∙ sym (ap (λ (a : Answer Label). a.place) (any_cut (ahead w q) n ms h))
 

@@ -1,7 +1,9 @@
 -- WHAT A POSITION COMES TO, way by way: the checks from what the code found out, and the level there. Assumes nothing.
-use Prim.Native.Nat.{ℕ, ◌+◌, ◌≤◌, ◌<◌, min}
+use Rattle.std.specs.Prelude.{Ok, Err}
+use Rattle.play_walk.specs.Heads.{came}
+use Prim.Native.Nat.{ℕ, ◌+◌, ◌*◌, ◌≤◌, ◌<◌, min}
 use native.Mathlib.Omega.{arith}
-use borrow.Author.Tests.{lt-ltb, le-ltb}
+use borrow.Author.Tests.{lt-ltb, le-ltb, ltb-false}
 use mathlib.Core.Path.{◌≡◌, refl, sym, ap, subst, ◌∙◌}
 use mathlib.Core.Bool.{Bool, true, false, ◌&&◌}
 use mathlib.Core.Logic.{⊎_elim}
@@ -15,46 +17,36 @@ use Rattle.rows.specs.Table.{capacity_of}
 use Rattle.rows.specs.Rows.{tone, tone_most, block, block_most}
 use Rattle.rows.specs.Well.{well_tones, well_numbers, well_block}
 use Rattle.rows.specs.declared.Block.{Block}
-use Rattle.rows.proofs.WellLaws.{ranges_inside}
+use Rattle.rows.proofs.WellLaws.{ranges_inside, tones_lent}
 use Rattle.rows_well.specs.Seen.{seen_from, seen_of}
 use Rattle.rows_well.specs.Words.{well_words}
 use Rattle.rows_well.proofs.WordsLaws.{words_tones, words_clauses}
 use Rattle.play_entries.specs.declared.Phase.{Phase}
 use Rattle.play_entries.specs.declared.Duration.TheVariants.{T, Endless}
 use Rattle.play_entries.specs.Entries.{is_source}
-use Rattle.play_entries.specs.Places.{Tape, block_in, has_entry, length_at, remains, level_at, level_in}
-use Rattle.play_entries.specs.Mounted.{tape_size, well_row}
+use Rattle.play_entries.specs.Places.{Tape, block_in, has_entry, length_at, remains, level_in}
+use Rattle.play_entries.specs.Mounted.{tape_size, overfull, well_row}
+use Rattle.play_entries.proofs.Sourced.{source_levels}
+use Rattle.play_entries.specs.declared.Duration.{Duration}
+use Rattle.play_walk.specs.Heads.{how_left}
+use Rattle.play_walk.specs.declared.Fault.{Fault}
+use Rattle.std.specs.Prelude.{Result, Ok}
 use Rattle.play_voice.specs.declared.Heard.{Heard}
 use Rattle.play_voice.specs.Voice.{rows_below, silence, heard_to, ToldSeen, row_at}
 use Rattle.play_walk.specs.declared.Position.{Position}
-use Rattle.play_walk.specs.declared.Reached.TheVariants.{At, Stopped}
+use Rattle.play_walk.specs.declared.How.TheVariants.{At, Stopped}
 use Rattle.play_walk.specs.Heads.{stand}
-use Rattle.play_deck.specs.declared.Check.{Check}
-use Rattle.play_deck.specs.declared.Check.TheVariants.{Fine, NotValid, NotFormed}
+use Rattle.play_walk.specs.declared.Fault.TheVariants.{NotValid, NotFormed}
 use Rattle.play_deck.specs.declared.Finding.{Finding}
-use Rattle.play_deck.specs.Deck.{at_start, judged, stays}
-use Rattle.play_deck.specs.Assay.{passes, fine_if, verdict_of, ready_row, level_there, Assayed, Lending, Sounded}
-use Rattle.play_deck.proofs.Checks.{judged-over, judged_start, judged-past, judged-bad, judged-not, judged_fine, fine_none}
+use Rattle.play_deck.specs.Deck.{all_fine, at_start, judged, stays}
+use Rattle.play_deck.specs.Assay.{past_found, source_found, heard_in, ready_row, level_there, Assayed, Found, Lending, Sounded}
+use Rattle.play_deck.proofs.Checks.{judged_start, judged-past, judged-bad, judged-not, judged_fine, fine_none}
 use Rattle.play_deck.proofs.Checks.{stays_at, stays-past, stays-endless}
 
 -- nothing heard is told
 told-silence : (tones blocks : List ℕ) → ToldSeen tones blocks silence
 unfolding seen_from
 told-silence tones blocks = refl
-
--- checks that are passed
-pub fine_of : (c : Check) → passes c ≡ true → c ≡ Fine
-unfolding passes
-fine_of Fine e = refl
-fine_of NotValid e = cc
-fine_of NotFormed e = cc
-
--- two checks that differ
-unformed : NotFormed ≡ Fine → ⊥
-unformed e = let z : ◌≡◌ {A = ℕ} 0 1 = cc in omega arith
-
-invalid : NotValid ≡ Fine → ⊥
-invalid e = let z : ◌≡◌ {A = ℕ} 0 1 = cc in omega arith
 
 -- A ROW THAT MAY BE GONE ON WITH
 module _ (tape : ℕ) (tones : List ℕ) (r : Block) where
@@ -97,96 +89,86 @@ module _ (tape : ℕ) (tones : List ℕ) (r : Block) where
       by_sort true x = x
       by_sort false x = rw (words_tones tape tones r, x)
 
-module _ (w : Tape) (q : Position) where
-  -- a check that tells no level
-  pub assayed_silent : (c : Check) → judged w q ≡ c → (c ≡ Fine → level_there w q ≡ low) → (a : Finding)
-      → a ≡ verdict_of c low silence → Assayed w q a
-  assayed_silent c j l a e =
-      subst (Assayed w q) (sym e) (record { check = sym j; level = λ f. sym (l f); told = told-silence w.tones w.blocks })
+pub count_fits : (w : Tape) → overfull w ≡ false → w.count ≤ capacity_of block block_most w.blocks
+count_fits w e = ltb-false _ _ e
 
-  pub assayed_over : capacity_of block block_most w.blocks < w.count → (a : Finding) → a ≡ verdict_of NotFormed low silence
-      → Assayed w q a
-  assayed_over h a e = assayed_silent NotFormed (judged-over w q h) (λ f. absurd (unformed f)) a e
+module _ (w : Tape) (q : Position) where
+  pub assayed_over : overfull w ≡ true → Assayed w q (Err NotFormed)
+  unfolding judged
+  assayed_over e = rw e
 
   module _ (fits : w.count ≤ capacity_of block block_most w.blocks) where
-    judged-beyond : w.count ≤ q.block → (s : Bool) → at_start q ≡ s → judged w q ≡ fine_if s
-    judged-beyond h true e = judged_start w q fits h e
-    judged-beyond h false e = judged-past w q fits h e
-
-    pub assayed_past : w.count ≤ q.block → (a : Finding) → a ≡ verdict_of (fine_if (at_start q)) low silence → Assayed w q a
-    assayed_past h a e =
-        assayed_silent (fine_if (at_start q)) (judged-beyond h (at_start q) refl) (λ f. rw (le-ltb q.block w.count h)) a e
+    pub assayed_past : w.count ≤ q.block → (r : Result Finding Fault) → r ≡ past_found (at_start q) → Assayed w q r
+    assayed_past h r e = subst (Assayed w q) (sym e) (by_start (at_start q) refl)
+      where
+        by_start : (s : Bool) → at_start q ≡ s → Assayed w q (past_found s)
+        by_start true z =
+            record { fine = judged_start w q fits h z; level = rw (le-ltb q.block w.count h); told = told-silence w.tones w.blocks }
+        by_start false z = judged-past w q fits h z
 
     module _ (h : q.block < w.count) where
       -- whether so much may be left of the entry, of the row that the code read
       abbrev has_left : Block → Bool
       has_left r = has_entry w.tones r q.phase && remains q.left (length_at w.bytes w.tones r q.phase)
 
-      judged-entry : well_row w q.block ≡ true → (has : Bool) → has_left (block_in w q.block) ≡ has → judged w q ≡ fine_if has
-      judged-entry e true f = judged_fine w q fits h e f
-      judged-entry e false f = judged-not w q fits h e f
-
-      pub assayed_bad : ready_row (tape_size w.bytes) w.tones (block_in w q.block) ≡ false → (a : Finding)
-          → a ≡ verdict_of NotFormed low silence → Assayed w q a
+      pub assayed_bad : ready_row (tape_size w.bytes) w.tones (block_in w q.block) ≡ false → Assayed w q (Err NotFormed)
       unfolding well_row
-      assayed_bad e a f =
-          assayed_silent NotFormed (judged-bad w q fits h (unready (tape_size w.bytes) w.tones (block_in w q.block) e))
-          (λ z. absurd (unformed z)) a f
+      assayed_bad e = judged-bad w q fits h (unready (tape_size w.bytes) w.tones (block_in w q.block) e)
 
       -- a source row
-      pub assayed_source : well_row w q.block ≡ true → (has : Bool) → has_left (block_in w q.block) ≡ has → (v : Level)
-          → v ≡ level_in w q.block q.phase
-          → (a : Finding) → a ≡ verdict_of (fine_if has) v silence → Assayed w q a
-      assayed_source e has f v l a z =
-          subst (Assayed w q) (sym z)
-          (record {
-            check = sym (judged-entry e has f);
-            level = λ y. l ∙ rw (lt-ltb q.block w.count h);
-            told = told-silence w.tones w.blocks;
-          })
+      pub assayed_source : well_row w q.block ≡ true → is_source (block_in w q.block) ≡ true → (has : Bool)
+          → has ≡ has_left (block_in w q.block) → (r : Result Finding Fault) → r ≡ source_found q.phase has → Assayed w q r
+      assayed_source e s has f r z = subst (Assayed w q) (sym z) (by_left has f)
+        where
+          by_left : (t : Bool) → t ≡ has_left (block_in w q.block) → Assayed w q (source_found q.phase t)
+          by_left true y =
+              record {
+                fine = judged_fine w q fits h e (sym y);
+                level = sym (source_levels w.tones 0 (block_in w q.block) s q.phase) ∙ rw (lt-ltb q.block w.count h);
+                told = told-silence w.tones w.blocks;
+              }
+          by_left false y = judged-not w q fits h e (sym y)
 
       -- a document row
-      pub assayed_document : well_words (tape_size w.bytes) w.tones (block_in w q.block) ≡ true → (has : Bool)
-          → has_left (block_in w q.block) ≡ has
-          → (a : Finding) → Sounded w.tones w.blocks q.block q.phase has a → Assayed w q a
-      unfolding well_row
-      assayed_document e has f a s =
-          record {
-            check = s.check ∙ by-tones (well_tones w.tones (block_in w q.block).tone (block_in w q.block).tones) refl;
-            level = λ y. s.level y ∙ rw (lt-ltb q.block w.count h);
-            told = s.told;
-          }
-        where
-          row : well_block (tape_size w.bytes) w.tones (block_in w q.block)
-              ≡ well_tones w.tones (block_in w q.block).tone (block_in w q.block).tones
-          row = words_tones (tape_size w.bytes) w.tones (block_in w q.block) ∙ rw e
+      module _ (e : well_words (tape_size w.bytes) w.tones (block_in w q.block) ≡ true) where
+        row : well_block (tape_size w.bytes) w.tones (block_in w q.block)
+            ≡ well_tones w.tones (block_in w q.block).tone (block_in w q.block).tones
+        row = words_tones (tape_size w.bytes) w.tones (block_in w q.block) ∙ rw e
 
-          by-tones : (t : Bool) → well_tones w.tones (block_in w q.block).tone (block_in w q.block).tones ≡ t
-              → (t ⇒ fine_if has ∣ NotFormed) ≡ judged w q
-          by-tones true z = sym (judged-entry (row ∙ z) has f)
-          by-tones false z = sym (judged-bad w q fits h (row ∙ z))
+        pub assayed_document : (has : Bool) → has ≡ has_left (block_in w q.block)
+            → (r : Result Finding Fault) → Sounded w.tones w.blocks q.block q.phase has r → Assayed w q r
+        unfolding well_row
+        assayed_document has f (Ok a) s =
+            record {
+              fine = judged_fine w q fits h (row ∙ s.rows) (sym f ∙ s.has_left);
+              level = s.level ∙ rw (lt-ltb q.block w.count h);
+              told = s.told;
+            }
+        assayed_document has f (Err NotValid) s = judged-not w q fits h (row ∙ s.0) (sym f ∙ s.1)
+        assayed_document has f (Err NotFormed) s = judged-bad w q fits h (row ∙ s)
 
   -- A CALL OF 0 from a fine position, at the level there
-  module _ (fine : judged w q ≡ Fine) (v : Level) (e : v ≡ level_there w q) where
+  module _ (fine : judged w q ≡ all_fine) (v : Level) (e : v ≡ level_there w q) where
     there_below : q.block < w.count → v ≡ level_in w q.block q.phase
     there_below h = e ∙ rw (lt-ltb q.block w.count h)
 
     there_past : w.count ≤ q.block → v ≡ low
     there_past h = e ∙ rw (le-ltb q.block w.count h)
 
-    pub stays_still : (t : ℕ) → q.left ≡ T t → At (stand q 0 v) ≡ stays w q
-    stays_still t l =
-        ⊎_elim
-        (λ h. ap (λ (x : Level). At (stand q 0 x)) (there_below h) ∙ sym (stays_at w q fine t l h))
-        (λ h. ap (λ (x : Level). At (stand q 0 x)) (there_past h) ∙ sym (stays-past w q fine h))
-        (lt_or_ge q.block w.count)
-
-    pub stays-stopped : q.left ≡ Endless → Stopped (stand q 0 v) ≡ stays w q
-    stays-stopped l =
-        ⊎_elim
-        (λ h. ap (λ (x : Level). Stopped (stand q 0 x)) (there_below h) ∙ sym (stays-endless w q fine l))
-        (λ h. let y = fine_none w q fine h in let z : ◌≡◌ {A = ℕ} 0 1 = cc in absurd (omega arith))
-        (lt_or_ge q.block w.count)
+    pub stays_here : came (how_left q.left) (stand q 0 v) ≡ stays w q
+    stays_here = by_left q.left refl
+      where
+        by_left : (l : Duration) → q.left ≡ l → came (how_left l) (stand q 0 v) ≡ stays w q
+        by_left (T t) l =
+            ⊎_elim
+            (λ h. ap (λ (x : Level). came At (stand q 0 x)) (there_below h) ∙ sym (stays_at w q fine t l h))
+            (λ h. ap (λ (x : Level). came At (stand q 0 x)) (there_past h) ∙ sym (stays-past w q fine h))
+            (lt_or_ge q.block w.count)
+        by_left Endless l =
+            ⊎_elim
+            (λ h. ap (λ (x : Level). came Stopped (stand q 0 x)) (there_below h) ∙ sym (stays-endless w q fine l))
+            (λ h. let y = fine_none w q fine h in let z : ◌≡◌ {A = ℕ} 0 1 = cc in absurd (omega arith))
+            (lt_or_ge q.block w.count)
 
 -- what a document row's pass asks
 pub lending : (w : Tape) (b : ℕ) → w.count ≤ capacity_of block block_most w.blocks → b < w.count
@@ -216,52 +198,31 @@ module _ (tones blocks : List ℕ) (b : ℕ) (f : Phase) where
         subst (λ (z : Block). Judging z h) (sym d)
         (subst (Judging (row_at blocks b)) (sym heard-of) ((x.rows, omega arith), refl))
 
-  -- how it comes out
-  module _ (has : Bool) (a : Finding) where
-    abbrev rows_well : Bool
-    rows_well = well_tones tones (row_at blocks b).tone (row_at blocks b).tones
+-- WHAT A FINE POSITION TELLS
+pub found_of : (w : Tape) (q : Position) {r : Result Finding Fault} {a : Finding} → Assayed w q r → r ≡ Ok a → Found w q a
+found_of w q x e = subst (Assayed w q) e x
 
-    pub sounded-bad : rows_well ≡ false → a ≡ verdict_of NotFormed low silence → Sounded tones blocks b f has a
-    sounded-bad t e =
-        subst (Sounded tones blocks b f has) (sym e)
-        (record { check = rw t; level = λ z. absurd (unformed z); told = told-silence tones blocks })
+pub refused_of : (w : Tape) (q : Position) {r : Result Finding Fault} {f : Fault} → Assayed w q r → r ≡ Err f → judged w q ≡ Err f
+refused_of w q x e = subst (Assayed w q) e x
 
-    pub sounded-not : rows_well ≡ true → has ≡ false → a ≡ verdict_of NotValid low silence → Sounded tones blocks b f has a
-    sounded-not t n e =
-        subst (Sounded tones blocks b f has) (sym e)
-        (record { check = rw (t, n); level = λ z. absurd (invalid z); told = told-silence tones blocks })
+pub level_below : {w : Tape} {q : Position} {a : Finding} → Found w q a → q.block < w.count → a.level ≡ level_in w q.block q.phase
+level_below {w} {q} x h = x.level ∙ rw (lt-ltb q.block w.count h)
 
-    pub sounded_fine : rows_well ≡ true → has ≡ true → (v : Level) → v ≡ level_at tones (row_at blocks b) f → (h : Heard)
-        → ToldSeen tones blocks h → a ≡ verdict_of Fine v h
-        → Sounded tones blocks b f has a
-    sounded_fine t n v l h k e =
-        subst (Sounded tones blocks b f has) (sym e) (record { check = rw (t, n); level = λ z. l; told = k })
+pub heard_told : (w : Tape) (q : Position) (r : Result Finding Fault) → Assayed w q r → ToldSeen w.tones w.blocks (heard_in r)
+heard_told w q (Ok a) x = x.told
+heard_told w q (Err f) x = told-silence w.tones w.blocks
 
--- what the code's calls say of the row as it is lent
-pub words : (tones : List ℕ) (r : Block) {tape n : ℕ} {v : Bool} → v ≡ well_words n tones r → n ≡ tape
-    → v ≡ well_words tape tones r
-words tones r e s = e ∙ ap (λ (k : ℕ). well_words k tones r) s
+-- what a row well formed in its words may be played from, part by part
+module _ (tape : ℕ) (tones : List ℕ) (r : Block) (e : well_words tape tones r ≡ true) where
+  pub words_numbers : well_numbers r ≡ true
+  words_numbers = (words_clauses tape tones r e).numbers
 
-pub rows_of : (tones : List ℕ) {r s : Block} {v : Bool} → r ≡ s → v ≡ well_tones tones r.tone r.tones
-    → v ≡ well_tones tones s.tone s.tones
-rows_of tones e f = f ∙ ap (λ (y : Block). well_tones tones y.tone y.tones) e
+  pub words_table : (r.tone + r.tones) * tone.width ≤ length tones
+  words_table = tones_lent tape tones r (words_clauses tape tones r e).ranges
 
--- what a row well formed in its words may be played from
-pub record WordsLent (tape tones : List ℕ) (r : Block) : Type 0 where
-  pub bytes : r.start + r.size ≤ length tape
-  pub rows : r.tone + r.tones ≤ capacity_of tone tone_most tones
-  pub numbers : well_numbers r ≡ true
+  pub words_rows : r.tone + r.tones ≤ capacity_of tone tone_most tones
+  words_rows = (ranges_inside tape tones r (words_clauses tape tones r e).ranges).rows
 
-pub words_lent : (tape tones : List ℕ) (r : Block) → well_words (tape_size tape) tones r ≡ true → WordsLent tape tones r
-words_lent tape tones r e =
-    let c = words_clauses (tape_size tape) tones r e in
-    let x = ranges_inside (tape_size tape) tones r c.ranges in
-    record { bytes = omega arith; rows = x.rows; numbers = c.numbers }
-
--- WHAT A FINE VERDICT TELLS
-module _ {w : Tape} {q : Position} {a : Finding} (x : Assayed w q a) (e : a.check ≡ Fine) where
-  pub fine_so : judged w q ≡ Fine
-  fine_so = sym x.check ∙ e
-
-  pub level_below : q.block < w.count → a.level ≡ level_in w q.block q.phase
-  level_below h = x.level e ∙ rw (lt-ltb q.block w.count h)
+pub words_bytes : (tape tones : List ℕ) (r : Block) → well_words (tape_size tape) tones r ≡ true → r.start + r.size ≤ length tape
+words_bytes tape tones r e =
+    let x = ranges_inside (tape_size tape) tones r (words_clauses (tape_size tape) tones r e).ranges in omega arith

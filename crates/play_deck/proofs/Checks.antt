@@ -1,4 +1,6 @@
 -- The checks of a position, and what a fine one is. Assumes nothing.
+use Rattle.std.specs.Prelude.{Err}
+use Rattle.play_walk.specs.Heads.{came}
 use Prim.Native.Nat.{ℕ, zero, suc, ◌+◌, ◌-◌, ◌≤◌, ◌<◌}
 use native.Mathlib.Omega.{arith}
 use borrow.Author.Tests.{lt-ltb, le-ltb, ltb-false, le-leb, lt-leb, ne_eqb, not-false}
@@ -25,13 +27,13 @@ use Rattle.play_entries.proofs.Follows.{list_out}
 use Rattle.play_entries.proofs.Valid.{stands-valid, below_stands}
 use Rattle.play_entries.proofs.Parts.{left_part}
 use Rattle.play_walk.specs.declared.Position.{Position}
-use Rattle.play_walk.specs.declared.Reached.TheVariants.{At, Stopped, Ended}
+use Rattle.play_walk.specs.declared.How.TheVariants.{At, Stopped, Ended}
 use Rattle.play_entries.specs.Mounted.{well_row, first_bad, cut_to, formed}
 use Rattle.play_walk.specs.Heads.{start_at, stand, ahead, level_here, told_as, walk_from, Walkable}
 use Rattle.play_walk.proofs.Leaves.{tells_end}
-use Rattle.play_deck.specs.declared.Check.TheVariants.{Fine, NotValid, NotFormed}
+use Rattle.play_walk.specs.declared.Fault.TheVariants.{NotValid, NotFormed}
 use Rattle.play_entries.specs.Mounted.{overfull}
-use Rattle.play_deck.specs.Deck.{at_start, ruled_out, ill_formed, valid_at, judged, stays}
+use Rattle.play_deck.specs.Deck.{all_fine, at_start, ruled_out, ill_formed, valid_at, judged, stays}
 
 -- two tests that hold together are one
 pub same_test : (a b : Bool) → (a ≡ true → b ≡ true) → (b ≡ true → a ≡ true) → a ≡ b
@@ -54,12 +56,12 @@ valid_below w b f left h =
 
 -- the checks, way by way
 module _ (w : Tape) (q : Position) where
-  pub judged-over : capacity_of block block_most w.blocks < w.count → judged w q ≡ NotFormed
+  pub judged-over : capacity_of block block_most w.blocks < w.count → judged w q ≡ Err NotFormed
   unfolding judged
   judged-over h = rw (lt-ltb _ _ h)
 
   module _ (fits : w.count ≤ capacity_of block block_most w.blocks) where
-    pub judged_start : w.count ≤ q.block → at_start q ≡ true → judged w q ≡ Fine
+    pub judged_start : w.count ≤ q.block → at_start q ≡ true → judged w q ≡ all_fine
     unfolding judged ruled_out ill_formed valid
     judged_start h e =
         rw (
@@ -69,12 +71,12 @@ module _ (w : Tape) (q : Position) where
           e,
         )
 
-    pub judged-past : w.count ≤ q.block → at_start q ≡ false → judged w q ≡ NotValid
+    pub judged-past : w.count ≤ q.block → at_start q ≡ false → judged w q ≡ Err NotValid
     unfolding judged ruled_out
     judged-past h e = rw (le-ltb (capacity_of block block_most w.blocks) w.count fits, le-leb w.count q.block h, e)
 
     module _ (h : q.block < w.count) where
-      pub judged-bad : well_row w q.block ≡ false → judged w q ≡ NotFormed
+      pub judged-bad : well_row w q.block ≡ false → judged w q ≡ Err NotFormed
       unfolding judged ruled_out ill_formed
       judged-bad e =
           rw (
@@ -87,7 +89,7 @@ module _ (w : Tape) (q : Position) where
       abbrev entry_fine : Bool
       entry_fine = has_in w q.block q.phase && remains q.left (length_in w q.block q.phase)
 
-      pub judged-not : well_row w q.block ≡ true → entry_fine ≡ false → judged w q ≡ NotValid
+      pub judged-not : well_row w q.block ≡ true → entry_fine ≡ false → judged w q ≡ Err NotValid
       unfolding judged ruled_out ill_formed
       judged-not e f =
           rw (
@@ -99,7 +101,7 @@ module _ (w : Tape) (q : Position) where
             f,
           )
 
-      pub judged_fine : well_row w q.block ≡ true → entry_fine ≡ true → judged w q ≡ Fine
+      pub judged_fine : well_row w q.block ≡ true → entry_fine ≡ true → judged w q ≡ all_fine
       unfolding judged ruled_out ill_formed
       judged_fine e f =
           rw (
@@ -118,7 +120,7 @@ record Passed (a b c d : Bool) : Type 0 where
   pub row : c ≡ false
   pub valid : d ≡ true
 
-passed : (a b c d : Bool) → (a ⇒ NotFormed ∣ b ⇒ NotValid ∣ c ⇒ NotFormed ∣ not d ⇒ NotValid ∣ Fine) ≡ Fine
+passed : (a b c d : Bool) → (a ⇒ Err NotFormed ∣ b ⇒ Err NotValid ∣ c ⇒ Err NotFormed ∣ not d ⇒ Err NotValid ∣ all_fine) ≡ all_fine
     → Passed a b c d
 passed true b c d e = let y : ◌≡◌ {A = ℕ} 0 1 = cc in absurd (omega arith)
 passed false true c d e = let y : ◌≡◌ {A = ℕ} 0 1 = cc in absurd (omega arith)
@@ -139,7 +141,7 @@ none_is (T (suc n)) e = let z = ne_eqb (suc n) 0 (omega arith) in cc
 none_is Endless e = cc
 
 -- A FINE POSITION: below the count one that a walk can begin at, otherwise a start
-module _ (w : Tape) (q : Position) (fine : judged w q ≡ Fine) where
+module _ (w : Tape) (q : Position) (fine : judged w q ≡ all_fine) where
   tests : Passed (overfull w) (ruled_out w q) (ill_formed w q) (valid_at w q)
   unfolding judged
   tests = passed (overfull w) (ruled_out w q) (ill_formed w q) (valid_at w q) fine
@@ -169,18 +171,18 @@ module _ (w : Tape) (q : Position) (fine : judged w q ≡ Fine) where
   unfolding stays
   stays_by es e = ap (λ (x : List (Entry Label)). told_as (status_here x) (stand q 0 (level_here low x))) e
 
-  pub stays_at : (t : ℕ) → q.left ≡ T t → q.block < w.count → stays w q ≡ At (stand q 0 (level_in w q.block q.phase))
+  pub stays_at : (t : ℕ) → q.left ≡ T t → q.block < w.count → stays w q ≡ came At (stand q 0 (level_in w q.block q.phase))
   unfolding told_as status_here level_here entry_of
   stays_at t e h =
       let x = left_part w q.block h q.phase q.left tests.valid in
       stays_by _
       (x.rest ∙ ap (λ (y : Duration). entry_of (label_at q.block q.phase) (level_in w q.block q.phase) y ∷ x.next) e)
 
-  pub stays-past : w.count ≤ q.block → stays w q ≡ At (stand q 0 low)
+  pub stays-past : w.count ≤ q.block → stays w q ≡ came At (stand q 0 low)
   unfolding told_as status_here level_here
   stays-past h = stays_by [] (past-nil h w.count h)
 
-  pub stays-endless : q.left ≡ Endless → stays w q ≡ Stopped (stand q 0 (level_in w q.block q.phase))
+  pub stays-endless : q.left ≡ Endless → stays w q ≡ came Stopped (stand q 0 (level_in w q.block q.phase))
   unfolding told_as status_here level_here entry_of
   stays-endless e =
       ⊎_elim
@@ -188,17 +190,14 @@ module _ (w : Tape) (q : Position) (fine : judged w q ≡ Fine) where
       let x = left_part w q.block h q.phase q.left tests.valid in
       stays_by _
       (x.rest ∙ ap (λ (y : Duration). entry_of (label_at q.block q.phase) (level_in w q.block q.phase) y ∷ x.next) e))
-      (λ h. let z = fine_none h in absurd (apart (sym z ∙ e)))
+      (λ h. absurd (apart (sym (fine_none h) ∙ e)))
       (lt_or_ge q.block w.count)
     where
       apart : T 0 ≡ Endless → ⊥
-      apart z =
-          let y : ◌≡◌ {A = Bool} true false = ap is_none z in
-          let u : ◌≡◌ {A = ℕ} 0 1 = ap (λ (b : Bool). b ⇒ 0 ∣ 1) y in
-          absurd (omega arith)
+      apart z = cc
 
   -- a start past the count: the end, at the count's start
-  pub past-ends : w.count ≤ q.block → (n : ℕ) → 0 < n → walk_from w q n ≡ Ended (stand (start_at w.count) 0 false)
+  pub past-ends : w.count ≤ q.block → (n : ℕ) → 0 < n → walk_from w q n ≡ came Ended (stand (start_at w.count) 0 false)
   unfolding walk_from formed first_bad
   past-ends h n p =
       let z : w.count - q.block ≡ 0 = omega arith in

@@ -1,4 +1,5 @@
 -- A CALL THAT ENDS INSIDE ITS ENTRY walks nowhere, and the source's drops nothing. Assumes nothing.
+use Rattle.play_walk.specs.Heads.{came}
 use Prim.Native.Nat.{ℕ, ◌+◌, ◌<◌}
 use native.Mathlib.Omega.{arith}
 use borrow.Author.Tests.{ltb-true}
@@ -12,7 +13,7 @@ use Rattle.play_entries.specs.declared.Duration.TheVariants.{T, Endless}
 use Rattle.play_entries.specs.Places.{Tape, level_in}
 use Rattle.play_entries.specs.Mounted.{formed}
 use Rattle.play_walk.specs.declared.Position.{Position}
-use Rattle.play_walk.specs.declared.Reached.TheVariants.{At}
+use Rattle.play_walk.specs.declared.How.TheVariants.{At}
 use Rattle.play_walk.specs.Heads.{placed, stand, walk_from, Walkable}
 use Rattle.play_walk.proofs.Turns.{cut_of, rows_of, on-first, leaves_at}
 use Rattle.play_ahead.proofs.Drops.{dropped-short}
@@ -30,7 +31,7 @@ inside_less left t n e h = ltb-true n t (sym (ap (λ (x : Duration). ends_inside
 module _ (w : Tape) (q : Position) (n : ℕ) (p : Walkable w q) where
   -- by what is left
   walks : (left : Duration) → q.left ≡ left → ends_inside left n ≡ true
-      → At (stand (placed q.block q.phase (less_by left n)) 0 (level_in w q.block q.phase)) ≡ walk_from w q n
+      → came At (stand (placed q.block q.phase (less_by left n)) 0 (level_in w q.block q.phase)) ≡ walk_from w q n
   unfolding ends_inside less_by walk_from formed
   walks (T t) e h =
       let k = cut_of w q in

@@ -1,4 +1,7 @@
 -- WHERE A CALL LEAVES THE HEAD, what the next one begins with is known. Assumes nothing.
+use Rattle.std.specs.Prelude.{Result}
+use Rattle.play_walk.specs.declared.Fault.{Fault}
+use Rattle.play_walk.specs.Heads.{came}
 use Prim.Native.Nat.{ℕ, ◌+◌, ◌-◌, ◌*◌, ◌≤◌, ◌<◌, min}
 use native.Mathlib.Omega.{arith}
 use borrow.Author.Tests.{lt-ltb}
@@ -23,19 +26,18 @@ use Rattle.play_voice.specs.Voice.{ToldSeen, heard_to, row_at, rows_below}
 use Rattle.play_walk.specs.declared.Position.{Position}
 use Rattle.play_walk.specs.declared.Stand.{Stand}
 use Rattle.play_walk.specs.declared.Reached.{Reached}
-use Rattle.play_walk.specs.declared.Reached.TheVariants.{At}
+use Rattle.play_walk.specs.declared.How.TheVariants.{At}
 use Rattle.play_walk.specs.Heads.{placed, stand, Walkable, GoesOn, Lands}
-use Rattle.play_walk.proofs.Landing.{walkable_less, lands_at, lands_stopped}
-use Rattle.play_deck.specs.declared.Check.TheVariants.{Fine}
-use Rattle.play_deck.specs.declared.Finding.{Finding}
-use Rattle.play_deck.specs.Deck.{judged, stays}
-use Rattle.play_deck.specs.Assay.{verdict_of, Assayed}
+use Rattle.play_walk.proofs.Turns.{walkable_less}
+use Rattle.play_walk.proofs.Landing.{lands_here}
+use Rattle.play_deck.specs.Deck.{all_fine, judged, stays}
+use Rattle.play_deck.specs.Assay.{finding, Found}
 use Rattle.play_deck.specs.Inside.{ends_inside, less_by, in_place}
 use Rattle.play_deck.proofs.Checks.{judged_fine, fine_below, fine_start, stays_at, stays-past, stays-endless}
 use Rattle.play_deck.proofs.Inside.{inside_less}
 
 -- a walkable position is a fine one
-pub walkable_fine : (w : Tape) (q : Position) → Walkable w q → judged w q ≡ Fine
+pub walkable_fine : (w : Tape) (q : Position) → Walkable w q → judged w q ≡ all_fine
 walkable_fine w q a =
     let s = below_stands w q.block q.phase q.left a.below a.stands in
     judged_fine w q a.lent a.below a.row (rw (s.entry, s.some))
@@ -66,25 +68,23 @@ heard-on w q r e h g =
     (sym (g ∙ ap (λ (y : Block). heard_to w.tones y q.block (min (rows_below y q.phase) y.tones)) e)) refl
 
 -- what is known of a stand inside a block is what its position comes to
-pub assayed_on : (w : Tape) (s : Stand) → GoesOn w s → (h : Heard) → ToldSeen w.tones w.blocks h → (a : Finding)
-    → a ≡ verdict_of Fine s.level h
-    → Assayed w s.position a
-assayed_on w s g h t a e =
-    subst (Assayed w s.position) (sym e) (record {
-      check = sym (walkable_fine w s.position g.there);
-      level = λ z. g.level ∙ rw (lt-ltb s.position.block w.count g.there.below);
+pub found_on : (w : Tape) (s : Stand) → GoesOn w s → (h : Heard) → ToldSeen w.tones w.blocks h → Found w s.position (finding s.level h)
+found_on w s g h t =
+    record {
+      fine = walkable_fine w s.position g.there;
+      level = g.level ∙ rw (lt-ltb s.position.block w.count g.there.below);
       told = t;
-    })
+    }
 
 -- a start lands nowhere inside
 never : true ≡ false → ⊥
 never e = let y : ◌≡◌ {A = ℕ} 0 1 = ap (λ (t : Bool). t ⇒ 0 ∣ 1) e in absurd (omega arith)
 
 -- a call of 0 leaves it where it is
-module _ (w : Tape) (q : Position) (fine : judged w q ≡ Fine) where
+module _ (w : Tape) (q : Position) (fine : judged w q ≡ all_fine) where
   stay_left : (left : Duration) → q.left ≡ left → q.block < w.count → Walkable w q → Lands w (stays w q)
-  stay_left (T t) e h a = lands_at w q 0 (stays_at w q fine t e h) a
-  stay_left Endless e h a = lands_stopped w q 0 (stays-endless w q fine e) a
+  stay_left (T t) e h a = lands_here w q 0 (stays_at w q fine t e h) a
+  stay_left Endless e h a = lands_here w q 0 (stays-endless w q fine e) a
 
   pub lands_stay : Lands w (stays w q)
   unfolding Lands
@@ -95,15 +95,15 @@ module _ (w : Tape) (q : Position) (fine : judged w q ≡ Fine) where
       (lt_or_ge q.block w.count)
 
 -- a call that ends inside its entry
-module _ (w : Tape) (q : Position) (n : ℕ) (a : Walkable w q) (r : Reached) (e : r ≡ in_place w q n) where
+module _ (w : Tape) (q : Position) (n : ℕ) (a : Walkable w q) (r : Result Reached Fault) (e : r ≡ in_place w q n) where
   inside_left_lem : (left : Duration) → q.left ≡ left → ends_inside left n ≡ true → Lands w r
   unfolding less_by ends_inside
   inside_left_lem (T t) l i =
       let h = inside_less (T t) t n refl i in
       let b = q.block in
       let f = q.phase in
-      lands_at w (placed b f (T (t - n))) 0
-      (e ∙ ap (λ (d : Duration). At (stand (placed b f (less_by d n)) 0 (level_in w b f))) l)
+      lands_here w (placed b f (T (t - n))) 0
+      (e ∙ ap (λ (d : Duration). came At (stand (placed b f (less_by d n)) 0 (level_in w b f))) l)
       (walkable_less w b f t (t - n) (subst (λ (d : Duration). Walkable w (placed b f d)) l a) (omega arith) (omega arith))
   inside_left_lem Endless l i = absurd (never (sym i))
 

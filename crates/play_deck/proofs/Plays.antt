@@ -1,5 +1,6 @@
 -- DEMAND 3 OVER TAPES: on well-formed rows the measured player is the list's, from every valid position, for any cutting into calls.
 -- Assumes nothing.
+use Rattle.play_walk.specs.Heads.{came}
 use Prim.Native.Nat.{ℕ, ◌+◌, ◌-◌, ◌≤◌, ◌<◌}
 use native.Mathlib.Omega.{arith}
 use borrow.Author.Tests.{ne_eqb, le-ltb}
@@ -19,7 +20,7 @@ use Rattle.play_entries.specs.Places.{Tape, block_in, level_at, head_of, left_of
 use Rattle.play_entries.proofs.Tails.{tail_left, tail_rest}
 use Rattle.play_entries.proofs.Levels.{levels_left, levels_rest}
 use Rattle.play_walk.specs.declared.Position.{Position}
-use Rattle.play_walk.specs.declared.Reached.TheVariants.{Ended}
+use Rattle.play_walk.specs.declared.How.TheVariants.{Ended}
 use Rattle.play_walk.specs.Heads.{start_at, stand, position_of, ahead, level_here, rest_level, told_as, told_reached, walk_from}
 use Rattle.play_deck.specs.Deck.{valid_at, unless, play_measured}
 use Rattle.play_deck.specs.Calls.{position_in, passed_in, counting, answer_level, run_calls}
@@ -128,7 +129,7 @@ module _ (w : Tape) (whole : WholeTape w) where
 
   -- AT THE END the head rests at the count's start, with all that remained passed
   pub ends_at : (q : Position) (n : ℕ) → valid_at w q ≡ true → 0 < over (ahead w q) n
-      → play_measured w q n ≡ Ended (stand (start_at w.count) (length (ahead w q)) low)
+      → play_measured w q n ≡ came Ended (stand (start_at w.count) (length (ahead w q)) low)
   unfolding told_reached answer told_as head_of left_of level_here over
   ends_at q n v h =
       let some : 0 < n = over_some (ahead w q) n h in
@@ -138,5 +139,5 @@ module _ (w : Tape) (whole : WholeTape w) where
       ∙ ap (λ (s : Status). told_as s (stand (position_of w (rest (ahead w q) n)) (length (ahead w q) - length (rest (ahead w q) n))
       (level_here (rest_level w w.count) (rest (ahead w q) n)))) (status-over (rest (ahead w q) n) (over (ahead w q) n) h)
       ∙ ap
-      (λ (r : List (Entry Label)). Ended (stand (position_of w r) (length (ahead w q) - length r) (level_here (rest_level w w.count) r))) r
-      ∙ ap₂ (λ (x : ℕ) (c : Level). Ended (stand (start_at w.count) x c)) k (rest-low w)
+      (λ (r : List (Entry Label)). came Ended (stand (position_of w r) (length (ahead w q) - length r) (level_here (rest_level w w.count) r))) r
+      ∙ ap₂ (λ (x : ℕ) (c : Level). came Ended (stand (start_at w.count) x c)) k (rest-low w)

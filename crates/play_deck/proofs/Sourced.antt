@@ -1,4 +1,5 @@
 -- THE SOURCE'S WALK is the measured walk of the count and the sum that it drops; and the walk back to a block. Assumes nothing.
+use Rattle.std.specs.Prelude.{Ok, Err}
 use Prim.Native.Nat.{ℕ, zero, suc, ◌+◌, ◌-◌}
 use native.Mathlib.Omega.{arith}
 use native.Mathlib.Nat.{eq-zero-or-pos}
@@ -18,7 +19,7 @@ use Rattle.play_entries.specs.Places.{Tape, block_in}
 use Rattle.play_walk.specs.declared.Position.{Position}
 use Rattle.play_entries.specs.Mounted.{well_row, formed}
 use Rattle.play_walk.specs.Heads.{ahead, walked, walk_from, dropped_from}
-use Rattle.play_deck.specs.declared.Selected.TheVariants.{Block, BadRow}
+use Rattle.play_walk.specs.declared.Fault.TheVariants.{NotFormed}
 use Rattle.play_deck.specs.Deck.{source_answer, source_from, back_to}
 
 never_ended : (rs : List (Entry Label)) → (is_ended (status_here rs) ⇒ ended ∣ status_here rs) ≡ status_here rs
@@ -51,20 +52,20 @@ source_walk w q n = ap (walked w (formed w q.block)) (source-answer (ahead (form
 
 -- the walk back, row by row
 module _ (w : Tape) where
-  pub back-bad : (b : ℕ) → well_row w b ≡ false → BadRow ≡ back_to w b
+  pub back_bad : (b : ℕ) → well_row w b ≡ false → Err NotFormed ≡ back_to w b
   unfolding back_to
-  back-bad zero e = rw e
-  back-bad (suc b) e = rw e
+  back_bad zero e = rw e
+  back_bad (suc b) e = rw e
 
-  pub back_none : (b : ℕ) → well_row w b ≡ true → b ≡ 0 → Block 0 ≡ back_to w b
+  pub back_none : (b : ℕ) → well_row w b ≡ true → b ≡ 0 → Ok 0 ≡ back_to w b
   unfolding back_to
   back_none zero e z = rw e
   back_none (suc b) e z = absurd (omega arith)
 
-  pub back-here : (b : ℕ) → well_row w b ≡ true → (b ≡ 0 → ⊥) → (block_in w b).selectable ≡ 1 → Block b ≡ back_to w b
+  pub back_here : (b : ℕ) → well_row w b ≡ true → (b ≡ 0 → ⊥) → (block_in w b).selectable ≡ 1 → Ok b ≡ back_to w b
   unfolding back_to
-  back-here zero e z f = absurd (z refl)
-  back-here (suc b) e z f = rw (e, eq-eqb (block_in w (suc b)).selectable 1 f)
+  back_here zero e z f = absurd (z refl)
+  back_here (suc b) e z f = rw (e, eq-eqb (block_in w (suc b)).selectable 1 f)
 
   pub back_on : (b : ℕ) → well_row w b ≡ true → (b ≡ 0 → ⊥) → ((block_in w b).selectable ≡ 1 → ⊥)
       → back_to w (b - 1) ≡ back_to w b

@@ -1,5 +1,7 @@
 -- THE SOURCE'S PLAY OVER TAPES: on well-formed rows it comes to what its turns over the list come to, and agrees with the measured player.
 -- Assumes nothing.
+use Rattle.std.specs.Prelude.{Result}
+use Rattle.play_walk.specs.declared.Fault.{Fault}
 use Prim.Native.Nat.{ℕ, ◌+◌, ◌<◌}
 use native.Mathlib.Omega.{arith}
 use borrow.Author.Tests.{ne_eqb}
@@ -50,9 +52,9 @@ module _ (w : Tape) (whole : WholeTape w) where
       let m = n + dropped (ahead w q) n in
       let e = (source_agrees q n v p).0 in
       let x = play_place w whole q m v (omega arith) in (
-        ap (λ (r : Reached). ahead w (position_in q r)) e ∙ x.0
+        ap (λ (r : Result Reached Fault). ahead w (position_in q r)) e ∙ x.0
             ∙ sym (ap (λ (o : Outcome Label). o.place) (source-heard (ahead w q) n)),
-        ap (λ (r : Reached). valid_at w (position_in q r)) e ∙ x.1,
+        ap (λ (r : Result Reached Fault). valid_at w (position_in q r)) e ∙ x.1,
       )
 
   -- and whether it has ended

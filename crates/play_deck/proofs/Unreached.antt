@@ -1,4 +1,6 @@
 -- A BAD ROW THAT IS NOT REACHED alters nothing: the answer is that of the tape's whole list. Assumes nothing.
+use Rattle.std.specs.Prelude.{Result}
+use Rattle.play_walk.specs.declared.Fault.{Fault}
 use Prim.Native.Nat.{ℕ, ◌+◌, ◌-◌, ◌≤◌, ◌<◌}
 use native.Mathlib.Omega.{arith}
 use mathlib.Core.Path.{◌≡◌, refl, sym, ap, ◌∙◌}
@@ -126,7 +128,7 @@ module _ (w : Tape) (k : ℕ) (most : k ≤ w.count) where
         ap (λ (r : List (Entry Label)). entry_of (label_at b Pause) (level_in w b Pause) left ∷ r) (list_cut (b + 1) (omega arith))
 
   -- what is told of a list's head
-  abbrev Said : Tape → List (Entry Label) → ℕ → Reached
+  abbrev Said : Tape → List (Entry Label) → ℕ → Result Reached Fault
   Said v rs p = told_as (status_here rs) (stand (position_of v rs) p (level_here (rest_level w v.count) rs))
 
   said_start : (p : ℕ) → Said w (list_from w k) p ≡ Said (cut_to w k) [] p

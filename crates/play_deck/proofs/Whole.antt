@@ -16,8 +16,7 @@ use Rattle.play_walk.specs.declared.Position.{Position}
 use Rattle.play_walk.specs.Heads.{told_reached, walked}
 use Rattle.play_entries.proofs.Formed.{not-both}
 use Rattle.play_entries.specs.Mounted.{WholeTape}
-use Rattle.play_deck.specs.declared.Check.TheVariants.{Fine}
-use Rattle.play_deck.specs.Deck.{at_start, ruled_out, ill_formed, valid_at, judged}
+use Rattle.play_deck.specs.Deck.{all_fine, at_start, ruled_out, ill_formed, valid_at, judged}
 
 or_false : (a b : Bool) → (a || b) ≡ true → b ≡ false → a ≡ true
 or_false true b e f = refl
@@ -53,7 +52,7 @@ all_walked w a = rw (le-ltb w.count w.count (omega arith), and_not (is_ended a.t
 
 module _ (w : Tape) (whole : WholeTape w) where
   -- a valid position passes the checks
-  pub whole_fine : (q : Position) → valid_at w q ≡ true → judged w q ≡ Fine
+  pub whole_fine : (q : Position) → valid_at w q ≡ true → judged w q ≡ all_fine
   unfolding judged
   whole_fine q v = rw (le-ltb (capacity_of block block_most w.blocks) w.count whole.lent, ruled, row, v)
     where

@@ -1,5 +1,5 @@
 -- WHAT A POSITION COMES TO: its checks, the level there, and what was heard of tone rows on the way. Definitions alone; assumes nothing.
-use Rattle.std.specs.Prelude.{ℕ, ◌+◌, ◌*◌, ◌≤◌, ◌≡◌, Bool, true, false, List, ltb, length}
+use Rattle.std.specs.Prelude.{ℕ, ◌+◌, ◌*◌, ◌≤◌, ◌≡◌, Bool, true, false, List, Result, Ok, Err, ltb, length}
 use Rattle.law_base.specs.Rules.{◌⇒◌, ◌∣◌}
 use Rattle.law_pulses.specs.Play.{Level, low}
 use Rattle.rows.specs.Table.{capacity_of}
@@ -10,26 +10,32 @@ use Rattle.rows_well.specs.Words.{well_words}
 use Rattle.play_entries.specs.declared.Phase.{Phase}
 use Rattle.play_entries.specs.Entries.{is_source}
 use Rattle.play_entries.specs.Places.{Tape, level_at, level_in}
+use Rattle.play_entries.specs.Source.{level_of}
 use Rattle.play_voice.specs.declared.Heard.{Heard}
-use Rattle.play_voice.specs.Voice.{ToldSeen, row_at}
+use Rattle.play_voice.specs.Voice.{silence, ToldSeen, row_at}
 use Rattle.play_walk.specs.declared.Position.{Position}
-use Rattle.play_deck.specs.declared.Check.{Check}
-use Rattle.play_deck.specs.declared.Check.TheVariants.{Fine, NotValid, NotFormed}
+use Rattle.play_walk.specs.declared.Fault.{Fault}
+use Rattle.play_walk.specs.declared.Fault.TheVariants.{NotValid, NotFormed}
 use Rattle.play_deck.specs.declared.Finding.{Finding}
-use Rattle.play_deck.specs.Deck.{judged}
+use Rattle.play_deck.specs.Deck.{all_fine, judged}
 
--- the checks are passed
-unfoldable pub passes : Check → Bool
-passes Fine = true
-passes NotValid = false
-passes NotFormed = false
+abbrev pub finding : Level → Heard → Finding
+finding v h = record { level = v; heard = h }
 
-abbrev pub fine_if : Bool → Check
-fine_if true = Fine
-fine_if false = NotValid
+-- what a position at or past the count comes to, by whether it is a start with 0 left
+abbrev pub past_found : Bool → Result Finding Fault
+past_found true = Ok (finding low silence)
+past_found false = Err NotValid
 
-abbrev pub verdict_of : Check → Level → Heard → Finding
-verdict_of c v h = record { check = c; level = v; heard = h }
+-- what an entry of a source row comes to, by whether so much may be left of it
+abbrev pub source_found : Phase → Bool → Result Finding Fault
+source_found f true = Ok (finding (level_of f) silence)
+source_found f false = Err NotValid
+
+-- what was heard on the way; nothing where it is refused
+abbrev pub heard_in : Result Finding Fault → Heard
+heard_in (Ok a) = a.heard
+heard_in (Err f) = silence
 
 -- a row that may be gone on with: a document row's tone rows are judged with the level
 unfoldable pub ready_row : ℕ → List ℕ → Block → Bool
@@ -39,11 +45,16 @@ ready_row tape tones r = is_source r ⇒ well_block tape tones r ∣ well_words 
 abbrev pub level_there : Tape → Position → Level
 level_there w q = ltb q.block w.count ⇒ level_in w q.block q.phase ∣ low
 
--- WHAT IT COMES TO: the checks; where they are fine, the level there; and what was heard is so
-pub record Assayed (w : Tape) (q : Position) (a : Finding) : Type 0 where
-  pub check : a.check ≡ judged w q
-  pub level : a.check ≡ Fine → a.level ≡ level_there w q
+-- a fine position: the level there; and what was heard is so
+pub record Found (w : Tape) (q : Position) (a : Finding) : Type 0 where
+  pub fine : judged w q ≡ all_fine
+  pub level : a.level ≡ level_there w q
   pub told : ToldSeen w.tones w.blocks a.heard
+
+-- WHAT IT COMES TO: where the checks are fine, what was found; or the refusal
+abbrev pub Assayed : Tape → Position → Result Finding Fault → Type 0
+Assayed w q (Ok a) = Found w q a
+Assayed w q (Err f) = judged w q ≡ Err f
 
 -- block b's row and its tone rows are lent
 pub record Lending (tones blocks : List ℕ) (b : ℕ) : Type 0 where
@@ -51,7 +62,13 @@ pub record Lending (tones blocks : List ℕ) (b : ℕ) : Type 0 where
   pub rows : (row_at blocks b).tone + (row_at blocks b).tones ≤ capacity_of tone tone_most tones
 
 -- a document row, well formed but for its tone rows: these, and whether so much may be left of its entry, decide
-pub record Sounded (tones blocks : List ℕ) (b : ℕ) (f : Phase) (has : Bool) (a : Finding) : Type 0 where
-  pub check : a.check ≡ (well_tones tones (row_at blocks b).tone (row_at blocks b).tones ⇒ fine_if has ∣ NotFormed)
-  pub level : a.check ≡ Fine → a.level ≡ level_at tones (row_at blocks b) f
+pub record Told (tones blocks : List ℕ) (b : ℕ) (f : Phase) (has : Bool) (a : Finding) : Type 0 where
+  pub rows : well_tones tones (row_at blocks b).tone (row_at blocks b).tones ≡ true
+  pub has_left : has ≡ true
+  pub level : a.level ≡ level_at tones (row_at blocks b) f
   pub told : ToldSeen tones blocks a.heard
+
+abbrev pub Sounded : List ℕ → List ℕ → ℕ → Phase → Bool → Result Finding Fault → Type 0
+Sounded tones blocks b f has (Ok a) = Told tones blocks b f has a
+Sounded tones blocks b f has (Err NotValid) = (well_tones tones (row_at blocks b).tone (row_at blocks b).tones ≡ true) × (has ≡ false)
+Sounded tones blocks b f has (Err NotFormed) = well_tones tones (row_at blocks b).tone (row_at blocks b).tones ≡ false

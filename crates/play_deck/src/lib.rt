@@ -1,483 +1,342 @@
 // The players of a mounted tape: the measured one and the source's.
 #![tactic(auto)]
 
-ghost use Rattle.std.specs.Prelude.{◌≡◌, true, ◌&&◌, eqb};
+ghost use Rattle.std.specs.Prelude.{◌≡◌, true, ℕ, ◌&&◌, ◌<◌, Result};
 ghost use Rattle.rows_well.specs.Words.{well_words};
-ghost use Rattle.law_pulses.specs.Play.{low};
-ghost use Rattle.play_entries.specs.Places.{Tape, has_entry, length_at, level_in, is_none, is_start, remains};
-ghost use Rattle.play_entries.specs.Mounted.{tape_size, tape_of};
-ghost use Rattle.law_base.specs.Rules.{◌⇒◌, ◌∣◌};
-ghost use Rattle.play_voice.specs.Voice.{silence, row_at, ToldSeen};
+ghost use Rattle.play_entries.specs.Places.{Tape, has_entry, length_at, level_in, remains};
+ghost use Rattle.play_entries.specs.Mounted.{mounted_tape, tape_size};
+ghost use Rattle.play_voice.specs.Voice.{row_at, ToldSeen};
 ghost use Rattle.play_walk.specs.Heads.{walk_from, GoesOn, Landed, Lands};
-ghost use Rattle.play_deck.specs.declared.Check.TheVariants.{Fine};
-ghost use Rattle.play_deck.specs.Assay.{passes, fine_if, verdict_of, ready_row, level_there, Assayed, Lending, Sounded};
+ghost use Rattle.play_deck.specs.Assay.{past_found, source_found, heard_in, ready_row, Assayed, Found, Lending, Sounded};
 ghost use Rattle.play_deck.specs.Inside.{ends_inside, less_by, in_place};
-ghost use Rattle.play_deck.specs.Deck.{at_start, judged, stays, play_measured, source_from, play_source};
+ghost use Rattle.play_deck.specs.Deck.{at_start, all_fine, judged, source_from, played_by, play_measured, play_source};
+ghost use Rattle.play_deck.specs.Players.{measured_by, source_by};
 ghost use Rattle.play_deck.specs.Calls.{position_in};
+ghost use Rattle.play_walk.specs.declared.Position.{Position};
+ghost use Rattle.play_walk.specs.declared.Reached.{Reached};
+ghost use Rattle.play_walk.specs.declared.Fault.{Fault};
 
 use play_ahead::ran_ahead;
-use play_entries::{Duration, Phase};
-use play_phases::{has_entry, length_at, may_remain, mic, size_of};
+use play_entries::{Duration, Mounted, Phase};
+use play_phases::{TonedRow, may_remain, mic};
 use play_voice::{Heard, hear, hear_on, heard_well, is_source, level_in, unheard};
-use play_walk::{Position, Reached, Stand, ends, walk};
-use rows::{Block, block_at, block_capacity};
+use play_walk::{Fault, Position, Reached, Stand, walk};
+use rows::Block;
 use rows_well::{tones_well, words_well};
-
-// What the checks of a position come to.
-#[derive(Clone, Copy)]
-pub enum Check {
-    Fine,
-    NotValid,
-    NotFormed,
-}
-
-// Whether the checks are passed.
-pub fn is_fine(c: Check) -> bool
-    ensures { result ≡ passes c }
-{
-    match c {
-        Check::Fine => true,
-        Check::NotValid => false,
-        Check::NotFormed => false,
-    }
-}
 
 // Whether a position is a start with 0 left.
 fn at_start(pos: Position) -> bool
     ensures { result ≡ at_start pos }
 {
-    let f = pos.phase;
-    let left = pos.left;
-    match f {
-        Phase::Start => none_left(left),
-        Phase::Tones { .. } => false,
-        Phase::Data { .. } => false,
-        Phase::Edge => false,
-        Phase::Pause => false,
-    }
-}
-
-fn none_left(left: Duration) -> bool
-    ensures { result ≡ is_none left }
-{
-    match left {
-        Duration::T(n) => n == 0,
-        Duration::Endless => false,
-    }
+    matches!(
+        pos,
+        Position {
+            phase: Phase::Start,
+            left: Duration::T(0),
+            ..
+        }
+    )
 }
 
 // Whether so much may be left of a block's entry; its callers know the row to be well formed but for its tone rows.
-fn has_left(tape: &[u8], tones: &[u64], r: Block, f: Phase, left: Duration) -> bool
-    requires { well_words (tape_size tape.now) tones.now r ≡ true }
+#[tactic(auto, using(crate::proofs::Assays::words_bytes, crate::proofs::Assays::words_rows, crate::proofs::Assays::words_numbers))]
+fn has_left(tape: &[u8], x: &TonedRow<'_>, f: Phase, left: Duration) -> bool
+    requires { well_words (tape_size tape.now) x.now.tones.now x.now.row ≡ true }
     ensures { result
-        ≡ (has_entry tones.now r f && remains left (length_at tape.now tones.now r f)) }
+        ≡ (has_entry x.now.tones.now x.now.row f
+        && remains left (length_at tape.now x.now.tones.now x.now.row f)) }
 {
-    if !has_entry(tones, r, f) {
-        return false;
-    }
-    may_remain(left, length_at(tape, tones, r, f))
+    x.has_entry(f) && may_remain(left, x.length_at(tape, f))
 }
 
 // Whether a row is well formed; of a document row's tone rows it doesn't tell, which are gone through later.
-fn row_ready(tape: &[u8], tones: &[u64], r: Block) -> bool
-    ensures { result ≡ ready_row (tape_size tape.now) tones.now r }
+#[tactic(auto, using(rows_well::proofs::WordsLaws::words_tones, crate::proofs::Assays::words_table), unfolding(crate::specs::Assay::ready_row))]
+fn row_ready(m: &Mounted<'_>, r: Block) -> bool
+    ensures { result ≡ ready_row (tape_size m.now.tape.now) m.now.tones.now r }
 {
-    if !words_well(size_of(tape), tones, r) {
-        return false;
-    }
-    if r.sort == 0 {
-        return tones_well(tones, r.tone, r.tones);
-    }
-    true
+    words_well(m.size(), m.tones, r) && (r.sort != 0 || tones_well(m.tones, r.tone, r.tones))
 }
 
-// What a position comes to: its checks; where they are fine the level there; and what was heard on the way.
+// What a fine position comes to: the level there, and what was heard on the way.
 #[derive(Clone, Copy)]
 pub struct Finding {
-    pub check: Check,
     pub level: bool,
     pub heard: Heard,
 }
 
-// A check that tells no level.
-fn silent(c: Check) -> Finding
-    ensures { result ≡ verdict_of c low silence }
+// The check of a position at or past the count.
+fn assay_past(pos: Position) -> Result<Finding, Fault>
+    ensures { result ≡ past_found (at_start pos) }
 {
-    Finding {
-        check: c,
+    if !at_start(pos) {
+        return Err(Fault::NotValid);
+    }
+    Ok(Finding {
         level: false,
         heard: unheard(),
-    }
-}
-
-// The check of a position at or past the count.
-fn check_past(pos: Position) -> Check
-    ensures { result ≡ fine_if (at_start pos) }
-{
-    if at_start(pos) {
-        return Check::Fine;
-    }
-    Check::NotValid
-}
-
-// The check of an entry in a well-formed row, by whether so much may be left of it.
-fn check_left(has: bool) -> Check
-    ensures { result ≡ fine_if has }
-{
-    if has { Check::Fine } else { Check::NotValid }
+    })
 }
 
 // A position in block b, a document row, by one pass over its tone rows; its callers know the row to be well formed but for them.
-fn assay_document(tones: &[u64], blocks: &[u64], b: u64, f: Phase, has: bool) -> Finding
-    requires lending { Lending tones.now blocks.now b }
-    requires f_value { has ≡ true → has_entry tones.now (row_at blocks.now b) f ≡ true }
-    ensures { Sounded tones.now blocks.now b f has result }
+fn assay_document(m: &Mounted<'_>, b: u64, f: Phase, has: bool) -> Result<Finding, Fault>
+    requires lending { Lending m.now.tones.now m.now.blocks.now b }
+    requires f_value { has ≡ true → has_entry m.now.tones.now (row_at m.now.blocks.now b) f ≡ true }
+    ensures { Sounded m.now.tones.now m.now.blocks.now b f has result }
 {
-    let h = hear(tones, block_at(blocks, b as usize), b, f);
-    if !heard_well(tones, block_at(blocks, b as usize), h) {
-        return silent(Check::NotFormed);
+    let x = TonedRow {
+        tones: m.tones,
+        row: m.row(b),
+    };
+    let h = hear(&x, b, f);
+    if !heard_well(&x, h) {
+        return Err(Fault::NotFormed);
     }
     if !has {
-        return silent(Check::NotValid);
+        return Err(Fault::NotValid);
     }
-    Finding {
-        check: Check::Fine,
-        level: level_in(tones, blocks, b, f, h),
+    Ok(Finding {
+        level: level_in(m, b, f, h),
         heard: h,
+    })
+}
+
+// A position in a source row that is well formed, by whether so much may be left of its entry.
+fn assay_source(f: Phase, has: bool) -> Result<Finding, Fault>
+    ensures { result ≡ source_found f has }
+{
+    if !has {
+        return Err(Fault::NotValid);
     }
+    Ok(Finding {
+        level: mic(f),
+        heard: unheard(),
+    })
 }
 
 // The checks of a position, in the order of rule 37, and the level there: a document row's tone rows are gone through once for both.
-pub fn assay(tape: &[u8], tones: &[u64], blocks: &[u64], count: u64, pos: Position) -> Finding
-    ensures { Assayed (tape_of tape.now tones.now blocks.now count) pos result }
+pub fn assay(m: &Mounted<'_>, pos: Position) -> Result<Finding, Fault>
+    ensures { Assayed (mounted_tape m.now) pos result }
 {
-    if (block_capacity(blocks) as u64) < count {
-        return silent(Check::NotFormed);
+    if m.is_overfull() {
+        return Err(Fault::NotFormed);
     }
     let b = pos.block;
-    if count <= b {
-        return silent(check_past(pos));
+    if m.count <= b {
+        return assay_past(pos);
     }
-    if !row_ready(tape, tones, block_at(blocks, b as usize)) {
-        return silent(Check::NotFormed);
+    if !row_ready(m, m.row(b)) {
+        return Err(Fault::NotFormed);
     }
-    let f = pos.phase;
-    let left = pos.left;
-    let has = has_left(tape, tones, block_at(blocks, b as usize), f, left);
-    if is_source(blocks, b) {
-        return Finding {
-            check: check_left(has),
-            level: mic(f),
-            heard: unheard(),
-        };
+    let x = TonedRow {
+        tones: m.tones,
+        row: m.row(b),
+    };
+    let has = has_left(m.tape, &x, pos.phase, pos.left);
+    if is_source(m, b) {
+        return assay_source(pos.phase, has);
     }
-    assay_document(tones, blocks, b, f, has)
+    assay_document(m, b, pos.phase, has)
 }
 
 // The checks of a position, in the order of rule 37.
-pub fn judge(tape: &[u8], tones: &[u64], blocks: &[u64], count: u64, pos: Position) -> Check
-    ensures { result ≡ judged (tape_of tape.now tones.now blocks.now count) pos }
+pub fn judge(m: &Mounted<'_>, pos: Position) -> Result<(), Fault>
+    ensures { result ≡ judged (mounted_tape m.now) pos }
 {
-    let a = assay(tape, tones, blocks, count, pos);
-    a.check
-}
-
-// A call of 0 from a position of this level: nothing is altered.
-fn stay(pos: Position, level: bool) -> Reached
-    ensures { (w : Tape) → judged w pos ≡ Fine → level ≡ level_there w pos → result ≡ stays w pos }
-{
-    let left = pos.left;
-    let here = Stand {
-        position: pos,
-        passed: 0,
-        level,
-    };
-    match left {
-        Duration::T(_) => Reached::At(here),
-        Duration::Endless => Reached::Stopped(here),
-    }
+    assay(m, pos)?;
+    Ok(())
 }
 
 // Whether a call of n ends inside an entry of which so much is left.
+#[tactic(auto, unfolding(crate::specs::Inside::ends_inside))]
 pub fn ends_inside(left: Duration, n: u64) -> bool
     ensures { result ≡ ends_inside left n }
 {
-    match left {
-        Duration::T(t) => n < t,
-        Duration::Endless => false,
-    }
+    matches!(left, Duration::T(t) if n < t)
 }
 
 // What is left of an entry in which a call of n ends.
+#[tactic(auto, unfolding(crate::specs::Inside::ends_inside, crate::specs::Inside::less_by))]
 fn less(left: Duration, n: u64) -> Duration
     requires { ends_inside left n ≡ true }
     ensures { result ≡ less_by left n }
 {
     match left {
         Duration::T(t) => Duration::T(t - n),
-        Duration::Endless => Duration::Endless,
+        Duration::Endless => left,
     }
 }
 
 // A call of n that ends inside the entry where the head stands, of this level: nothing is passed.
+#[tactic(auto, unfolding(crate::specs::Inside::ends_inside, crate::specs::Inside::less_by))]
 fn stand_inside(pos: Position, n: u64, level: bool) -> Reached
     requires { ends_inside pos.left n ≡ true }
-    ensures { (w : Tape) → level ≡ level_in w pos.block pos.phase → result ≡ in_place w pos n }
+    ensures { (w : Tape) → level ≡ level_in w pos.block pos.phase → Ok result ≡ in_place w pos n }
 {
-    let phase = pos.phase;
-    let left = pos.left;
     let position = Position {
-        block: pos.block,
-        phase,
-        left: less(left, n),
+        left: less(pos.left, n),
+        ..pos
     };
-    Reached::At(Stand {
-        position,
-        passed: 0,
-        level,
-    })
+    Reached::here(position, 0, level)
 }
 
-// A call of n from a position that its callers know to be fine, by what it came to.
-fn measure(
-    tape: &[u8],
-    tones: &[u64],
-    blocks: &[u64],
-    count: u64,
-    pos: Position,
-    n: u64,
-    a: Finding,
-) -> Reached
-    requires assayed { Assayed (tape_of tape.now tones.now blocks.now count) pos a }
-    requires check_value { a.check ≡ Fine }
-    ensures value { result ≡ (eqb n 0 ⇒ stays (tape_of tape.now tones.now blocks.now count) pos
-        ∣ walk_from (tape_of tape.now tones.now blocks.now count) pos n) }
-    ensures lands { Lands (tape_of tape.now tones.now blocks.now count) result }
-{
-    if n == 0 {
-        return stay(pos, a.level);
-    }
-    if count <= pos.block {
-        return ends(count, 0);
-    }
-    let left = pos.left;
-    if ends_inside(left, n) {
-        return stand_inside(pos, n, a.level);
-    }
-    let h = a.heard;
-    walk(tape, tones, blocks, count, pos, n, h)
+// A player: what it answers to a call of n, and what a call of 1 or more from a fine position comes to, which is a measured walk.
+pub trait Player {
+    ghost plays: { Tape → Position → ℕ → Result Reached Fault };
+
+    ghost walks: { Tape → Position → ℕ → Result Reached Fault };
+
+    // How many T-states that walk takes; its callers know the position to be fine.
+    fn spends(m: &Mounted<'_>, pos: Position, n: u32) -> u64
+        requires fine { judged (mounted_tape m.now) pos ≡ all_fine }
+        requires some { 0 < n }
+        ensures walks_value { walks (mounted_tape m.now) pos n ≡ walk_from (mounted_tape m.now) pos result }
+        ensures nonzero { 0 < result };
+
+    ghost by_walks: { (w : Tape) (q : Position) (n : ℕ) → plays w q n ≡ played_by walks w q n };
 }
 
-// The measured player's call of n T-states from a position, by what it came to; our crates alone call it.
-pub fn measured_by(
-    tape: &[u8],
-    tones: &[u64],
-    blocks: &[u64],
-    count: u64,
+// The measured player charges every pulse.
+pub struct Measured;
+
+impl Player for Measured {
+    ghost plays = { play_measured };
+
+    ghost walks = { walk_from };
+
+    ghost by_walks = { measured_by };
+
+    fn spends(_m: &Mounted<'_>, _pos: Position, n: u32) -> u64 {
+        u64::from(n)
+    }
+}
+
+// The source's play drops short entries uncharged, as the Rust does.
+pub struct Source;
+
+impl Player for Source {
+    ghost plays = { play_source };
+
+    ghost walks = { source_from };
+
+    ghost by_walks = { source_by };
+
+    fn spends(m: &Mounted<'_>, pos: Position, n: u32) -> u64 {
+        if m.count <= pos.block {
+            return n as u64;
+        }
+        let more = ran_ahead(m, pos, n as u64);
+        n as u64 + more
+    }
+}
+
+// A player's call of n T-states from a position, by what it came to; our crates alone call it.
+pub fn call_by<P: Player>(
+    m: &Mounted<'_>,
     pos: Position,
     n: u32,
-    a: Finding,
-) -> Reached
-    requires { Assayed (tape_of tape.now tones.now blocks.now count) pos a }
-    ensures value { result ≡ play_measured (tape_of tape.now tones.now blocks.now count) pos n }
-    ensures lands { Lands (tape_of tape.now tones.now blocks.now count) result }
+    a: Result<Finding, Fault>,
+) -> Result<Reached, Fault>
+    requires { Assayed (mounted_tape m.now) pos a }
+    ensures value { result ≡ P.plays (mounted_tape m.now) pos n }
+    ensures lands { Lands (mounted_tape m.now) result }
 {
-    let c = a.check;
-    match c {
-        Check::Fine => measure(tape, tones, blocks, count, pos, n as u64, a),
-        Check::NotValid => Reached::NotValid,
-        Check::NotFormed => Reached::NotFormed,
+    let here = a?;
+    if n == 0 {
+        return Ok(Reached::here(pos, 0, here.level));
     }
+    let d = P::spends(m, pos, n);
+    if m.count <= pos.block {
+        return Ok(Reached::end(m.count, 0));
+    }
+    if ends_inside(pos.left, d) {
+        return Ok(stand_inside(pos, d, here.level));
+    }
+    walk(m, pos, d, here.heard)
 }
 
 // The measured player: a call of n T-states from a position.
-pub fn play_measured(
-    tape: &[u8],
-    tones: &[u64],
-    blocks: &[u64],
-    count: u64,
-    pos: Position,
-    n: u32,
-) -> Reached
-    ensures { result ≡ play_measured (tape_of tape.now tones.now blocks.now count) pos n }
+pub fn play_measured(m: &Mounted<'_>, pos: Position, n: u32) -> Result<Reached, Fault>
+    ensures { result ≡ play_measured (mounted_tape m.now) pos n }
 {
-    let a = assay(tape, tones, blocks, count, pos);
-    measured_by(tape, tones, blocks, count, pos, n, a)
-}
-
-// The source's play of n from a position that its callers know to be fine, by what it came to.
-fn follow(
-    tape: &[u8],
-    tones: &[u64],
-    blocks: &[u64],
-    count: u64,
-    pos: Position,
-    n: u32,
-    a: Finding,
-) -> Reached
-    requires assayed { Assayed (tape_of tape.now tones.now blocks.now count) pos a }
-    requires check_value { a.check ≡ Fine }
-    ensures value { result ≡ (eqb n 0 ⇒ stays (tape_of tape.now tones.now blocks.now count) pos
-        ∣ source_from (tape_of tape.now tones.now blocks.now count) pos n) }
-    ensures lands { Lands (tape_of tape.now tones.now blocks.now count) result }
-{
-    if n == 0 {
-        return stay(pos, a.level);
-    }
-    if count <= pos.block {
-        return ends(count, 0);
-    }
-    let left = pos.left;
-    if ends_inside(left, n as u64) {
-        return stand_inside(pos, n as u64, a.level);
-    }
-    let more = ran_ahead(tape, tones, blocks, count, pos, n as u64);
-    let h = a.heard;
-    walk(tape, tones, blocks, count, pos, n as u64 + more, h)
-}
-
-// The source's play's call of n T-states from a position, by what it came to; our crates alone call it.
-pub fn followed_by(
-    tape: &[u8],
-    tones: &[u64],
-    blocks: &[u64],
-    count: u64,
-    pos: Position,
-    n: u32,
-    a: Finding,
-) -> Reached
-    requires { Assayed (tape_of tape.now tones.now blocks.now count) pos a }
-    ensures value { result ≡ play_source (tape_of tape.now tones.now blocks.now count) pos n }
-    ensures lands { Lands (tape_of tape.now tones.now blocks.now count) result }
-{
-    let c = a.check;
-    match c {
-        Check::Fine => follow(tape, tones, blocks, count, pos, n, a),
-        Check::NotValid => Reached::NotValid,
-        Check::NotFormed => Reached::NotFormed,
-    }
+    call_by::<Measured>(m, pos, n, assay(m, pos))
 }
 
 // The source's play: a call of n T-states from a position.
-pub fn play(
-    tape: &[u8],
-    tones: &[u64],
-    blocks: &[u64],
-    count: u64,
-    pos: Position,
-    n: u32,
-) -> Reached
-    ensures { result ≡ play_source (tape_of tape.now tones.now blocks.now count) pos n }
+pub fn play(m: &Mounted<'_>, pos: Position, n: u32) -> Result<Reached, Fault>
+    ensures { result ≡ play_source (mounted_tape m.now) pos n }
 {
-    let a = assay(tape, tones, blocks, count, pos);
-    followed_by(tape, tones, blocks, count, pos, n, a)
-}
-
-// Whether a phase is a block's start.
-fn is_start(f: Phase) -> bool
-    ensures { result ≡ is_start f }
-{
-    match f {
-        Phase::Start => true,
-        Phase::Tones { .. } => false,
-        Phase::Data { .. } => false,
-        Phase::Edge => false,
-        Phase::Pause => false,
-    }
+    call_by::<Source>(m, pos, n, assay(m, pos))
 }
 
 // What the position of a stand inside a block comes to, known to be fine; on from what was heard.
-fn assay_inside(
-    tape: &[u8],
-    tones: &[u64],
-    blocks: &[u64],
-    count: u64,
-    s: Stand,
-    h: Heard,
-) -> Finding
-    requires goes_on { GoesOn (tape_of tape.now tones.now blocks.now count) s }
-    requires told_seen { ToldSeen tones.now blocks.now h }
-    ensures { Assayed (tape_of tape.now tones.now blocks.now count) s.position result }
+fn assay_inside(m: &Mounted<'_>, s: Stand, h: Heard) -> Finding
+    requires goes_on { GoesOn (mounted_tape m.now) s }
+    requires told_seen { ToldSeen m.now.tones.now m.now.blocks.now h }
+    ensures { Found (mounted_tape m.now) s.position result }
 {
-    let pos = s.position;
-    let b = pos.block;
-    if is_source(blocks, b) {
-        return Finding {
-            check: Check::Fine,
-            level: s.level,
-            heard: h,
-        };
+    let b = s.position.block;
+    let level = s.level;
+    if is_source(m, b) {
+        return Finding { level, heard: h };
     }
-    let f = pos.phase;
+    let x = TonedRow {
+        tones: m.tones,
+        row: m.row(b),
+    };
     Finding {
-        check: Check::Fine,
-        level: s.level,
-        heard: hear_on(tones, block_at(blocks, b as usize), b, f, h),
+        level,
+        heard: hear_on(&x, b, s.position.phase, h),
     }
 }
 
 // What the position of a stand comes to: at a block's start its row is judged.
-fn assay_stand(
-    tape: &[u8],
-    tones: &[u64],
-    blocks: &[u64],
-    count: u64,
-    s: Stand,
-    h: Heard,
-) -> Finding
-    requires landed { Landed (tape_of tape.now tones.now blocks.now count) s }
-    requires told_seen { ToldSeen tones.now blocks.now h }
-    ensures { Assayed (tape_of tape.now tones.now blocks.now count) s.position result }
+fn assay_stand(m: &Mounted<'_>, s: Stand, h: Heard) -> Result<Finding, Fault>
+    requires landed { Landed (mounted_tape m.now) s }
+    requires told_seen { ToldSeen m.now.tones.now m.now.blocks.now h }
+    ensures { Assayed (mounted_tape m.now) s.position result }
 {
-    let pos = s.position;
-    let f = pos.phase;
-    if is_start(f) {
-        return assay(tape, tones, blocks, count, pos);
+    if s.position.phase == Phase::Start {
+        return assay(m, s.position);
     }
-    assay_inside(tape, tones, blocks, count, s, h)
+    Ok(assay_inside(m, s, h))
+}
+
+// What was heard on the way to a position.
+fn heard_in(a: Result<Finding, Fault>) -> Heard
+    ensures { result ≡ heard_in a }
+{
+    match a {
+        Ok(here) => here.heard,
+        Err(_) => unheard(),
+    }
 }
 
 // What the position comes to where an answer leaves the head: nothing is judged twice. Our crates alone call it.
 pub fn assay_after(
-    tape: &[u8],
-    tones: &[u64],
-    blocks: &[u64],
-    count: u64,
+    m: &Mounted<'_>,
     pos: Position,
-    a: Finding,
-    r: Reached,
-) -> Finding
-    requires assayed { Assayed (tape_of tape.now tones.now blocks.now count) pos a }
-    requires lands { Lands (tape_of tape.now tones.now blocks.now count) r }
-    ensures { Assayed (tape_of tape.now tones.now blocks.now count) (position_in pos r) result }
+    a: Result<Finding, Fault>,
+    r: Result<Reached, Fault>,
+) -> Result<Finding, Fault>
+    requires assayed { Assayed (mounted_tape m.now) pos a }
+    requires lands { Lands (mounted_tape m.now) r }
+    ensures { Assayed (mounted_tape m.now) (position_in pos r) result }
 {
-    let h = a.heard;
     match r {
-        Reached::At(s) => assay_stand(tape, tones, blocks, count, s, h),
-        Reached::Stopped(s) => assay_stand(tape, tones, blocks, count, s, h),
-        Reached::Ended(s) => assay_stand(tape, tones, blocks, count, s, h),
-        Reached::NotValid => a,
-        Reached::NotFormed => a,
+        Ok(to) => assay_stand(m, to.stand, heard_in(a)),
+        Err(_) => a,
     }
 }
 
-// A position's block for a menu; or refusal 9, or 11.
-#[derive(Clone, Copy)]
-pub enum Selected {
-    Block(u64),
-    BadPosition,
-    BadRow,
-}
-
 // The mounted head.
-#[derive(Clone, Copy)]
+#[derive(Clone, Copy, PartialEq, Eq)]
 pub struct Head {
     pub position: Position,
 }
 
 // A mounted head after a call, and the call's answer.
-#[derive(Clone, Copy)]
+#[derive(Clone, Copy, PartialEq, Eq)]
 pub struct Played {
     pub head: Head,
-    pub answer: Reached,
+    pub answer: Result<Reached, Fault>,
 }

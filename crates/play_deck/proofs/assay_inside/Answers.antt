@@ -1,35 +1,24 @@
 -- `assay_inside` meets its contract. Assumes nothing.
-use Rattle.play_deck.proofs.Landing.{assayed_on, lent_row, hears_on, heard-on}
-use Rattle.play_entries.specs.Mounted.{tape_of}
-use mathlib.Core.Path.{refl}
+use Rattle.play_entries.specs.Mounted.{mounted_tape}
+use Rattle.play_deck.proofs.Landing.{found_on, hears_on, heard-on}
 use Rattle.play_deck.proofs.assay_inside.Goals as goal
 
-pub is_source-requires : goal.is_source-requires
-is_source-requires c =
-    let a = c.args in
-    lent_row (tape_of a.tape.now a.tones.now a.blocks.now a.count) a.s.position c.requires.goes_on.there
-
 pub returns-then-is_source : goal.returns-then-is_source
-returns-then-is_source c =
-    let a = c.args in
-    assayed_on (tape_of a.tape.now a.tones.now a.blocks.now a.count) a.s c.requires.goes_on a.h c.requires.told_seen _ refl
+returns-then-is_source c = found_on _ c.args.s c.requires.goes_on _ c.requires.told_seen
 
-pub block_at-requires : goal.block_at-requires
-block_at-requires c =
-    let a = c.args in
-    lent_row (tape_of a.tape.now a.tones.now a.blocks.now a.count) a.s.position c.requires.goes_on.there
+pub invariant_of-x : goal.invariant_of-x
+invariant_of-x c =
+    let h = hears_on (mounted_tape c.args.m.now) c.args.s.position c.requires.goes_on.there c.args.h
+    c.requires.told_seen c.row.result c.row.ensures in
+    record { lent = h.0 }
 
 pub hear_on-requires : goal.hear_on-requires
 hear_on-requires c =
-    let a = c.args in
-    let h = hears_on (tape_of a.tape.now a.tones.now a.blocks.now a.count) a.s.position c.requires.goes_on.there a.h
-    c.requires.told_seen c.block_at.result c.block_at.ensures in
-    record { tones_bound = h.0; seen_value = h.1 }
+    (hears_on (mounted_tape c.args.m.now) c.args.s.position c.requires.goes_on.there c.args.h
+    c.requires.told_seen c.row.result c.row.ensures).1
 
 pub returns : goal.returns
 returns c =
-    let a = c.args in
-    let w = tape_of a.tape.now a.tones.now a.blocks.now a.count in
-    assayed_on w a.s c.requires.goes_on c.hear_on.result
-    (heard-on w a.s.position c.block_at.result c.block_at.ensures c.hear_on.result c.hear_on.ensures) _
-    refl
+    let w = mounted_tape c.args.m.now in
+    found_on w c.args.s c.requires.goes_on _
+    (heard-on w c.args.s.position c.row.result c.row.ensures c.hear_on.result c.hear_on.ensures)

@@ -1,51 +1,44 @@
 // The block that a position is shown under.
 #![tactic(auto)]
 
-ghost use Rattle.std.specs.Prelude.{◌≡◌, ℕ, ◌+◌, ◌*◌, ◌≤◌, length};
+ghost use Rattle.std.specs.Prelude.{◌≡◌, ◌+◌, ◌*◌, ◌≤◌, length};
 ghost use Rattle.rows.specs.Rows.{block};
-ghost use Rattle.play_entries.specs.Mounted.{tape_of};
+ghost use Rattle.play_entries.specs.Mounted.{mounted_tape};
 ghost use Rattle.play_deck.specs.Deck.{back_to, block_at};
 
-use play_deck::{Check, Selected, judge};
-use play_phases::row_well;
-use play_walk::Position;
-use rows::block_at;
+use play_deck::judge;
+use play_entries::Mounted;
+use play_walk::{Fault, Position};
 
 // From a block back to a selectable one or 0; its callers know the rows to be lent.
-fn back(tape: &[u8], tones: &[u64], blocks: &[u64], from: u64) -> Selected
-    requires { from * block.width + block.width ≤ length blocks.now }
-    ensures { (count : ℕ) → result ≡ back_to (tape_of tape.now tones.now blocks.now count) from }
+#[tactic(auto, using(play_deck::proofs::Sourced::back_bad, play_deck::proofs::Sourced::back_none, play_deck::proofs::Sourced::back_here, play_deck::proofs::Sourced::back_on))]
+fn back(m: &Mounted<'_>, from: u64) -> Result<u64, Fault>
+    requires { from * block.width + block.width ≤ length m.now.blocks.now }
+    ensures { result ≡ back_to (mounted_tape m.now) from }
 {
-    let mut b = from;
-    loop {
-        if !row_well(tape, tones, blocks, b) {
-            return Selected::BadRow;
+    for b in (1..=from).rev() {
+        if !m.row_well(b) {
+            return Err(Fault::NotFormed);
         }
-        if b == 0 {
-            return Selected::Block(0);
+        if m.row(b).selectable == 1 {
+            return Ok(b);
         }
-        let r = block_at(blocks, b as usize);
-        if r.selectable == 1 {
-            return Selected::Block(b);
-        }
-        b -= 1;
+    }
+    if m.row_well(0) {
+        Ok(0)
+    } else {
+        Err(Fault::NotFormed)
     }
 }
 
 // The block that a position is shown under: back to a selectable one, or past the end.
-pub fn block(tape: &[u8], tones: &[u64], blocks: &[u64], count: u64, pos: Position) -> Selected
-    ensures { result ≡ block_at (tape_of tape.now tones.now blocks.now count) pos }
+#[tactic(auto, unfolding(play_deck::specs::Deck::block_of))]
+pub fn block(m: &Mounted<'_>, pos: Position) -> Result<u64, Fault>
+    ensures { result ≡ block_at (mounted_tape m.now) pos }
 {
-    let c = judge(tape, tones, blocks, count, pos);
-    match c {
-        Check::Fine => {
-            let b = pos.block;
-            if count <= b {
-                return Selected::Block(Position::PAST_END);
-            }
-            back(tape, tones, blocks, b)
-        }
-        Check::NotValid => Selected::BadPosition,
-        Check::NotFormed => Selected::BadRow,
+    judge(m, pos)?;
+    if m.count <= pos.block {
+        return Ok(Position::PAST_END);
     }
+    back(m, pos.block)
 }

@@ -14,6 +14,7 @@ use rows::{Block, Tone};
 
 // Where a block comes from: its piece's kind, and where that piece stands in the tape.
 // What a row takes from outside its sound is a field here; no word has any of it yet.
+// It isn't one with the tape: births, stops and pure tones take it without a tape, headers and figures take a tape without it.
 #[derive(Clone, Copy)]
 pub struct Origin {
     pub kind: u8,
@@ -202,7 +203,7 @@ pub fn standard_data_block(
     data_block(tape, s, blocks, tones, origin, pilot, sync, bits, pause)
 }
 
-// A block without tone rows.
+// A block without tone rows: it is lent no tone table.
 pub fn no_tone(s: State, blocks: &mut [u64], r: Block) -> Result<State, Halt>
     ensures { (tt : List ℕ) → Does (λ lent. add_rows lent [] r) s result blocks.old tt blocks.new tt }
 {

@@ -5,4 +5,3 @@ pub mod Points
 pub mod Texts
 pub mod Lines
 pub mod Listed
-pub mod Marks

@@ -3,10 +3,12 @@
 use Prim.Native.Nat.{ℕ, ◌+◌, ◌*◌, ◌≤◌}
 use native.Mathlib.Omega.{arith}
 use mathlib.Core.Path.{◌≡◌, subst}
-use mathlib.Core.List.{List, [], ◌∷◌}
+use mathlib.Core.List.{List}
 use lib.ListN.{length, length-append}
 use lib.Dec.{eqb}
-use Rattle.text_out.specs.Out.{Wrote}
+use Rattle.text_out.specs.declared.Writer.{Writer}
+use Rattle.text_out.specs.Out.{ascii}
+use Rattle.text_out.specs.Writes.{Writes}
 use Rattle.text_out.proofs.Writing.{then}
 use Rattle.play_entries.specs.Places.{Tape}
 use Rattle.play_entries.specs.Stored.{rows_time}
@@ -29,6 +31,9 @@ unfolding format_text
 format_long Tap = record { low = omega arith; high = omega arith }
 format_long Tzx = record { low = omega arith; high = omega arith }
 
+pub format_most : (f : Format) → length (format_text f) ≤ 3
+format_most f = (format_long f).high
+
 pub count_long : (f : Format) (n : ℕ) → Long 21 40 (count_text f n)
 unfolding count_text
 count_long f n =
@@ -41,6 +46,15 @@ unfolding loading_text
 loading_long n =
     let a = decimal_long n in
     record { low = simp length-append (omega arith); high = simp length-append (omega arith) }
+
+pub model_most : (m : ℕ) → length (model_text m) ≤ 5
+model_most m = (model_long m).high
+
+pub count_most : (f : Format) (n : ℕ) → length (count_text f n) ≤ 40
+count_most f n = (count_long f n).high
+
+-- by which the first line's parts stay below a bound
+pub ruleset parts_most = (model_most, count_most)
 
 -- THE WHOLE TEXT, by its rows; there are at most 512
 pub text-rows : {s blocks : List ℕ} {n : ℕ} (m : ℕ) (f : Format) → Ready s blocks n → (tones : List ℕ)
@@ -66,10 +80,9 @@ text_least m f w =
     simp length-append (omega arith)
 
 -- what was written of the parts of the whole text
-pub listing_written : {d d1 d2 d3 d4 d5 : List ℕ} {o1 o2 o3 o4 o5 : ℕ} (m : ℕ) (f : Format) (w : Tape) (total : ℕ)
-    → total ≡ rows_time w → Wrote d 0 (0x6D ∷ 0x6F ∷ 0x64 ∷ 0x65 ∷ 0x6C ∷ 0x20 ∷ []) d1 o1
-    → Wrote d1 o1 (model_text m) d2 o2 → Wrote d2 o2 (count_text f w.count) d3 o3 → Wrote d3 o3 (rows_text w w.count) d4 o4
-    → Wrote d4 o4 (loading_text total) d5 o5 → Wrote d 0 (listing_text m f w) d5 o5
+pub listing_written : {w w1 w2 w3 w4 w5 : Writer} (m : ℕ) (f : Format) (t : Tape) (total : ℕ)
+    → total ≡ rows_time t → Writes w (ascii "model ") w1 → Writes w1 (model_text m) w2 → Writes w2 (count_text f t.count) w3
+    → Writes w3 (rows_text t t.count) w4 → Writes w4 (loading_text total) w5 → Writes w (listing_text m f t) w5
 unfolding listing_text rest_text loading_text
-listing_written {d4 = d4} {d5} {o4 = o4} {o5} m f w total e p q r u v =
-    then (then p q) (then (then r u) (subst (λ (n : ℕ). Wrote d4 o4 (loading_text n) d5 o5) e v))
+listing_written {w4 = w4} {w5} m f t total e p q r u v =
+    then (then p q) (then (then r u) (subst (λ (n : ℕ). Writes w4 (loading_text n) w5) e v))

@@ -11,8 +11,10 @@ use lib.Dec.{ltb, eqb}
 use borrow.Author.Tests.{lt-ltb, le-ltb}
 use Rattle.law_base.specs.Rules.{◌⇒◌, ◌∣◌}
 use Rattle.law_base.proofs.Numbers.{lt_or_ge}
+use Rattle.text_out.specs.declared.Writer.{Writer}
 use Rattle.text_out.specs.Out.{Wrote}
-use Rattle.text_out.proofs.Writing.{wrote_counted, wrote_whole}
+use Rattle.text_out.specs.Writes.{Writes}
+use Rattle.text_out.proofs.Writing.{wrote_counted, wrote_whole, over_wrote}
 use Rattle.text_out.proofs.Loops.{Goes, goes_none, goes_on, goes_over, byte_here}
 use Rattle.text_listing.specs.Shown.{shown, is_c1, printed, width}
 
@@ -93,16 +95,15 @@ shown-length (b ∷ c ∷ bs) = by_cases (eqb b 0xC2 && ltb c 0xA0) (ltb b 32 ||
     by_cases false false p q = omega arith
 
 -- THE WRITING, code point by code point
-pub record Shows (d₀ : List ℕ) (at : ℕ) (s : List ℕ) (i : ℕ) (d : List ℕ) (o : ℕ) : Type 0 where
+pub record Shows (w₀ : Writer) (s : List ℕ) (i : ℕ) (w : Writer) : Type 0 where
   pub inside : i ≤ length s
-  pub goes : Goes (λ j. shown (drop j s)) 1 d₀ at i d o
+  pub goes : Goes (λ j. shown (drop j s)) 1 w₀ i w
 
-pub shows_none : (d : List ℕ) (at : ℕ) (s : List ℕ) → Shows d at s 0 d at
-shows_none d at s = record { inside = omega arith; goes = goes_none _ 1 d at }
+pub shows_none : (w : Writer) (s : List ℕ) → Shows w s 0 w
+shows_none w s = record { inside = omega arith; goes = goes_none _ 1 w }
 
-pub shows_on : {d₀ d d1 s : List ℕ} {at i o o1 b k : ℕ} {c1 : Bool} → Shows d₀ at s i d o → i < length s
-    → c1 ≡ is_c1 s i → b ≡ printed c1 (get_or s i 0) → k ≡ width c1 → Wrote d o (b ∷ []) d1 o1
-    → Shows d₀ at s (i + k) d1 o1
+pub shows_on : {w₀ w v : Writer} {s : List ℕ} {i b k : ℕ} {c1 : Bool} → Shows w₀ s i w → i < length s
+    → c1 ≡ is_c1 s i → b ≡ printed c1 (get_or s i 0) → k ≡ width c1 → Writes w (b ∷ []) v → Shows w₀ s (i + k) v
 shows_on {s = s} {i = i} {b = b} {k} {c1} g h e p q w =
     let z : k ≡ width (is_c1 s i) = q ∙ ap width e in
     let y : b ≡ printed (is_c1 s i) (get_or s i 0) = p ∙ ap (λ (t : Bool). printed t (get_or s i 0)) e in
@@ -113,7 +114,7 @@ shows_on {s = s} {i = i} {b = b} {k} {c1} g h e p q w =
     let some = width_some (is_c1 s i) in
     record { inside = omega (arith, c1_inside s i h, z); goes = goes_on k g.goes (sym split) (omega (arith, z)) w }
 
-pub shows_over : {d₀ d s : List ℕ} {at i o : ℕ} → Shows d₀ at s i d o → length s ≤ i → Wrote d₀ at (shown s) d o
+pub shows_over : {w₀ w : Writer} {s : List ℕ} {i : ℕ} → Shows w₀ s i w → length s ≤ i → Writes w₀ (shown s) w
 unfolding shown
 shows_over {s = s} g h = goes_over g.goes (ap shown (drop_of_length-le s h))
 
@@ -125,3 +126,11 @@ name_part {d} {d1} {t} {n} p h =
 
 pub part_length : {d d1 t : List ℕ} {n : ℕ} → Wrote d 0 t d1 n → length t ≤ length d → n ≡ length (take n d1)
 part_length p h = wrote_counted p ∙ sym (ap length (name_part p h))
+
+-- the same of a writer over these bytes
+pub name_over : {w v : Writer} {d t : List ℕ} → w.out.now ≡ d → w.at ≡ 0 → Writes w t v → length t ≤ length d → take v.at v.out.now ≡ t
+name_over e z p h = name_part (over_wrote e z p) h
+
+pub part_over : {w v : Writer} {d t : List ℕ} → w.out.now ≡ d → w.at ≡ 0 → Writes w t v → length t ≤ length d
+    → v.at ≡ length (take v.at v.out.now)
+part_over e z p h = part_length (over_wrote e z p) h

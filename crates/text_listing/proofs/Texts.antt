@@ -8,7 +8,9 @@ use mathlib.Core.List.{List, [], ◌∷◌, ◌++◌, append_assoc}
 use lib.ListN.{length, length-append}
 use lib.Dec.{eqb, ltb}
 use Rattle.law_base.specs.Rules.{◌⇒◌, ◌∣◌}
-use Rattle.text_out.specs.Out.{Wrote, digits, decimal}
+use Rattle.text_out.specs.declared.Writer.{Writer}
+use Rattle.text_out.specs.Out.{ascii, digits, decimal}
+use Rattle.text_out.specs.Writes.{Writes}
 use Rattle.text_out.proofs.Writing.{then, decimal-length}
 use Rattle.rows.specs.declared.Block.{Block}
 use Rattle.rows.specs.Table.{get}
@@ -22,6 +24,7 @@ use Rattle.play_entries.specs.Mounted.{tape_of}
 use Rattle.text_listing.specs.Inner.{row_head_text, row_tail_text, Ready}
 use Rattle.text_listing.specs.Shown.{shown}
 use Rattle.text_listing.specs.Lines.{time_text, mark_text, row_text_by, rows_text_by, row_text, rows_text}
+use Rattle.text_value.specs.Values.{lasts_text}
 use Rattle.text_listing.proofs.Showing.{shown-length}
 
 -- at least so long, and at most
@@ -47,13 +50,16 @@ unfolding time_text
 time_long (T n) = decimal_long n
 time_long Endless = record { low = omega arith; high = omega arith }
 
--- how far the T-states reach
-pub time_next : {d1 d2 : List ℕ} {at r : ℕ} (d : Duration) → Wrote d1 at (time_text d) d2 r → r ≤ at + 20
-time_next d w = let a = time_long d in omega (arith, w.count)
+pub stop_most : (d : Duration) → length (lasts_text (ascii "stop") d) ≤ 20
+stop_most (T n) = decimal-length n
+stop_most Endless = omega arith
 
 pub mark_long : (t : Bool) → Long 1 1 (mark_text t)
 unfolding mark_text
 mark_long t = either t (record { low = omega arith; high = omega arith }) (record { low = omega arith; high = omega arith })
+
+pub mark_most : (t : Bool) → length (mark_text t) ≤ 1
+mark_most t = (mark_long t).high
 
 pub head_most : (i : ℕ) (r : Block) → length (row_head_text i r) ≤ 44
 head_most i r =
@@ -100,16 +106,18 @@ rows-most {s} {blocks} {n} r tones (suc i) h =
     simp length-append (omega arith)
 
 -- one row more
-pub rows_next : {d d1 d2 : List ℕ} {at o1 o2 : ℕ} (w : Tape) (i : ℕ) → Wrote d at (rows_text w i) d1 o1
-    → Wrote d1 o1 (row_text w i) d2 o2 → Wrote d at (rows_text w (i + 1)) d2 o2
+pub rows_next : {w₀ w v : Writer} (t : Tape) (i : ℕ) → Writes w₀ (rows_text t i) w → Writes w (row_text t i) v
+    → Writes w₀ (rows_text t (i + 1)) v
 unfolding rows_text_by
-rows_next w i p q = rw add-one (then p q)
+rows_next t i p q = rw add-one (then p q)
 
 -- what was written of a row's two parts
-pub row_written : {out d1 d2 : List ℕ} {at o1 o2 : ℕ} (s tones blocks : List ℕ) (n i : ℕ) (r : Block) (d : Duration)
-    → r ≡ get block blocks i → d ≡ row_lasts r
-    → Wrote out at (row_head_text i r) d1 o1 → Wrote d1 o1 (row_tail_text d (name_of s r)) d2 o2
-    → Wrote out at (row_text (tape_of s tones blocks n) i) d2 o2
-row_written {out} {d2 = d2} {at} {o2 = o2} s tones blocks n i r d e f u v =
+pub row_written : {w₀ w v : Writer} (s tones blocks : List ℕ) (n i : ℕ) (r : Block) (d : Duration)
+    → r ≡ get block blocks i → d ≡ row_lasts r → Writes w₀ (row_head_text i r) w → Writes w (row_tail_text d (name_of s r)) v
+    → Writes w₀ (row_text (tape_of s tones blocks n) i) v
+row_written {w₀} {v = v} s tones blocks n i r d e f p q =
     let parts = ap (λ (x : Duration). row_head_text i r ++ row_tail_text x (name_of s r)) f in
-    subst (λ (t : List ℕ). Wrote out at t d2 o2) (parts ∙ row_joins s tones blocks n i r e) (then u v)
+    subst (λ (t : List ℕ). Writes w₀ t v) (parts ∙ row_joins s tones blocks n i r e) (then p q)
+
+-- by which a row's parts stay below a bound
+pub ruleset parts_most = (mark_most, stop_most, shown-length)

@@ -1,62 +1,76 @@
 // A listing's whole text: its first line, the rows' lines and the last.
-ghost use Rattle.std.specs.Prelude.{List, ℕ, ◌+◌, ◌^◌, ◌<◌};
+ghost use Rattle.std.specs.Prelude.{◌≡◌, List, ℕ, ◌+◌, ◌^◌, ◌<◌};
 ghost use Rattle.text_out.specs.Out.{Wrote};
+ghost use Rattle.text_out.specs.Writes.{Writes};
 ghost use Rattle.play_entries.specs.Mounted.{tape_of};
 ghost use Rattle.text_listing.specs.Inner.{Ready};
 ghost use Rattle.text_listing.specs.Page.{model_text, format_text, count_text, loading_text, listing_text};
 
 use crate::put_rows;
 use load_tape::Format;
-use text_out::{put, put_all, put_decimal};
+use text_out::Writer;
 
 // The model's name.
-fn put_model(out: &mut [u8], at: usize, model: u32) -> usize
-    requires { at + 5 < 2 ^ 63 }
-    ensures { Wrote out.old at (model_text model) out.new result }
+#[tactic(auto, unfolding(crate::specs::Page::model_text))]
+fn put_model(w: &mut Writer<'_>, model: u32)
+    requires { w.old.at + 5 < 2 ^ 63 }
+    ensures { Writes w.old (model_text model) w.new }
 {
-    if model == 0 {
-        return put_all(out, at, b"48K");
+    match model {
+        0 => w.bytes(b"48K"),
+        1 => w.bytes(b"128K"),
+        _ => w.bytes(b"Plus3"),
     }
-    if model == 1 {
-        return put_all(out, at, b"128K");
-    }
-    put_all(out, at, b"Plus3")
 }
 
 // The format's.
-fn put_format(out: &mut [u8], at: usize, format: Format) -> usize
-    requires { at + 3 < 2 ^ 63 }
-    ensures { Wrote out.old at (format_text format) out.new result }
+#[tactic(auto, unfolding(crate::specs::Page::format_text))]
+fn put_format(w: &mut Writer<'_>, format: Format)
+    requires { w.old.at + 3 < 2 ^ 63 }
+    ensures { Writes w.old (format_text format) w.new }
 {
     match format {
-        Format::Tap => put_all(out, at, b"TAP"),
-        Format::Tzx => put_all(out, at, b"TZX"),
+        Format::Tap => w.bytes(b"TAP"),
+        Format::Tzx => w.bytes(b"TZX"),
     }
 }
 
 // The first line from behind the model's name on.
-fn put_count(out: &mut [u8], at: usize, format: Format, n: u64) -> usize
-    requires { at + 64 < 2 ^ 63 }
-    ensures { Wrote out.old at (count_text format n) out.new result }
+#[tactic(auto, using(text_out::proofs::Writing::composed, crate::proofs::PageTexts::format_most), unfolding(crate::specs::Page::count_text))]
+fn put_count(w: &mut Writer<'_>, format: Format, n: u64)
+    requires { w.old.at + 64 < 2 ^ 63 }
+    ensures { Writes w.old (count_text format n) w.new }
 {
-    let a = put_all(out, at, b" format ");
-    let b = put_format(out, a, format);
-    let c = put_all(out, b, b" blocks ");
-    let d = put_decimal(out, c, n);
-    put(out, d, b'\n')
+    w.bytes(b" format ");
+    put_format(w, format);
+    w.said_line(b" blocks ", n);
 }
 
 // The last line.
-fn put_total(out: &mut [u8], at: usize, total: u64) -> usize
-    requires { at + 64 < 2 ^ 63 }
-    ensures { Wrote out.old at (loading_text total) out.new result }
+#[tactic(auto, using(text_out::proofs::Writing::composed), unfolding(crate::specs::Page::loading_text))]
+fn put_total(w: &mut Writer<'_>, total: u64)
+    requires { w.old.at + 64 < 2 ^ 63 }
+    ensures { Writes w.old (loading_text total) w.new }
 {
-    let a = put_all(out, at, b"time ");
-    let b = put_decimal(out, a, total);
-    put(out, b, b'\n')
+    w.said_line(b"time ", total);
 }
 
-// The whole text of rows that its callers know to be ready; no tone row is looked at. Our crates alone call it.
+// The whole text of rows that its callers know to be ready; no tone row is looked at.
+#[tactic(auto, using(crate::proofs::PageTexts::parts_most))]
+fn put_whole(w: &mut Writer<'_>, model: u32, format: Format, tape: &[u8], blocks: &[u64], n: u64)
+    requires ready { Ready tape.now blocks.now n }
+    requires at_value { w.old.at ≡ 0 }
+    ensures { (tones : List ℕ) → Writes w.old
+        (listing_text model format (tape_of tape.now tones blocks.now n)) w.new }
+{
+    w.bytes(b"model ");
+    put_model(w, model);
+    put_count(w, format, n);
+    let load = put_rows(w, tape, blocks, n);
+    put_total(w, load.end);
+}
+
+// The same into lent bytes, and how many it takes. Our crates alone call it.
 pub fn put_listing(
     out: &mut [u8],
     model: u32,
@@ -69,9 +83,7 @@ pub fn put_listing(
     ensures { (tones : List ℕ) → Wrote out.old 0
         (listing_text model format (tape_of tape.now tones blocks.now n)) out.new result }
 {
-    let a = put_all(out, 0, b"model ");
-    let b = put_model(out, a, model);
-    let c = put_count(out, b, format, n);
-    let s = put_rows(out, c, tape, blocks, n);
-    put_total(out, s.at, s.load.end)
+    let mut w = Writer::over(out);
+    put_whole(&mut w, model, format, tape, blocks, n);
+    w.at
 }

@@ -18,18 +18,19 @@ use Rattle.text_name.specs.Names.{name_all}
 use Rattle.text_name.proofs.Selecting.{name_all-length}
 use Rattle.play_entries.specs.Places.{Tape}
 use Rattle.play_entries.specs.Mounted.{tape_of, tape_size, well_row}
+use Rattle.std.specs.Prelude.{Result, Ok, Err}
 use Rattle.load_tape.specs.declared.Format.{Format}
 use Rattle.load_tape.specs.declared.Format.TheVariants.{Tap, Tzx}
 use Rattle.load_tape.specs.declared.Loaded.{Loaded}
-use Rattle.load_tape.specs.Load.{named_tape, named_load, load_named, answer_of, refusal_no, block_table, tone_table, Leaves}
-use Rattle.load_tape.proofs.Naming.{is_tape}
+use Rattle.load_tape.specs.declared.NotLoaded.{NotLoaded}
+use Rattle.load_tape.specs.Load.{named_tape, named_load, load_named, answer_of, refusal_no, not_loaded_no, block_table, tone_table, Leaves}
+use Rattle.load_tape.proofs.Naming.{count_of, is_tape}
 use Rattle.law_every_load.specs.Sizes.{Bytes}
 use Rattle.law_every_load.specs.OfSource.{Reads, as_tzx, as_tap}
 use Rattle.law_every_load.proofs.Room.{load_within}
 use Rattle.law_every_load.proofs.Well.{table-length, loaded_well}
 use Rattle.law_every_load.proofs.Left.{mounted-same}
 use Rattle.law_every_load.proofs.Names.{loaded_names}
-use Rattle.load_tape.specs.declared.Loaded.TheVariants as loaded
 use Rattle.text_listing.specs.Inner.{ReadyRow, Ready}
 use Rattle.text_listing.specs.Page.{listing_text}
 use Rattle.listing.specs.Listing.{block_words, tone_words, loaded_of, text, refused, mounted as mounted_of, listed, listed_by, Listing}
@@ -37,7 +38,7 @@ use Rattle.listing.specs.Listing.{listing_of, listing_by}
 use Rattle.listing.specs.Listing.{answer_to, bytes_after}
 
 -- the load in the words that are lent
-pub lent_words : {a : Loaded} {bt tt : List ℕ} (s : List ℕ) (model : ℕ)
+pub lent_words : {a : Result Loaded NotLoaded} {bt tt : List ℕ} (s : List ℕ) (model : ℕ)
     → Leaves block_words tone_words (load_named (lent_of block_words tone_words) s model) a bt tt
     → Leaves block_words tone_words (loaded_of s model) a bt tt
 unfolding loaded_of
@@ -78,51 +79,46 @@ same_ready {s} {bt} {bt₀} {n} {n₀} q e r =
     subst (λ (x : ℕ). Ready s bt x) (sym e) (subst (λ (x : List ℕ). Ready s x n₀) (sym q) r)
 
 -- EVERY LOAD'S TABLES ARE READY
-pub load_ready : (s : List ℕ) (model : ℕ) {f : Format} {n k : ℕ} {bt tt : List ℕ} → Bytes s
-    → Leaves block_words tone_words (loaded_of s model) (loaded.Tape f n k) bt tt → Ready s bt n
+pub load_ready : (s : List ℕ) (model : ℕ) {l : Loaded} {bt tt : List ℕ} → Bytes s
+    → Leaves block_words tone_words (loaded_of s model) (Ok l) bt tt → Ready s bt l.blocks
 unfolding loaded_of load_named named_load named_tape answer_of block_table tone_table
-load_ready s model {f} {n} {k} {bt} {tt} b l = by_cases (load_of (lent_of block_words tone_words) s model) refl l
+load_ready s model {l} {bt} {tt} b left = by_cases (load_of (lent_of block_words tone_words) s model) refl left
   where
     by_cases : (x : Load) → load_of (lent_of block_words tone_words) s model ≡ x
-        → Leaves block_words tone_words (named_load s x) (loaded.Tape f n k) bt tt → Ready s bt n
+        → Leaves block_words tone_words (named_load s x) (Ok l) bt tt → Ready s bt l.blocks
     by_cases (tzx t) e y =
-        let a = y.answer in
-        let m : n ≡ length (name_all s false t.blocks) = cc in
-        same_ready y.blocks (m ∙ name_all-length s false t.blocks)
+        same_ready y.blocks (ap count_of y.answer ∙ name_all-length s false t.blocks)
         (rows_ready s model b (subst (λ (z : Load). Reads z t) (sym e) as_tzx))
     by_cases (tapped t) e y =
-        let a = y.answer in
-        let m : n ≡ length (name_all s false t.blocks) = cc in
-        same_ready y.blocks (m ∙ name_all-length s false t.blocks)
+        same_ready y.blocks (ap count_of y.answer ∙ name_all-length s false t.blocks)
         (rows_ready s model b (subst (λ (z : Load). Reads z t) (sym e) as_tap))
-    by_cases (both_err f g) e y = let a = y.answer in absurd (let z : ◌≡◌ {A = ℕ} 0 1 = cc in omega arith)
-    by_cases (no j) e y = let a = y.answer in absurd (let z : ◌≡◌ {A = ℕ} 0 1 = cc in omega arith)
+    by_cases (both_err f g) e y = absurd (false≢true (sym (ap is_tape y.answer)))
+    by_cases (no j) e y = absurd (false≢true (sym (ap is_tape y.answer)))
 
 -- WHAT IS LISTED OF A LOAD, by its answer
-module _ (s : List ℕ) (model : ℕ) {bt tt : List ℕ} where
-  listed-text : {f : Format} {n k : ℕ} (x : Load) → Leaves block_words tone_words x (loaded.Tape f n k) bt tt
-      → listed s model x ≡ text (listing_text model f (tape_of s tt bt n))
-  unfolding listed_by mounted_of answer_of
-  listed-text {f} {n} (tzx t) l =
-      let a = l.answer in
-      let e : n ≡ length t.blocks = cc in
-      let g : f ≡ Tzx = cc in
-      rw g (ap (λ (w : Tape). text (listing_text model Tzx w)) (sym (mounted-same s l.tones l.blocks e)))
-  listed-text {f} {n} (tapped t) l =
-      let a = l.answer in
-      let e : n ≡ length t.blocks = cc in
-      let g : f ≡ Tap = cc in
-      rw g (ap (λ (w : Tape). text (listing_text model Tap w)) (sym (mounted-same s l.tones l.blocks e)))
-  listed-text (both_err f g) l = let a = l.answer in absurd (let z : ◌≡◌ {A = ℕ} 0 1 = cc in omega arith)
-  listed-text (no j) l = let a = l.answer in absurd (let z : ◌≡◌ {A = ℕ} 0 1 = cc in omega arith)
+format_in : Result Loaded NotLoaded → Format
+format_in (Ok l) = l.format
+format_in (Err e) = Tap
 
-  listed-no : {a : Loaded} (x : Load) → Leaves block_words tone_words x a bt tt → is_tape a ≡ false
-      → listed s model x ≡ refused (refusal_no a)
+module _ (s : List ℕ) (model : ℕ) {bt tt : List ℕ} where
+  listed-text : {l : Loaded} (x : Load) → Leaves block_words tone_words x (Ok l) bt tt
+      → listed s model x ≡ text (listing_text model l.format (tape_of s tt bt l.blocks))
+  unfolding listed_by mounted_of answer_of format_in
+  listed-text {l} (tzx t) y =
+      let g : l.format ≡ Tzx = ap format_in y.answer in
+      rw g (ap (λ (w : Tape). text (listing_text model Tzx w)) (sym (mounted-same s y.tones y.blocks (ap count_of y.answer))))
+  listed-text {l} (tapped t) y =
+      let g : l.format ≡ Tap = ap format_in y.answer in
+      rw g (ap (λ (w : Tape). text (listing_text model Tap w)) (sym (mounted-same s y.tones y.blocks (ap count_of y.answer))))
+  listed-text (both_err f g) y = absurd (false≢true (sym (ap is_tape y.answer)))
+  listed-text (no j) y = absurd (false≢true (sym (ap is_tape y.answer)))
+
+  listed-no : {e : NotLoaded} (x : Load) → Leaves block_words tone_words x (Err e) bt tt → listed s model x ≡ refused (not_loaded_no e)
   unfolding listed_by answer_of refusal_no
-  listed-no (tzx t) l e = absurd (false≢true (sym e ∙ ap is_tape l.answer))
-  listed-no (tapped t) l e = absurd (false≢true (sym e ∙ ap is_tape l.answer))
-  listed-no (both_err f g) l e = rw l.answer
-  listed-no (no j) l e = rw l.answer
+  listed-no (tzx t) y = absurd (false≢true (ap is_tape y.answer))
+  listed-no (tapped t) y = absurd (false≢true (ap is_tape y.answer))
+  listed-no (both_err f g) y = ap (λ (r : Result Loaded NotLoaded). refused (refusal_no r)) (sym y.answer)
+  listed-no (no j) y = ap (λ (r : Result Loaded NotLoaded). refused (refusal_no r)) (sym y.answer)
 
 -- an answer and the bytes it leaves are what the contract says
 abbrev pub ListingAnswered : List ℕ → ℕ → List ℕ → ℕ → List ℕ → Type 0
@@ -142,21 +138,21 @@ module _ (s : List ℕ) (model : ℕ) where
     unfolding listing_by
     loads = rw (lt-leb 3 model h, le-ltb 65535 (length s) k)
 
-    pub load_refused : {a : Loaded} {bt tt : List ℕ} (out : List ℕ) → Leaves block_words tone_words (loaded_of s model) a bt tt
-        → is_tape a ≡ false → ListingAnswered s model out (refusal_no a) out
+    pub load_refused : {e : NotLoaded} {bt tt : List ℕ} (out : List ℕ) → Leaves block_words tone_words (loaded_of s model) (Err e) bt tt
+        → ListingAnswered s model out (not_loaded_no e) out
     unfolding answer_to bytes_after
-    load_refused out l f = let e = loads ∙ listed-no s model (loaded_of s model) l f in (rw e, rw e)
+    load_refused out y = let q = loads ∙ listed-no s model (loaded_of s model) y in (rw q, rw q)
 
-    pub load_told : {bt tt out' : List ℕ} {f : Format} {n m r : ℕ} (out : List ℕ)
-        → Leaves block_words tone_words (loaded_of s model) (loaded.Tape f n m) bt tt
-        → ((tones : List ℕ) → r ≡ answer_to (text (listing_text model f (tape_of s tones bt n))) out)
-        × ((tones : List ℕ) → out' ≡ bytes_after (text (listing_text model f (tape_of s tones bt n))) out)
+    pub load_told : {l : Loaded} {bt tt out' : List ℕ} {r : ℕ} (out : List ℕ)
+        → Leaves block_words tone_words (loaded_of s model) (Ok l) bt tt
+        → ((tones : List ℕ) → r ≡ answer_to (text (listing_text model l.format (tape_of s tones bt l.blocks))) out)
+        × ((tones : List ℕ) → out' ≡ bytes_after (text (listing_text model l.format (tape_of s tones bt l.blocks))) out)
         → ListingAnswered s model out r out'
-    load_told {tt = tt} out l p =
-        let e = loads ∙ listed-text s model (loaded_of s model) l in
+    load_told {tt = tt} out y p =
+        let e = loads ∙ listed-text s model (loaded_of s model) y in
         (p.0 tt ∙ sym (ap (λ (x : Listing). answer_to x out) e), p.1 tt ∙ sym (ap (λ (x : Listing). bytes_after x out) e))
 
 -- an answer that is told to be this one
-pub leaves-told : {B N : ℕ} {x : Load} {a a' : Loaded} {bt tt : List ℕ} → Leaves B N x a bt tt → a ≡ a'
+pub leaves-told : {B N : ℕ} {x : Load} {a a' : Result Loaded NotLoaded} {bt tt : List ℕ} → Leaves B N x a bt tt → a ≡ a'
     → Leaves B N x a' bt tt
-leaves-told {B} {N} {x} {bt = bt} {tt} l e = subst (λ (y : Loaded). Leaves B N x y bt tt) e l
+leaves-told {B} {N} {x} {bt = bt} {tt} l e = subst (λ (y : Result Loaded NotLoaded). Leaves B N x y bt tt) e l

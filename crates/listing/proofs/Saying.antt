@@ -10,7 +10,7 @@ use lib.Seq.{take-length, take-append-le}
 use lib.Dec.{leb, ltb}
 use Rattle.law_base.specs.Rules.{◌⇒◌, ◌∣◌}
 use Rattle.refusals.specs.Refusals.{bad_model, tape_long}
-use Rattle.text_out.specs.Out.{Wrote, refused_text, refused_line}
+use Rattle.text_out.specs.Out.{Wrote, refused_line}
 use Rattle.text_out.proofs.Writing.{wrote_counted, same_len}
 use Rattle.load_source.specs.Source.{Load, tzx, tapped, both_err, no}
 use Rattle.load_tape.specs.declared.Format.TheVariants.{Tap, Tzx}
@@ -21,7 +21,6 @@ use Rattle.listing.specs.Listing.{listing_by}
 use Rattle.listing.specs.Listing.{answer_to, bytes_after}
 use Rattle.listing.specs.Printed.{printed_of, Says}
 use Rattle.text_listing.proofs.Showing.{name_part}
-use Rattle.text_listing.proofs.Texts.{decimal_long}
 use Rattle.text_listing.proofs.PageTexts.{text-most}
 use Rattle.listing.proofs.Mounting.{load_ready}
 use Rattle.listing.proofs.Numbers.{Tells, refusal, too_short, listing, listing_sized, tells_number}
@@ -108,7 +107,3 @@ module _ (s out : List ℕ) (model : ℕ) {r : ℕ} {out' : List ℕ} (b : Bytes
 
   pub say_text : 32 ≤ r → Says (printed_of (listing_of s model)) r out'
   say_text h = text-told told h
-
-pub refused-most : (k : ℕ) → length (refused_line k) ≤ 29
-unfolding refused_line refused_text
-refused-most k = let a = decimal_long k in simp length-append (omega arith)

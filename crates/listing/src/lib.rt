@@ -9,11 +9,11 @@ ghost use Rattle.text_listing.specs.Page.{listing_text};
 ghost use Rattle.listing.specs.Printed.{printed_of, Says};
 ghost use Rattle.listing.specs.Listing.{text, listing_of, answer_to, bytes_after};
 
-use load_tape::{Format, Loaded};
-use refusals::{BAD_MODEL, NO_ROOM, TAPE_BAD, TAPE_LONG};
+use load_tape::Format;
+use refusals::{BAD_MODEL, NO_ROOM, TAPE_LONG};
 use rows::{BLOCK_TABLE, TONE_TABLE};
 use text_listing::put_listing;
-use text_out::{put, put_all, put_decimal};
+use text_out::Writer;
 
 // Bytes that hold the text: where `len` are as many, its most, which is 576 a row; else its own length, by a dry run.
 fn enough(len: usize, model: u32, format: Format, tape: &[u8], blocks: &[u64], n: u64) -> usize
@@ -31,7 +31,7 @@ fn enough(len: usize, model: u32, format: Format, tape: &[u8], blocks: &[u64], n
     put_listing(&mut none, model, format, tape, blocks, n)
 }
 
-// The text where `out` has room for it, and its length; else 10, and no byte is written.
+// The text where `out` has room for it, and its length; else 10, and no byte is written: one number, as C asks for it.
 fn tell(out: &mut [u8], model: u32, format: Format, tape: &[u8], blocks: &[u64], n: u64) -> u32
     requires { Ready tape.now blocks.now n }
     ensures by_index { (tones : List ℕ) → result
@@ -62,13 +62,8 @@ pub fn glyvrask_listing(tape: &[u8], model: u32, out: &mut [u8]) -> u32
     let mut blocks = [0u64; BLOCK_TABLE];
     let mut tones = [0u64; TONE_TABLE];
     match load_tape::load(tape, model, &mut blocks, &mut tones) {
-        Loaded::Tape {
-            format,
-            blocks: n,
-            tones: _,
-        } => tell(out, model, format, tape, &blocks, n),
-        Loaded::Unread { tzx: _, tap: _ } => TAPE_BAD,
-        Loaded::Refused(k) => k,
+        Ok(l) => tell(out, model, l.format, tape, &blocks, l.blocks),
+        Err(e) => e.number(),
     }
 }
 
@@ -77,9 +72,9 @@ pub fn say_refused(out: &mut [u8], k: u32) -> usize
     requires { 32 ≤ length out.old }
     ensures { Says (refused_line k) result out.new }
 {
-    let a = put_all(out, 0, b"refused ");
-    let b = put_decimal(out, a, k as u64);
-    put(out, b, b'\n')
+    let mut w = Writer::over(out);
+    w.refused_line(k);
+    w.at
 }
 
 // What a program prints of a tape; our programs call it, and lend 300,000 bytes: no text is longer.

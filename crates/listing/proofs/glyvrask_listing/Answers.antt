@@ -1,7 +1,6 @@
 -- `glyvrask_listing` meets its contract: the refusals in their order, else the load's tables are ready and their text is told.
 use native.Mathlib.Omega.{arith}
-use mathlib.Core.Path.{refl}
-use Rattle.load_tape.specs.Load.{refusal_no}
+use mathlib.Core.Path.{refl, ◌∙◌}
 use Rattle.listing.proofs.Mounting.{leaves-told, lent_words, load_ready, no_model, too_long, load_refused, load_told}
 use Rattle.listing.proofs.glyvrask_listing.Goals as goal
 
@@ -24,27 +23,18 @@ pub tell-requires : goal.tell-requires
 tell-requires c =
     let a = c.args in
     load_ready a.tape.now a.model (λ i. (c.type_inv.tape i).fits)
-    (leaves-told (lent_words a.tape.now a.model c.load.ensures) c.in-Tape.is)
+    (leaves-told (lent_words a.tape.now a.model c.load.ensures) c.in-Ok.is)
 
-pub returns-in-Tape : goal.returns-in-Tape
-returns-in-Tape c =
+pub returns-in-Ok : goal.returns-in-Ok
+returns-in-Ok c =
     let a = c.args in
     let h = load_told a.tape.now a.model (omega arith) (omega arith) a.out.now
-    (leaves-told (lent_words a.tape.now a.model c.load.ensures) c.in-Tape.is) (c.tell.ensures.by_index, c.tell.ensures.by_index_2) in
+    (leaves-told (lent_words a.tape.now a.model c.load.ensures) c.in-Ok.is) (c.tell.ensures.by_index, c.tell.ensures.by_index_2) in
     record { value = h.0; out_after = h.1 }
 
-pub returns-in-Unread : goal.returns-in-Unread
-unfolding refusal_no
-returns-in-Unread c =
+pub returns-in-Err : goal.returns-in-Err
+returns-in-Err c =
     let a = c.args in
     let h = load_refused a.tape.now a.model (omega arith) (omega arith) a.out.now
-    (leaves-told (lent_words a.tape.now a.model c.load.ensures) c.in-Unread.is) refl in
-    record { value = h.0; out_after = h.1 }
-
-pub returns-in-Refused : goal.returns-in-Refused
-unfolding refusal_no
-returns-in-Refused c =
-    let a = c.args in
-    let h = load_refused a.tape.now a.model (omega arith) (omega arith) a.out.now
-    (leaves-told (lent_words a.tape.now a.model c.load.ensures) c.in-Refused.is) refl in
-    record { value = h.0; out_after = h.1 }
+    (leaves-told (lent_words a.tape.now a.model c.load.ensures) c.in-Err.is) in
+    record { value = c.number.ensures ∙ h.0; out_after = h.1 }

@@ -25,7 +25,7 @@ use Rattle.play_walk.specs.declared.Reached.{Reached}
 use Rattle.play_walk.specs.declared.How.TheVariants.{At}
 use Rattle.play_walk.specs.declared.Fault.{Fault}
 use Rattle.play_walk.specs.Heads.{came, placed, stand, Walkable}
-use Rattle.play_walk.proofs.Landing.{walkable_less}
+use Rattle.play_walk.proofs.Turns.{walkable_less}
 use Rattle.play_deck.specs.declared.Finding.{Finding}
 use Rattle.play_deck.specs.Deck.{unless, stays, play_measured, play_source}
 use Rattle.play_deck.specs.Assay.{Assayed, Found}
@@ -82,7 +82,7 @@ module _ (m : Bool) (w : Tape) (b : ℕ) (f : Phase) (a : Finding) where
       ⊎_elim (λ h. fine_below w (at t) x.fine h)
       (λ h. absurd (never_none t (fine_none w (at t) x.fine h) p)) (lt_or_ge b w.count)
 
-  pub assayed_less : (t n : ℕ) → n < t → Found w (at t) a → Assayed w (at (t - n)) a
+  pub assayed_less : (t n : ℕ) → n < t → Found w (at t) a → Found w (at (t - n)) a
   assayed_less t n l x =
       let y = goes t (omega arith) x in
       record {

@@ -103,7 +103,7 @@ fn stand_row(how: u64, s: Stand) -> AnswerRow
 }
 
 // The row of a call from a position; a refused call's has its number, and the head as it was.
-#[tactic(auto, unfolding(crate::specs::Rows::call_row, crate::specs::Rows::how_of))]
+#[tactic(auto, unfolding(crate::specs::Rows::call_row, crate::specs::Rows::how_of, play_deck::specs::Calls::position_in, play_deck::specs::Calls::passed_in, play_deck::specs::Calls::answer_level))]
 fn row_of(pos: Position, r: Result<Reached, Fault>) -> AnswerRow
     ensures { result ≡ call_row pos r }
 {
@@ -121,6 +121,7 @@ fn row_of(pos: Position, r: Result<Reached, Fault>) -> AnswerRow
 }
 
 // Where an answer leaves the head.
+#[tactic(auto, unfolding(play_deck::specs::Calls::position_in))]
 fn position_in(pos: Position, r: Result<Reached, Fault>) -> Position
     ensures { result ≡ position_in pos r }
 {

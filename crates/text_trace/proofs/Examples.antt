@@ -69,7 +69,7 @@ unfolding sources play_source unless judged ruled_out ill_formed well_row well_b
     has_entry remains length_at source_from source_answer sourced turns turn after reached walked formed first_bad told_reached told_as level_here
     rest_level head_of left_of status_here left_at list_from level_at from_pause from_edge from_second from_byte from_bit from_tone from_cycle entries_of
     sound_of tones_of tone_of cycles_of is_single start_level cycle_level bit_level edged pause_level data_of byte_of bits_at half_of pause_of entry_of run
-    position_in block_of back_to line_of source_line lines.stand_line place_text left_text duration_text phase_text numbers spaced flag
+    position_in block_of back_to line_of source_line lines.came_line lines.stand_line place_text left_text duration_text phase_text numbers spaced flag
     selected_text decimal digits
 data_said = refl
 
@@ -84,7 +84,7 @@ unfolding sources play_source unless judged ruled_out ill_formed well_row well_b
     has_entry remains length_at source_from source_answer sourced turns turn after reached walked formed first_bad told_reached told_as level_here
     rest_level head_of left_of status_here left_at list_from level_at from_pause from_edge from_second from_byte from_bit from_tone from_cycle entries_of
     sound_of tones_of tone_of cycles_of is_single start_level cycle_level bit_level edged pause_level data_of byte_of bits_at half_of pause_of entry_of run
-    position_in block_of back_to line_of source_line lines.stand_line place_text left_text duration_text phase_text numbers spaced flag
+    position_in block_of back_to line_of source_line lines.came_line lines.stand_line place_text left_text duration_text phase_text numbers spaced flag
     selected_text decimal digits
 stop_said = refl
 
@@ -99,7 +99,7 @@ unfolding sources play_source unless judged ruled_out ill_formed well_row well_b
     has_entry remains length_at source_from source_answer sourced turns turn after reached walked formed first_bad told_reached told_as level_here
     rest_level head_of left_of status_here left_at list_from level_at from_pause from_edge from_second from_byte from_bit from_tone from_cycle entries_of
     sound_of tones_of tone_of cycles_of is_single start_level cycle_level bit_level edged pause_level data_of byte_of bits_at half_of pause_of entry_of run
-    position_in block_of back_to line_of source_line lines.stand_line place_text left_text duration_text phase_text numbers spaced flag
+    position_in block_of back_to line_of source_line lines.came_line lines.stand_line place_text left_text duration_text phase_text numbers spaced flag
     selected_text decimal digits
 end_said = refl
 
@@ -114,6 +114,6 @@ unfolding measures play_measured unless judged ruled_out ill_formed well_row wel
     has_entry remains length_at walk_from walked formed first_bad told_reached told_as level_here rest_level head_of left_of answer rest over
     status_here status left_at list_from level_at from_pause from_edge from_second from_byte from_bit from_tone from_cycle entries_of sound_of tones_of
     tone_of cycles_of is_single start_level cycle_level bit_level edged pause_level data_of byte_of bits_at half_of pause_of entry_of run position_in
-    block_of back_to line_of measured_line lines.passed_line lines.stand_line place_text left_text duration_text phase_text numbers spaced flag
+    block_of back_to line_of measured_line lines.how_text lines.passed_line lines.stand_line place_text left_text duration_text phase_text numbers spaced flag
     selected_text decimal digits
 measured_said = refl

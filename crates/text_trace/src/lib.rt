@@ -4,113 +4,107 @@
 mod place;
 
 ghost use Rattle.std.specs.Prelude.{◌+◌, ◌^◌, ◌<◌};
-ghost use Rattle.text_out.specs.Out.{Wrote, refused_text, refused_line};
+ghost use Rattle.text_out.specs.Writes.{Writes};
 ghost use Rattle.text_trace.specs.Lines.{selected_text, stand_line, passed_line, source_line};
-ghost use Rattle.text_trace.specs.Lines.{measured_line, line_of};
+ghost use Rattle.text_trace.specs.Lines.{how_text, measured_line, line_of};
 
 use place::put_place;
-use play_deck::Selected;
-use play_walk::{Reached, Stand};
-use refusals::{BAD_ROW, NO_POSITION};
-use text_out::{put, put_all, put_decimal};
-
-// `refused n`
-fn put_refused(out: &mut [u8], at: usize, k: u32) -> usize
-    requires { at + 32 < 2 ^ 63 }
-    ensures { Wrote out.old at (refused_text k) out.new result }
-{
-    let x = put_all(out, at, b"refused ");
-    put_decimal(out, x, k as u64)
-}
-
-// The same, to the end of the line; our crates alone call it.
-pub fn put_refusal(out: &mut [u8], at: usize, k: u32) -> usize
-    requires { at + 32 < 2 ^ 63 }
-    ensures { Wrote out.old at (refused_line k) out.new result }
-{
-    let x = put_refused(out, at, k);
-    put(out, x, b'\n')
-}
+use play_walk::{Fault, How, Reached, Stand};
+use text_out::Writer;
 
 // The block that it is shown under.
-fn put_selected(out: &mut [u8], at: usize, b: Selected) -> usize
-    requires { at + 32 < 2 ^ 63 }
-    ensures { Wrote out.old at (selected_text b) out.new result }
+#[tactic(auto, unfolding(crate::specs::Lines::selected_text))]
+fn put_selected(w: &mut Writer<'_>, b: Result<u64, Fault>)
+    requires { w.old.at + 32 < 2 ^ 63 }
+    ensures { Writes w.old (selected_text b) w.new }
 {
     match b {
-        Selected::Block(n) => put_decimal(out, at, n),
-        Selected::BadPosition => put_refused(out, at, NO_POSITION),
-        Selected::BadRow => put_refused(out, at, BAD_ROW),
+        Ok(n) => w.decimal(n),
+        Err(f) => w.refused(f.number()),
     }
 }
 
 // Both, to the end of the line.
-fn put_shown(out: &mut [u8], at: usize, s: Stand, b: Selected) -> usize
-    requires { at + 160 < 2 ^ 63 }
-    ensures { Wrote out.old at (stand_line s b) out.new result }
+#[tactic(auto, using(text_out::proofs::Writing::composed, crate::proofs::Lengths::shown_parts), unfolding(crate::specs::Lines::stand_line))]
+fn put_shown(w: &mut Writer<'_>, s: Stand, b: Result<u64, Fault>)
+    requires { w.old.at + 160 < 2 ^ 63 }
+    ensures { Writes w.old (stand_line s b) w.new }
 {
-    let x = put_place(out, at, s);
-    let y = put_all(out, x, b" selected ");
-    let z = put_selected(out, y, b);
-    put(out, z, b'\n')
+    put_place(w, s);
+    w.bytes(b" selected ");
+    put_selected(w, b);
+    w.byte(b'\n');
 }
 
 // A line of the source's play.
-fn put_source(out: &mut [u8], at: usize, answer: Reached, b: Selected) -> usize
-    requires { at + 160 < 2 ^ 63 }
-    ensures { Wrote out.old at (source_line answer b) out.new result }
+#[tactic(auto, unfolding(crate::specs::Lines::source_line, crate::specs::Lines::came_line))]
+fn put_source(w: &mut Writer<'_>, answer: Result<Reached, Fault>, b: Result<u64, Fault>)
+    requires { w.old.at + 160 < 2 ^ 63 }
+    ensures { Writes w.old (source_line answer b) w.new }
 {
     match answer {
-        Reached::At(s) => put_shown(out, at, s, b),
-        Reached::Stopped(s) => put_shown(out, at, s, b),
-        Reached::Ended(_) => put_all(out, at, b"ended\n"),
-        Reached::NotValid => put_refusal(out, at, NO_POSITION),
-        Reached::NotFormed => put_refusal(out, at, BAD_ROW),
+        Ok(a) => match a.how {
+            How::At | How::Stopped => put_shown(w, a.stand, b),
+            How::Ended => w.bytes(b"ended\n"),
+        },
+        Err(f) => w.refused_line(f.number()),
+    }
+}
+
+// How the measured player came there.
+#[tactic(auto, unfolding(crate::specs::Lines::how_text))]
+fn put_how(w: &mut Writer<'_>, how: How)
+    requires { w.old.at + 7 < 2 ^ 63 }
+    ensures { Writes w.old (how_text how) w.new }
+{
+    match how {
+        How::At => w.bytes(b"stands"),
+        How::Stopped => w.bytes(b"stopped"),
+        How::Ended => w.bytes(b"ended"),
     }
 }
 
 // The entries passed, then where the head is.
-fn put_told(out: &mut [u8], at: usize, s: Stand, b: Selected) -> usize
-    requires { at + 200 < 2 ^ 63 }
-    ensures { Wrote out.old at (passed_line s b) out.new result }
+#[tactic(auto, using(text_out::proofs::Writing::composed), unfolding(crate::specs::Lines::passed_line))]
+fn put_told(w: &mut Writer<'_>, s: Stand, b: Result<u64, Fault>)
+    requires { w.old.at + 200 < 2 ^ 63 }
+    ensures { Writes w.old (passed_line s b) w.new }
 {
-    let x = put_all(out, at, b" passed ");
-    let y = put_decimal(out, x, s.passed);
-    let z = put_all(out, y, b" at ");
-    put_shown(out, z, s, b)
+    w.said(b" passed ", s.passed);
+    w.bytes(b" at ");
+    put_shown(w, s, b);
 }
 
 // A line of the measured player.
-fn put_measured(out: &mut [u8], at: usize, answer: Reached, b: Selected) -> usize
-    requires { at + 240 < 2 ^ 63 }
-    ensures { Wrote out.old at (measured_line answer b) out.new result }
+#[tactic(auto, using(text_out::proofs::Writing::composed, crate::proofs::Lengths::how_length), unfolding(crate::specs::Lines::measured_line))]
+fn put_measured(w: &mut Writer<'_>, answer: Result<Reached, Fault>, b: Result<u64, Fault>)
+    requires { w.old.at + 240 < 2 ^ 63 }
+    ensures { Writes w.old (measured_line answer b) w.new }
 {
     match answer {
-        Reached::At(s) => {
-            let x = put_all(out, at, b"stands");
-            put_told(out, x, s, b)
+        Ok(a) => {
+            put_how(w, a.how);
+            put_told(w, a.stand, b);
         }
-        Reached::Stopped(s) => {
-            let x = put_all(out, at, b"stopped");
-            put_told(out, x, s, b)
-        }
-        Reached::Ended(s) => {
-            let x = put_all(out, at, b"ended");
-            put_told(out, x, s, b)
-        }
-        Reached::NotValid => put_refusal(out, at, NO_POSITION),
-        Reached::NotFormed => put_refusal(out, at, BAD_ROW),
+        Err(f) => w.refused_line(f.number()),
     }
 }
 
 // The line of a call's answer, and of the block then shown, of the measured player or of the source's play.
 // Our crates alone call it: the place is far from overflow.
-pub fn put_line(out: &mut [u8], at: usize, measured: bool, answer: Reached, b: Selected) -> usize
-    requires { at + 256 < 2 ^ 63 }
-    ensures { Wrote out.old at (line_of measured answer b) out.new result }
+#[tactic(auto, unfolding(crate::specs::Lines::line_of))]
+pub fn put_line(
+    w: &mut Writer<'_>,
+    measured: bool,
+    answer: Result<Reached, Fault>,
+    b: Result<u64, Fault>,
+)
+    requires { w.old.at + 256 < 2 ^ 63 }
+    ensures { Writes w.old (line_of measured answer b) w.new }
 {
     if measured {
-        return put_measured(out, at, answer, b);
+        put_measured(w, answer, b);
+    } else {
+        put_source(w, answer, b);
     }
-    put_source(out, at, answer, b)
 }

@@ -1,82 +1,75 @@
 // The text of a place: where a call leaves the head.
 ghost use Rattle.std.specs.Prelude.{◌+◌, ◌^◌, ◌<◌};
-ghost use Rattle.text_out.specs.Out.{Wrote};
-ghost use Rattle.text_trace.specs.Places.{spaced, numbers, phase_text, left_text, place_text};
+ghost use Rattle.text_out.specs.Writes.{Writes};
+ghost use Rattle.text_trace.specs.Places.{numbers, phase_text, left_text, place_text};
 
 use play_entries::{Duration, Phase};
 use play_walk::Stand;
-use text_out::{put, put_all, put_decimal};
+use text_out::Writer;
 use text_value::{put_duration, put_flag};
 
-// A space and a number.
-fn put_spaced(out: &mut [u8], at: usize, n: u64) -> usize
-    requires { at + 24 < 2 ^ 63 }
-    ensures { Wrote out.old at (spaced n) out.new result }
-{
-    let a = put(out, at, b' ');
-    put_decimal(out, a, n)
-}
-
 // The numbers of a cycle's half, or of a bit's.
-fn put_numbers(out: &mut [u8], at: usize, n: u64, m: u64, last: bool) -> usize
-    requires { at + 64 < 2 ^ 63 }
-    ensures { Wrote out.old at (numbers n m last) out.new result }
+#[tactic(auto, using(text_out::proofs::Writing::composed), unfolding(crate::specs::Places::numbers, crate::specs::Places::spaced))]
+fn put_numbers(w: &mut Writer<'_>, n: u64, m: u64, last: bool)
+    requires { w.old.at + 64 < 2 ^ 63 }
+    ensures { Writes w.old (numbers n m last) w.new }
 {
-    let a = put_spaced(out, at, n);
-    let b = put_spaced(out, a, m);
-    let c = put(out, b, b' ');
-    put_flag(out, c, last)
+    w.said(b" ", n);
+    w.said(b" ", m);
+    w.byte(b' ');
+    put_flag(w, last);
 }
 
 // Where an entry stands in its block.
-fn put_phase(out: &mut [u8], at: usize, f: Phase) -> usize
-    requires { at + 72 < 2 ^ 63 }
-    ensures { Wrote out.old at (phase_text f) out.new result }
+#[tactic(auto, using(text_out::proofs::Writing::composed), unfolding(crate::specs::Places::phase_text))]
+fn put_phase(w: &mut Writer<'_>, f: Phase)
+    requires { w.old.at + 72 < 2 ^ 63 }
+    ensures { Writes w.old (phase_text f) w.new }
 {
     match f {
-        Phase::Start => put_all(out, at, b"start"),
+        Phase::Start => w.bytes(b"start"),
         Phase::Tones {
             index,
             pulse,
             last_half,
         } => {
-            let a = put_all(out, at, b"tone");
-            put_numbers(out, a, index, pulse, last_half)
+            w.bytes(b"tone");
+            put_numbers(w, index, pulse, last_half);
         }
         Phase::Data {
             pos,
             bit,
             last_half,
         } => {
-            let a = put_all(out, at, b"data");
-            put_numbers(out, a, pos, bit, last_half)
+            w.bytes(b"data");
+            put_numbers(w, pos, bit, last_half);
         }
-        Phase::Edge => put_all(out, at, b"edge"),
-        Phase::Pause => put_all(out, at, b"pause"),
+        Phase::Edge => w.bytes(b"edge"),
+        Phase::Pause => w.bytes(b"pause"),
     }
 }
 
 // What is left, and the level.
-fn put_rest(out: &mut [u8], at: usize, left: Duration, level: bool) -> usize
-    requires { at + 40 < 2 ^ 63 }
-    ensures { Wrote out.old at (left_text left level) out.new result }
+#[tactic(auto, using(text_out::proofs::Writing::composed, text_value::proofs::Lengths::duration_length), unfolding(crate::specs::Places::left_text))]
+fn put_rest(w: &mut Writer<'_>, left: Duration, level: bool)
+    requires { w.old.at + 40 < 2 ^ 63 }
+    ensures { Writes w.old (left_text left level) w.new }
 {
-    let a = put_all(out, at, b" left ");
-    let b = put_duration(out, a, left);
-    let c = put_all(out, b, b" level ");
-    put_flag(out, c, level)
+    w.bytes(b" left ");
+    put_duration(w, left);
+    w.bytes(b" level ");
+    put_flag(w, level);
 }
 
 // Where a call leaves the head.
-pub(crate) fn put_place(out: &mut [u8], at: usize, s: Stand) -> usize
-    requires { at + 128 < 2 ^ 63 }
-    ensures { Wrote out.old at (place_text s) out.new result }
+#[tactic(auto, using(text_out::proofs::Writing::composed, crate::proofs::PlaceLengths::phase_length), unfolding(crate::specs::Places::place_text))]
+pub(crate) fn put_place(w: &mut Writer<'_>, s: Stand)
+    requires { w.old.at + 128 < 2 ^ 63 }
+    ensures { Writes w.old (place_text s) w.new }
 {
     let q = s.position;
-    let f = q.phase;
-    let left = q.left;
-    let a = put_decimal(out, at, q.block);
-    let b = put(out, a, b' ');
-    let c = put_phase(out, b, f);
-    put_rest(out, c, left, s.level)
+    w.decimal(q.block);
+    w.byte(b' ');
+    put_phase(w, q.phase);
+    put_rest(w, q.left, s.level);
 }

@@ -49,8 +49,8 @@ values_of a row = told a.values row
 
 -- AN ANSWER: a value as its words, or a refusal
 abbrev pub reply_of : {A E : Type 0} → (A → List ℕ) → (E → Reply) → Result A E → Reply
-reply_of words no (Ok a) = given (words a)
-reply_of words no (Err e) = no e
+reply_of words why (Ok a) = given (words a)
+reply_of words why (Err e) = why e
 
 -- a refusal of the queries, and of the players
 abbrev pub by_refusal : Refusal → Reply

@@ -142,7 +142,8 @@ impl Refused for Fault {
     ghost reply = { by_fault };
 
     fn tell_no(self, answer: &mut [u64]) -> u32 {
-        tell_refused(self.number(), &[], answer)
+        let fault = self.number();
+        tell_refused(fault, &[], answer)
     }
 }
 

@@ -29,7 +29,7 @@ fn drop_one(x: &TonedRow<'_>, f: Phase, length: Duration, d: u64) -> Option<Step
 }
 
 // Behind one full entry, if it is no longer than d.
-#[tactic(auto, unfolding(crate::specs::Drops::drop_of))]
+#[tactic(auto, using(crate::proofs::Cycles::row_bytes, crate::proofs::Cycles::row_numbers))]
 fn drop_entry(tape: &[u8], x: &TonedRow<'_>, f: Phase, d: u64) -> Option<Step>
     requires r_value { well_block (tape_size tape.now) x.now.tones.now x.now.row ≡ true }
     requires f_value { has_entry x.now.tones.now x.now.row f ≡ true }
@@ -46,7 +46,7 @@ fn second_time(r: Block, t: Tone) -> u64
 }
 
 // The rest of a tone row's cycles if neither half is longer than d, or this half if it isn't.
-#[tactic(auto, unfolding(crate::specs::Drops::drop_of))]
+#[tactic(auto, using(play_entries::proofs::Valid::tone_index, crate::proofs::Cycles::tone_well, crate::proofs::Cycles::cycles_left, crate::proofs::Cycles::rest_time, crate::proofs::Cycles::rest_pulses), unfolding(crate::specs::Drops::drop_of, play_steps::specs::Steps::cycles_step))]
 fn drop_cycles(tape: &[u8], x: &TonedRow<'_>, i: u64, p: u64, d: u64) -> Option<Step>
     requires r_value { well_block (tape_size tape.now) x.now.tones.now x.now.row ≡ true }
     requires false_value { has_entry x.now.tones.now x.now.row (Tones i p false) ≡ true }
@@ -69,7 +69,7 @@ fn drop_cycles(tape: &[u8], x: &TonedRow<'_>, i: u64, p: u64, d: u64) -> Option<
 }
 
 // A data byte if no half of a bit can be longer than d, or its first half if it isn't.
-#[tactic(auto, unfolding(crate::specs::Drops::drop_of))]
+#[tactic(auto, using(crate::proofs::Cycles::row_bytes, crate::proofs::Cycles::row_few, crate::proofs::Cycles::row_numbers, play_entries::proofs::Valid::byte_index, play_entries::proofs::Bounds::bits_most), unfolding(crate::specs::Drops::drop_of, play_steps::specs::Steps::byte_step, play_steps::specs::Steps::byte_time))]
 fn drop_byte(tape: &[u8], x: &TonedRow<'_>, pos: u64, d: u64) -> Option<Step>
     requires r_value { well_block (tape_size tape.now) x.now.tones.now x.now.row ≡ true }
     requires false_value { has_entry x.now.tones.now x.now.row (Data pos 0 false) ≡ true }

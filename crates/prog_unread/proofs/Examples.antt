@@ -1,22 +1,24 @@
 -- REPORTS, by computation: every failure in the line of the attempt as TZX, and those of a TAP in the other's. Assumes nothing.
 use mathlib.Core.Path.{◌≡◌, refl}
 use mathlib.Core.List.{◌++◌}
+use Rattle.std.specs.Prelude.{Ok, Err}
 use Rattle.refusals.specs.Refusals.{bad_model, last_bits}
 use Rattle.text_out.specs.Out.{ascii, digits, decimal, refused_text, refused_line}
 use Rattle.load_source.specs.declared.Failure.TheVariants.{BadSignature, Short, ShortPiece, Length}
 use Rattle.load_tape.specs.declared.Format.TheVariants.{Tap, Tzx}
-use Rattle.load_tape.specs.declared.Loaded.TheVariants.{Tape, Unread, Refused}
-use Rattle.prog_unread.specs.Report.{piece_text, field_text, failure_text, tzx_text, report_text}
+use Rattle.load_tape.specs.declared.NotLoaded.TheVariants.{Unread, Refused}
+use Rattle.load_tape.specs.Load.{loaded_of}
+use Rattle.prog_unread.specs.Report.{piece_text, field_text, failure_text, tzx_text, read_text, report_text}
 
 -- a TAP's two bytes of a length, and one more where two are to come
-head_short : report_text (Unread (Short 0 10) (Short 2 2)) ≡
+head_short : report_text (Err (Unread (Short 0 10) (Short 2 2))) ≡
     ascii "refused 3\n"
     ++ ascii "tzx signature short place 0 width 10\n"
     ++ ascii "tap short place 2 width 2\n"
 unfolding report_text refused_line refused_text tzx_text failure_text field_text decimal digits
 head_short = refl
 
-signature-bad : report_text (Unread BadSignature (Short 2 65535)) ≡
+signature-bad : report_text (Err (Unread BadSignature (Short 2 65535))) ≡
     ascii "refused 3\n"
     ++ ascii "tzx signature bad\n"
     ++ ascii "tap short place 2 width 65535\n"
@@ -24,7 +26,7 @@ unfolding report_text refused_line refused_text tzx_text failure_text field_text
 signature-bad = refl
 
 -- a 10 of five bytes of data, of which one is there
-piece_short : report_text (Unread (ShortPiece 0x10 10 15 5) (Short 2 22618)) ≡
+piece_short : report_text (Err (Unread (ShortPiece 0x10 10 15 5) (Short 2 22618))) ≡
     ascii "refused 3\n"
     ++ ascii "tzx short kind 16 piece 10 place 15 width 5\n"
     ++ ascii "tap short place 2 width 22618\n"
@@ -32,7 +34,7 @@ unfolding report_text refused_line refused_text tzx_text failure_text piece_text
 piece_short = refl
 
 -- a 2A of length 1
-length_one : report_text (Unread (Length 0x2A 13 1) (Short 2 22618)) ≡
+length_one : report_text (Err (Unread (Length 0x2A 13 1) (Short 2 22618))) ≡
     ascii "refused 3\n"
     ++ ascii "tzx length kind 42 piece 13 length 1\n"
     ++ ascii "tap short place 2 width 22618\n"
@@ -40,18 +42,18 @@ unfolding report_text refused_line refused_text tzx_text failure_text piece_text
 length_one = refl
 
 -- the other answers
-read_tap_lem : report_text (Tape Tap 2 4) ≡ ascii "read TAP\n"
-unfolding report_text
+read_tap_lem : report_text (Ok (loaded_of Tap 2 4)) ≡ ascii "read TAP\n"
+unfolding report_text read_text
 read_tap_lem = refl
 
-read_tzx_lem : report_text (Tape Tzx 0 0) ≡ ascii "read TZX\n"
-unfolding report_text
+read_tzx_lem : report_text (Ok (loaded_of Tzx 0 0)) ≡ ascii "read TZX\n"
+unfolding report_text read_text
 read_tzx_lem = refl
 
-no_model : report_text (Refused bad_model) ≡ ascii "refused 1\n"
+no_model : report_text (Err (Refused bad_model)) ≡ ascii "refused 1\n"
 unfolding report_text refused_line refused_text decimal digits
 no_model = refl
 
-last_bits_lem : report_text (Refused last_bits) ≡ ascii "refused 7\n"
+last_bits_lem : report_text (Err (Refused last_bits)) ≡ ascii "refused 7\n"
 unfolding report_text refused_line refused_text decimal digits
 last_bits_lem = refl

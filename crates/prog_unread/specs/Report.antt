@@ -1,13 +1,15 @@
 -- A load's answer as text, a line or three; the tables that a program lends. Definitions alone; assumes nothing.
-use Rattle.std.specs.Prelude.{ℕ, ◌*◌, List, ◌++◌}
+use Rattle.std.specs.Prelude.{ℕ, ◌*◌, List, ◌++◌, Result, Ok, Err}
 use Rattle.refusals.specs.Refusals.{tape_bad}
 use Rattle.rows.specs.Rows.{block, tone, block_most, tone_most}
 use Rattle.text_out.specs.Out.{ascii, decimal, refused_line}
 use Rattle.load_source.specs.declared.Failure.{Failure}
 use Rattle.load_source.specs.declared.Failure.TheVariants.{BadSignature, Short, ShortPiece, Length}
+use Rattle.load_tape.specs.declared.Format.{Format}
 use Rattle.load_tape.specs.declared.Format.TheVariants.{Tap, Tzx}
 use Rattle.load_tape.specs.declared.Loaded.{Loaded}
-use Rattle.load_tape.specs.declared.Loaded.TheVariants.{Tape, Unread, Refused}
+use Rattle.load_tape.specs.declared.NotLoaded.{NotLoaded}
+use Rattle.load_tape.specs.declared.NotLoaded.TheVariants.{Unread, Refused}
 
 -- ` kind K piece A`, A the place of its kind byte
 unfoldable pub piece_text : ℕ → ℕ → List ℕ
@@ -31,13 +33,17 @@ tzx_text (Short p w) = ascii "signature " ++ failure_text (Short p w)
 tzx_text (ShortPiece k a p w) = failure_text (ShortPiece k a p w)
 tzx_text (Length k a n) = failure_text (Length k a n)
 
+-- `read` and the format
+unfoldable pub read_text : Format → List ℕ
+read_text Tap = ascii "read TAP\n"
+read_text Tzx = ascii "read TZX\n"
+
 -- THE TEXT of a load's answer: `read` and the format; `refused n`; refusal 3 with a line for each attempt
-unfoldable pub report_text : Loaded → List ℕ
-report_text (Tape Tap b t) = ascii "read TAP\n"
-report_text (Tape Tzx b t) = ascii "read TZX\n"
-report_text (Unread f g) =
+unfoldable pub report_text : Result Loaded NotLoaded → List ℕ
+report_text (Ok l) = read_text l.format
+report_text (Err (Unread f g)) =
     refused_line tape_bad ++ (ascii "tzx " ++ tzx_text f ++ ascii "\n") ++ (ascii "tap " ++ failure_text g ++ ascii "\n")
-report_text (Refused k) = refused_line k
+report_text (Err (Refused k)) = refused_line k
 
 -- THE WORDS OF BOTH TABLES where every row has its place
 abbrev pub full_blocks : ℕ

@@ -2,128 +2,129 @@
 #![tactic(auto)]
 
 ghost use Rattle.std.specs.Prelude.{◌≡◌, ◌++◌, ◌+◌, ◌^◌, ◌<◌, ◌≤◌, length};
-ghost use Rattle.text_out.specs.Out.{ascii, decimal, Wrote, Fitted};
+ghost use Rattle.text_out.specs.Out.{ascii, Fitted};
+ghost use Rattle.text_out.specs.Writes.{Writes};
 ghost use Rattle.load_blocks.specs.Does.{lent_of};
 ghost use Rattle.load_tape.specs.Load.{load_named, answer_of, block_table, tone_table};
 ghost use Rattle.prog_unread.specs.Report.{piece_text, field_text, failure_text, tzx_text, report_text};
 
 use load_source::Failure;
-use load_tape::{Format, Loaded, load};
+use load_tape::{Format, Loaded, NotLoaded, load};
 use refusals::TAPE_BAD;
-use rows::{BLOCK_WORDS, TONE_WORDS};
-use text_out::{put, put_all, put_decimal};
+use rows::{Block, Row, Tone};
+use text_out::Writer;
 
 // The words of both tables where every row has its place: no more are ever used.
-pub const FULL_BLOCKS: usize = 4096 * BLOCK_WORDS;
+pub const FULL_BLOCKS: usize = 4096 * Block::WORDS;
 
-pub const FULL_TONES: usize = 65536 * TONE_WORDS;
-
-// A word and a number.
-fn put_said(out: &mut [u8], at: usize, word: &[u8], n: u64) -> usize
-    requires { (at + 32 < 2 ^ 63) × (length word.now ≤ 8) }
-    ensures { Wrote out.old at (word.now ++ decimal n) out.new result }
-{
-    let a = put_all(out, at, word);
-    put_decimal(out, a, n)
-}
+pub const FULL_TONES: usize = 65536 * Tone::WORDS;
 
 // A piece: its kind, and the place of its kind byte.
-fn put_piece(out: &mut [u8], at: usize, kind: u8, piece: u64) -> usize
-    requires { at + 64 < 2 ^ 63 }
-    ensures { Wrote out.old at (piece_text kind piece) out.new result }
+#[tactic(auto, using(text_out::proofs::Writing::composed), unfolding(crate::specs::Report::piece_text))]
+fn put_piece(w: &mut Writer<'_>, kind: u8, piece: u64)
+    requires { w.old.at + 64 < 2 ^ 63 }
+    ensures { Writes w.old (piece_text kind piece) w.new }
 {
-    let a = put_said(out, at, b" kind ", kind as u64);
-    put_said(out, a, b" piece ", piece)
+    w.said(b" kind ", u64::from(kind));
+    w.said(b" piece ", piece);
 }
 
 // A field: its place and its width.
-fn put_field(out: &mut [u8], at: usize, place: u64, width: u64) -> usize
-    requires { at + 64 < 2 ^ 63 }
-    ensures { Wrote out.old at (field_text place width) out.new result }
+#[tactic(auto, using(text_out::proofs::Writing::composed), unfolding(crate::specs::Report::field_text))]
+fn put_field(w: &mut Writer<'_>, place: u64, width: u64)
+    requires { w.old.at + 64 < 2 ^ 63 }
+    ensures { Writes w.old (field_text place width) w.new }
 {
-    let a = put_said(out, at, b" place ", place);
-    put_said(out, a, b" width ", width)
+    w.said(b" place ", place);
+    w.said(b" width ", width);
 }
 
 // What an attempt met.
-fn put_failure(out: &mut [u8], at: usize, f: Failure) -> usize
-    requires { at + 160 < 2 ^ 63 }
-    ensures { Wrote out.old at (failure_text f) out.new result }
+#[tactic(auto, using(text_out::proofs::Writing::composed, crate::proofs::Lengths::piece_length), unfolding(crate::specs::Report::failure_text))]
+fn put_failure(w: &mut Writer<'_>, f: Failure)
+    requires { w.old.at + 160 < 2 ^ 63 }
+    ensures { Writes w.old (failure_text f) w.new }
 {
     match f {
-        Failure::BadSignature => put_all(out, at, b"signature bad"),
+        Failure::BadSignature => w.bytes(b"signature bad"),
         Failure::Short { place, width } => {
-            let a = put_all(out, at, b"short");
-            put_field(out, a, place, width)
+            w.bytes(b"short");
+            put_field(w, place, width);
         }
         Failure::ShortPiece {
             kind,
             at: piece,
-            place,
+            place: field,
             width,
         } => {
-            let a = put_all(out, at, b"short");
-            let b = put_piece(out, a, kind, piece);
-            put_field(out, b, place, width)
+            w.bytes(b"short");
+            put_piece(w, kind, piece);
+            put_field(w, field, width);
         }
         Failure::Length {
             kind,
             at: piece,
             length,
         } => {
-            let a = put_all(out, at, b"length");
-            let b = put_piece(out, a, kind, piece);
-            put_said(out, b, b" length ", length as u64)
+            w.bytes(b"length");
+            put_piece(w, kind, piece);
+            w.said(b" length ", u64::from(length));
         }
     }
 }
 
 // An attempt's line, after its first words.
-fn put_attempt(out: &mut [u8], at: usize, word: &[u8], f: Failure) -> usize
-    requires { (at + 256 < 2 ^ 63) × (length word.now ≤ 16) }
-    ensures { Wrote out.old at (word.now ++ failure_text f ++ ascii "\n") out.new result }
+#[tactic(auto, using(text_out::proofs::Writing::composed, crate::proofs::Lengths::failure_length))]
+fn put_attempt(w: &mut Writer<'_>, word: &[u8], f: Failure)
+    requires { (w.old.at + 256 < 2 ^ 63) × (length word.now ≤ 16) }
+    ensures { Writes w.old (word.now ++ failure_text f ++ ascii "\n") w.new }
 {
-    let a = put_all(out, at, word);
-    let b = put_failure(out, a, f);
-    put(out, b, b'\n')
+    w.bytes(word);
+    put_failure(w, f);
+    w.byte(b'\n');
 }
 
 // The line of the attempt as TZX: a field in no piece is the signature.
-fn put_tzx(out: &mut [u8], at: usize, f: Failure) -> usize
-    requires { at + 256 < 2 ^ 63 }
-    ensures { Wrote out.old at (ascii "tzx " ++ tzx_text f ++ ascii "\n") out.new result }
+#[tactic(auto, unfolding(crate::specs::Report::tzx_text))]
+fn put_tzx(w: &mut Writer<'_>, f: Failure)
+    requires { w.old.at + 256 < 2 ^ 63 }
+    ensures { Writes w.old (ascii "tzx " ++ tzx_text f ++ ascii "\n") w.new }
 {
-    if let Failure::Short { place: _, width: _ } = f {
-        return put_attempt(out, at, b"tzx signature ", f);
+    if let Failure::Short { .. } = f {
+        put_attempt(w, b"tzx signature ", f);
+    } else {
+        put_attempt(w, b"tzx ", f);
     }
-    put_attempt(out, at, b"tzx ", f)
 }
 
-// What a load answered; our programs alone call it.
-pub fn put_report(out: &mut [u8], loaded: Loaded) -> usize
+// What a load answered.
+#[tactic(auto, using(text_out::proofs::Writing::composed, crate::proofs::Lengths::report_parts), unfolding(crate::specs::Report::report_text, crate::specs::Report::read_text))]
+fn put_answer(w: &mut Writer<'_>, loaded: Result<Loaded, NotLoaded>)
+    requires { w.old.at + 512 < 2 ^ 63 }
+    ensures { Writes w.old (report_text loaded) w.new }
+{
+    match loaded {
+        Ok(l) => match l.format {
+            Format::Tap => w.bytes(b"read TAP\n"),
+            Format::Tzx => w.bytes(b"read TZX\n"),
+        },
+        Err(NotLoaded::Unread { tzx, tap }) => {
+            w.refused_line(TAPE_BAD);
+            put_tzx(w, tzx);
+            put_attempt(w, b"tap ", tap);
+        }
+        Err(NotLoaded::Refused(k)) => w.refused_line(k),
+    }
+}
+
+// The same into lent bytes; our programs alone call it.
+pub fn put_report(out: &mut [u8], loaded: Result<Loaded, NotLoaded>) -> usize
     requires { 256 ≤ length out.old }
     ensures { Fitted (report_text loaded) out.old out.new result }
 {
-    match loaded {
-        Loaded::Tape {
-            format,
-            blocks: _,
-            tones: _,
-        } => match format {
-            Format::Tap => put_all(out, 0, b"read TAP\n"),
-            Format::Tzx => put_all(out, 0, b"read TZX\n"),
-        },
-        Loaded::Unread { tzx, tap } => {
-            let a = put_said(out, 0, b"refused ", TAPE_BAD as u64);
-            let b = put(out, a, b'\n');
-            let c = put_tzx(out, b, tzx);
-            put_attempt(out, c, b"tap ", tap)
-        }
-        Loaded::Refused(k) => {
-            let a = put_said(out, 0, b"refused ", k as u64);
-            put(out, a, b'\n')
-        }
-    }
+    let mut w = Writer::over(out);
+    put_answer(&mut w, loaded);
+    w.at
 }
 
 // Loads a tape and writes what the load answered; our programs alone call it.

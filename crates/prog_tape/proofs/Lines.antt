@@ -16,7 +16,9 @@ use Rattle.load_state.specs.Parser.{Parsed}
 use Rattle.load_state.proofs.Kept.{all_get}
 use Rattle.load_blocks.specs.Does.{lent_of}
 use Rattle.load_source.specs.Source.{Load, tzx, tapped, both_err, no, load_of}
+use Rattle.std.specs.Prelude.{Result}
 use Rattle.load_tape.specs.declared.Loaded.{Loaded}
+use Rattle.load_tape.specs.declared.NotLoaded.{NotLoaded}
 use Rattle.load_tape.specs.Load.{named_tape, named_load, load_named, answer_of, block_table, tone_table, Leaves}
 use Rattle.text_name.specs.Names.{name_all}
 use Rattle.text_name.proofs.Selecting.{name_all-length}
@@ -57,12 +59,12 @@ lines_counted s (both_err f g) = refl
 lines_counted s (no k) = refl
 
 -- what is left with a load's first line
-pub opens : {B N : ℕ} {l : Load} {a : Loaded} {o : Opening} {bt tt out out' : List ℕ} (s : List ℕ) → Leaves B N l a bt tt
+pub opens : {B N : ℕ} {l : Load} {a : Result Loaded NotLoaded} {o : Opening} {bt tt out out' : List ℕ} (s : List ℕ) → Leaves B N l a bt tt
     → Fitted (first_line a) out out' o.size → o.more ≡ lines_after a → Opens B N s l o bt tt out out'
 unfolding load_lines
 opens {l = l} {o = o} {out = out} {out'} s h f e =
     record {
-      line = subst (λ (x : Loaded). Fitted (first_line x) out out' o.size) h.answer f;
+      line = subst (λ (x : Result Loaded NotLoaded). Fitted (first_line x) out out' o.size) h.answer f;
       more = ap suc (e ∙ ap lines_after h.answer ∙ lines_counted s l);
       blocks = h.blocks;
       tones = h.tones;

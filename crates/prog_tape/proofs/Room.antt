@@ -18,18 +18,24 @@ use Rattle.rows.specs.declared.Block.{Block}
 use Rattle.rows.proofs.WellLaws.{block_clauses, ranges_inside, tones_lent, tone-most}
 use Rattle.play_entries.specs.declared.Duration.{Duration}
 use Rattle.play_entries.specs.Mounted.{tape_size}
+use Rattle.std.specs.Prelude.{Result, Ok, Err}
+use Rattle.load_tape.specs.declared.Format.{Format}
+use Rattle.load_tape.specs.declared.Format.TheVariants.{Tap, Tzx}
+use Rattle.load_tape.specs.declared.Loaded.{Loaded}
+use Rattle.load_tape.specs.declared.NotLoaded.{NotLoaded}
+use Rattle.load_tape.specs.Load.{not_loaded_no}
+use Rattle.text_out.specs.declared.Writer.{Writer}
 use Rattle.text_out.specs.Out.{ascii, digits, decimal, Wrote, Fitted}
-use Rattle.text_out.proofs.Writing.{then, each-length, decimal-length, wrote_fitted}
+use Rattle.text_out.specs.Writes.{Writes}
+use Rattle.text_out.proofs.Writing.{then, each-length, decimal-length, refused_line_length, wrote_fitted}
+use Rattle.text_listing.specs.Page.{format_text}
+use Rattle.prog_tape.specs.Lines.{first_line}
 use Rattle.text_name.specs.Names.{name_of}
 use Rattle.text_listing.proofs.Lines.{row_short}
 use Rattle.text_view.specs.View.{View, tones_from, row_view}
 use Rattle.text_view.specs.Dump.{hex, hex_all, tone_text, tones_text, head_text, view_line}
 use Rattle.text_view.proofs.Parts.{hex-length, head_length}
 use Rattle.prog_tape.specs.Inner.{data_text, pulses_text, ReadyLine}
-
--- a word, a number and a line feed
-pub said_most : (word : List ℕ) (n : ℕ) → length word ≤ 8 → length (word ++ decimal n ++ ascii "\n") ≤ 32
-said_most word n h = simp length-append (omega (arith, decimal-length n))
 
 -- a number below 10 ^ k has at most k digits
 digits_few : (f k n : ℕ) → n < 10 ^ suc k → length (digits f n) ≤ suc k
@@ -76,16 +82,31 @@ hex-most s = each-length hex 2 hex-length s
 part_most : (n from : ℕ) (s : List ℕ) → length (take n (drop from s)) ≤ n
 part_most n from s = omega (arith, length-take n (drop from s))
 
+-- the first line, and that it fits 32 bytes
+format_length : (f : Format) → length (format_text f) ≤ 3
+unfolding format_text
+format_length Tap = omega arith
+format_length Tzx = omega arith
+
+first_most : (a : Result Loaded NotLoaded) → length (first_line a) ≤ 32
+unfolding first_line
+first_most (Ok l) = simp length-append (omega (arith, format_length l.format, decimal-length l.blocks))
+first_most (Err e) = omega (arith, refused_line_length (not_loaded_no e))
+
+pub first_fits : {out out' : List ℕ} {n : ℕ} (a : Result Loaded NotLoaded) → Wrote out 0 (first_line a) out' n → 32 ≤ length out
+    → Fitted (first_line a) out out' n
+first_fits a w h = wrote_fitted w (omega (arith, first_most a))
+
 -- how far a line's numbers reach, its name, and its data
-module _ {d d1 : List ℕ} {at o : ℕ} where
-  pub head_next : (i : ℕ) (b : Bool) (nil one last : ℕ) (p : Duration) → Wrote d at (head_text i b nil one last p) d1 o → o ≤ at + 136
-  head_next i b nil one last p w = omega (arith, w.count, head_length i b nil one last p)
+module _ {w v : Writer} where
+  pub head_next : (i : ℕ) (b : Bool) (nil one last : ℕ) (p : Duration) → Writes w (head_text i b nil one last p) v → v.at ≤ w.at + 136
+  head_next i b nil one last p q = omega (arith, q.wrote.count, head_length i b nil one last p)
 
-  pub name_next : (s : List ℕ) → Wrote d at (hex_all s) d1 o → o ≤ at + 2 * length s
-  name_next s w = omega (arith, w.count, hex-most s)
+  pub name_next : (s : List ℕ) → Writes w (hex_all s) v → v.at ≤ w.at + 2 * length s
+  name_next s q = omega (arith, q.wrote.count, hex-most s)
 
-  pub data_next : (n from : ℕ) (s : List ℕ) → Wrote d at (data_text (take n (drop from s))) d1 o → o ≤ at + 2 * n + 6
-  data_next n from s w = omega (arith, w.count, hex-most (take n (drop from s)), part_most n from s)
+  pub data_next : (n from : ℕ) (s : List ℕ) → Writes w (data_text (take n (drop from s))) v → v.at ≤ w.at + 2 * n + 6
+  data_next n from s q = omega (arith, q.wrote.count, hex-most (take n (drop from s)), part_most n from s)
 
 -- what a well-formed row's ranges are inside of
 pub record Inside (tape : List ℕ) (tones : List ℕ) (r : Block) : Type 0 where
@@ -122,11 +143,11 @@ line_joins i v =
     (ascii " tones=") (tones_text v.tones) (ascii "\n")
 
 -- what was written of a line's parts
-pub line_written : {d d1 d2 d3 d4 : List ℕ} {o1 o2 o3 o4 : ℕ} (i : ℕ) (v : View)
-    → Wrote d 0 (head_text i v.selectable v.zero v.one v.last v.pause) d1 o1 → Wrote d1 o1 (hex_all v.name) d2 o2
-    → Wrote d2 o2 (data_text v.bytes) d3 o3 → Wrote d3 o3 (pulses_text v.tones) d4 o4 → Wrote d 0 (view_line i v) d4 o4
-line_written {d} {d4 = d4} {o4 = o4} i v h n b t =
-    subst (λ (l : List ℕ). Wrote d 0 l d4 o4) (line_joins i v) (then (then (then h n) b) t)
+pub line_written : {w w1 w2 w3 w4 : Writer} (i : ℕ) (v : View)
+    → Writes w (head_text i v.selectable v.zero v.one v.last v.pause) w1 → Writes w1 (hex_all v.name) w2
+    → Writes w2 (data_text v.bytes) w3 → Writes w3 (pulses_text v.tones) w4 → Writes w (view_line i v) w4
+line_written {w} {w4 = w4} i v h n b t =
+    subst (λ (l : List ℕ). Writes w l w4) (line_joins i v) (then (then (then h n) b) t)
 
 -- EVERY LINE FITS
 pub line_most : (tape tones : List ℕ) (i : ℕ) (r : Block) → well_block (tape_size tape) tones r ≡ true → length (name_of tape r) ≤ 510

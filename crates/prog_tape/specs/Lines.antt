@@ -1,27 +1,24 @@
 -- The text of a load, line by line (rule 145). Definitions alone; assumes nothing.
-use Rattle.std.specs.Prelude.{ℕ, suc, ◌+◌, ◌≡◌, List, [], ◌∷◌, ◌++◌, length, get_or}
-use Rattle.refusals.specs.Refusals.{tape_bad}
+use Rattle.std.specs.Prelude.{ℕ, suc, ◌+◌, ◌≡◌, List, [], ◌∷◌, ◌++◌, length, get_or, Result, Ok, Err}
 use Rattle.text_out.specs.Out.{ascii, decimal, Fitted, refused_line}
 use Rattle.load_source.specs.Source.{Load, tzx, tapped, both_err, no}
 use Rattle.load_tape.specs.declared.Loaded.{Loaded}
-use Rattle.load_tape.specs.declared.Loaded.TheVariants.{Tape, Unread, Refused}
-use Rattle.load_tape.specs.Load.{answer_of, block_table, tone_table}
+use Rattle.load_tape.specs.declared.NotLoaded.{NotLoaded}
+use Rattle.load_tape.specs.Load.{answer_of, not_loaded_no, block_table, tone_table}
 use Rattle.text_listing.specs.Page.{format_text}
 use Rattle.text_view.specs.View.{View, block_list}
 use Rattle.text_view.specs.Dump.{view_line}
 use Rattle.prog_tape.specs.declared.Opening.{Opening}
 
 -- `TAP n` or `TZX n`, n the number of blocks; or `refused n`
-unfoldable pub first_line : Loaded → List ℕ
-first_line (Tape format n tones) = format_text format ++ ascii " " ++ decimal n ++ ascii "\n"
-first_line (Unread f g) = refused_line tape_bad
-first_line (Refused k) = refused_line k
+unfoldable pub first_line : Result Loaded NotLoaded → List ℕ
+first_line (Ok l) = format_text l.format ++ ascii " " ++ decimal l.blocks ++ ascii "\n"
+first_line (Err e) = refused_line (not_loaded_no e)
 
 -- how many lines follow it
-unfoldable pub lines_after : Loaded → ℕ
-lines_after (Tape format n tones) = n
-lines_after (Unread f g) = 0
-lines_after (Refused k) = 0
+unfoldable pub lines_after : Result Loaded NotLoaded → ℕ
+lines_after (Ok l) = l.blocks
+lines_after (Err e) = 0
 
 -- blocks, numbered from i on
 unfoldable pub view_lines : ℕ → List View → List (List ℕ)

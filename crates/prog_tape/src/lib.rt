@@ -6,7 +6,8 @@ ghost use Rattle.rows.specs.Table.{get};
 ghost use Rattle.rows.specs.Rows.{block, tone};
 ghost use Rattle.rows.specs.Well.{well_block};
 ghost use Rattle.play_entries.specs.Mounted.{tape_size};
-ghost use Rattle.text_out.specs.Out.{ascii, decimal, Wrote, Fitted, refused_line};
+ghost use Rattle.text_out.specs.Out.{ascii, decimal, Fitted};
+ghost use Rattle.text_out.specs.Writes.{Writes};
 ghost use Rattle.text_name.specs.Names.{name_of};
 ghost use Rattle.load_blocks.specs.Does.{lent_of};
 ghost use Rattle.load_tape.specs.Load.{load_named};
@@ -16,10 +17,9 @@ ghost use Rattle.text_view.specs.Dump.{hex_all, view_line};
 ghost use Rattle.prog_tape.specs.Lines.{first_line, lines_after, Opens};
 ghost use Rattle.prog_tape.specs.Inner.{data_text, pulses_text, ReadyLine};
 
-use load_tape::{Format, Loaded, load};
-use refusals::TAPE_BAD;
-use rows::{Block, block_at};
-use text_out::{put, put_all, put_decimal};
+use load_tape::{Format, Loaded, NotLoaded, load};
+use rows::{Block, row_at};
+use text_out::Writer;
 use text_view::{put_head, put_hex, put_tones};
 
 // The first line's bytes, and how many lines follow.
@@ -29,55 +29,46 @@ pub struct Opening {
     pub more: u64,
 }
 
-// A word, a number and a line feed.
-fn put_said(out: &mut [u8], word: &[u8], n: u64) -> usize
-    requires { (length word.now ≤ 8) × (32 ≤ length out.old) }
-    ensures { Fitted (word.now ++ decimal n ++ ascii "\n") out.old out.new result }
-{
-    let a = put_all(out, 0, word);
-    let b = put_decimal(out, a, n);
-    put(out, b, b'\n')
-}
-
 // The format and the number of blocks.
-fn put_count(out: &mut [u8], format: Format, n: u64) -> usize
-    requires { 32 ≤ length out.old }
-    ensures { Fitted (format_text format ++ ascii " " ++ decimal n ++ ascii "\n") out.old out.new result }
+#[tactic(auto, using(text_out::proofs::Writing::composed), unfolding(text_listing::specs::Page::format_text))]
+fn put_count(w: &mut Writer<'_>, format: Format, n: u64)
+    requires { w.old.at + 32 < 2 ^ 63 }
+    ensures { Writes w.old (format_text format ++ ascii " " ++ decimal n ++ ascii "\n") w.new }
 {
     match format {
-        Format::Tap => put_said(out, b"TAP ", n),
-        Format::Tzx => put_said(out, b"TZX ", n),
+        Format::Tap => w.said_line(b"TAP ", n),
+        Format::Tzx => w.said_line(b"TZX ", n),
     }
 }
 
-// A refusal, which no line follows.
-fn put_no(out: &mut [u8], k: u32) -> Opening
-    requires { 32 ≤ length out.old }
-    ensures fitted { Fitted (refused_line k) out.old out.new result.size }
-    ensures more_value { result.more ≡ 0 }
+// The first line of a load's text, and how many follow: none behind a refusal.
+#[tactic(auto, unfolding(crate::specs::Lines::first_line, crate::specs::Lines::lines_after))]
+fn put_opening(w: &mut Writer<'_>, loaded: Result<Loaded, NotLoaded>) -> u64
+    requires { w.old.at + 32 < 2 ^ 63 }
+    ensures written { Writes w.old (first_line loaded) w.new }
+    ensures more_value { result ≡ lines_after loaded }
 {
-    let size = put_said(out, b"refused ", k as u64);
-    Opening { size, more: 0 }
+    match loaded {
+        Ok(l) => {
+            put_count(w, l.format, l.blocks);
+            l.blocks
+        }
+        Err(e) => {
+            w.refused_line(e.number());
+            0
+        }
+    }
 }
 
-// The first line of a load's text; our programs alone call it.
-pub fn put_first(out: &mut [u8], loaded: Loaded) -> Opening
+// The same into lent bytes; our programs alone call it.
+pub fn put_first(out: &mut [u8], loaded: Result<Loaded, NotLoaded>) -> Opening
     requires { 32 ≤ length out.old }
     ensures fitted { Fitted (first_line loaded) out.old out.new result.size }
     ensures more_value { result.more ≡ lines_after loaded }
 {
-    match loaded {
-        Loaded::Tape {
-            format,
-            blocks: n,
-            tones: _,
-        } => {
-            let size = put_count(out, format, n);
-            Opening { size, more: n }
-        }
-        Loaded::Unread { tzx: _, tap: _ } => put_no(out, TAPE_BAD),
-        Loaded::Refused(k) => put_no(out, k),
-    }
+    let mut w = Writer::over(out);
+    let more = put_opening(&mut w, loaded);
+    Opening { size: w.at, more }
 }
 
 // Loads a tape and writes the first line of its text; our programs alone call it.
@@ -98,50 +89,54 @@ pub fn begin(
 }
 
 // A block's name in hexadecimal; its callers know that 512 bytes hold it.
-fn put_name(out: &mut [u8], at: usize, tape: &[u8], r: Block) -> usize
+fn put_name(w: &mut Writer<'_>, tape: &[u8], r: Block)
     requires size_in_bounds { (r.start + r.size ≤ length tape.now) × (r.text + r.chars ≤ length tape.now) }
     requires chars_bound { (r.chars ≤ 1048576) × (length (name_of tape.now r) ≤ 510) }
-    requires at_bound { at < 2 ^ 32 }
-    ensures { Wrote out.old at (hex_all (name_of tape.now r)) out.new result }
+    requires at_bound { w.old.at < 2 ^ 32 }
+    ensures { Writes w.old (hex_all (name_of tape.now r)) w.new }
 {
-    let mut name = [0u8; 512];
-    let n = text_name::put_name(&mut name, 0, tape, r);
-    put_hex(out, at, &name[..n])
+    let mut bytes = [0u8; 512];
+    let mut name = Writer::over(&mut bytes);
+    text_name::put_name(&mut name, tape, r);
+    let n = name.at;
+    put_hex(w, &name.out[..n]);
 }
 
 // Its data.
-fn put_data(out: &mut [u8], at: usize, tape: &[u8], r: Block) -> usize
+#[tactic(auto, using(text_out::proofs::Writing::composed))]
+fn put_data(w: &mut Writer<'_>, tape: &[u8], r: Block)
     requires size_in_bounds { (r.start + r.size ≤ length tape.now) × (r.size ≤ 1048576) }
-    requires at_bound { at < 2 ^ 32 }
-    ensures { Wrote out.old at (data_text (take r.size (drop r.start tape.now))) out.new result }
+    requires at_bound { w.old.at < 2 ^ 32 }
+    ensures { Writes w.old (data_text (take r.size (drop r.start tape.now))) w.new }
 {
-    let a = put_all(out, at, b" data=");
+    w.bytes(b" data=");
     let from = r.start as usize;
-    let size = r.size as usize;
-    put_hex(out, a, &tape[from..from + size])
+    put_hex(w, &tape[from..from + r.size as usize]);
 }
 
 // Its tone rows, and the line's end.
-fn put_pulses(out: &mut [u8], at: usize, tones: &[u64], r: Block) -> usize
+#[tactic(auto, using(text_out::proofs::Writing::composed, text_view::proofs::Parts::rows_more))]
+fn put_pulses(w: &mut Writer<'_>, tones: &[u64], r: Block)
     requires width_in_bounds { (r.tone + r.tones) * tone.width ≤ length tones.now }
-    requires at_bound { (at < 2 ^ 32) × (r.tones ≤ 65536) }
-    ensures { Wrote out.old at (pulses_text (tones_from tones.now r.tone r.tones)) out.new result }
+    requires at_bound { (w.old.at < 2 ^ 32) × (r.tones ≤ 65536) }
+    ensures { Writes w.old (pulses_text (tones_from tones.now r.tone r.tones)) w.new }
 {
-    let a = put_all(out, at, b" tones=");
-    let end = put_tones(out, a, tones, r.tone as usize, r.tones as usize);
-    put(out, end, b'\n')
+    w.bytes(b" tones=");
+    put_tones(w, tones, r.tone as usize, r.tones as usize);
+    w.byte(b'\n');
 }
 
 // The line of a block that its callers know to be well formed, and its name to be short.
-fn put_line(out: &mut [u8], tape: &[u8], tones: &[u64], i: u64, r: Block) -> usize
+fn put_line(w: &mut Writer<'_>, tape: &[u8], tones: &[u64], i: u64, r: Block)
     requires r_value { well_block (tape_size tape.now) tones.now r ≡ true }
     requires r_len_bound { length (name_of tape.now r) ≤ 510 }
-    ensures { Wrote out.old 0 (view_line i (row_view tape.now tones.now r)) out.new result }
+    requires at_value { w.old.at ≡ 0 }
+    ensures { Writes w.old (view_line i (row_view tape.now tones.now r)) w.new }
 {
-    let a = put_head(out, 0, i, r);
-    let b = put_name(out, a, tape, r);
-    let c = put_data(out, b, tape, r);
-    put_pulses(out, c, tones, r)
+    put_head(w, i, r);
+    put_name(w, tape, r);
+    put_data(w, tape, r);
+    put_pulses(w, tones, r);
 }
 
 // The line of block i, which is ready, as every row of a load is; it fits what is asked of `out`. Our programs alone call it.
@@ -151,5 +146,7 @@ pub fn block_line(tape: &[u8], tones: &[u64], blocks: &[u64], i: usize, out: &mu
     ensures { Fitted (view_line i (row_view tape.now tones.now (get block blocks.now i)))
         out.old out.new result }
 {
-    put_line(out, tape, tones, i as u64, block_at(blocks, i))
+    let mut w = Writer::over(out);
+    put_line(&mut w, tape, tones, i as u64, row_at(blocks, i));
+    w.at
 }

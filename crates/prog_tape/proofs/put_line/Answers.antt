@@ -5,21 +5,22 @@ use Rattle.text_view.specs.View.{row_view}
 use Rattle.prog_tape.proofs.Room.{head_next, name_next, data_next, row_inside, line_written}
 use Rattle.prog_tape.proofs.put_line.Goals as goal
 
-pub put_name-b-requires : goal.put_name-b-requires
-put_name-b-requires c =
+pub put_name-requires : goal.put_name-requires
+put_name-requires c =
     let i = row_inside c.args.tape.now c.args.tones.now c.args.r c.requires.r_value in
-    record { size_in_bounds = (i.bytes, i.name); chars_bound = (omega (arith, i.chars), c.requires.r_len_bound); at_bound = omega (arith, head_next _ _ _ _ _ _ c.put_head-a.ensures) }
+    record { size_in_bounds = (i.bytes, i.name); chars_bound = (omega (arith, i.chars), c.requires.r_len_bound); at_bound = omega (arith, c.requires.at_value, head_next _ _ _ _ _ _ c.put_head.ensures) }
 
-pub put_data-c-requires : goal.put_data-c-requires
-put_data-c-requires c =
+pub put_data-requires : goal.put_data-requires
+put_data-requires c =
     let a = c.args in
     let i = row_inside a.tape.now a.tones.now a.r c.requires.r_value in record {
       size_in_bounds = (i.bytes, omega (arith, i.few));
       at_bound = omega (
         arith,
+        c.requires.at_value,
         c.requires.r_len_bound,
-        head_next _ _ _ _ _ _ c.put_head-a.ensures,
-        name_next (name_of a.tape.now a.r) c.put_name-b.ensures,
+        head_next _ _ _ _ _ _ c.put_head.ensures,
+        name_next (name_of a.tape.now a.r) c.put_name.ensures,
       );
     }
 
@@ -31,11 +32,12 @@ put_pulses-requires c =
       at_bound = (
         omega (
           arith,
+          c.requires.at_value,
           c.requires.r_len_bound,
           i.few,
-          head_next _ _ _ _ _ _ c.put_head-a.ensures,
-          name_next (name_of a.tape.now a.r) c.put_name-b.ensures,
-          data_next a.r.size a.r.start a.tape.now c.put_data-c.ensures,
+          head_next _ _ _ _ _ _ c.put_head.ensures,
+          name_next (name_of a.tape.now a.r) c.put_name.ensures,
+          data_next a.r.size a.r.start a.tape.now c.put_data.ensures,
         ),
         i.most,
       );
@@ -44,5 +46,5 @@ put_pulses-requires c =
 pub returns : goal.returns
 returns c =
     let a = c.args in
-    line_written a.i (row_view a.tape.now a.tones.now a.r) c.put_head-a.ensures c.put_name-b.ensures
-    c.put_data-c.ensures c.put_pulses.ensures
+    line_written a.i (row_view a.tape.now a.tones.now a.r) c.put_head.ensures c.put_name.ensures
+    c.put_data.ensures c.put_pulses.ensures

@@ -40,12 +40,13 @@ bare() { # FILE..
             if (code) {
                 if (line ~ /(^| )fn [a-z]/) result = ""
                 if (line ~ /-> [A-Za-z0-9]+( \{)?$/) { result = line; sub(/.*-> /, "", result); sub(/ \{$/, "", result) }
-                if (line ~ "(Refused|No|refuse|refused)[(]([^()]*, )?" n "[)]") found = 1
+                if (line ~ "(Refused|Refusal|No|refuse|refused|refused_line)[(]([^()]*, )?" n "[)]") found = 1
+                if (line ~ "tell_refused[(]" n ",") found = 1
                 if (names && result == "u32" && line ~ ("(^ *(return )?|=> |[{] )" n "(;|,| [}])?$")) found = 1
             }
             if (said) {
-                if (line ~ ("(^|[^A-Za-z0-9_-])([a-z]+[.])?(tell_)?(refused|Refused|refuse|refuses|refusal|refused_text|refused_line|no|No) " n "([^0-9A-Za-z]|$)")) found = 1
-                if (line ~ ("(number_no|mark_no|time_no|number_of|number_for|refusal_of|answer_to|load_number) .*≡ " n "([^0-9A-Za-z]|$)")) found = 1
+                if (line ~ ("(^|[^A-Za-z0-9_-])([a-z]+[.])?(tell_)?(refused|Refused|Refusal|refuse|refuses|refusal|refused_text|refused_line|no|No) " n "([^0-9A-Za-z]|$)")) found = 1
+                if (line ~ ("(answer_no|fault_no|reached_no|refusal_no|not_loaded_no|run_no|number_of|number_for|refusal_of|answer_to|load_number) .*≡ " n "([^0-9A-Za-z]|$)")) found = 1
                 if (line ~ ("(overfull|fits) .*(⇒|∣) " n "([^0-9A-Za-z]|$)")) found = 1
                 if (line ~ ("(Between|Says|Sees|Tells) " n " " n "([^0-9A-Za-z]|$)")) found = 1
                 if (names && line ~ ("((^|[^A-Za-z0-9_])k ≡ " n "|(^|[^0-9])" n " ≡ k)([^0-9A-Za-z]|$)")) found = 1
@@ -57,13 +58,15 @@ bare() { # FILE..
 # the search itself: each line of the first two is found, and none of the third and fourth
 cat > "$room/bad.rt" <<'CODE'
 use refusals::NO_ROOM;
-        return Number::Refused(11);
+        return Err(NotLoaded::Refused(3));
+        return tell_refused(11, &[], answer);
         Failed(_) => refuse(blocks, tones, 3),
         return print_refused(9);
-        Made::Full => Step::No(5),
+        Err(NoRows::Full) => Err(Halt::Refusal(5)),
 fn refusal(count: u64) -> u32
         return 8;
-        Reached::NotValid => 9,
+        Fault::NotValid => 9,
+        w.refused_line(2);
         11
     ensures { result ≡ (fits words answer ⇒ 0 ∣ 10) }
 CODE
@@ -72,7 +75,9 @@ use Rattle.refusals.specs.Refusals.{tape_bad}
 or_tap (failed f) = no 3
     ∣ ltb 65535 (length s) ⇒ refused 2
 walk_9 : number_of walks ≡ 9 → ⊥
-len_of w = overfull w ⇒ number.Refused 11 ∣ number.Is w.count
+len_of w = overfull w ⇒ refused 11 ∣ given w.count
+row_of s = no (halts.Refusal 5)
+bad_row : (w : Tape) → answer_no (len_of w) ≡ 11 → ⊥
 number_of a row = fits a.values row ⇒ a.no ∣ 10
 by_count true k row e = tell_refused 11 row
     tap_no : read_tap lent s ≡ refused k → Between 5 6 k → Given k
@@ -80,7 +85,7 @@ by_count true k row e = tell_refused 11 row
 LAW
 cat > "$room/good.rt" <<'CODE'
 use refusals::NO_ROOM;
-        return Number::Refused(NO_ROOM); // Refused(10)
+        return Err(NotLoaded::Refused(TAPE_BAD)); // Refused(3)
         refuse(blocks, tones, j)
 fn refusal(count: u64) -> u32
         return BAD_ROW;
@@ -96,8 +101,8 @@ no z = let y : ◌≡◌ {A = ℕ} 1 0 = ap (λ (t : Bool). t ⇒ 0 ∣ 1) z in 
 refusal_8 : (refusal_of w i ≡ no_block) ↔ PastCount w i
 bits_in used size pos = eqb (pos + 1) size ⇒ used ∣ 8
 LAW
-[ "$(bare "$room/bad.rt" | wc -l)" -eq 8 ] || bad "the search misses a bare number in code: it finds $(bare "$room/bad.rt")"
-[ "$(bare "$room/bad.antt" | wc -l)" -eq 8 ] || bad "the search misses a bare number in a law: it finds $(bare "$room/bad.antt")"
+[ "$(bare "$room/bad.rt" | wc -l)" -eq 10 ] || bad "the search misses a bare number in code: it finds $(bare "$room/bad.rt")"
+[ "$(bare "$room/bad.antt" | wc -l)" -eq 10 ] || bad "the search misses a bare number in a law: it finds $(bare "$room/bad.antt")"
 [ -z "$(bare "$room/good.rt" "$room/good.antt")" ] || bad "the search finds what is no bare number: $(bare "$room/good.rt" "$room/good.antt")"
 
 found=$(bare $(find crates \( -path 'crates/*/src/*.rt' -o -name '*.antt' \) ! -path 'crates/refusals/*' | LC_ALL=C sort))

@@ -21,10 +21,8 @@ fn load_one(bytes: &mut [u8], blocks: &mut [u64], tones: &mut [u64], out: &mut [
 fn load_all(bytes: &mut [u8], blocks: &mut [u64], tones: &mut [u64], out: &mut [u8], n: usize)
     requires { 256 ≤ length out.old }
 {
-    let mut left = n;
-    while 0 < left {
+    for _ in 0..n {
         load_one(bytes, blocks, tones, out);
-        left -= 1;
     }
 }
 

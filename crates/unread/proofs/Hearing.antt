@@ -14,7 +14,8 @@ use Rattle.law_base.proofs.Numbers.{lt_or_ge}
 use Rattle.refusals.specs.Refusals.{bad_model, tape_long}
 use Rattle.load_blocks.specs.Does.{lent_of}
 use Rattle.load_source.specs.Source.{no, load_of}
-use Rattle.load_tape.specs.declared.Loaded.TheVariants.{Refused}
+use Rattle.std.specs.Prelude.{Err}
+use Rattle.load_tape.specs.declared.NotLoaded.TheVariants.{Refused}
 use Rattle.load_tape.specs.Load.{named_load, load_named, answer_of}
 use Rattle.text_out.specs.Out.{Fitted}
 use Rattle.prog_model.specs.Models.{model_of}
@@ -25,7 +26,7 @@ use Rattle.unread.specs.Heard.{unread_heard}
 unfoldable tape_said : List ℕ → ℕ → List ℕ
 tape_said tape m = report_text (answer_of (load_named (lent_of full_blocks full_tones) tape m))
 
-heard-none : (input : List ℕ) → length input ≤ 0 → unread_heard input ≡ report_text (Refused bad_model)
+heard-none : (input : List ℕ) → length input ≤ 0 → unread_heard input ≡ report_text (Err (Refused bad_model))
 unfolding unread_heard
 heard-none [] h = refl
 heard-none (b ∷ tape) h = absurd (omega arith)
@@ -40,7 +41,7 @@ behind : (input : List ℕ) → take (length input - 1) (drop 1 input) ≡ drop 
 behind input = take_all (length input - 1) (drop 1 input) (rw length-drop (omega arith))
 
 module _ {out out' : List ℕ} {n : ℕ} (input : List ℕ) where
-  pub says_none : length input ≤ 0 → Fitted (report_text (Refused bad_model)) out out' n → Fitted (unread_heard input) out out' n
+  pub says_none : length input ≤ 0 → Fitted (report_text (Err (Refused bad_model))) out out' n → Fitted (unread_heard input) out out' n
   says_none h f = subst (λ (t : List ℕ). Fitted t out out' n) (sym (heard-none input h)) f
 
   pub says_tape : {B N m : ℕ} → 0 < length input → B ≡ full_blocks → N ≡ full_tones → m ≡ model_of (get_or input 0 0)
@@ -59,12 +60,12 @@ module _ {out out' : List ℕ} {n : ℕ} (input : List ℕ) where
 
 -- a tape over 1,048,576 bytes
 either_no : (bad : Bool) (s : List ℕ)
-    → answer_of (named_load s (bad ⇒ no bad_model ∣ no tape_long)) ≡ (bad ⇒ Refused bad_model ∣ Refused tape_long)
+    → answer_of (named_load s (bad ⇒ no bad_model ∣ no tape_long)) ≡ (bad ⇒ Err (Refused bad_model) ∣ Err (Refused tape_long))
 unfolding named_load answer_of
 either_no true s = refl
 either_no false s = refl
 
-long : (tape : List ℕ) (m : ℕ) → 1048577 ≤ length tape → tape_said tape m ≡ report_text (leb 3 m ⇒ Refused bad_model ∣ Refused tape_long)
+long : (tape : List ℕ) (m : ℕ) → 1048577 ≤ length tape → tape_said tape m ≡ report_text (leb 3 m ⇒ Err (Refused bad_model) ∣ Err (Refused tape_long))
 unfolding tape_said load_named load_of
 long tape m h = rw (lt-ltb 1048576 (length tape) (omega arith)) (ap report_text (either_no (leb 3 m) tape))
 

@@ -7,7 +7,7 @@ ghost use Rattle.text_out.specs.Out.{Fitted};
 ghost use Rattle.prog_unread.specs.Report.{full_blocks, full_tones};
 ghost use Rattle.unread.specs.Heard.{unread_heard};
 
-use load_tape::Loaded;
+use load_tape::NotLoaded;
 use prog_model::model_of;
 use prog_unread::{FULL_BLOCKS, FULL_TONES, put_report, say_unread};
 use refusals::BAD_MODEL;
@@ -19,8 +19,7 @@ fn answer(input: &[u8], blocks: &mut [u64], tones: &mut [u64], out: &mut [u8]) -
     ensures { Fitted (unread_heard input.now) out.old out.new result }
 {
     if input.len() == 0 {
-        let none = Loaded::Refused(BAD_MODEL);
-        return put_report(out, none);
+        return put_report(out, Err(NotLoaded::Refused(BAD_MODEL)));
     }
     let model = model_of(input[0]);
     say_unread(&input[1..], model, blocks, tones, out)

@@ -21,10 +21,8 @@ fn list_one(bytes: &mut [u8], out: &mut [u8])
 fn list_all(bytes: &mut [u8], out: &mut [u8], n: usize)
     requires { 300000 ≤ length out.old }
 {
-    let mut left = n;
-    while 0 < left {
+    for _ in 0..n {
         list_one(bytes, out);
-        left -= 1;
     }
 }
 

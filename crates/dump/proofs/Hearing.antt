@@ -18,7 +18,8 @@ use Rattle.rows.specs.Rows.{block}
 use Rattle.text_out.specs.Out.{Fitted}
 use Rattle.load_blocks.specs.Does.{lent_of}
 use Rattle.load_source.specs.Source.{Load, no}
-use Rattle.load_tape.specs.declared.Loaded.TheVariants.{Refused}
+use Rattle.std.specs.Prelude.{Err}
+use Rattle.load_tape.specs.declared.NotLoaded.TheVariants.{Refused}
 use Rattle.load_tape.specs.Load.{load_named, answer_of, block_table, tone_table}
 use Rattle.law_every_load.specs.Sizes.{Bytes}
 use Rattle.prog_tape.specs.Inner.{ReadyLine}
@@ -33,7 +34,7 @@ use Rattle.dump.specs.Dumped.{load_heard, dump_lines, FirstHeard, FirstRefused, 
 
 -- A REFUSAL: zeros, and its line
 pub opens-no : {B N k : ℕ} {o : Opening} {bt tt out out' : List ℕ} (s : List ℕ) → bt ≡ block_table B (no k) → tt ≡ tone_table N (no k)
-    → Fitted (first_line (Refused k)) out out' o.size → o.more ≡ lines_after (Refused k) → Opens B N s (no k) o bt tt out out'
+    → Fitted (first_line (Err (Refused k))) out out' o.size → o.more ≡ lines_after (Err (Refused k)) → Opens B N s (no k) o bt tt out out'
 unfolding answer_of
 opens-no s p q f e = opens s (record { answer = refl; blocks = p; tones = q }) f e
 

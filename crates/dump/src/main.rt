@@ -6,7 +6,7 @@ ghost use Rattle.text_out.specs.Out.{Fitted};
 ghost use Rattle.listing.specs.Listing.{block_words, tone_words};
 ghost use Rattle.dump.specs.Dumped.{dump_lines, FirstHeard, FirstRefused, Dumping};
 
-use load_tape::Loaded;
+use load_tape::NotLoaded;
 use prog_model::model_of;
 use prog_tape::{Opening, begin, block_line, put_first};
 use refusals::{BAD_MODEL, TAPE_LONG};
@@ -20,8 +20,7 @@ fn refuse(blocks: &mut [u64], tones: &mut [u64], out: &mut [u8], k: u32) -> Open
 {
     blank(blocks);
     blank(tones);
-    let loaded = Loaded::Refused(k);
-    put_first(out, loaded)
+    put_first(out, Err(NotLoaded::Refused(k)))
 }
 
 // The first line, how many follow it, and the tables that they are read from.
@@ -63,12 +62,9 @@ fn print(input: &[u8], blocks: &mut [u64], tones: &mut [u64], out: &mut [u8])
     let opening = first(input, blocks, tones, out);
     let size = opening.size;
     io::write_all(1, &out[..size]);
-    let more = opening.more as usize;
-    let mut i = 0;
-    while i < more {
+    for i in 0..opening.more as usize {
         let k = line(input, tones, blocks, i, out);
         io::write_all(1, &out[..k]);
-        i += 1;
     }
 }
 

@@ -8,12 +8,12 @@ ghost use Rattle.std.specs.Prelude.{◌+◌, ◌*◌, ◌≤◌, ◌<◌, length
 
 use gate_input::{read_count, read_counted, read_number};
 use prog_tape::{begin, block_line};
-use rows::{BLOCK_WORDS, TONE_WORDS};
+use rows::{Block, Row, Tone};
 
 // More rows than 4,096 and 65,536, so that a table may be longer than its limit.
-const LONG_BLOCK_TABLE: usize = 4101 * BLOCK_WORDS;
+const LONG_BLOCK_TABLE: usize = 4101 * Block::WORDS;
 
-const LONG_TONE_TABLE: usize = 65566 * TONE_WORDS;
+const LONG_TONE_TABLE: usize = 65566 * Tone::WORDS;
 
 // Every line of a tape; that each is written once and in order is all that no contract says.
 fn print(tape: &[u8], model: u32, blocks: &mut [u64], tones: &mut [u64], out: &mut [u8])
@@ -22,12 +22,9 @@ fn print(tape: &[u8], model: u32, blocks: &mut [u64], tones: &mut [u64], out: &m
     let opening = begin(tape, model, blocks, tones, out);
     let size = opening.size;
     io::write_all(1, &out[..size]);
-    let more = opening.more as usize;
-    let mut i = 0;
-    while i < more {
+    for i in 0..opening.more as usize {
         let k = block_line(tape, tones, blocks, i, out);
         io::write_all(1, &out[..k]);
-        i += 1;
     }
 }
 
@@ -45,8 +42,8 @@ fn replay(bytes: &mut [u8], blocks: &mut [u64], tones: &mut [u64], out: &mut [u8
     requires { 1200 + 2 * length bytes.old + 5 * length tones.old ≤ length out.old }
 {
     let model = read_number(1, 255) as u32;
-    let b = read_lent(BLOCK_WORDS, blocks.len());
-    let t = read_lent(TONE_WORDS, tones.len());
+    let b = read_lent(Block::WORDS, blocks.len());
+    let t = read_lent(Tone::WORDS, tones.len());
     let n = read_counted(bytes);
     print(&bytes[..n], model, &mut blocks[..b], &mut tones[..t], out);
 }
@@ -55,10 +52,8 @@ fn replay(bytes: &mut [u8], blocks: &mut [u64], tones: &mut [u64], out: &mut [u8
 fn replay_all(bytes: &mut [u8], blocks: &mut [u64], tones: &mut [u64], out: &mut [u8], n: usize)
     requires { 1200 + 2 * length bytes.old + 5 * length tones.old ≤ length out.old }
 {
-    let mut left = n;
-    while 0 < left {
+    for _ in 0..n {
         replay(bytes, blocks, tones, out);
-        left -= 1;
     }
 }
 

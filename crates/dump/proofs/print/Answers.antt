@@ -24,9 +24,3 @@ slice_bounds-write_all-end-in-loop-i c = fitted_most c.line-k.ensures
 
 pub slice_bounds-write_all-end-in-loop-i-2 : goal.slice_bounds-write_all-end-in-loop-i-2
 slice_bounds-write_all-end-in-loop-i-2 c = take_counted _ _ (fitted_most c.line-k.ensures)
-
-pub loop-i-smaller : goal.loop-i-smaller
-loop-i-smaller c = omega arith
-
-pub loop-i-preserved : goal.loop-i-preserved
-loop-i-preserved c = omega arith

@@ -9,16 +9,16 @@ use Rattle.text_out.specs.Out.{told}
 use Rattle.play_entries.specs.Places.{Tape}
 use Rattle.play_walk.specs.declared.Position.{Position}
 use Rattle.play_deck.specs.Deck.{play_measured, play_mounted}
-use Rattle.host_words.specs.declared.Placed.TheVariants as place
+use Rattle.std.specs.Prelude.{Some, None}
 use Rattle.host_words.specs.Words.{words_of, position_from}
 use Rattle.host_answers.specs.Answers.{number_of, values_of, of_position, of_reached}
 use Rattle.export.specs.Export.{moved_to}
 
-no : {A : Type 0} {p : Position} → place.Not ≡ place.Is p → A
+no : {A : Type 0} {p : Position} → None ≡ Some p → A
 no e = let z : ◌≡◌ {A = ℕ} 0 1 = cc in absurd (omega arith)
 
 -- words that name a position are seven at least
-pub named_seven : (ws : List ℕ) (q : Position) → position_from ws ≡ place.Is q → 7 ≤ length ws
+pub named_seven : (ws : List ℕ) (q : Position) → position_from ws ≡ Some q → 7 ≤ length ws
 unfolding position_from
 named_seven [] q e = no e
 named_seven (b ∷ []) q e = no e

@@ -2,12 +2,11 @@
 use Prim.Native.Nat.{ℕ, ◌-◌, ◌≤◌}
 use native.Mathlib.Omega.{arith}
 use mathlib.Core.Path.{◌≡◌, refl, sym, ap, ◌∙◌}
-use mathlib.Core.Bool.{Bool, true, ◌&&◌}
+use mathlib.Core.Bool.{Bool, true}
 use mathlib.Core.Logic.{⊎_elim}
 use mathlib.Core.List.{List, [], ◌∷◌}
 use lib.ListN.{length, get_or}
 use Rattle.law_base.specs.Rules.{◌⇒◌, ◌∣◌}
-use Rattle.law_base.proofs.Tests.{first, second}
 use Rattle.law_base.proofs.Numbers.{lt_or_ge}
 use Rattle.law_pulses.specs.Play.{Level}
 use Rattle.refusals.specs.Refusals.{no_room}
@@ -16,16 +15,15 @@ use Rattle.play_entries.specs.declared.Duration.{Duration}
 use Rattle.play_entries.specs.declared.Duration.TheVariants.{T, Endless}
 use Rattle.play_entries.specs.Places.{Tape, level_in}
 use Rattle.play_walk.specs.declared.Position.{Position}
-use Rattle.play_walk.specs.declared.Reached.TheVariants.{At}
-use Rattle.play_walk.specs.Heads.{placed, stand, Walkable}
-use Rattle.play_deck.specs.declared.Check.TheVariants.{Fine}
+use Rattle.play_walk.specs.declared.How.TheVariants.{At}
+use Rattle.play_walk.specs.Heads.{came, placed, stand, Walkable}
 use Rattle.play_deck.specs.declared.Finding.{Finding}
-use Rattle.play_deck.specs.Assay.{passes, Assayed}
+use Rattle.play_deck.specs.Assay.{Found}
 use Rattle.play_deck.specs.Inside.{ends_inside, less_by}
-use Rattle.play_deck.proofs.Assays.{fine_of, fine_so, level_below}
+use Rattle.play_deck.proofs.Assays.{level_below}
 use Rattle.play_deck.proofs.Checks.{fine_below, fine_none}
 use Rattle.play_deck.proofs.Inside.{inside_less}
-use Rattle.host_words.specs.declared.Placed.TheVariants as place
+use Rattle.std.specs.Prelude.{Some, None}
 use Rattle.host_words.specs.Words.{flag_of, span_of, words_of, position_from}
 use Rattle.host_words.proofs.Positions.{position-words}
 use Rattle.host_run.specs.Runs.{player_of}
@@ -42,11 +40,11 @@ pub record Inside (ws : List ℕ) (q : Position) (t n : ℕ) (v : Bool) : Type 0
   pub left : get_or ws 6 0 ≡ t
   pub words : inside_words ws n v ≡ stand_words 0 (stand (placed q.block q.phase (T (t - n))) 0 v)
 
-no : {ws : List ℕ} {q p : Position} {t n : ℕ} {v : Bool} → place.Not ≡ place.Is p → Inside ws q t n v
+no : {ws : List ℕ} {q p : Position} {t n : ℕ} {v : Bool} → None ≡ Some p → Inside ws q t n v
 no e = let z : ◌≡◌ {A = ℕ} 0 1 = cc in absurd (omega arith)
 
 -- words that name a position with t T-states left
-pub words_inside : (ws : List ℕ) (q : Position) (t n : ℕ) (v : Bool) → position_from ws ≡ place.Is q → q.left ≡ T t → Inside ws q t n v
+pub words_inside : (ws : List ℕ) (q : Position) (t n : ℕ) (v : Bool) → position_from ws ≡ Some q → q.left ≡ T t → Inside ws q t n v
 unfolding position_from inside_words stand_words words_of span_of
 words_inside [] q t n v e l = no e
 words_inside (b ∷ []) q t n v e l = no e
@@ -68,18 +66,17 @@ pub record Told (m : Bool) (w : Tape) (ws : List ℕ) (q : Position) (n : ℕ) (
   pub number : (row : List ℕ) → number_of (of_reached (player_of m w q n)) row ≡ (fits (inside_words ws n v) row ⇒ 0 ∣ no_room)
   pub values : (row : List ℕ) → values_of (of_reached (player_of m w q n)) row ≡ told (inside_words ws n v) row
 
-module _ (m : Bool) (w : Tape) (ws : List ℕ) (q : Position) (n : ℕ) (a : Finding) (e : position_from ws ≡ place.Is q) (x : Assayed w q a)
-    (fine : a.check ≡ Fine) where
+module _ (m : Bool) (w : Tape) (ws : List ℕ) (q : Position) (n : ℕ) (a : Finding) (e : position_from ws ≡ Some q) (x : Found w q a) where
   told_left : (left : Duration) → q.left ≡ left → ends_inside left n ≡ true → Told m w ws q n a.level
-  unfolding ends_inside less_by number_of values_of of_reached
+  unfolding ends_inside less_by number_of values_of
   told_left (T t) l i =
       let h = inside_less (T t) t n refl i in
-      let y : Walkable w q = ⊎_elim (λ b. fine_below w q (fine_so x fine) b)
-      (λ b. absurd (never_none t (sym l ∙ fine_none w q (fine_so x fine) b) (omega arith))) (lt_or_ge q.block w.count) in
+      let y : Walkable w q = ⊎_elim (λ b. fine_below w q x.fine b)
+      (λ b. absurd (never_none t (sym l ∙ fine_none w q x.fine b) (omega arith))) (lt_or_ge q.block w.count) in
       let z = words_inside ws q t n a.level e l in
       let s = inside_play w q n t y l h m
-      ∙ ap (λ (d : Duration). At (stand (placed q.block q.phase (less_by d n)) 0 (level_in w q.block q.phase))) l
-      ∙ ap (λ (k : Level). At (stand (placed q.block q.phase (T (t - n))) 0 k)) (sym (level_below x fine y.below)) in
+      ∙ ap (λ (d : Duration). came At (stand (placed q.block q.phase (less_by d n)) 0 (level_in w q.block q.phase))) l
+      ∙ ap (λ (k : Level). came At (stand (placed q.block q.phase (T (t - n))) 0 k)) (sym (level_below x y.below)) in
       record {
         seven = z.seven;
         less = omega (arith, z.left);
@@ -90,11 +87,3 @@ module _ (m : Bool) (w : Tape) (ws : List ℕ) (q : Position) (n : ℕ) (a : Fin
 
   pub call_inside : ends_inside q.left n ≡ true → Told m w ws q n a.level
   call_inside i = told_left q.left refl i
-
--- .. by the code's own test
-pub passed_inside : (m : Bool) (w : Tape) (ws : List ℕ) (q : Position) (n : ℕ) (a : Finding) → position_from ws ≡ place.Is q
-    → Assayed w q a → (passes a.check && ends_inside q.left n) ≡ true
-    → Told m w ws q n a.level
-passed_inside m w ws q n a e x t =
-    call_inside m w ws q n a e x (fine_of a.check (first (passes a.check) (ends_inside q.left n) t))
-    (second (passes a.check) (ends_inside q.left n) t)

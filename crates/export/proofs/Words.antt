@@ -14,24 +14,25 @@ use Rattle.rows.proofs.Samples.{row_words}
 use Rattle.play_entries.specs.Places.{Tape}
 use Rattle.play_entries.specs.Mounted.{overfull, well_row, tape_of}
 use Rattle.play_walk.specs.declared.Position.{Position}
+use Rattle.std.specs.Prelude.{Result, Err}
 use Rattle.play_walk.specs.declared.Reached.{Reached}
+use Rattle.play_walk.specs.declared.Fault.{Fault}
+use Rattle.play_walk.specs.declared.Fault.TheVariants.{NotValid, NotFormed}
 use Rattle.play_walk.specs.Heads.{reached_no, walk_from}
-use Rattle.play_deck.specs.declared.Check.{Check}
-use Rattle.play_deck.specs.declared.Check.TheVariants.{NotValid, NotFormed}
 use Rattle.play_deck.specs.Deck.{at_start, ruled_out, ill_formed, valid_at, judged, unless, stays, play_measured, source_from, play_source}
 use Rattle.play_deck.specs.Deck.{number_for, block_of, block_at}
 use Rattle.host_words.specs.Words.{unhalved, phase_from, span_from, joined, position_from}
 use Rattle.export.specs.Export.{misplaced_no, with_place, measured_at}
 
 -- the check of a position that isn't valid, by three tests: the count, whether its block is past it, its row
-abbrev check_by : Bool → Bool → Bool → Check
-check_by over past well = over ⇒ NotFormed ∣ past ⇒ NotValid ∣ well ⇒ NotValid ∣ NotFormed
+abbrev check_by : Bool → Bool → Bool → Result (Unit {0}) Fault
+check_by over past well = over ⇒ Err NotFormed ∣ past ⇒ Err NotValid ∣ well ⇒ Err NotValid ∣ Err NotFormed
 
 -- its number, of a player and of a position's block
 abbrev number_by : Bool → Bool → Bool → ℕ
 number_by over past well = over ⇒ bad_row ∣ past ⇒ no_position ∣ well ⇒ no_position ∣ bad_row
 
-player_by : (o p r : Bool) (x : Reached) → reached_no (unless (check_by o p r) x) ≡ number_by o p r
+player_by : (o p r : Bool) (x : Result Reached Fault) → reached_no (unless (check_by o p r) x) ≡ number_by o p r
 unfolding reached_no unless
 player_by true p r x = refl
 player_by false true r x = refl
@@ -50,7 +51,8 @@ module _ (w : Tape) (q : Position) (bad : valid_at w q ≡ false) where
   unfolding judged ruled_out ill_formed
   past_count h = rw (bad, le-leb w.count q.block h, le-ltb q.block w.count h) (of (overfull w) (at_start q))
     where
-      of : (o s : Bool) → (o ⇒ NotFormed ∣ not s ⇒ NotValid ∣ NotValid) ≡ (o ⇒ NotFormed ∣ NotValid)
+      of : (o s : Bool)
+          → ◌≡◌ {A = Result (Unit {0}) Fault} (o ⇒ Err NotFormed ∣ not s ⇒ Err NotValid ∣ Err NotValid) (o ⇒ Err NotFormed ∣ Err NotValid)
       of true s = refl
       of false true = refl
       of false false = refl
@@ -59,7 +61,8 @@ module _ (w : Tape) (q : Position) (bad : valid_at w q ≡ false) where
   unfolding judged ruled_out ill_formed
   below_count h = rw (bad, lt-leb w.count q.block h, lt-ltb q.block w.count h) (of (overfull w) (well_row w q.block))
     where
-      of : (o r : Bool) → (o ⇒ NotFormed ∣ not r ⇒ NotFormed ∣ NotValid) ≡ check_by o false r
+      of : (o r : Bool)
+          → ◌≡◌ {A = Result (Unit {0}) Fault} (o ⇒ Err NotFormed ∣ not r ⇒ Err NotFormed ∣ Err NotValid) (check_by o false r)
       of true r = refl
       of false true = refl
       of false false = refl
@@ -73,19 +76,19 @@ module _ (w : Tape) (q : Position) (bad : valid_at w q ≡ false) where
   pub misplaced_measured : (n : ℕ) (ws : List ℕ) → reached_no (play_measured w q n) ≡ misplaced_no w (q.block ∷ ws)
   unfolding play_measured misplaced_no
   misplaced_measured n ws =
-      ap (λ (c : Check). reached_no (unless c (eqb n 0 ⇒ stays w q ∣ walk_from w q n))) judged-by
+      ap (λ (c : Result (Unit {0}) Fault). reached_no (unless c (eqb n 0 ⇒ stays w q ∣ walk_from w q n))) judged-by
       ∙ player_by (overfull w) (leb w.count q.block) (well_row w q.block) (eqb n 0 ⇒ stays w q ∣ walk_from w q n)
 
   pub misplaced_source : (n : ℕ) (ws : List ℕ) → reached_no (play_source w q n) ≡ misplaced_no w (q.block ∷ ws)
   unfolding play_source misplaced_no
   misplaced_source n ws =
-      ap (λ (c : Check). reached_no (unless c (eqb n 0 ⇒ stays w q ∣ source_from w q n))) judged-by
+      ap (λ (c : Result (Unit {0}) Fault). reached_no (unless c (eqb n 0 ⇒ stays w q ∣ source_from w q n))) judged-by
       ∙ player_by (overfull w) (leb w.count q.block) (well_row w q.block) (eqb n 0 ⇒ stays w q ∣ source_from w q n)
 
   pub misplaced_block : (ws : List ℕ) → number_for (block_at w q) ≡ misplaced_no w (q.block ∷ ws)
   unfolding misplaced_no
   misplaced_block ws =
-      ap (λ (c : Check). number_for (block_of w q c)) judged-by
+      ap (λ (c : Result (Unit {0}) Fault). number_for (block_of w q c)) judged-by
       ∙ block-by (overfull w) (leb w.count q.block) (well_row w q.block) w q
 
 -- A TABLE: over a row of two cycles and one whose endless flag is 2, a count, words, and the number that a player's call of them has

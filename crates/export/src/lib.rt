@@ -10,15 +10,15 @@ ghost use Rattle.load_tape.specs.Load.{answer_of, block_table, tone_table};
 ghost use Rattle.host_answers.specs.Answers.{number_of, values_of, of_number, of_mark, of_time, of_position, of_loaded};
 ghost use Rattle.play_deck.specs.Deck.{play_measured};
 ghost use Rattle.host_words.specs.Words.{position_from};
-ghost use Rattle.host_run.specs.Runs.{run_no, run_table};
+ghost use Rattle.host_run.specs.Runs.{player_of, run_no, run_table};
 ghost use Rattle.host_answers.specs.Answers.{of_reached};
 ghost use Rattle.export.specs.Export.{run_number, run_left, moved_to, head_left};
 ghost use Rattle.export.specs.Export.{load_in, misplaced_no, selected_at, source_at, measured_at, load_number, load_table, name_left};
 
 use host_answers::{Words, tell_answer, tell_inside};
-use host_run::play_run;
+use host_run::{call_by, play_run};
 use host_words::position_from;
-use play_deck::{Head, Measured, Player, Source, assay, call_by, ends_inside};
+use play_deck::{Head, assay, ends_inside};
 use play_entries::Mounted;
 use play_head::play_head;
 use play_walk::Position;
@@ -208,6 +208,7 @@ pub fn glyvrask_loading_time(
 }
 
 // A block's start, as a position's words.
+#[tactic(auto, unfolding(host_answers::specs::Answers::number_of, host_answers::specs::Answers::values_of, host_answers::specs::Answers::of_position))]
 pub fn glyvrask_new_at_block(block: u64, answer: &mut [u64]) -> u32
     ensures value { result ≡ number_of (of_position (start_at block)) answer.old }
     ensures answer_after { answer.new ≡ values_of (of_position (start_at block)) answer.old }
@@ -216,6 +217,7 @@ pub fn glyvrask_new_at_block(block: u64, answer: &mut [u64]) -> u32
 }
 
 // The block that a position is shown under.
+#[tactic(auto, unfolding(crate::specs::Export::with_place))]
 pub fn glyvrask_position_block(
     tape: &[u8],
     blocks: &[u64],
@@ -244,16 +246,17 @@ pub fn glyvrask_position_block(
 }
 
 // A call of n from the position that lent words name; where it ends inside its entry, straight on those words.
-fn call_words<P: Player>(
+fn call_words(
     m: &Mounted<'_>,
+    measured: bool,
     position: &[u64],
     pos: Position,
     n: u32,
     answer: &mut [u64],
 ) -> u32
     requires { position_from position.now ≡ Some pos }
-    ensures value { result ≡ number_of (of_reached (P.plays (mounted_tape m.now) pos n)) answer.old }
-    ensures answer_after { answer.new ≡ values_of (of_reached (P.plays (mounted_tape m.now) pos n)) answer.old }
+    ensures value { result ≡ number_of (of_reached (player_of measured (mounted_tape m.now) pos n)) answer.old }
+    ensures answer_after { answer.new ≡ values_of (of_reached (player_of measured (mounted_tape m.now) pos n)) answer.old }
 {
     let a = assay(m, pos);
     if let Ok(found) = a {
@@ -261,10 +264,11 @@ fn call_words<P: Player>(
             return tell_inside(position, n as u64, found.level, answer);
         }
     }
-    tell_answer(call_by::<P>(m, pos, n, a), answer)
+    tell_answer(call_by(m, measured, pos, n, a), answer)
 }
 
 // The source's play of n T-states.
+#[tactic(auto, unfolding(crate::specs::Export::with_place, host_run::specs::Runs::player_of))]
 pub fn glyvrask_play(
     tape: &[u8],
     blocks: &[u64],
@@ -288,12 +292,13 @@ pub fn glyvrask_play(
         count,
     };
     match position_from(position) {
-        Some(pos) => call_words::<Source>(&m, position, pos, n, answer),
+        Some(pos) => call_words(&m, false, position, pos, n, answer),
         None => misplaced(&m, position).number(),
     }
 }
 
 // The measured player's call of n T-states.
+#[tactic(auto, unfolding(crate::specs::Export::with_place, host_run::specs::Runs::player_of))]
 pub fn glyvrask_play_measured(
     tape: &[u8],
     blocks: &[u64],
@@ -317,7 +322,7 @@ pub fn glyvrask_play_measured(
         count,
     };
     match position_from(position) {
-        Some(pos) => call_words::<Measured>(&m, position, pos, n, answer),
+        Some(pos) => call_words(&m, true, position, pos, n, answer),
         None => misplaced(&m, position).number(),
     }
 }
@@ -338,7 +343,13 @@ fn move_head(m: &Mounted<'_>, pos: Position, head: &mut [u64], n: u32, answer: &
 }
 
 // A run's number: 0 where its rows are told.
-fn run_words(m: &Mounted<'_>, pos: Position, measured: bool, counts: &[u32], answers: &mut [u64]) -> u32
+fn run_words(
+    m: &Mounted<'_>,
+    pos: Position,
+    measured: bool,
+    counts: &[u32],
+    answers: &mut [u64],
+) -> u32
     ensures value { result ≡ run_no (mounted_tape m.now) pos counts.now answers.old }
     ensures answers_after { answers.new ≡ run_table measured (mounted_tape m.now) pos counts.now answers.old }
 {
@@ -349,6 +360,7 @@ fn run_words(m: &Mounted<'_>, pos: Position, measured: bool, counts: &[u32], ans
 }
 
 // A run of calls of the source's play (measured is 0) or of the measured player, a row of `answers` for each.
+#[tactic(auto, unfolding(crate::specs::Export::from_place))]
 pub fn glyvrask_play_run(
     tape: &[u8],
     blocks: &[u64],
@@ -379,6 +391,7 @@ pub fn glyvrask_play_run(
 }
 
 // The measured player's call of n T-states over a head that the host lends, whose words it moves; a refusal leaves them as they were.
+#[tactic(auto, unfolding(crate::specs::Export::with_place, crate::specs::Export::from_place))]
 pub fn glyvrask_play_head(
     tape: &[u8],
     blocks: &[u64],

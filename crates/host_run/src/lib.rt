@@ -15,7 +15,7 @@ ghost use Rattle.host_run.specs.Runs.{player_of, run_rows, room_for, room_no, ru
 ghost use Rattle.host_run.specs.Inside.{with_left, inside_rows, inside_left, leads_to, Known, HoldsRows};
 
 use host_words::{flag, span_of, spot_of};
-use play_deck::{Finding, Measured, Source, assay, assay_after, call_by};
+use play_deck::{Finding, Measured, Source, assay, assay_after};
 use play_entries::{Duration, Mounted};
 use play_walk::{Fault, Position, Reached, Stand};
 use refusals::Refusal;
@@ -132,9 +132,9 @@ fn position_in(pos: Position, r: Result<Reached, Fault>) -> Position
 }
 
 // One call of either player, by what its position came to: the one place where a run asks which player it is of. The rest is said once over
-// `player_of`, which theorems about runs cite; a type for the player would say it twice.
+// `player_of`, which theorems about runs cite; a type for the player would say it twice. Our crates alone call it.
 #[tactic(auto, using(crate::proofs::Players::by_measured, crate::proofs::Players::by_source))]
-fn call(
+pub fn call_by(
     m: &Mounted<'_>,
     measured: bool,
     pos: Position,
@@ -146,9 +146,9 @@ fn call(
     ensures lands { Lands (mounted_tape m.now) result }
 {
     if measured {
-        call_by::<Measured>(m, pos, n, a)
+        play_deck::call_by::<Measured>(m, pos, n, a)
     } else {
-        call_by::<Source>(m, pos, n, a)
+        play_deck::call_by::<Source>(m, pos, n, a)
     }
 }
 
@@ -241,7 +241,7 @@ fn go_on(m: &Mounted<'_>, measured: bool, counts: &[u32], answers: &mut [u64], g
     let pos = g.position;
     let a = g.finding;
     let i = g.next;
-    let r = call(m, measured, pos, counts[i], a);
+    let r = call_by(m, measured, pos, counts[i], a);
     put_row(answers, i, row_of(pos, r));
     Going {
         position: position_in(pos, r),

@@ -22,7 +22,7 @@ returns c =
       known_2 = subst (λ (q : Position). Assayed w q c.assay_after.result) (sym c.position_in.ensures) c.assay_after.ensures;
       next_value = refl;
       result_after = gone_on a.measured w a.counts.now a.answers.now a.g c.requires.holds_rows.1 _ refl
-          c.call-r.result c.call-r.ensures.value c.row_of.result c.row_of.ensures _ c.put_row.ensures
+          c.call_by-r.result c.call_by-r.ensures.value c.row_of.result c.row_of.ensures _ c.put_row.ensures
           (record { position = c.position_in.result; finding = c.assay_after.result; next = a.g.next + 1 })
           c.position_in.ensures refl;
       answers_len_unchanged = ap length c.put_row.ensures ∙ put-length a.answers.now a.g.next c.row_of.result (omega (arith, c.requires.holds_rows.0, c.requires.holds_rows.1));

@@ -1,8 +1,8 @@
 -- NUMBERS FOR NO, 8, 10 AND 11 OF THE QUERIES: rules 28, 30 and 31, 'given exactly when'. Assumes nothing.
-use Prim.Native.Nat.{ℕ, zero, suc, ◌≤◌, ◌<◌}
+use Prim.Native.Nat.{ℕ, ◌≤◌, ◌<◌}
 use native.Mathlib.Omega.{arith}
-use borrow.Author.Tests.{le-leb, lt-leb, leb-true, leb-false, lt-ltb, ltb-true, ne_eqb}
-use mathlib.Core.Path.{◌≡◌, refl, sym, ◌∙◌}
+use borrow.Author.Tests.{le-leb, lt-leb, leb-true, leb-false, lt-ltb, ltb-true}
+use mathlib.Core.Path.{◌≡◌, refl, sym, ap, subst, ◌∙◌}
 use mathlib.Core.Bool.{Bool, true, false, not, ◌&&◌}
 use mathlib.Core.Logic.Iff
 use mathlib.Core.Logic.{◌↔◌, ◌⊎◌, inl, inr, ⊎_elim}
@@ -11,20 +11,23 @@ use lib.Dec.{leb, ltb, eqb}
 use lib.ListN.{length, drop}
 use Rattle.law_base.specs.Rules.{◌⇒◌, ◌∣◌}
 use Rattle.law_base.proofs.Tests.{first, second}
-use Rattle.refusals.specs.Refusals.{no_block, no_room, bad_row}
+use Rattle.std.specs.Prelude.{Result, Ok, Err}
+use Rattle.refusals.specs.declared.Refusal.{Refusal}
+use Rattle.refusals.specs.declared.Refusal.TheVariants.{BadModel, TapeLong, TapeBad, Generalised, TonesFull, BlocksFull}
+use Rattle.refusals.specs.declared.Refusal.TheVariants.{LastBits, NoBlock, NoPosition, NoRoom, BadRow}
+use Rattle.refusals.specs.Refusals.{no_block, no_room, bad_row, number, answer_no}
+use Rattle.rows.specs.declared.Block.{Block}
 use Rattle.law_pulses.specs.Play.{Status, standing, stopped, ended, comes_to}
 use Rattle.law_pulses.specs.Source.{is_ended}
 use Rattle.text_out.specs.Out.{fits, told}
-use Rattle.play_entries.specs.declared.Duration.{Duration}
-use Rattle.play_entries.specs.Places.{Tape, list_from, left_at}
-use Rattle.play_entries.specs.Stored.{rows_time}
+use Rattle.text_name.specs.Names.{name_of}
+use Rattle.play_entries.specs.Places.{Tape, block_in, list_from, left_at}
+use Rattle.play_entries.specs.Stored.{row_lasts, rows_time}
 use Rattle.play_entries.specs.Mounted.{overfull, well_row, formed}
-use Rattle.ask.specs.declared.Number.{Number}
-use Rattle.ask.specs.declared.Number.TheVariants as number
-use Rattle.ask.specs.declared.Mark.TheVariants as mark
-use Rattle.ask.specs.declared.Time.TheVariants as lasting
-use Rattle.ask.specs.Queries.{number_no, mark_no, time_no, refusal_of, len_of, number_unless, mark_unless, time_unless, size_of, selectable_of}
+use Rattle.ask.specs.Queries.{asked, told_of, named_or, refusal_of, len_of, size_of, selectable_of}
 use Rattle.ask.specs.Queries.{time_of, name_in, length_or_no_room, name_answer, name_bytes, loading_of}
+use Rattle.ask.proofs.Refusals.{answerable}
+use Rattle.ask.proofs.Named.{no_bytes}
 use Rattle.ask.proofs.Listed.{to_stop}
 use Rattle.play_walk.specs.Heads.{start_at}
 use Rattle.law_promises.specs.Numbers.{PastCount, Unformed, Asked, Reaches, enough}
@@ -37,58 +40,55 @@ data Rules (a b c : Bool) (k : ℕ) : Type 0 where
   bad : a ≡ false → b ≡ false → c ≡ false → k ≡ bad_row → Rules a b c k
   none : a ≡ false → b ≡ false → c ≡ true → k ≡ 0 → Rules a b c k
 
-rules : (a b c : Bool) → Rules a b c (a ⇒ bad_row ∣ b ⇒ no_block ∣ c ⇒ 0 ∣ bad_row)
-rules true b c = full refl refl
-rules false true c = past refl refl refl
-rules false false true = none refl refl refl refl
-rules false false false = bad refl refl refl refl
+rules : (a b c : Bool) (r : Block) → Rules a b c (answer_no (a ⇒ Err BadRow ∣ b ⇒ Err NoBlock ∣ c ⇒ Ok r ∣ Err BadRow))
+rules true b c r = full refl refl
+rules false true c r = past refl refl refl
+rules false false true r = none refl refl refl refl
+rules false false false r = bad refl refl refl refl
 
--- an answer without its refusal has none
-number-unless : (k n : ℕ) → number_no (number_unless k (number.Is n)) ≡ k
-unfolding number_no number_unless
-number-unless zero n = refl
-number-unless (suc k) n = refl
+-- what is told of a row has the refusal of the row
+same_no : {A : Type 0} (f : Block → A) (x : Result Block Refusal) → answer_no (told_of f x) ≡ answer_no x
+unfolding told_of
+same_no f (Ok r) = refl
+same_no f (Err k) = refl
 
-mark_unless_lem : (k : ℕ) (b : Bool) → mark_no (mark_unless k (mark.Is b)) ≡ k
-unfolding mark_no mark_unless
-mark_unless_lem zero b = refl
-mark_unless_lem (suc k) b = refl
-
-time-unless : (k : ℕ) (d : Duration) → time_no (time_unless k (lasting.Lasts d)) ≡ k
-unfolding time_no time_unless
-time-unless zero d = refl
-time-unless (suc k) d = refl
-
--- the refusal m, or, where it is none, what x has
-after : (m : ℕ) (x : Number) (k : ℕ) → 1 ≤ k
-    → (number_no (number_unless m x) ≡ k) ↔ ((m ≡ k) ⊎ ((m ≡ 0) × (number_no x ≡ k)))
-unfolding number_no number_unless
-after zero x k l = (λ e. inr (refl, e), λ h. ⊎_elim (λ z. absurd (omega arith)) (λ z. z.1) h)
-after (suc m) x k l = (λ e. inl e, λ h. ⊎_elim (λ z. z) (λ z. absurd (omega (arith, z.0))) h)
+-- no refusal has the number 0
+numbered : (k : Refusal) → 0 < number k
+numbered BadModel = omega arith
+numbered TapeLong = omega arith
+numbered TapeBad = omega arith
+numbered Generalised = omega arith
+numbered TonesFull = omega arith
+numbered BlocksFull = omega arith
+numbered LastBits = omega arith
+numbered NoBlock = omega arith
+numbered NoPosition = omega arith
+numbered NoRoom = omega arith
+numbered BadRow = omega arith
 
 -- 10, or none
 room : (text out : List ℕ)
-    → (number_no (length_or_no_room text out) ≡ 0) ⊎ ((number_no (length_or_no_room text out) ≡ no_room) × (length out < length text))
-unfolding number_no length_or_no_room
+    → (answer_no (length_or_no_room text out) ≡ 0) ⊎ ((answer_no (length_or_no_room text out) ≡ no_room) × (length out < length text))
+unfolding length_or_no_room
 room text out = of (fits text out) refl
   where
     of : (b : Bool) → fits text out ≡ b
-        → (number_no (b ⇒ number.Is (length text) ∣ number.Refused no_room) ≡ 0)
-        ⊎ ((number_no (b ⇒ number.Is (length text) ∣ number.Refused no_room) ≡ no_room) × (length out < length text))
+        → (answer_no (b ⇒ Ok (length text) ∣ Err NoRoom) ≡ 0)
+        ⊎ ((answer_no (b ⇒ Ok (length text) ∣ Err NoRoom) ≡ no_room) × (length out < length text))
     of true e = inl refl
     of false e = inr (refl, leb-false _ _ e)
 
-no_room_lem : (text out : List ℕ) → length out < length text → number_no (length_or_no_room text out) ≡ no_room
-unfolding number_no length_or_no_room
+no_room_lem : (text out : List ℕ) → length out < length text → answer_no (length_or_no_room text out) ≡ no_room
+unfolding length_or_no_room
 no_room_lem text out h = rw (lt-leb (length text) (length out) h)
 
 module _ (w : Tape) (i : ℕ) where
   of-rules : Rules (overfull w) (leb w.count i) (well_row w i) (refusal_of w i)
-  unfolding refusal_of
-  of-rules = rules (overfull w) (leb w.count i) (well_row w i)
+  unfolding asked
+  of-rules = rules (overfull w) (leb w.count i) (well_row w i) (block_in w i)
 
   refusal_8 : (refusal_of w i ≡ no_block) ↔ PastCount w i
-  unfolding refusal_of
+  unfolding asked
   refusal_8 = (λ e. of e of-rules, λ h. rw (h.0, le-leb w.count i h.1))
     where
       of : refusal_of w i ≡ no_block → Rules (overfull w) (leb w.count i) (well_row w i) (refusal_of w i) → PastCount w i
@@ -98,7 +98,7 @@ module _ (w : Tape) (i : ℕ) where
       of e (none a b c q) = absurd (omega arith)
 
   refusal_11 : (refusal_of w i ≡ bad_row) ↔ Unformed w i
-  unfolding refusal_of
+  unfolding asked
   refusal_11 = (λ e. of e of-rules, λ h. ⊎_elim (λ x. rw x) (λ x. by-full (overfull w) x) h)
     where
       of : refusal_of w i ≡ bad_row → Rules (overfull w) (leb w.count i) (well_row w i) (refusal_of w i) → Unformed w i
@@ -108,12 +108,12 @@ module _ (w : Tape) (i : ℕ) where
       of e (none a b c q) = absurd (omega arith)
 
       by-full : (a : Bool) → (i < w.count) × (well_row w i ≡ false)
-          → ◌≡◌ {A = ℕ} (a ⇒ bad_row ∣ leb w.count i ⇒ no_block ∣ well_row w i ⇒ 0 ∣ bad_row) bad_row
+          → answer_no (a ⇒ Err BadRow ∣ leb w.count i ⇒ Err NoBlock ∣ well_row w i ⇒ Ok (block_in w i) ∣ Err BadRow) ≡ bad_row
       by-full true x = refl
       by-full false x = rw (lt-leb w.count i x.0, x.1)
 
   refusal_none : (refusal_of w i ≡ 0) ↔ Asked w i
-  unfolding refusal_of
+  unfolding asked
   refusal_none = (λ e. of e of-rules, λ h. rw (h.few, lt-leb w.count i h.there, h.well))
     where
       of : refusal_of w i ≡ 0 → Rules (overfull w) (leb w.count i) (well_row w i) (refusal_of w i) → Asked w i
@@ -123,27 +123,41 @@ module _ (w : Tape) (i : ℕ) where
       of e (none a b c q) = record { few = a; there = leb-false _ _ b; well = c }
 
   -- each query about block i answers the refusal's number
-  size_no : number_no (size_of w i) ≡ refusal_of w i
+  size_no : answer_no (size_of w i) ≡ refusal_of w i
   unfolding size_of
-  size_no = number-unless (refusal_of w i) _
+  size_no = same_no (λ r. r.size) (asked w i)
 
-  selectable_no : mark_no (selectable_of w i) ≡ refusal_of w i
+  selectable_no : answer_no (selectable_of w i) ≡ refusal_of w i
   unfolding selectable_of
-  selectable_no = mark_unless_lem (refusal_of w i) _
+  selectable_no = same_no (λ r. eqb r.selectable 1) (asked w i)
 
-  time-no : time_no (time_of w i) ≡ refusal_of w i
+  time-no : answer_no (time_of w i) ≡ refusal_of w i
   unfolding time_of
-  time-no = time-unless (refusal_of w i) _
+  time-no = same_no row_lasts (asked w i)
+
+  -- of the row of block i the name is told
+  row_named : (r : Block) (out : List ℕ) → Ok r ≡ asked w i
+      → length_or_no_room (name_of w.bytes r) out ≡ length_or_no_room (name_in w i) out
+  row_named r out e = ap (λ (x : Block). length_or_no_room (name_of w.bytes x) out) (sym (answerable w i r e).row)
 
   -- the name: the refusal's number, then 10
+  after : (out : List ℕ) (k : ℕ) → 1 ≤ k → (x : Result Block Refusal) → x ≡ asked w i
+      → (answer_no (named_or w out x) ≡ k)
+      ↔ ((answer_no x ≡ k) ⊎ ((answer_no x ≡ 0) × (answer_no (length_or_no_room (name_in w i) out) ≡ k)))
+  unfolding named_or
+  after out k l (Ok r) e =
+      let n = ap (λ (x : Result ℕ Refusal). answer_no x) (row_named r out e) in
+      (λ z. inr (refl, sym n ∙ z), λ h. ⊎_elim (λ z. absurd (omega (arith, l, z))) (λ z. n ∙ z.1) h)
+  after out k l (Err j) e = (λ z. inl z, λ h. ⊎_elim (λ z. z) (λ z. absurd (omega (arith, numbered j, z.0))) h)
+
   name_no : (out : List ℕ) (k : ℕ) → 1 ≤ k
-      → (number_no (name_answer w i out) ≡ k)
-      ↔ ((refusal_of w i ≡ k) ⊎ ((refusal_of w i ≡ 0) × (number_no (length_or_no_room (name_in w i) out) ≡ k)))
+      → (answer_no (name_answer w i out) ≡ k)
+      ↔ ((refusal_of w i ≡ k) ⊎ ((refusal_of w i ≡ 0) × (answer_no (length_or_no_room (name_in w i) out) ≡ k)))
   unfolding name_answer
-  name_no out k l = after (refusal_of w i) (length_or_no_room (name_in w i) out) k l
+  name_no out k l = after out k l (asked w i) refl
 
   name_other : (out : List ℕ) (k : ℕ) → 1 ≤ k → (k ≡ no_room → ⊥)
-      → (number_no (name_answer w i out) ≡ k) ↔ (refusal_of w i ≡ k)
+      → (answer_no (name_answer w i out) ≡ k) ↔ (refusal_of w i ≡ k)
   name_other out k l d = (
     λ e. ⊎_elim (λ x. x)
         (λ x. absurd (⊎_elim (λ z. absurd (omega (arith, x.1, z))) (λ z. d (sym x.1 ∙ z.0)) (room (name_in w i) out)))
@@ -152,20 +166,20 @@ module _ (w : Tape) (i : ℕ) where
   )
 
   -- 8: block number not below the count (name, size, selectable; and the block's time)
-  pub given_8_name : (out : List ℕ) → (number_no (name_answer w i out) ≡ no_block) ↔ PastCount w i
+  pub given_8_name : (out : List ℕ) → (answer_no (name_answer w i out) ≡ no_block) ↔ PastCount w i
   given_8_name out = Iff.trans (name_other out no_block (omega arith) (λ e. omega arith)) refusal_8
 
-  pub given_8_size : (number_no (size_of w i) ≡ no_block) ↔ PastCount w i
+  pub given_8_size : (answer_no (size_of w i) ≡ no_block) ↔ PastCount w i
   given_8_size = rw size_no refusal_8
 
-  pub given_8_selectable : (mark_no (selectable_of w i) ≡ no_block) ↔ PastCount w i
+  pub given_8_selectable : (answer_no (selectable_of w i) ≡ no_block) ↔ PastCount w i
   given_8_selectable = rw selectable_no refusal_8
 
-  pub given_8_time : (time_no (time_of w i) ≡ no_block) ↔ PastCount w i
+  pub given_8_time : (answer_no (time_of w i) ≡ no_block) ↔ PastCount w i
   given_8_time = rw time-no refusal_8
 
   -- 10: output buffer shorter than the text
-  pub given_10_name : (out : List ℕ) → (number_no (name_answer w i out) ≡ no_room) ↔ (Asked w i × (length out < length (name_in w i)))
+  pub given_10_name : (out : List ℕ) → (answer_no (name_answer w i out) ≡ no_room) ↔ (Asked w i × (length out < length (name_in w i)))
   given_10_name out = (
     λ e. ⊎_elim (λ x. absurd (never_10 x of-rules))
         (λ x. (refusal_none.0 x.0, ⊎_elim (λ z. absurd (omega (arith, x.1, z))) (λ z. z.1) (room (name_in w i) out)))
@@ -180,24 +194,24 @@ module _ (w : Tape) (i : ℕ) where
       never_10 e (none a b c q) = absurd (omega arith)
 
   -- 11: a needed row is not well formed, or the count exceeds capacity
-  pub given_11_name : (out : List ℕ) → (number_no (name_answer w i out) ≡ bad_row) ↔ Unformed w i
+  pub given_11_name : (out : List ℕ) → (answer_no (name_answer w i out) ≡ bad_row) ↔ Unformed w i
   given_11_name out = Iff.trans (name_other out bad_row (omega arith) (λ e. omega arith)) refusal_11
 
-  pub given_11_size : (number_no (size_of w i) ≡ bad_row) ↔ Unformed w i
+  pub given_11_size : (answer_no (size_of w i) ≡ bad_row) ↔ Unformed w i
   given_11_size = rw size_no refusal_11
 
-  pub given_11_selectable : (mark_no (selectable_of w i) ≡ bad_row) ↔ Unformed w i
+  pub given_11_selectable : (answer_no (selectable_of w i) ≡ bad_row) ↔ Unformed w i
   given_11_selectable = rw selectable_no refusal_11
 
-  pub given_11_time : (time_no (time_of w i) ≡ bad_row) ↔ Unformed w i
+  pub given_11_time : (answer_no (time_of w i) ≡ bad_row) ↔ Unformed w i
   given_11_time = rw time-no refusal_11
 
 -- how many blocks there are: the count alone
-pub given_11_len : (w : Tape) → (number_no (len_of w) ≡ bad_row) ↔ (overfull w ≡ true)
-unfolding number_no len_of
+pub given_11_len : (w : Tape) → (answer_no (len_of w) ≡ bad_row) ↔ (overfull w ≡ true)
+unfolding len_of
 given_11_len w = (λ e. of (overfull w) e, λ h. rw h)
   where
-    of : (a : Bool) → number_no (a ⇒ number.Refused bad_row ∣ number.Is w.count) ≡ bad_row → a ≡ true
+    of : (a : Bool) → answer_no (a ⇒ Err BadRow ∣ Ok w.count) ≡ bad_row → a ≡ true
     of true e = refl
     of false e = absurd (omega arith)
 
@@ -208,8 +222,8 @@ ended_is ended e = refl
 
 -- the loading time, as the definition tests it
 loading_runs : (w : Tape)
-    → (number_no (loading_of w) ≡ bad_row) ↔ ((overfull w ≡ true) ⊎ Runs w 0 (comes_to (list_from (formed w 0) 0)))
-unfolding number_no loading_of
+    → (answer_no (loading_of w) ≡ bad_row) ↔ ((overfull w ≡ true) ⊎ Runs w 0 (comes_to (list_from (formed w 0) 0)))
+unfolding loading_of
 loading_runs w = rw (to_stop w) (
   λ e. of (overfull w) (is_ended end && ltb (formed w 0).count w.count) refl refl e,
   λ h. ⊎_elim (λ x. rw x) (λ x. back (overfull w) (is_ended end && ltb (formed w 0).count w.count)
@@ -219,11 +233,11 @@ loading_runs w = rw (to_stop w) (
     end : Status
     end = comes_to (list_from (formed w 0) 0)
 
-    answer : Bool → Bool → Number
-    answer a b = a ⇒ number.Refused bad_row ∣ not b ⇒ number.Is (rows_time w) ∣ number.Refused bad_row
+    answer : Bool → Bool → Result ℕ Refusal
+    answer a b = a ⇒ Err BadRow ∣ not b ⇒ Ok (rows_time w) ∣ Err BadRow
 
     of : (a b : Bool) → overfull w ≡ a → (is_ended end && ltb (formed w 0).count w.count) ≡ b
-        → number_no (answer a b) ≡ bad_row → (overfull w ≡ true) ⊎ Runs w 0 end
+        → answer_no (answer a b) ≡ bad_row → (overfull w ≡ true) ⊎ Runs w 0 end
     of true b q f e = inl q
     of false true q f e = inr (record {
       over = ended_is end (first (is_ended end) (ltb (formed w 0).count w.count) f);
@@ -231,14 +245,14 @@ loading_runs w = rw (to_stop w) (
     })
     of false false q f e = absurd (omega arith)
 
-    back : (a b : Bool) → b ≡ true → number_no (answer a b) ≡ bad_row
+    back : (a b : Bool) → b ≡ true → answer_no (answer a b) ≡ bad_row
     back true b e = refl
     back false true e = refl
     back false false e = cc
 
 -- its entries up to the first stop or the end come to a row that is not well formed
 pub given_11_loading : (w : Tape)
-    → (number_no (loading_of w) ≡ bad_row) ↔ ((overfull w ≡ true) ⊎ ((k : ℕ) × Reaches w (start_at 0) enough k))
+    → (answer_no (loading_of w) ≡ bad_row) ↔ ((overfull w ≡ true) ⊎ ((k : ℕ) × Reaches w (start_at 0) enough k))
 unfolding left_at
 given_11_loading w =
     let es = list_from (formed w 0) 0 in
@@ -248,12 +262,17 @@ given_11_loading w =
     (λ e. ⊎_elim (λ o. inl o) (λ r. inr (y.0 r)) (x.0 e), λ h. x.1 (⊎_elim (λ o. inl o) (λ r. inr (y.1 r)) h))
 
 -- a refusal writes no output byte
-pub name_stays : (w : Tape) (i : ℕ) (out : List ℕ) → 0 < number_no (name_answer w i out) → name_bytes w i out ≡ out
-unfolding number_no number_unless name_answer length_or_no_room name_bytes told
-name_stays w i out h = of (refusal_of w i) (fits (name_in w i) out) h
+pub name_stays : (w : Tape) (i : ℕ) (out : List ℕ) → 0 < answer_no (name_answer w i out) → name_bytes w i out ≡ out
+unfolding name_answer named_or length_or_no_room name_bytes told
+name_stays w i out h = of (asked w i) refl h
   where
-    of : (m : ℕ) (b : Bool) → 0 < number_no (number_unless m (b ⇒ number.Is (length (name_in w i)) ∣ number.Refused no_room))
-        → (eqb m 0 ⇒ (b ⇒ name_in w i ++ drop (length (name_in w i)) out ∣ out) ∣ out) ≡ out
-    of zero true l = absurd (omega arith)
-    of zero false l = refl
-    of (suc m) b l = rw (ne_eqb (suc m) 0 (λ e. omega arith))
+    short : (b : Bool) → 0 < answer_no (b ⇒ Ok (length (name_in w i)) ∣ Err NoRoom)
+        → (b ⇒ name_in w i ++ drop (length (name_in w i)) out ∣ out) ≡ out
+    short true l = absurd (omega arith)
+    short false l = refl
+
+    of : (x : Result Block Refusal) → asked w i ≡ x → 0 < answer_no (named_or w out x) → name_bytes w i out ≡ out
+    of (Ok r) e l =
+        let n = ap (λ (x : Result ℕ Refusal). answer_no x) (row_named w i r out (sym e)) in
+        rw e (short (fits (name_in w i) out) (subst (λ (m : ℕ). 0 < m) n l))
+    of (Err k) e l = no_bytes w i k out (sym e)

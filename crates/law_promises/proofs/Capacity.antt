@@ -10,6 +10,7 @@ use mathlib.Core.List.{List, [], ◌∷◌}
 use lib.ListN.{length, drop}
 use lib.Dec.{leb, ltb, eqb}
 use Rattle.refusals.specs.Refusals.{bad_model, tape_long, generalised, tones_full, blocks_full, last_bits}
+use Rattle.std.specs.Prelude.{Option, None, Some}
 use Rattle.law_base.specs.Rules.{◌⇒◌, ◌∣◌}
 use Rattle.rows.specs.declared.Block.{Block}
 use Rattle.rows.specs.declared.Tone.{Tone}
@@ -20,8 +21,7 @@ use Rattle.cut_grammar.specs.declared.TakenTap.TheVariants as tap
 use Rattle.cut_grammar.specs.declared.Heading.{Heading}
 use Rattle.cut_grammar.specs.declared.Heading.TheVariants as heading
 use Rattle.cut_grammar.specs.Cut.{cut_at, tap_at, head_at}
-use Rattle.load_state.specs.declared.Loop.{Loop}
-use Rattle.load_state.specs.declared.Loop.TheVariants.{Closed, Open}
+use Rattle.load_state.specs.declared.Body.{Body}
 use Rattle.load_state.specs.declared.Halt.TheVariants.{Refusal, Length}
 use Rattle.load_state.specs.Parser.{Parsed, Out, on, no as halt, empty, ◌⟫◌, with_tones, with_block, with_body, nameless}
 use Rattle.load_state.specs.Parser.{add_tones, add_block}
@@ -162,10 +162,10 @@ unfolding copies with_copies ◌⟫◌
 tends_copies zero rs t = tends_as (on t)
 tends_copies (suc n) rs t = tends_then (tends_copy rs t) (λ u. tends_copies n rs u)
 
-tends_looped : (b : Loop) (t : Parsed) → Steps (λ l. closed l.blocks b t) (on (with_looped b t))
+tends_looped : (b : Option Body) (t : Parsed) → Steps (λ l. closed l.blocks b t) (on (with_looped b t))
 unfolding closed with_looped
-tends_looped Closed t = tends_as (on t)
-tends_looped (Open start times) t = tends_copies times (drop start t.blocks) (with_body Closed t)
+tends_looped None t = tends_as (on t)
+tends_looped (Some b) t = tends_copies b.times (drop b.start t.blocks) (with_body None t)
 
 -- what a piece does
 tends_does : (s : List ℕ) (model : ℕ) (origin : Origin) (d : Deed) (t : Parsed)

@@ -36,8 +36,8 @@ use Rattle.play_entries.specs.Places.{has_entry, length_at, remains, valid, head
 use Rattle.play_entries.specs.Mounted.{well_row, first_bad, formed, tape_of}
 use Rattle.load_tape.specs.Load.{named_tape, named_load, load_named, block_table, tone_table}
 use Rattle.play_walk.specs.declared.Position.{Position}
-use Rattle.play_walk.specs.declared.Reached.TheVariants.{At, Ended}
-use Rattle.play_walk.specs.Heads.{start_at, stand, placed, level_here, rest_level, told_as, told_reached, walked, walk_from}
+use Rattle.play_walk.specs.declared.How.TheVariants.{At, Ended}
+use Rattle.play_walk.specs.Heads.{start_at, stand, placed, level_here, rest_level, told_as, told_reached, walked, walk_from, came}
 use Rattle.play_deck.specs.Deck.{ruled_out, ill_formed, judged, unless, play_measured}
 use Rattle.play_deck.specs.Calls.{position_in, passed_in}
 use Rattle.text_listing.specs.Shown.{shown}
@@ -72,9 +72,9 @@ abbrev two : Tape
 two = tape_of [] (2 ∷ 100 ∷ 100 ∷ 0 ∷ []) (row_words (0 ∷ 1 ∷ 0 ∷ 0 ∷ 0 ∷ [])) 1
 
 -- from its start 99 leaves 1 of the first half, 1 more the second half full; past its count nothing is passed
-plays : (play_measured two (start_at 0) 99 ≡ At (stand (placed 0 (Tones 0 0 false) (T 1)) 1 low))
-    × (play_measured two (placed 0 (Tones 0 0 false) (T 1)) 1 ≡ At (stand (placed 0 (Tones 0 0 true) (T 100)) 1 high))
-    × (play_measured two (start_at 7) 99 ≡ Ended (stand (start_at 1) 0 low))
+plays : (play_measured two (start_at 0) 99 ≡ came At (stand (placed 0 (Tones 0 0 false) (T 1)) 1 low))
+    × (play_measured two (placed 0 (Tones 0 0 false) (T 1)) 1 ≡ came At (stand (placed 0 (Tones 0 0 true) (T 100)) 1 high))
+    × (play_measured two (start_at 7) 99 ≡ came Ended (stand (start_at 1) 0 low))
 unfolding play_measured unless judged ruled_out ill_formed well_row well_block well_ranges well_numbers well_cases well_tones well_tone valid has_entry
     remains length_at walk_from walked formed first_bad told_reached told_as level_here rest_level head_of left_of answer rest over status_here status
     left_at from_cycle from_tone from_byte level_at from_pause from_edge from_second list_from entries_of sound_of tones_of tone_of cycles_of is_single

@@ -9,6 +9,7 @@ use mathlib.Core.Logic.{◌⊎◌, inl, inr, ⊎_elim, ◌↔◌}
 use mathlib.Core.List.{List, []}
 use lib.ListN.{get_or}
 use lib.Dec.{leb, ltb, eqb}
+use Rattle.std.specs.Prelude.{Option, None, Some}
 use Rattle.law_base.specs.Rules.{◌⇒◌, ◌∣◌}
 use Rattle.law_base.proofs.Tests.{first as first_of, second as second_of}
 use Rattle.rows.specs.declared.Tone.{Tone}
@@ -18,8 +19,6 @@ use Rattle.cut_grammar.specs.declared.Taken.TheVariants as taken
 use Rattle.cut_grammar.specs.Grammar.{binary_digits, bits_of}
 use Rattle.cut_grammar.specs.Cut.{cut_at}
 use Rattle.cut_grammar.proofs.Places.{cut_places}
-use Rattle.load_general.specs.declared.Row.{Row}
-use Rattle.load_general.specs.declared.Row.TheVariants.{Refused, Gives}
 use Rattle.load_state.specs.Parser.{Parsed}
 use Rattle.load_source.specs.Source.{full}
 use Rattle.load_general.specs.General.{Given, Symbol, plain_tone, data_symbol, Part, refused, stops, tones, refused4, plain, before}
@@ -33,27 +32,27 @@ use Rattle.law_promises.proofs.Dues.{Panics}
 use Rattle.law_promises.proofs.Overflow.{overflow_exactly}
 
 -- a row of a part that is refused
-pub data RowRefused (row : ℕ → Row) (from n : ℕ) : Type 0 where
-  bad : {j : ℕ} → from ≤ j → j < from + n → row j ≡ Refused → RowRefused row from n
+pub data RowRefused (row : ℕ → Option Tone) (from n : ℕ) : Type 0 where
+  bad : {j : ℕ} → from ≤ j → j < from + n → row j ≡ None → RowRefused row from n
 
-before-refused : (x : Row) (rest : Part) → before x rest ≡ refused → (x ≡ Refused) ⊎ (rest ≡ refused)
+before-refused : (x : Option Tone) (rest : Part) → before x rest ≡ refused → (x ≡ None) ⊎ (rest ≡ refused)
 unfolding before
-before-refused Refused rest e = inl refl
-before-refused (Gives t) refused e = inr refl
-before-refused (Gives t) stops e = inr e
-before-refused (Gives t) (tones ts) e = absurd (let z : ◌≡◌ {A = ℕ} 0 1 = cc in omega arith)
+before-refused None rest e = inl refl
+before-refused (Some t) refused e = inr refl
+before-refused (Some t) stops e = inr e
+before-refused (Some t) (tones ts) e = absurd (let z : ◌≡◌ {A = ℕ} 0 1 = cc in omega arith)
 
-before-this : (x : Row) (rest : Part) → x ≡ Refused → before x rest ≡ refused
+before-this : (x : Option Tone) (rest : Part) → x ≡ None → before x rest ≡ refused
 unfolding before
-before-this x rest e = ap (λ (y : Row). before y rest) e
+before-this x rest e = ap (λ (y : Option Tone). before y rest) e
 
-before-later : (x : Row) {rest : Part} → rest ≡ refused → before x rest ≡ refused
+before-later : (x : Option Tone) {rest : Part} → rest ≡ refused → before x rest ≡ refused
 unfolding before
-before-later Refused e = refl
-before-later (Gives t) e = ap (before (Gives t)) e
+before-later None e = refl
+before-later (Some t) e = ap (before (Some t)) e
 
 -- a part is refused where, and only where, one of its rows is
-rows-bad : (row : ℕ → Row) (i n : ℕ) → rows_from row i n ≡ refused → RowRefused row i n
+rows-bad : (row : ℕ → Option Tone) (i n : ℕ) → rows_from row i n ≡ refused → RowRefused row i n
 unfolding rows_from
 rows-bad row i zero e = absurd (let z : ◌≡◌ {A = ℕ} 0 1 = cc in omega arith)
 rows-bad row i (suc n) e =
@@ -63,7 +62,7 @@ rows-bad row i (suc n) e =
     further : RowRefused row (i + 1) n → RowRefused row i (suc n)
     further (bad {j} a b r) = bad {j = j} (omega (arith, a)) (omega (arith, b)) r
 
-bad-rows : (row : ℕ → Row) (i n j : ℕ) → i ≤ j → j < i + n → row j ≡ Refused → rows_from row i n ≡ refused
+bad-rows : (row : ℕ → Option Tone) (i n j : ℕ) → i ≤ j → j < i + n → row j ≡ None → rows_from row i n ≡ refused
 unfolding rows_from
 bad-rows row i zero j a b r = absurd (omega (arith, a, b))
 bad-rows row i (suc n) j a b r =
@@ -84,36 +83,36 @@ differ : false ≡ true → ⊥
 differ e = let z : ◌≡◌ {A = ℕ} 1 0 = ap (λ (t : Bool). t ⇒ 0 ∣ 1) e in absurd (omega arith)
 
 module _ (s : List ℕ) (g : GeneralizedData) where
-  cycles-bad : (y : Symbol) (n : ℕ) → cycles y n ≡ Refused → (y.second ≡ 0) × (n ≡ 65535)
+  cycles-bad : (y : Symbol) (n : ℕ) → cycles y n ≡ None → (y.second ≡ 0) × (n ≡ 65535)
   unfolding cycles
   cycles-bad y n e = at_second (plain_tone ((n + 1) / 2) y.first y.first) (plain_tone n y.first y.second) (eqb y.second 0) refl
       (eqb n 65535) refl e
     where
       at_second : (t u : Tone) (a : Bool) → eqb y.second 0 ≡ a → (b : Bool) → eqb n 65535 ≡ b
-          → (a ⇒ (b ⇒ Refused ∣ Gives t) ∣ Gives u) ≡ Refused → (y.second ≡ 0) × (n ≡ 65535)
+          → (a ⇒ (b ⇒ None ∣ Some t) ∣ Some u) ≡ None → (y.second ≡ 0) × (n ≡ 65535)
       at_second t u true p true q h = (eqb-true _ _ p, eqb-true _ _ q)
       at_second t u true p false q h = absurd (let z : ◌≡◌ {A = ℕ} 0 1 = cc in omega arith)
       at_second t u false p b q h = absurd (let z : ◌≡◌ {A = ℕ} 0 1 = cc in omega arith)
 
-  entry-bad : (i : ℕ) → entry_row s g i ≡ Refused → BadEntry s g i
+  entry-bad : (i : ℕ) → entry_row s g i ≡ None → BadEntry s g i
   unfolding entry_row
   entry-bad i e = by_cases (leb g.asp (entry_symbol s g i)) refl e
     where
       by_cases : (a : Bool) → leb g.asp (entry_symbol s g i) ≡ a
-          → (a ⇒ Refused ∣ cycles (symbol_at s g.pilot g.npp (entry_symbol s g i)) (entry_repeat s g i)) ≡ Refused
+          → (a ⇒ None ∣ cycles (symbol_at s g.pilot g.npp (entry_symbol s g i)) (entry_repeat s g i)) ≡ None
           → BadEntry s g i
       by_cases true p h = symbol (leb-true _ _ p)
       by_cases false p h =
           let c = cycles-bad (symbol_at s g.pilot g.npp (entry_symbol s g i)) (entry_repeat s g i) h in
           repeat c.0 c.1
 
-  bad-entry : (i : ℕ) → BadEntry s g i → entry_row s g i ≡ Refused
+  bad-entry : (i : ℕ) → BadEntry s g i → entry_row s g i ≡ None
   unfolding entry_row cycles
   bad-entry i (symbol h) = rw (le-leb _ _ h)
   bad-entry i (repeat p q) = by_cases (leb g.asp (entry_symbol s g i))
     where
       by_cases : (a : Bool)
-          → (a ⇒ Refused ∣ cycles (symbol_at s g.pilot g.npp (entry_symbol s g i)) (entry_repeat s g i)) ≡ Refused
+          → (a ⇒ None ∣ cycles (symbol_at s g.pilot g.npp (entry_symbol s g i)) (entry_repeat s g i)) ≡ None
       by_cases true = refl
       by_cases false = rw (eq-eqb _ _ p, eq-eqb _ _ q)
 
@@ -157,18 +156,18 @@ module _ (s : List ℕ) (g : GeneralizedData) where
   bad_pilot (first n m p h) = rw (ne_eqb g.totp 0 (omega (arith, p)), ne_eqb g.npp 1 n, ne_eqb g.npp 2 m, le-leb _ _ h)
 
   -- a data symbol, a pair of them
-  single-bad : (i : ℕ) → single_row s g i ≡ Refused → g.asd ≤ symbol_number s g (i * g.nb) 0
+  single-bad : (i : ℕ) → single_row s g i ≡ None → g.asd ≤ symbol_number s g (i * g.nb) 0
   unfolding single_row
   single-bad i e = by_cases
       (plain_tone 1 (data_symbol s g (symbol_number s g (i * g.nb) 0)).first (data_symbol s g (symbol_number s g (i * g.nb) 0)).second)
       (leb g.asd (symbol_number s g (i * g.nb) 0)) refl e
     where
-      by_cases : (t : Tone) (a : Bool) → leb g.asd (symbol_number s g (i * g.nb) 0) ≡ a → (a ⇒ Refused ∣ Gives t) ≡ Refused
+      by_cases : (t : Tone) (a : Bool) → leb g.asd (symbol_number s g (i * g.nb) 0) ≡ a → (a ⇒ None ∣ Some t) ≡ None
           → g.asd ≤ symbol_number s g (i * g.nb) 0
       by_cases t true p h = leb-true _ _ p
       by_cases t false p h = absurd (let z : ◌≡◌ {A = ℕ} 0 1 = cc in omega arith)
 
-  bad-single : (i : ℕ) → g.asd ≤ symbol_number s g (i * g.nb) 0 → single_row s g i ≡ Refused
+  bad-single : (i : ℕ) → g.asd ≤ symbol_number s g (i * g.nb) 0 → single_row s g i ≡ None
   unfolding single_row
   bad-single i h = rw (le-leb _ _ h)
 
@@ -179,25 +178,25 @@ module _ (s : List ℕ) (g : GeneralizedData) where
   abbrev Either : ℕ → Type 0
   Either i = (g.asd ≤ symbol_number s g (2 * i * g.nb) 0) ⊎ (g.asd ≤ symbol_number s g (2 * i * g.nb) 1)
 
-  pair-bad : (i : ℕ) → pair_row s g i ≡ Refused → Either i
+  pair-bad : (i : ℕ) → pair_row s g i ≡ None → Either i
   unfolding pair_row
   pair-bad i e =
       by_cases (leb g.asd (symbol_number s g (2 * i * g.nb) 0)) refl (leb g.asd (symbol_number s g (2 * i * g.nb) 1)) refl e
     where
       by_cases : (a : Bool) → leb g.asd (symbol_number s g (2 * i * g.nb) 0) ≡ a → (b : Bool)
           → leb g.asd (symbol_number s g (2 * i * g.nb) 1) ≡ b
-          → (a ⇒ Refused ∣ b ⇒ Refused ∣ Gives (pair_tone i)) ≡ Refused → Either i
+          → (a ⇒ None ∣ b ⇒ None ∣ Some (pair_tone i)) ≡ None → Either i
       by_cases true p b q h = inl (leb-true _ _ p)
       by_cases false p true q h = inr (leb-true _ _ q)
       by_cases false p false q h = absurd (let z : ◌≡◌ {A = ℕ} 0 1 = cc in omega arith)
 
-  bad-pair : (i : ℕ) → Either i → pair_row s g i ≡ Refused
+  bad-pair : (i : ℕ) → Either i → pair_row s g i ≡ None
   unfolding pair_row
   bad-pair i (inl h) = rw (le-leb _ _ h)
   bad-pair i (inr h) = by_cases (leb g.asd (symbol_number s g (2 * i * g.nb) 0))
     where
       by_cases : (a : Bool)
-          → (a ⇒ Refused ∣ leb g.asd (symbol_number s g (2 * i * g.nb) 1) ⇒ Refused ∣ Gives (pair_tone i)) ≡ Refused
+          → (a ⇒ None ∣ leb g.asd (symbol_number s g (2 * i * g.nb) 1) ⇒ None ∣ Some (pair_tone i)) ≡ None
       by_cases true = refl
       by_cases false = rw (le-leb _ _ h)
 
@@ -289,16 +288,16 @@ module _ (s : List ℕ) (g : GeneralizedData) where
           by_cases false = e
 
   -- a part of rows is no stop; the pilot part is none where it has no entry, or npp is 1 or 2
-  rows_go : (row : ℕ → Row) (i n : ℕ) → rows_from row i n ≡ stops → ⊥
+  rows_go : (row : ℕ → Option Tone) (i n : ℕ) → rows_from row i n ≡ stops → ⊥
   unfolding rows_from before
   rows_go row i zero e = let z : ◌≡◌ {A = ℕ} 0 1 = cc in omega arith
   rows_go row i (suc n) e = of (row i) (rows_from row (i + 1) n) (λ q. rows_go row (i + 1) n q) e
     where
-      of : (x : Row) (rest : Part) → (rest ≡ stops → ⊥) → before x rest ≡ stops → ⊥
-      of Refused rest h q = let z : ◌≡◌ {A = ℕ} 0 1 = cc in omega arith
-      of (Gives t) refused h q = let z : ◌≡◌ {A = ℕ} 0 1 = cc in omega arith
-      of (Gives t) stops h q = h q
-      of (Gives t) (tones ts) h q = let z : ◌≡◌ {A = ℕ} 0 1 = cc in omega arith
+      of : (x : Option Tone) (rest : Part) → (rest ≡ stops → ⊥) → before x rest ≡ stops → ⊥
+      of None rest h q = let z : ◌≡◌ {A = ℕ} 0 1 = cc in omega arith
+      of (Some t) refused h q = let z : ◌≡◌ {A = ℕ} 0 1 = cc in omega arith
+      of (Some t) stops h q = h q
+      of (Some t) (tones ts) h q = let z : ◌≡◌ {A = ℕ} 0 1 = cc in omega arith
 
   no_stop : NoStop s g → pilot_of s g ≡ stops → ⊥
   unfolding pilot_of

@@ -12,13 +12,13 @@ use lib.ListN.{length, length-append, drop, replicate, replicate-append-replicat
 use lib.Dec.{eqb}
 use Rattle.refusals.specs.Refusals.{generalised, tones_full, blocks_full}
 use Rattle.law_base.proofs.Numbers.{lt_or_ge}
+use Rattle.std.specs.Prelude.{Option, None, Some}
 use Rattle.law_base.specs.Rules.{◌⇒◌, ◌∣◌}
 use Rattle.law_pulses.specs.Play.{sum}
 use Rattle.rows.specs.declared.Block.{Block}
 use Rattle.rows.specs.Table.{zeros}
 use Rattle.cut_grammar.specs.declared.Piece.{Piece}
-use Rattle.load_state.specs.declared.Loop.{Loop}
-use Rattle.load_state.specs.declared.Loop.TheVariants.{Closed, Open}
+use Rattle.load_state.specs.declared.Body.{Body}
 use Rattle.load_state.specs.declared.Halt.{Halt}
 use Rattle.load_state.specs.declared.Halt.TheVariants.{Refusal, Length}
 use Rattle.load_state.specs.Parser.{Parsed, Out, on, no as halt, ◌⟫◌, with_tones, with_block, with_body, nameless, add_tones, add_block, pend}
@@ -283,10 +283,10 @@ module _ (lent : Lent) where
   deed_adds s model origin (opens n) t w = adds_none (record { blocks = w.blocks; tones = w.tones })
   deed_adds s model origin closes t w = of t.body
     where
-      of : (l : Loop) → Adding (copy_needs l t.blocks) t (closed lent.blocks l t)
-      of Closed = adds_none w
-      of (Open start times) =
-          copies_add times (drop start t.blocks) (with_body Closed t) (record { blocks = w.blocks; tones = w.tones })
+      of : (l : Option Body) → Adding (copy_needs l t.blocks) t (closed lent.blocks l t)
+      of None = adds_none w
+      of (Some b) =
+          copies_add b.times (drop b.start t.blocks) (with_body None t) (record { blocks = w.blocks; tones = w.tones })
   deed_adds s model origin panics t w = adds-halted (Refusal generalised) (λ k h e. let z : generalised ≡ k = cc in omega arith)
   deed_adds s model origin (errs n) t w =
       adds-halted (Length origin.kind origin.place n) (λ k h e. let z : ◌≡◌ {A = ℕ} 0 1 = cc in omega arith)

@@ -8,6 +8,7 @@ use mathlib.Core.Logic.{◌↔◌}
 use mathlib.Core.List.{List}
 use lib.ListN.{length}
 use lib.Dec.{leb, ltb}
+use Rattle.std.specs.Prelude.{Err}
 use Rattle.law_base.specs.Rules.{◌⇒◌, ◌∣◌}
 use Rattle.refusals.specs.Refusals.{bad_model, tape_long, tape_bad, generalised, tones_full, blocks_full, last_bits}
 use Rattle.load_state.specs.Parser.{empty, Parsed}
@@ -17,7 +18,7 @@ use Rattle.cut_grammar.specs.Cut.{head_at}
 use Rattle.load_blocks.specs.Adds.{Lent}
 use Rattle.load_source.specs.Source.{Verdict, done, failed, refused, fold_from, too_many_bits, bits_judged, tzx_see, headed, read_tzx, read_tap}
 use Rattle.load_source.specs.Source.{Load, tzx, tapped, both_err, no, or_tap, or_else, load_of}
-use Rattle.load_tape.specs.declared.Loaded.TheVariants.{Refused}
+use Rattle.load_tape.specs.declared.NotLoaded.TheVariants.{Refused}
 use Rattle.load_tape.specs.Load.{named_load, load_named, answer_of, refusal_no}
 use Rattle.law_every_load.proofs.Refusals.{Between, Tells, whole, fails, tells, pieces_tell, tzx_tells, tap_tells}
 use Rattle.law_promises.specs.Numbers.{Admitted, load_no, Errs, Headed}
@@ -29,7 +30,7 @@ refused-between k fails e = let z : ◌≡◌ {A = ℕ} 0 1 = cc in absurd (omeg
 refused-between k (tells {k = j} b) e = let z : j ≡ k = cc in rw z at b
 
 -- an answer is a refusal exactly where the load is
-pub answers-no : (s : List ℕ) (k : ℕ) (l : Load) → (answer_of (named_load s l) ≡ Refused k) ↔ (l ≡ no k)
+pub answers-no : (s : List ℕ) (k : ℕ) (l : Load) → (answer_of (named_load s l) ≡ Err (Refused k)) ↔ (l ≡ no k)
 unfolding answer_of named_load
 answers-no s k (tzx t) =
     (λ e. let z : ◌≡◌ {A = ℕ} 0 1 = cc in absurd (omega arith), λ e. let z : ◌≡◌ {A = ℕ} 0 1 = cc in absurd (omega arith))
@@ -37,7 +38,7 @@ answers-no s k (tapped t) =
     (λ e. let z : ◌≡◌ {A = ℕ} 0 1 = cc in absurd (omega arith), λ e. let z : ◌≡◌ {A = ℕ} 0 1 = cc in absurd (omega arith))
 answers-no s k (both_err f g) =
     (λ e. let z : ◌≡◌ {A = ℕ} 0 1 = cc in absurd (omega arith), λ e. let z : ◌≡◌ {A = ℕ} 0 1 = cc in absurd (omega arith))
-answers-no s k (no j) = (λ e. let z : j ≡ k = cc in ap no z, λ e. let z : j ≡ k = cc in ap Refused z)
+answers-no s k (no j) = (λ e. let z : j ≡ k = cc in ap no z, λ e. let z : j ≡ k = cc in ap (λ (i : ℕ). answer_of (no i)) z)
 
 -- the naming pass leaves the number of a load as it is
 named-number : (s : List ℕ) (l : Load) → refusal_no (answer_of (named_load s l)) ≡ refusal_no (answer_of l)

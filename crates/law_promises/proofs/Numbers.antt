@@ -6,12 +6,14 @@ use mathlib.Core.Logic.Iff
 use mathlib.Core.Logic.{◌↔◌, inl, inr, ⊎_elim}
 use mathlib.Core.List.{List}
 use lib.ListN.{length}
+use Rattle.std.specs.Prelude.{Result}
 use Rattle.refusals.specs.Refusals.{bad_model, tape_long, tape_bad, generalised, tones_full, blocks_full, last_bits}
 use Rattle.rows.specs.Table.{zeros}
 use Rattle.load_state.specs.Parser.{Parsed, empty}
 use Rattle.load_blocks.specs.Adds.{Lent}
 use Rattle.load_source.specs.Source.{done, refused, read_tzx, read_tap, fold_from, tzx_see, Load, tzx, tapped, both_err, no}
 use Rattle.load_tape.specs.declared.Loaded.{Loaded}
+use Rattle.load_tape.specs.declared.NotLoaded.{NotLoaded}
 use Rattle.load_tape.specs.Load.{answer_of, refusal_no, block_table, tone_table, Leaves}
 use Rattle.law_every_load.proofs.Room.{Within}
 use Rattle.law_promises.specs.Numbers.{Admitted, load_no, Errs, Comes, ByTzx, ByTap, Due, OverlongAt}
@@ -159,7 +161,7 @@ module _ (lent : Lent) (s : List ℕ) (model : ℕ) where
       of (tap_no a x y b) = absurd (omega (arith, b.high))
 
 -- 1 to 7 leave both tables all zero
-pub refused_blank : (B N : ℕ) (l : Load) (a : Loaded) (bt tt : List ℕ) → Leaves B N l a bt tt → 0 < refusal_no a
+pub refused_blank : (B N : ℕ) (l : Load) (a : Result Loaded NotLoaded) (bt tt : List ℕ) → Leaves B N l a bt tt → 0 < refusal_no a
     → (bt ≡ zeros B) × (tt ≡ zeros N)
 unfolding answer_of refusal_no block_table tone_table
 refused_blank B N (tzx t) a bt tt h p = absurd (omega (arith, p, ap refusal_no h.answer))

@@ -2,6 +2,7 @@
 use mathlib.Core.Path.{◌≡◌, sym, ap₂, ◌∙◌}
 use mathlib.Core.List.{List, []}
 use Prim.Native.Nat.{ℕ}
+use Rattle.std.specs.Prelude.{Result}
 use Rattle.law_promises.specs.Determined.{Determined, Answered, HeadAnswered}
 use Rattle.load_tape.proofs.load.Kinds as load_kinds
 use Rattle.load_tape.proofs.load.Reads as load
@@ -25,6 +26,8 @@ use Rattle.play_menu.proofs.block.Kinds as block-kinds
 use Rattle.play_menu.proofs.block.Reads as block
 use Rattle.play_head.proofs.play_mounted.Kinds as play_mounted-kinds
 use Rattle.play_head.proofs.play_mounted.Reads as play_mounted
+use Rattle.play_head.proofs.play_head.Kinds as play_head_kinds
+use Rattle.play_head.proofs.play_head.Reads as play_head
 use Rattle.play_head.proofs.play_once.Kinds as play_local_kinds
 use Rattle.play_head.proofs.play_once.Reads as play_local
 use Rattle.play_walk.proofs.Position.new_at_block.Kinds as new_at_block_kinds
@@ -67,6 +70,7 @@ use Rattle.export.proofs.glyvrask_play_head.Kinds as c_play_head_kinds
 use Rattle.export.proofs.glyvrask_play_head.Reads as c_play_head
 use Rattle.play_entries.specs.Places.{Tape}
 use Rattle.play_walk.specs.declared.Reached.{Reached}
+use Rattle.play_walk.specs.declared.Fault.{Fault}
 use Rattle.play_deck.specs.declared.Head.{Head}
 
 -- the load: its answer, and every word of both tables
@@ -78,33 +82,33 @@ load_determined κs a z z' e e' p q =
 pub len_determined : Answered 1 len_kinds.ps len_kinds.r len.Post
 len_determined κs a z z' e e' p q = p [] [] ∙ sym (q [] [])
 
-pub block_size_determined : Answered 3 block_size_kinds.ps block_size_kinds.r block_size.Post
+pub block_size_determined : Answered 2 block_size_kinds.ps block_size_kinds.r block_size.Post
 block_size_determined κs a z z' e e' p q = p ∙ sym q
 
-pub block_selectable_determined : Answered 3 block_selectable_kinds.ps block_selectable_kinds.r block_selectable.Post
+pub block_selectable_determined : Answered 2 block_selectable_kinds.ps block_selectable_kinds.r block_selectable.Post
 block_selectable_determined κs a z z' e e' p q = p ∙ sym q
 
-pub block_time_determined : Answered 3 block-time-kinds.ps block-time-kinds.r block-time.Post
+pub block_time_determined : Answered 2 block-time-kinds.ps block-time-kinds.r block-time.Post
 block_time_determined κs a z z' e e' p q = p ∙ sym q
 
-pub loading_time_determined : Answered 3 loading_time_kinds.ps loading_time_kinds.r loading_time.Post
+pub loading_time_determined : Answered 2 loading_time_kinds.ps loading_time_kinds.r loading_time.Post
 loading_time_determined κs a z z' e e' p q = p ∙ sym q
 
 -- a name: its answer, and every output byte
-pub block_name_determined : Determined 4 block_name_kinds.ps block_name_kinds.r block_name.Post (λ κs e. e.1.1.1.1.1.0.now)
+pub block_name_determined : Determined 3 block_name_kinds.ps block_name_kinds.r block_name.Post (λ κs e. e.1.1.0.now)
 block_name_determined κs a z z' e e' p q = (p.0 ∙ sym q.0, p.1 ∙ sym q.1)
 
-pub play_measured_determined : Answered 3 play_measured-kinds.ps play_measured-kinds.r play_measured.Post
+pub play_measured_determined : Answered 2 play_measured-kinds.ps play_measured-kinds.r play_measured.Post
 play_measured_determined κs a z z' e e' p q = p ∙ sym q
 
-pub play_determined : Answered 3 play_kinds.ps play_kinds.r play.Post
+pub play_determined : Answered 2 play_kinds.ps play_kinds.r play.Post
 play_determined κs a z z' e e' p q = p ∙ sym q
 
-pub block_determined : Answered 3 block-kinds.ps block-kinds.r block.Post
+pub block_determined : Answered 2 block-kinds.ps block-kinds.r block.Post
 block_determined κs a z z' e e' p q = p ∙ sym q
 
 -- a run: its number, and every word of the table
-pub play_run_determined : Determined 5 play_run_kinds.ps play_run_kinds.r play_run.Post (λ κs e. e.1.1.1.1.1.1.1.0.now)
+pub play_run_determined : Determined 4 play_run_kinds.ps play_run_kinds.r play_run.Post (λ κs e. e.1.1.1.1.0.now)
 play_run_determined κs a z z' e e' p q = (p.0 ∙ sym q.0, p.1 ∙ sym q.1)
 
 -- positions
@@ -121,17 +125,21 @@ pub position_determined : Answered 0 position-kinds.ps position-kinds.r position
 position_determined κs a z z' e e' p q = p ∙ sym q
 
 -- the mounted head, by value, and lent from a local
-pub play_mounted_determined : Answered 3 play_mounted-kinds.ps play_mounted-kinds.r play_mounted.Post
+pub play_mounted_determined : Answered 2 play_mounted-kinds.ps play_mounted-kinds.r play_mounted.Post
 play_mounted_determined κs a z z' e e' p q = p ∙ sym q
 
-pub play_local_determined : Answered 3 play_local_kinds.ps play_local_kinds.r play_local.Post
+pub play_local_determined : Answered 2 play_local_kinds.ps play_local_kinds.r play_local.Post
 play_local_determined κs a z z' e e' p q = p ∙ sym q
 
 -- and lent
-pub play_head_determined : (w : Tape) (h : Head) (n : ℕ) {r r' : Reached} {x x' : Head} → HeadAnswered w h n r x
+pub play_head_determined : (w : Tape) (h : Head) (n : ℕ) {r r' : Result Reached Fault} {x x' : Head} → HeadAnswered w h n r x
     → HeadAnswered w h n r' x'
     → (r ≡ r') × (x ≡ x')
 play_head_determined w h n p q = (p.0 ∙ sym q.0, p.1 ∙ sym q.1)
+
+-- .. on the contract itself
+pub play_head_lent : Determined 3 play_head_kinds.ps play_head_kinds.r play_head.Post (λ κs e. e.1.0.now)
+play_head_lent κs a z z' e e' p q = (p.0 ∙ sym q.0, p.1 ∙ sym q.1)
 
 -- for C hosts: the result, and every row that may be written
 pub load_once_blocks : Determined 4 c_load_kinds.ps c_load_kinds.r c_load.Post (λ κs e. e.1.1.0.now)

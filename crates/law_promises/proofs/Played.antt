@@ -6,6 +6,7 @@ use mathlib.Core.Path.{◌≡◌, refl}
 use mathlib.Core.Bool.{true, false}
 use mathlib.Core.List.{List, [], ◌∷◌, map}
 use lib.ListN.{set}
+use Rattle.std.specs.Prelude.{Ok, Err}
 use Rattle.cut_fields.specs.Field.{le_at, number_at, field_at, place_of}
 use Rattle.law_pulses.specs.Play.{low, high, pulse, answer, rest, over, status_here, status}
 use Rattle.law_pulses.specs.Runs.{run}
@@ -27,23 +28,21 @@ use Rattle.load_source.specs.Source.{act, read_on, seeing, fold_from, too_many_b
 use Rattle.load_source.specs.Source.{or_else, load_of}
 use Rattle.text_name.specs.Names.{is_header, unselected, name_one, name_all}
 use Rattle.load_tape.specs.declared.Format.TheVariants.{Tzx}
-use Rattle.load_tape.specs.declared.Loaded.TheVariants as loaded
-use Rattle.load_tape.specs.Load.{named_tape, named_load, load_named, answer_of, block_table, tone_table, Leaves}
+use Rattle.load_tape.specs.Load.{named_tape, named_load, load_named, answer_of, block_table, tone_table, Leaves, loaded_of}
 use Rattle.play_entries.specs.declared.Phase.TheVariants.{Start, Tones, Pause}
 use Rattle.play_entries.specs.declared.Duration.TheVariants.{T}
 use Rattle.play_entries.specs.Entries.{label_at, entry_of, cycles_of, is_single, start_level, cycle_level, bit_level, edged, pause_level, tone_of}
 use Rattle.play_entries.specs.Stored.{row_lasts, rows_loading}
-use Rattle.ask.specs.declared.Number.TheVariants as number
-use Rattle.ask.specs.declared.Time.TheVariants as lasting
-use Rattle.ask.specs.Queries.{refusal_of, time_unless, time_of, well_to_stop, loading_of}
+use Rattle.ask.specs.Queries.{told_of, asked, time_of, well_to_stop, loading_of}
 use Rattle.play_entries.specs.Figures.{tone_figure, tones_figure, bits_figure, data_figure, sound_in}
 use Rattle.play_entries.specs.Entries.{tones_of, data_of, pause_of, sound_of, entries_of}
 use Rattle.play_entries.specs.Places.{Tape, list_from, level_at, from_pause, from_edge, from_byte, from_tone, from_cycle, from_second, left_at}
 use Rattle.play_entries.specs.Places.{has_entry, length_at, remains, valid, head_of, left_of}
 use Rattle.play_entries.specs.Mounted.{well_row, first_bad, formed, tape_of}
 use Rattle.play_entries.proofs.Valid.{start_valid}
-use Rattle.play_walk.specs.declared.Reached.TheVariants.{At, Ended, NotFormed}
-use Rattle.play_walk.specs.Heads.{placed, start_at, stand, level_here, rest_level, told_as, told_reached, walked, walk_from}
+use Rattle.play_walk.specs.declared.How.TheVariants.{At, Ended}
+use Rattle.play_walk.specs.declared.Fault.TheVariants.{NotFormed}
+use Rattle.play_walk.specs.Heads.{placed, start_at, stand, level_here, rest_level, told_as, told_reached, walked, walk_from, came}
 use Rattle.play_deck.specs.Deck.{ruled_out, ill_formed, judged, unless, play_measured, source_answer, source_from, play_source}
 use Rattle.play_deck.specs.Calls.{position_in, passed_in, counting, run_calls, run_sources, outcome_in}
 use Rattle.law_every_load.specs.Sizes.{Bytes}
@@ -53,7 +52,7 @@ use Rattle.law_promises.proofs.Readings.{block_words, tone_words, mounted, piece
 
 -- the sole 12 of 100 and 4 is what a load answers and leaves
 pub sole_loaded :
-    Leaves block_words tone_words (load_named (lent_of block_words tone_words) sole_bytes 0) (loaded.Tape Tzx 1 1) sole.blocks sole.tones
+    Leaves block_words tone_words (load_named (lent_of block_words tone_words) sole_bytes 0) (Ok (loaded_of Tzx 1 1)) sole.blocks sole.tones
 unfolding
     load_named named_load named_tape load_of or_else read_tzx headed head_at starts_at bits_judged too_many_bits fold_from seeing read_on tzx_see tzx_of
     cut_at
@@ -72,12 +71,12 @@ pub sole_played :
     ∷ pulse (label_at 0 (Tones 0 1 false)) low 100 ∷ pulse (label_at 0 (Tones 0 1 true)) high 100
     ∷ pulse (label_at 0 Pause) low 0
     ∷ [])
-    × (run_calls sole (start_at 0) 99 (99 ∷ 99 ∷ 99 ∷ []) ≡ At (stand (placed 0 (Tones 0 1 true) (T 4)) 4 high))
-    × (run_sources sole (start_at 0) 99 (99 ∷ 99 ∷ 99 ∷ []) ≡ At (stand (placed 0 (Tones 0 1 true) (T 4)) 1 high))
-    × (run_calls sole (start_at 0) 99 (99 ∷ 99 ∷ 99 ∷ 99 ∷ []) ≡ Ended (stand (start_at 1) 6 low))
-    × (run_sources sole (start_at 0) 99 (99 ∷ 99 ∷ 99 ∷ 99 ∷ []) ≡ Ended (stand (start_at 1) 2 low))
-    × (play_measured sole (placed 0 (Tones 0 0 false) (T 1)) 99 ≡ At (stand (placed 0 (Tones 0 0 true) (T 2)) 1 high))
-    × (play_source sole (placed 0 (Tones 0 0 false) (T 1)) 99 ≡ At (stand (placed 0 (Tones 0 0 true) (T 2)) 1 high))
+    × (run_calls sole (start_at 0) 99 (99 ∷ 99 ∷ 99 ∷ []) ≡ came At (stand (placed 0 (Tones 0 1 true) (T 4)) 4 high))
+    × (run_sources sole (start_at 0) 99 (99 ∷ 99 ∷ 99 ∷ []) ≡ came At (stand (placed 0 (Tones 0 1 true) (T 4)) 1 high))
+    × (run_calls sole (start_at 0) 99 (99 ∷ 99 ∷ 99 ∷ 99 ∷ []) ≡ came Ended (stand (start_at 1) 6 low))
+    × (run_sources sole (start_at 0) 99 (99 ∷ 99 ∷ 99 ∷ 99 ∷ []) ≡ came Ended (stand (start_at 1) 2 low))
+    × (play_measured sole (placed 0 (Tones 0 0 false) (T 1)) 99 ≡ came At (stand (placed 0 (Tones 0 0 true) (T 2)) 1 high))
+    × (play_source sole (placed 0 (Tones 0 0 false) (T 1)) 99 ≡ came At (stand (placed 0 (Tones 0 0 true) (T 2)) 1 high))
 unfolding
     load_named named_load named_tape load_of or_else read_tzx headed head_at starts_at bits_judged too_many_bits fold_from seeing read_on tzx_see tzx_of
     cut_at
@@ -137,9 +136,9 @@ broken = tape_of pause_bytes pauses.tones (set pauses.blocks (row.width + 13) 2)
 
 -- a start where the head only comes to rest isn't reached: 3,500 stands at block 1's start, 3,501 is 11; as it was loaded, it plays on
 pub rest_played :
-    (map (λ n. play_measured broken (start_at 0) n) (3500 ∷ 3501 ∷ []) ≡ At (stand (start_at 1) 2 low) ∷ NotFormed ∷ [])
+    (map (λ n. play_measured broken (start_at 0) n) (3500 ∷ 3501 ∷ []) ≡ came At (stand (start_at 1) 2 low) ∷ Err NotFormed ∷ [])
     × (map (λ n. play_measured pauses (start_at 0) n) (3500 ∷ 3501 ∷ [])
-    ≡ At (stand (start_at 1) 2 low) ∷ At (stand (placed 1 Pause (T 6999)) 3 low) ∷ [])
+    ≡ came At (stand (start_at 1) 2 low) ∷ came At (stand (placed 1 Pause (T 6999)) 3 low) ∷ [])
 unfolding
     load_named named_load named_tape load_of or_else read_tzx headed head_at starts_at bits_judged too_many_bits fold_from seeing read_on tzx_see tzx_of
     cut_at
@@ -159,17 +158,17 @@ abbrev altered : ℕ → Tape
 altered n = tape_of sole_bytes sole.tones (set sole.blocks 16 n) 1
 
 pub altered_said :
-    (time_of (altered 7) 0 ≡ lasting.Lasts (T 7)) × (loading_of (altered 7) ≡ number.Is 7)
-    × (play_measured (altered 7) (start_at 0) 400 ≡ At (stand (placed 0 Pause (T 0)) 5 low))
-    × (play_measured (altered 1125899906842624) (start_at 0) 400 ≡ NotFormed)
-    × (play_source (altered 1125899906842624) (start_at 0) 400 ≡ NotFormed)
+    (time_of (altered 7) 0 ≡ Ok (T 7)) × (loading_of (altered 7) ≡ Ok 7)
+    × (play_measured (altered 7) (start_at 0) 400 ≡ came At (stand (placed 0 Pause (T 0)) 5 low))
+    × (play_measured (altered 1125899906842624) (start_at 0) 400 ≡ Err NotFormed)
+    × (play_source (altered 1125899906842624) (start_at 0) 400 ≡ Err NotFormed)
 unfolding
     load_named named_load named_tape load_of or_else read_tzx headed head_at starts_at bits_judged too_many_bits fold_from seeing read_on tzx_see tzx_of
     cut_at
     taken_as kind_of kinds kind12 read_at whole_at field_at number_at le_at place_of
     row_of add_sound add_sounds does deed_of act add_rows add_tones add_block ◌⟫◌ empty pure_tone_tones
     name_all name_one unselected is_header block_table tone_table table_over
-    time_of time_unless refusal_of loading_of well_to_stop row_lasts rows_loading
+    time_of told_of asked loading_of well_to_stop row_lasts rows_loading
     play_measured play_source unless judged ruled_out ill_formed well_row well_block well_ranges well_numbers well_cases well_tones well_tone
     valid has_entry remains length_at walk_from source_from source_answer sourced turns turn after reached walked formed first_bad
     told_reached told_as level_here rest_level head_of left_of answer rest over status_here status

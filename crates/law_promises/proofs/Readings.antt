@@ -43,8 +43,8 @@ use Rattle.play_entries.specs.Entries.{bits_at, half_of, byte_of, data_of, pause
 use Rattle.play_entries.specs.Places.{Tape, block_in, list_from, level_at, from_edge, from_second, left_at, has_entry, length_at, remains, valid}
 use Rattle.play_entries.specs.Places.{head_of, left_of}
 use Rattle.play_entries.specs.Mounted.{well_row, first_bad, formed, tape_of}
-use Rattle.play_walk.specs.declared.Reached.TheVariants.{At, Ended}
-use Rattle.play_walk.specs.Heads.{placed, start_at, stand, level_here, rest_level, told_as, told_reached, walked, walk_from}
+use Rattle.play_walk.specs.declared.How.TheVariants.{At, Ended}
+use Rattle.play_walk.specs.Heads.{placed, start_at, stand, level_here, rest_level, told_as, told_reached, walked, walk_from, came}
 use Rattle.play_deck.specs.Deck.{ruled_out, ill_formed, judged, unless, play_measured, source_answer, source_from, play_source}
 
 -- what is said of a block: the cycles of its first tone row, its pause, its T-states, its name
@@ -149,9 +149,9 @@ sole = mounted sole_bytes (load_named (lent_of block_words tone_words) sole_byte
 -- 100 leaves the measured one at the high half, full, the source's ended
 pub players_read :
     (map (λ n. play_measured sole (start_at 0) n) (99 ∷ 100 ∷ [])
-    ≡ At (stand (placed 0 (Tones 0 0 false) (T 1)) 1 low) ∷ At (stand (placed 0 (Tones 0 0 true) (T 100)) 2 high) ∷ [])
+    ≡ came At (stand (placed 0 (Tones 0 0 false) (T 1)) 1 low) ∷ came At (stand (placed 0 (Tones 0 0 true) (T 100)) 2 high) ∷ [])
     × (map (λ n. play_source sole (start_at 0) n) (99 ∷ 100 ∷ [])
-    ≡ At (stand (placed 0 (Tones 0 0 false) (T 1)) 1 low) ∷ Ended (stand (start_at 1) 6 low) ∷ [])
+    ≡ came At (stand (placed 0 (Tones 0 0 false) (T 1)) 1 low) ∷ came Ended (stand (start_at 1) 6 low) ∷ [])
 unfolding load_named named_load named_tape load_of or_else or_tap read_tzx read_tap headed head_at starts_at bits_judged too_many_bits fold_from seeing
     read_on tzx_see tzx_of cut_at taken_as kind_of kinds kind12 read_at whole_at field_at number_at le_at place_of halted row_of standard_sound turbo_sound
     pair_sounds pure_sound pause_sound add_sound add_sounds general_deed stop48_deed does deed_of act add_rows add_tones add_block ◌⟫◌ empty

@@ -5,6 +5,7 @@ use mathlib.Core.Path.{◌≡◌}
 use mathlib.Core.Bool.{true}
 use mathlib.Core.List.{List}
 use lib.Dec.{eqb}
+use Rattle.std.specs.Prelude.{Ok, Err}
 use Rattle.refusals.specs.Refusals.{generalised}
 use Rattle.cut_grammar.specs.declared.Heading.TheVariants.{Version}
 use Rattle.cut_grammar.specs.Cut.{head_at}
@@ -12,8 +13,8 @@ use Rattle.load_blocks.specs.Adds.{Lent}
 use Rattle.load_blocks.specs.Does.{lent_of}
 use Rattle.load_source.specs.Source.{load_of}
 use Rattle.load_tape.specs.declared.Format.TheVariants.{Tzx}
-use Rattle.load_tape.specs.declared.Loaded.TheVariants as loaded
-use Rattle.load_tape.specs.Load.{load_named, answer_of, Leaves}
+use Rattle.load_tape.specs.declared.NotLoaded.TheVariants.{Refused}
+use Rattle.load_tape.specs.Load.{load_named, answer_of, Leaves, loaded_of}
 use Rattle.play_entries.specs.declared.Phase.TheVariants.{Start}
 use Rattle.play_entries.specs.declared.Duration.TheVariants.{T}
 use Rattle.play_entries.specs.Places.{list_from, left_at}
@@ -26,7 +27,7 @@ use Rattle.law_tzx.proofs.Room.{tape_not_4}
 use Rattle.law_promises.proofs.Loads.{answers-no}
 
 module _ (B N : ℕ) (s : List ℕ) (model : ℕ) {n k : ℕ} {bt tt : List ℕ}
-    (l : Leaves B N (load_named (lent_of B N) s model) (loaded.Tape Tzx n k) bt tt) (e : kept_tape s ≡ true) where
+    (l : Leaves B N (load_named (lent_of B N) s model) (Ok (loaded_of Tzx n k)) bt tt) (e : kept_tape s ≡ true) where
   -- the tape's list
   pub demand_2_tzx : lasting (lengths (list_from (tape_of s tt bt n) 0)) ≡ lasting (format_tape (eqb model 0) s)
   demand_2_tzx = load_keeps B N s model l e
@@ -38,6 +39,6 @@ module _ (B N : ℕ) (s : List ℕ) (model : ℕ) {n k : ℕ} {bt tt : List ℕ}
 
 -- 4 is not given
 pub tzx_not_4 : (lent : Lent) (s : List ℕ) (model : ℕ) {major minor : ℕ} → head_at s ≡ Version major minor → kept_tape s ≡ true
-    → answer_of (load_named lent s model) ≡ loaded.Refused generalised → ⊥
+    → answer_of (load_named lent s model) ≡ Err (Refused generalised) → ⊥
 unfolding load_named
 tzx_not_4 lent s model h e q = tape_not_4 lent s model h e ((answers-no s generalised (load_of lent s model)).0 q)

@@ -8,13 +8,14 @@ use mathlib.Core.Logic.{◌↔◌, ⊎_elim}
 use mathlib.Core.List.{List, ◌∷◌, ◌++◌}
 use lib.ListN.{length, get_or}
 use lib.Dec.{leb, ltb}
+use Rattle.std.specs.Prelude.{Ok, Err}
 use Rattle.refusals.specs.Refusals.{bad_model, tape_long, tape_bad}
 use Rattle.law_base.specs.Rules.{◌⇒◌, ◌∣◌}
 use Rattle.law_base.proofs.Numbers.{lt_or_ge}
 use Rattle.cut_grammar.specs.declared.Piece.{Piece}
 use Rattle.cut_grammar.specs.declared.Piece.TheVariants.{Stop48}
-use Rattle.cut_grammar.specs.declared.Body.{Body}
-use Rattle.cut_grammar.specs.declared.Body.TheVariants as body
+use Rattle.cut_grammar.specs.declared.NotCut.TheVariants as not_cut
+use Rattle.cut_grammar.specs.Grammar.{Body}
 use Rattle.cut_grammar.specs.declared.Taken.{Taken}
 use Rattle.cut_grammar.specs.declared.Taken.TheVariants as taken
 use Rattle.cut_grammar.specs.declared.TakenTap.{TakenTap}
@@ -43,7 +44,7 @@ use Rattle.load_source.specs.Source.{See, bad, thing, Verdict, done, failed, ref
 use Rattle.load_source.specs.Source.{tzx_of, tzx_see, headed, read_tzx, tap_of, tap_see, read_tap, Load, tzx, tapped, both_err, no, or_tap}
 use Rattle.load_source.specs.Source.{or_else, load_of}
 use Rattle.load_source.proofs.Rest.{tzx_sees, sees_piece, tap_sees}
-use Rattle.load_tape.specs.declared.Loaded.TheVariants.{Unread, Refused}
+use Rattle.load_tape.specs.declared.NotLoaded.TheVariants.{Unread, Refused}
 use Rattle.load_tape.specs.Load.{named_load, load_named, answer_of, refusal_no}
 use Rattle.law_every_load.proofs.Refusals.{sound_says}
 use Rattle.law_promises.specs.Numbers.{Admitted, Headed, ByTzx, Comes, here, past, Due, ends, errs, stands, answers}
@@ -83,10 +84,10 @@ halted-errs (Length kind at n) {f} e = let z : failure.Length kind at n ≡ f = 
 -- a piece stands where it was cut
 named_from : (kind at : ℕ) (x : Body) {k p next : ℕ} {piece : Piece} → taken_as kind at x ≡ taken.Whole k p next piece → p ≡ at
 unfolding taken_as
-named_from kind at (body.Whole y q) e = cc
-named_from kind at (body.Unknown described) e = absurd (let z : ◌≡◌ {A = ℕ} 0 1 = cc in omega arith)
-named_from kind at (body.Short q v) e = absurd (let z : ◌≡◌ {A = ℕ} 0 1 = cc in omega arith)
-named_from kind at (body.Overflow q) e = absurd (let z : ◌≡◌ {A = ℕ} 0 1 = cc in omega arith)
+named_from kind at (Ok y) e = cc
+named_from kind at (Err (not_cut.Unknown described)) e = absurd (let z : ◌≡◌ {A = ℕ} 0 1 = cc in omega arith)
+named_from kind at (Err (not_cut.Short x)) e = absurd (let z : ◌≡◌ {A = ℕ} 0 1 = cc in omega arith)
+named_from kind at (Err (not_cut.Overflow q)) e = absurd (let z : ◌≡◌ {A = ℕ} 0 1 = cc in omega arith)
 
 cut_from : (s : List ℕ) (at : ℕ) {k p next : ℕ} {piece : Piece} → cut_at s at full ≡ taken.Whole k p next piece → p ≡ at
 cut_from s at e = named_from (get_or s at 0) at _ (sym (cut_there s at full (cut_inside s at full e)) ∙ e)
@@ -311,7 +312,7 @@ module _ (lent : Lent) (s : List ℕ) where
 
 -- A LOAD
 module _ (lent : Lent) (s : List ℕ) (model : ℕ) where
-  named-both : (l : Load) (f g : Failure) → (answer_of (named_load s l) ≡ Unread f g) ↔ (l ≡ both_err f g)
+  named-both : (l : Load) (f g : Failure) → (answer_of (named_load s l) ≡ Err (Unread f g)) ↔ (l ≡ both_err f g)
   unfolding answer_of named_load
   named-both (tzx t) f g =
       (λ e. let z : ◌≡◌ {A = ℕ} 0 1 = cc in absurd (omega arith), λ e. let z : ◌≡◌ {A = ℕ} 0 1 = cc in absurd (omega arith))
@@ -319,7 +320,9 @@ module _ (lent : Lent) (s : List ℕ) (model : ℕ) where
       (λ e. let z : ◌≡◌ {A = ℕ} 0 1 = cc in absurd (omega arith), λ e. let z : ◌≡◌ {A = ℕ} 0 1 = cc in absurd (omega arith))
   named-both (both_err x y) f g = (
     λ e. let a : x ≡ f = cc in let b : y ≡ g = cc in ap (λ (i : Failure). both_err i y) a ∙ ap (both_err f) b,
-    λ e. let a : x ≡ f = cc in let b : y ≡ g = cc in ap (λ (i : Failure). Unread i y) a ∙ ap (Unread f) b,
+    λ e. let a : x ≡ f = cc in
+        let b : y ≡ g = cc in
+        ap (λ (i : Failure). answer_of (both_err i y)) a ∙ ap (λ (i : Failure). answer_of (both_err f i)) b,
   )
   named-both (no k) f g =
       (λ e. let z : ◌≡◌ {A = ℕ} 0 1 = cc in absurd (omega arith), λ e. let z : ◌≡◌ {A = ℕ} 0 1 = cc in absurd (omega arith))
@@ -333,7 +336,7 @@ module _ (lent : Lent) (s : List ℕ) (model : ℕ) where
   both-failed (refused j) q f g e = let z : ◌≡◌ {A = ℕ} 0 1 = cc in absurd (omega arith)
 
   -- BOTH FAILURES ARE HANDED ON exactly where neither 1 nor 2 is given, the TZX reading fails by f and the TAP reading by g
-  pub unread_exactly : (f g : Failure) → (answer_of (load_named lent s model) ≡ Unread f g)
+  pub unread_exactly : (f g : Failure) → (answer_of (load_named lent s model) ≡ Err (Unread f g))
       ↔ (Admitted 1048576 s model × ((read_tzx lent s model ≡ failed f) × (read_tap lent s ≡ failed g)))
   unfolding load_named load_of or_else or_tap
   unread_exactly f g = (
@@ -351,7 +354,7 @@ module _ (lent : Lent) (s : List ℕ) (model : ℕ) where
           (record { known = leb-false _ _ p; short = ltb-false _ _ q }, both-failed (read_tzx lent s model) (read_tap lent s) f g e)
 
   -- THE REPORT SAYS WHAT THE BYTES SAY
-  pub unread_met : (f g : Failure) → (answer_of (load_named lent s model) ≡ Unread f g)
+  pub unread_met : (f g : Failure) → (answer_of (load_named lent s model) ≡ Err (Unread f g))
       ↔ (Admitted 1048576 s model × (TzxMet lent s model f × TapMet lent s g))
   unread_met f g =
       let x = unread_exactly f g in
@@ -360,7 +363,7 @@ module _ (lent : Lent) (s : List ℕ) (model : ℕ) where
       (λ e. let h = x.0 e in (h.0, (y.0 h.1.0, z.0 h.1.1)), λ h. x.1 (h.0, (y.1 h.1.0, z.1 h.1.1)))
 
   -- so a short field of a piece that a load tells is the first of the whole attempt, and a TAP's is the first of that one
-  pub load_told_first : {kind at p w : ℕ} {g : Failure} → answer_of (load_named lent s model) ≡ Unread (failure.ShortPiece kind at p w) g
+  pub load_told_first : {kind at p w : ℕ} {g : Failure} → answer_of (load_named lent s model) ≡ Err (Unread (failure.ShortPiece kind at p w) g)
       → (h : ByTzx lent s model (λ from t. PieceMet s (failure.ShortPiece kind at p w) from))
       × ShortAt (head_trace s ++ attempt_trace (piece_trace s) h.1) p w
   load_told_first {kind} {at} {p} {w} {g} e = of ((unread_met (failure.ShortPiece kind at p w) g).0 e).1.0 refl
@@ -373,12 +376,12 @@ module _ (lent : Lent) (s : List ℕ) (model : ℕ) where
       of (at_piece {f = f} x) q =
           let h = subst (λ (c : Failure). ByTzx lent s model (λ from t. PieceMet s c from)) q x in (h, told-first lent s model h)
 
-  pub load_told_first_tap : {p w : ℕ} {f : Failure} → answer_of (load_named lent s model) ≡ Unread f (failure.Short p w)
+  pub load_told_first_tap : {p w : ℕ} {f : Failure} → answer_of (load_named lent s model) ≡ Err (Unread f (failure.Short p w))
       → (c : TapMet lent s (failure.Short p w)) × ShortAt (attempt_trace (tap_trace s) c) p w
   load_told_first_tap {p} {w} {f} e = let c = ((unread_met f (failure.Short p w)).0 e).1.1 in (c, tap_told_first lent s c)
 
   -- 3 is never given without it
-  pub three_unread : answer_of (load_named lent s model) ≡ Refused tape_bad → ⊥
+  pub three_unread : answer_of (load_named lent s model) ≡ Err (Refused tape_bad) → ⊥
   unfolding load_named
   three_unread e =
       let x = (given_3 lent s model).0 (unfold refusal_no in ap refusal_no e) in

@@ -8,10 +8,11 @@ use mathlib.Core.Bool.{Bool, true, false}
 use mathlib.Core.Logic.{◌⊎◌, inl, inr, ⊎_elim}
 use mathlib.Core.List.{List, [], ◌∷◌, ◌++◌}
 use lib.Dec.{eqb}
+use Rattle.std.specs.Prelude.{Result, Ok, Err}
 use Rattle.law_base.proofs.Numbers.{lt_or_ge}
 use Rattle.law_base.specs.Rules.{◌⇒◌, ◌∣◌}
 use Rattle.refusals.specs.Refusals.{no_position}
-use Rattle.law_pulses.specs.Play.{Level, low, Entry, pulse, endless, Status, standing, stopped, ended, rest, status_here, answer, Positive}
+use Rattle.law_pulses.specs.Play.{Level, low, Entry, pulse, endless, Status, rest, status_here, answer, Positive}
 use Rattle.law_pulses.proofs.Demand.{zero_call}
 use Rattle.law_pulses.specs.Source.{Outcome, lasting_entries, dropped, Below, Behind, Agrees}
 use Rattle.law_pulses.proofs.Agreement.{none_dropped}
@@ -33,12 +34,11 @@ use Rattle.play_entries.proofs.Tails.{tail_left, tail_rest}
 use Rattle.play_walk.specs.declared.Position.{Position}
 use Rattle.play_walk.specs.declared.Stand.{Stand}
 use Rattle.play_walk.specs.declared.Reached.{Reached}
-use Rattle.play_walk.specs.declared.Reached.TheVariants as reached
+use Rattle.play_walk.specs.declared.Fault.{Fault}
+use Rattle.play_walk.specs.declared.Fault.TheVariants.{NotValid}
 use Rattle.play_walk.specs.Heads.{reached_no, placed, stand, position_of, ahead, level_here, rest_level, told_as, told_reached, ended_in}
-use Rattle.play_deck.specs.declared.Check.TheVariants.{NotValid}
 use Rattle.play_deck.specs.declared.Head.{Head}
 use Rattle.play_deck.specs.declared.Played.{Played}
-use Rattle.play_deck.specs.declared.Selected.TheVariants.{Block}
 use Rattle.play_deck.specs.Deck.{valid_at, judged, unless, stays, play_measured, source_answer, play_source, back_to, number_for, block_of}
 use Rattle.play_deck.specs.Deck.{block_at, head_after, play_mounted}
 use Rattle.play_deck.specs.Calls.{position_in, passed_in, counting, run_calls, run_sources, outcome_in}
@@ -88,23 +88,17 @@ unfolding rest_level
 rest-low w = rw (le-ltb w.count w.count (omega arith))
 
 -- an answer counted anew is the same answer
-counting-position : (j : ℕ) (o : Position) (r : Reached) → position_in o (counting j r) ≡ position_in o r
+counting-position : (j : ℕ) (o : Position) (r : Result Reached Fault) → position_in o (counting j r) ≡ position_in o r
 unfolding position_in counting
-counting-position j o (reached.At s) = refl
-counting-position j o (reached.Stopped s) = refl
-counting-position j o (reached.Ended s) = refl
-counting-position j o reached.NotValid = refl
-counting-position j o reached.NotFormed = refl
+counting-position j o (Ok a) = refl
+counting-position j o (Err f) = refl
 
-counting-ended : (j : ℕ) (r : Reached) → ended_in (counting j r) ≡ ended_in r
+counting-ended : (j : ℕ) (r : Result Reached Fault) → ended_in (counting j r) ≡ ended_in r
 unfolding ended_in counting
-counting-ended j (reached.At s) = refl
-counting-ended j (reached.Stopped s) = refl
-counting-ended j (reached.Ended s) = refl
-counting-ended j reached.NotValid = refl
-counting-ended j reached.NotFormed = refl
+counting-ended j (Ok a) = refl
+counting-ended j (Err f) = refl
 
-counting_outcome : (w : Tape) (j : ℕ) (o : Position) (r : Reached) → outcome_in w o (counting j r) ≡ outcome_in w o r
+counting_outcome : (w : Tape) (j : ℕ) (o : Position) (r : Result Reached Fault) → outcome_in w o (counting j r) ≡ outcome_in w o r
 unfolding outcome_in
 counting_outcome w j o r =
     ap₂ (λ (q : Position) (b : Bool). outcome_of (ahead w q) b) (counting-position j o r) (counting-ended j r)
@@ -124,9 +118,7 @@ same_agrees {x} {y} e =
 -- where an answer as told leaves the mounted head
 head_told : (h : Head) (st : Status) (s : Stand) → head_after h (told_as st s) ≡ record { position = s.position }
 unfolding head_after told_as
-head_told h standing s = refl
-head_told h stopped s = refl
-head_told h ended s = refl
+head_told h st s = refl
 
 module _ (w : Tape) (whole : WholeTape w) where
   -- a count below every nonzero finite duration on the tape is below those behind the head's own entry, of which some may be played
@@ -175,7 +167,7 @@ module _ (w : Tape) (whole : WholeTape w) where
   runs_same q o n [] v u = ap (outcome_in w o) (under_same q n v u.0)
   runs_same q o n (m ∷ ms) v u =
       let p = position_in q (play_measured w q n) in
-      ap (λ (r : Reached). outcome_in w o (run_sources w (position_in q r) m ms)) (under_same q n v u.0)
+      ap (λ (r : Result Reached Fault). outcome_in w o (run_sources w (position_in q r) m ms)) (under_same q n v u.0)
       ∙ runs_same p o m ms (place_valid q n v) u.1
       ∙ sym (counting_outcome w (passed_in (play_measured w q n)) o (run_calls w p m ms))
 
@@ -226,10 +218,10 @@ module _ (w : Tape) (whole : WholeTape w) where
   unfolding play_mounted told_reached
   mounted-told h n v o =
       let a = answer (ahead w h.position) n in
-      ap (λ (r : Reached). played_of (head_after h r) r) (any_told h.position n v o)
+      ap (λ (r : Result Reached Fault). played_of (head_after h r) r) (any_told h.position n v o)
       ∙ ap (λ (g : Head). played_of g (told_reached w w a)) (head_told h a.tells _)
     where
-      played_of : Head → Reached → Played
+      played_of : Head → Result Reached Fault → Played
       played_of g r = record { head = g; answer = r }
 
   -- what the head needs for the calls to come: to be the place of its own list, or calls of 1 or more
@@ -266,7 +258,7 @@ module _ (w : Tape) (whole : WholeTape w) where
   few : overfull w ≡ false
   few = le-ltb (capacity_of block block_most w.blocks) w.count whole.lent
 
-  not_fine : (q : Position) → valid_at w q ≡ false → judged w q ≡ NotValid
+  not_fine : (q : Position) → valid_at w q ≡ false → judged w q ≡ Err NotValid
   not_fine q e = (judged_9 w q).1 (record { few = few; well = λ h. whole.rows q.block h; bad = e })
 
   valid_measured : (q : Position) (n : ℕ) → valid_at w q ≡ true → reached_no (play_measured w q n) ≡ 0
@@ -290,7 +282,7 @@ module _ (w : Tape) (whole : WholeTape w) where
   back_none zero h = rw (whole.rows 0 h)
   back_none (suc b) h = rw (whole.rows (suc b) h) (of (eqb (block_in w (suc b)).selectable 1) (back_none b (omega arith)))
     where
-      of : (m : Bool) → number_for (back_to w b) ≡ 0 → number_for (m ⇒ Block (suc b) ∣ back_to w b) ≡ 0
+      of : (m : Bool) → number_for (back_to w b) ≡ 0 → number_for (m ⇒ Ok (suc b) ∣ back_to w b) ≡ 0
       of true e = refl
       of false e = e
 

@@ -1,6 +1,7 @@
 -- THE LOAD WITHOUT TABLES: the source reading where every row has room, so that no capacity enters. It is that of load_state, load_blocks
 -- and load_source but for their tests of room; `large_enough` of proofs/Capacity holds it to them. Definitions alone; assumes nothing.
 use Rattle.std.specs.Prelude.{ℕ, zero, suc, ◌+◌, ◌≤◌, ◌≡◌, ◌&&◌, not, List, [], ◌∷◌, length, drop, leb, ltb, eqb}
+use Rattle.std.specs.Prelude.{Option, None, Some}
 use Rattle.refusals.specs.Refusals.{bad_model, tape_long, generalised, tones_full, blocks_full}
 use Rattle.law_base.specs.Rules.{◌⇒◌, ◌∣◌}
 use Rattle.rows.specs.declared.Block.{Block}
@@ -11,8 +12,7 @@ use Rattle.cut_grammar.specs.declared.TakenTap.TheVariants as tap
 use Rattle.cut_grammar.specs.declared.Heading.{Heading}
 use Rattle.cut_grammar.specs.declared.Heading.TheVariants as heading
 use Rattle.cut_grammar.specs.Cut.{cut_at, tap_at, head_at}
-use Rattle.load_state.specs.declared.Loop.{Loop}
-use Rattle.load_state.specs.declared.Loop.TheVariants.{Closed, Open}
+use Rattle.load_state.specs.declared.Body.{Body}
 use Rattle.load_state.specs.declared.Pending.TheVariants.{First, Text}
 use Rattle.load_state.specs.declared.Halt.TheVariants.{Refusal, Length}
 use Rattle.load_state.specs.Parser.{Parsed, Out, on, no as halt, empty, with_tones, with_block, with_body, nameless, pend, end_group, open_loop}
@@ -44,9 +44,9 @@ unfoldable pub with_copies : ℕ → List Block → Parsed → Parsed
 with_copies zero rs t = t
 with_copies (suc n) rs t = with_copies n rs (with_copy rs t)
 
-unfoldable pub with_looped : Loop → Parsed → Parsed
-with_looped Closed t = t
-with_looped (Open start times) t = with_copies times (drop start t.blocks) (with_body Closed t)
+unfoldable pub with_looped : Option Body → Parsed → Parsed
+with_looped None t = t
+with_looped (Some b) t = with_copies b.times (drop b.start t.blocks) (with_body None t)
 
 -- what a piece of this origin does
 unfoldable pub boundless_does : List ℕ → ℕ → Origin → Deed → Parsed → Out

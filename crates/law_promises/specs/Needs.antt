@@ -1,6 +1,7 @@
 -- 5 AND 6 (rules 25, 26), block by block: what each block needs that is added, and which lacks rows. Definitions alone; assumes
 -- nothing.
 use Rattle.std.specs.Prelude.{ℕ, ◌+◌, ◌*◌, ◌≤◌, ◌<◌, ◌≡◌, ◌&&◌, not, ◌⊎◌, List, [], ◌∷◌, ◌++◌, map, length, drop, replicate, eqb}
+use Rattle.std.specs.Prelude.{Option, None, Some}
 use Rattle.law_base.specs.Rules.{◌⇒◌, ◌∣◌}
 use Rattle.law_pulses.specs.Play.{sum}
 use Rattle.refusals.specs.Refusals.{tones_full, blocks_full}
@@ -9,8 +10,7 @@ use Rattle.cut_grammar.specs.declared.Piece.{Piece}
 use Rattle.cut_grammar.specs.declared.Taken.TheVariants as taken
 use Rattle.cut_grammar.specs.declared.TakenTap.TheVariants as tap
 use Rattle.cut_grammar.specs.Cut.{cut_at, tap_at}
-use Rattle.load_state.specs.declared.Loop.{Loop}
-use Rattle.load_state.specs.declared.Loop.TheVariants.{Closed, Open}
+use Rattle.load_state.specs.declared.Body.{Body}
 use Rattle.load_state.specs.Parser.{Parsed}
 use Rattle.load_blocks.specs.Adds.{Lent}
 use Rattle.load_blocks.specs.Deeds.{Deed, adding, groups, texts, group_ends, opens, closes, panics, errs}
@@ -34,9 +34,9 @@ pub record Lacks (lent : Lent) (k u v : ℕ) (needs : List ℕ) : Type 0 where
   pub lacks : Lack lent (u + sum fit) (v + length fit) need k
 
 -- A LOOP'S END adds n copies of each block of the body, which need no tone rows: a copy shares its original's
-unfoldable pub copy_needs : Loop → List Block → List ℕ
-copy_needs Closed bs = []
-copy_needs (Open start times) bs = replicate (times * length (drop start bs)) 0
+unfoldable pub copy_needs : Option Body → List Block → List ℕ
+copy_needs None bs = []
+copy_needs (Some b) bs = replicate (b.times * length (drop b.start bs)) 0
 
 -- what the blocks need that a piece adds, over the tape read so far: its own, with their tone rows; on another model than the 48K none of
 -- a 2A

@@ -1,7 +1,6 @@
+pub mod Saying
+pub mod Runs
+pub mod Describing
 mod ReadBack
 mod Rows
-mod Runs
-mod Saying
-mod Describing
 mod Enough
-pub mod Many

@@ -9,29 +9,32 @@ use lib.ListN.{length, length-append}
 use borrow.Author.Tests.{le-ltb}
 use Rattle.text_out.specs.Out.{refused_line}
 use Rattle.law_base.specs.Rules.{◌⇒◌, ◌∣◌}
-use Rattle.refusals.specs.Refusals.{no_position, bad_row}
+use Rattle.std.specs.Prelude.{Result, Ok, Err}
+use Rattle.refusals.specs.declared.Refusal.{Refusal}
+use Rattle.refusals.specs.Refusals.{number, answer_no}
 use Rattle.rows.specs.Table.{put_all, rows_of}
 use Rattle.play_entries.specs.Places.{Tape}
 use Rattle.play_walk.specs.declared.Position.{Position}
 use Rattle.play_walk.specs.declared.Reached.{Reached}
-use Rattle.play_walk.specs.declared.Reached.TheVariants as reached
-use Rattle.play_walk.specs.Heads.{ended_in}
-use Rattle.play_deck.specs.declared.Check.{Check}
-use Rattle.play_deck.specs.declared.Check.TheVariants.{Fine, NotValid, NotFormed}
+use Rattle.play_walk.specs.declared.Fault.{Fault}
+use Rattle.play_walk.specs.declared.Fault.TheVariants.{NotValid, NotFormed}
+use Rattle.play_walk.specs.Heads.{fault_no, ended_in}
 use Rattle.play_deck.specs.Deck.{judged, unless, play_measured, play_source, block_at}
 use Rattle.play_deck.specs.Calls.{position_in}
 use Rattle.host_run.specs.Rows.{answer_row, call_row}
-use Rattle.host_run.specs.Runs.{player_of, run_rows, check_no, room_no, run_no, run_table}
+use Rattle.host_run.specs.Runs.{player_of, run_rows, room_for, checked, run_answer, run_no, run_table}
 use Rattle.text_trace.specs.Lines.{measured_line, source_line, line_of}
 use Rattle.text_trace.proofs.Lengths.{line_length}
 use Rattle.prog_calls.specs.Answers.{place_in}
 use Rattle.prog_calls.specs.Trace.{ends_run, run_text}
 use Rattle.prog_calls.specs.Inner.{line_in, lines_in, same_lines}
 use Rattle.prog_calls.proofs.ReadBack.{place_back, reached-back}
+use Rattle.prog_calls.specs.Playback.{counts_in}
+use Rattle.prog_calls.proofs.Saying.{counts_length}
 use Rattle.prog_calls.proofs.Rows.{put_read}
 
 module _ (m : Bool) (w : Tape) where
-  abbrev Play : Position → ℕ → Reached
+  abbrev Play : Position → ℕ → Result Reached Fault
   Play = player_of m w
 
   -- THE LINES OF ITS ROWS
@@ -41,7 +44,7 @@ module _ (m : Bool) (w : Tape) where
   rows_said q (n ∷ ns) =
       let r = Play q n in
       let rest = lines_in m w (run_rows Play (position_in q r) ns) in
-      ap (λ (x : Reached). line_of m x (block_at w (place_in (call_row q r))) ++ (ends_run m x ⇒ [] ∣ rest)) (reached-back q r)
+      ap (λ (x : Result Reached Fault). line_of m x (block_at w (place_in (call_row q r))) ++ (ends_run m x ⇒ [] ∣ rest)) (reached-back q r)
       ∙ ap (λ (p : Position). line_of m r (block_at w p) ++ (ends_run m r ⇒ [] ∣ rest)) (place_back q r)
       ∙ ap (λ (t : List ℕ). line_of m r (block_at w (position_in q r)) ++ (ends_run m r ⇒ [] ∣ t)) (rows_said (position_in q r) ns)
 
@@ -51,87 +54,87 @@ module _ (m : Bool) (w : Tape) where
   run_length q (n ∷ ns) = ap suc (run_length (position_in q (Play q n)) ns)
 
   -- no longer than 256 bytes a call
-  pub run-most : (q : Position) (ns : List ℕ) → length (run_text m w q ns) ≤ 256 * length ns
+  run_most : (q : Position) (ns : List ℕ) → length (run_text m w q ns) ≤ 256 * length ns
   unfolding run_text
-  run-most q [] = omega arith
-  run-most q (n ∷ ns) =
+  run_most q [] = omega arith
+  run_most q (n ∷ ns) =
       let r = Play q n in
       let rest = run_text m w (position_in q r) ns in
       simp (length-append, mul-suc)
-      (omega (arith, line_length m r (block_at w (position_in q r)), fewer (ends_run m r) rest, run-most (position_in q r) ns))
+      (omega (arith, line_length m r (block_at w (position_in q r)), fewer (ends_run m r) rest, run_most (position_in q r) ns))
     where
       fewer : (b : Bool) (t : List ℕ) → length (b ⇒ [] ∣ t) ≤ length t
       fewer true t = omega arith
       fewer false t = omega arith
 
+  -- nor than 256,000 of a description's
+  pub calls_most : (q : Position) (s : List ℕ) (n : ℕ) → n ≤ 1000 → length (run_text m w q (counts_in s n)) ≤ 256000
+  calls_most q s n h = omega (arith, run_most q (counts_in s n), counts_length s n)
+
   -- every call has the same answer, and the head stays
-  module _ (q : Position) (r : Reached) (same : (n : ℕ) → Play q n ≡ r) (stays : position_in q r ≡ q) (on : ends_run m r ≡ false) where
+  module _ (q : Position) (r : Result Reached Fault) (same : (n : ℕ) → Play q n ≡ r) (stays : position_in q r ≡ q) (on : ends_run m r ≡ false) where
     all_same : (ns : List ℕ) → run_text m w q ns ≡ same_lines (length ns) (line_of m r (block_at w q))
     unfolding run_text same_lines
     all_same [] = refl
     all_same (n ∷ ns) =
-        ap (λ (x : Reached). line_of m x (block_at w (position_in q x)) ++ (ends_run m x ⇒ [] ∣ run_text m w (position_in q x) ns)) (same n)
+        ap (λ (x : Result Reached Fault). line_of m x (block_at w (position_in q x)) ++ (ends_run m x ⇒ [] ∣ run_text m w (position_in q x) ns)) (same n)
         ∙ ap (λ (p : Position). line_of m r (block_at w p) ++ (ends_run m r ⇒ [] ∣ run_text m w p ns)) stays
         ∙ ap (λ (b : Bool). line_of m r (block_at w q) ++ (b ⇒ [] ∣ run_text m w q ns)) on
         ∙ ap (λ (t : List ℕ). line_of m r (block_at w q) ++ t) (all_same ns)
 
--- a refused call's line, and that the run goes on
-refused_line_lem : (m : Bool) (w : Tape) (q : Position) → (line_of m reached.NotValid (block_at w q) ≡ refused_line no_position)
-    × (line_of m reached.NotFormed (block_at w q) ≡ refused_line bad_row)
+-- a refused call's line, that the run goes on, and each call of a start that is refused
+refused_line_is : (m : Bool) (f : Fault) (b : Result ℕ Fault) → line_of m (Err f) b ≡ refused_line (fault_no f)
 unfolding line_of measured_line source_line
-refused_line_lem true w q = (refl, refl)
-refused_line_lem false w q = (refl, refl)
+refused_line_is true f b = refl
+refused_line_is false f b = refl
 
-refused-on : (m : Bool) → (ends_run m reached.NotValid ≡ false) × (ends_run m reached.NotFormed ≡ false)
+refused_on : (m : Bool) (f : Fault) → ends_run m (Err f) ≡ false
 unfolding ends_run ended_in
-refused-on true = (refl, refl)
-refused-on false = (refl, refl)
+refused_on true f = refl
+refused_on false f = refl
 
-never_valid : (m : Bool) (w : Tape) (q : Position) → judged w q ≡ NotValid → (n : ℕ) → player_of m w q n ≡ reached.NotValid
+never : (m : Bool) (w : Tape) (q : Position) (f : Fault) → judged w q ≡ Err f → (n : ℕ) → player_of m w q n ≡ Err f
 unfolding player_of play_measured play_source unless
-never_valid true w q e n = rw e
-never_valid false w q e n = rw e
+never true w q f e n = rw e
+never false w q f e n = rw e
 
-never_formed : (m : Bool) (w : Tape) (q : Position) → judged w q ≡ NotFormed → (n : ℕ) → player_of m w q n ≡ reached.NotFormed
-unfolding player_of play_measured play_source unless
-never_formed true w q e n = rw e
-never_formed false w q e n = rw e
+never_ok : {why : Refusal} {u : Unit {0}} → ◌≡◌ {A = Result (Unit {0}) Refusal} (Err why) (Ok u) → ⊥
+never_ok e = let z : ◌≡◌ {A = ℕ} 0 1 = cc in absurd (omega arith)
 
--- WHAT A RUN LEFT, from the position q that the code made of p
-module _ (m : Bool) (w : Tape) (q p : Position) (made : q ≡ p) (ns table : List ℕ) (k : ℕ)
-    (h : length ns * answer_row.width ≤ length table) (e : k ≡ run_no w q ns table) where
-  from : run_text m w q ns ≡ run_text m w p ns
-  from = ap (λ (x : Position). run_text m w x ns) made
-
-  number : (c : Check) → judged w q ≡ c → k ≡ check_no c 0
-  unfolding run_no room_no
-  number c j = e ∙ ap (λ (x : Check). check_no x (room_no ns table)) j ∙ rw (le-ltb (length table) (length ns * answer_row.width) h)
+-- WHAT A RUN LEFT, by what it answered
+module _ (m : Bool) (w : Tape) (q : Position) (ns table : List ℕ) (h : length ns * answer_row.width ≤ length table) where
+  answered : (c : Result (Unit {0}) Fault) → judged w q ≡ c → run_answer w q ns table ≡ checked c (Ok tt)
+  unfolding run_answer room_for
+  answered c j = rw (j, le-ltb (length table) (length ns * answer_row.width) h)
 
   -- a start that is refused: so is each call
-  pub refused_said : (k ≡ 0 → ⊥) → same_lines (length ns) (refused_line k) ≡ run_text m w p ns
-  unfolding check_no position_in
-  refused_said some = by_check (judged w q) refl ∙ from
+  pub refused_said : (why : Refusal) → Err why ≡ run_answer w q ns table → same_lines (length ns) (refused_line (number why)) ≡ run_text m w q ns
+  unfolding checked position_in
+  refused_said why e = by_check (judged w q) refl
     where
-      by_check : (c : Check) → judged w q ≡ c → same_lines (length ns) (refused_line k) ≡ run_text m w q ns
-      by_check Fine j = absurd (some (number Fine j))
-      by_check NotValid j =
-          ap (λ (x : ℕ). same_lines (length ns) (refused_line x)) (number NotValid j)
-          ∙ ap (same_lines (length ns)) (sym (refused_line_lem m w q).0)
-          ∙ sym (all_same m w q reached.NotValid (never_valid m w q j) refl (refused-on m).0 ns)
-      by_check NotFormed j =
-          ap (λ (x : ℕ). same_lines (length ns) (refused_line x)) (number NotFormed j)
-          ∙ ap (same_lines (length ns)) (sym (refused_line_lem m w q).1)
-          ∙ sym (all_same m w q reached.NotFormed (never_formed m w q j) refl (refused-on m).1 ns)
+      each : (f : Fault) → judged w q ≡ Err f → number why ≡ fault_no f
+          → same_lines (length ns) (refused_line (number why)) ≡ run_text m w q ns
+      each f j k =
+          ap (λ (x : ℕ). same_lines (length ns) (refused_line x)) k
+          ∙ ap (same_lines (length ns)) (sym (refused_line_is m f (block_at w q)))
+          ∙ sym (all_same m w q (Err f) (never m w q f j) refl (refused_on m f) ns)
+
+      number_is : (c : Result (Unit {0}) Fault) → judged w q ≡ c → number why ≡ answer_no (checked c (Ok tt))
+      number_is c j = ap answer_no (e ∙ answered c j)
+
+      by_check : (c : Result (Unit {0}) Fault) → judged w q ≡ c → same_lines (length ns) (refused_line (number why)) ≡ run_text m w q ns
+      by_check (Ok u) j = absurd (never_ok (e ∙ answered (Ok u) j))
+      by_check (Err NotValid) j = each NotValid j (number_is (Err NotValid) j)
+      by_check (Err NotFormed) j = each NotFormed j (number_is (Err NotFormed) j)
 
   -- rows that were played: the table's lines are the run's
-  pub played_said : (after : List ℕ) → k ≡ 0 → after ≡ run_table m w q ns table
-      → lines_in m w (rows_of answer_row after (length ns)) ≡ run_text m w p ns
+  pub played_said : (after : List ℕ) (u : Unit {0}) → Ok u ≡ run_answer w q ns table → after ≡ run_table m w q ns table
+      → lines_in m w (rows_of answer_row after (length ns)) ≡ run_text m w q ns
   unfolding run_table
-  played_said after none x =
-      let z : run_no w q ns table ≡ 0 = sym e ∙ none in
+  played_said after u e x =
+      let z : run_no w q ns table ≡ 0 = ap answer_no (sym e) in
       let rs = run_rows (player_of m w) q ns in
       let y : after ≡ put_all answer_row table 0 rs = x ∙ rw z in
       ap (λ (t : List ℕ). lines_in m w (rows_of answer_row t (length ns))) y
       ∙ ap (lines_in m w) (put_read answer_row rs table (length ns) (run_length m w q ns) h)
       ∙ rows_said m w q ns
-      ∙ from

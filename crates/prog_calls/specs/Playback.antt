@@ -1,6 +1,5 @@
 -- What a run's description names. Definitions alone; assumes nothing.
-use Rattle.std.specs.Prelude.{ℕ, zero, suc, ◌+◌, ◌*◌, Bool, ◌&&◌, ◌||◌, List, [], ◌∷◌, ◌++◌, leb, eqb, length, get_or, drop}
-use Rattle.cut_fields.specs.declared.Cursor.TheVariants.{At}
+use Rattle.std.specs.Prelude.{ℕ, zero, suc, ◌+◌, ◌*◌, Bool, ◌&&◌, ◌||◌, List, [], ◌∷◌, ◌++◌, leb, eqb, length, get_or, drop, Ok}
 use Rattle.cut_fields.specs.Field.{field_at}
 
 -- `m`, `s`
@@ -9,7 +8,7 @@ is_player b = eqb b 0x6D || eqb b 0x73
 
 -- the number that w bytes from a place on spell, the lowest first; 0 where they are not all there
 abbrev pub number_in : List ℕ → ℕ → ℕ → ℕ
-number_in s p w = (field_at s (At p) w).value
+number_in s p w = (field_at s (Ok p) w).value
 
 -- how many calls there are, where the tape begins, and the tape
 abbrev pub calls_in : List ℕ → ℕ

@@ -5,7 +5,7 @@
 
 mod answers;
 
-ghost use Rattle.std.specs.Prelude.{◌≡◌, true, ◌+◌, ◌*◌, ◌^◌, ◌<◌, ◌≤◌, length};
+ghost use Rattle.std.specs.Prelude.{◌≡◌, true, ◌+◌, ◌*◌, ◌^◌, ◌<◌, ◌≤◌, length, take};
 ghost use Rattle.rows.specs.Table.{rows_of};
 ghost use Rattle.play_entries.specs.Mounted.{mounted_tape};
 ghost use Rattle.play_walk.specs.Heads.{start_at};
@@ -34,7 +34,10 @@ use text_trace::put_line;
 fn number(s: &[u8], at: u64, w: u64) -> u32
     ensures { result ≡ number_in s.now at w }
 {
-    let mut r = Reader { tape: s, at: Ok(at) };
+    let mut r = Reader {
+        tape: s,
+        at: Ok(at),
+    };
     r.number(w).unwrap_or(0)
 }
 
@@ -47,31 +50,29 @@ fn is_player(b: u8) -> bool
 }
 
 // Whether the bytes begin with a description, whatever model they name.
-#[tactic(auto, using(crate::proofs::Many::many_calls))]
+#[tactic(auto, unfolding(crate::specs::Playback::is_description))]
 fn is_description(s: &[u8]) -> bool
     ensures { result ≡ is_description s.now }
 {
-    if s.len() < 8 {
-        return false;
-    }
-    if !is_player(s[1]) {
+    if s.len() < 8 || !is_player(s[1]) {
         return false;
     }
     let calls = number(s, 6, 2) as usize;
-    if 1000 < calls {
-        return false;
-    }
-    8 + 4 * calls <= s.len()
+    calls <= 1000 && 8 + 4 * calls <= s.len()
 }
 
-// Each call's count.
-fn read_counts(bytes: &[u8], counts: &mut [u32])
-    requires { length counts.old ≤ 1000 }
-    ensures { counts.new ≡ counts_in bytes.now (length counts.old) }
+// Each call's count, with room for 1,000 of them.
+#[tactic(auto, using(crate::proofs::Saying::counts_next), unfolding(crate::specs::Playback::counts_in))]
+fn read_counts(bytes: &[u8], calls: usize) -> [u32; 1000]
+    requires { calls ≤ 1000 }
+    ensures room { 1000 ≡ length result }
+    ensures counts { take calls result ≡ counts_in bytes.now calls }
 {
-    for i in 0..counts.len() {
+    let mut counts = [0; 1000];
+    for i in 0..calls {
         counts[i] = number(bytes, 4 * i as u64, 4);
     }
+    counts
 }
 
 // Whether a run ends with a row: the source's with the tape.
@@ -126,6 +127,7 @@ fn put_refusals(w: &mut Writer<'_>, k: u32, n: usize)
 }
 
 // The lines of a run; where its start is refused, so is each call.
+#[tactic(auto, using(crate::proofs::Runs::refused_said, crate::proofs::Runs::played_said))]
 fn put_run(
     w: &mut Writer<'_>,
     m: &Mounted<'_>,
@@ -145,14 +147,8 @@ fn put_run(
     }
 }
 
-// Room for the counts of 1,000 calls.
-fn no_counts() -> [u32; 1000]
-    ensures { 1000 ≡ length result }
-{
-    [0; 1000]
-}
-
 // What is printed of a run from a block's start over rows in tables; our programs call it, and lend 256 bytes a call.
+#[tactic(auto, using(crate::proofs::Saying::writer_prints, crate::proofs::Runs::calls_most))]
 pub fn say_calls(
     m: &Mounted<'_>,
     measured: bool,
@@ -166,15 +162,15 @@ pub fn say_calls(
     ensures { Prints (run_text measured (mounted_tape m.now) (start_at from) (counts_in counts.now calls)) result
         out.new }
 {
-    let mut each = no_counts();
+    let each = read_counts(counts, calls);
     let mut answers = [0u64; 10000];
-    read_counts(counts, &mut each[..calls]);
     let mut w = Writer::over(out);
     put_run(&mut w, m, measured, from, &each[..calls], &mut answers);
     w.at
 }
 
 // `refused n`
+#[tactic(auto, using(crate::proofs::Saying::writer_prints, text_out::proofs::Writing::refused_line_length))]
 fn say_refused(out: &mut [u8], k: u32) -> usize
     requires { 32 ≤ length out.old }
     ensures { Prints (refused_line k) result out.new }
@@ -185,6 +181,7 @@ fn say_refused(out: &mut [u8], k: u32) -> usize
 }
 
 // What is printed of a run over a tape's bytes.
+#[tactic(auto, unfolding(crate::specs::Trace::tape_text, crate::specs::Trace::loaded_text))]
 fn say_tape(
     tape: &[u8],
     model: u32,
@@ -216,6 +213,7 @@ fn say_tape(
 }
 
 // What is printed of a description and its tape.
+#[tactic(auto, using(crate::proofs::Describing::described, crate::proofs::Describing::text_long, crate::proofs::Describing::text_tape))]
 fn say_described(input: &[u8], model: u32, out: &mut [u8]) -> usize
     requires input_value { is_description input.now ≡ true }
     requires in_bounds { 256000 ≤ length out.old }
@@ -231,6 +229,7 @@ fn say_described(input: &[u8], model: u32, out: &mut [u8]) -> usize
 }
 
 // What is printed of an input, into the front of `out`; the count of its bytes. Our programs call it.
+#[tactic(auto, unfolding(crate::specs::Trace::trace_text))]
 pub fn say_trace(input: &[u8], out: &mut [u8]) -> usize
     requires { 256000 ≤ length out.old }
     ensures { Prints (trace_text input.now) result out.new }

@@ -54,14 +54,14 @@ module _ (m : Bool) (w : Tape) where
   run_length q (n ∷ ns) = ap suc (run_length (position_in q (Play q n)) ns)
 
   -- no longer than 256 bytes a call
-  run_most : (q : Position) (ns : List ℕ) → length (run_text m w q ns) ≤ 256 * length ns
+  pub run-most : (q : Position) (ns : List ℕ) → length (run_text m w q ns) ≤ 256 * length ns
   unfolding run_text
-  run_most q [] = omega arith
-  run_most q (n ∷ ns) =
+  run-most q [] = omega arith
+  run-most q (n ∷ ns) =
       let r = Play q n in
       let rest = run_text m w (position_in q r) ns in
       simp (length-append, mul-suc)
-      (omega (arith, line_length m r (block_at w (position_in q r)), fewer (ends_run m r) rest, run_most (position_in q r) ns))
+      (omega (arith, line_length m r (block_at w (position_in q r)), fewer (ends_run m r) rest, run-most (position_in q r) ns))
     where
       fewer : (b : Bool) (t : List ℕ) → length (b ⇒ [] ∣ t) ≤ length t
       fewer true t = omega arith
@@ -69,7 +69,7 @@ module _ (m : Bool) (w : Tape) where
 
   -- nor than 256,000 of a description's
   pub calls_most : (q : Position) (s : List ℕ) (n : ℕ) → n ≤ 1000 → length (run_text m w q (counts_in s n)) ≤ 256000
-  calls_most q s n h = omega (arith, run_most q (counts_in s n), counts_length s n)
+  calls_most q s n h = omega (arith, run-most q (counts_in s n), counts_length s n)
 
   -- every call has the same answer, and the head stays
   module _ (q : Position) (r : Result Reached Fault) (same : (n : ℕ) → Play q n ≡ r) (stays : position_in q r ≡ q) (on : ends_run m r ≡ false) where

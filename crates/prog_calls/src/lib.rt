@@ -102,6 +102,7 @@ fn put_row(w: &mut Writer<'_>, m: &Mounted<'_>, measured: bool, a: AnswerRow)
 }
 
 // The lines of a run's first n rows.
+#[tactic(auto, using(text_out::proofs::Loops::goes_none))]
 fn put_rows(w: &mut Writer<'_>, m: &Mounted<'_>, measured: bool, answers: &[u64], n: usize)
     requires width_in_bounds { n * answer_row.width ≤ length answers.now }
     requires n_bound { (n ≤ 1000) × (w.old.at ≤ 1024) }
@@ -117,6 +118,7 @@ fn put_rows(w: &mut Writer<'_>, m: &Mounted<'_>, measured: bool, answers: &[u64]
 }
 
 // The line of a refusal n times.
+#[tactic(auto, using(text_out::proofs::Loops::goes_none))]
 fn put_refusals(w: &mut Writer<'_>, k: u32, n: usize)
     requires { (n ≤ 1000) × (w.old.at ≤ 1024) }
     ensures { Writes w.old (same_lines n (refused_line k)) w.new }
@@ -213,7 +215,7 @@ fn say_tape(
 }
 
 // What is printed of a description and its tape.
-#[tactic(auto, using(crate::proofs::Describing::described, crate::proofs::Describing::text_long, crate::proofs::Describing::text_tape))]
+#[tactic(auto, using(crate::proofs::Describing::all_behind), unfolding(crate::specs::Playback::is_description, crate::specs::Trace::described_text))]
 fn say_described(input: &[u8], model: u32, out: &mut [u8]) -> usize
     requires input_value { is_description input.now ≡ true }
     requires in_bounds { 256000 ≤ length out.old }

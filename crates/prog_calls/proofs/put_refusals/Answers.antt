@@ -2,15 +2,9 @@
 use native.Mathlib.Omega.{arith}
 use Rattle.text_out.specs.Out.{refused_line}
 use Rattle.text_out.proofs.Writing.{refused_line_length}
-use Rattle.text_out.proofs.Loops.{goes_none, goes_on}
+use Rattle.text_out.proofs.Loops.{goes_on}
 use Rattle.prog_calls.proofs.Saying.{same_next, same_over}
 use Rattle.prog_calls.proofs.put_refusals.Goals as goal
-
-pub loop-init : goal.loop-init
-loop-init c = goes_none _ 256 _
-
-pub refused_line-requires : goal.refused_line-requires
-refused_line-requires c = omega (arith, c.loop.invariant.few, c.requires)
 
 pub loop-preserved : goal.loop-preserved
 loop-preserved c =

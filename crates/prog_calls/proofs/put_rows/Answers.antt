@@ -1,16 +1,9 @@
 -- `put_rows` meets its contract: each turn writes the line of one row more. Assumes nothing.
-use native.Mathlib.Omega.{arith}
 use mathlib.Core.Path.{sym, ◌∙◌}
 use Rattle.play_entries.specs.Mounted.{mounted_tape}
-use Rattle.text_out.proofs.Loops.{goes_none, goes_over}
+use Rattle.text_out.proofs.Loops.{goes_over}
 use Rattle.prog_calls.proofs.Saying.{no_line, rows_on, rows_end}
 use Rattle.prog_calls.proofs.put_rows.Goals as goal
-
-pub loop-i-init : goal.loop-i-init
-loop-i-init c = goes_none _ 256 _
-
-pub put_row-requires : goal.put_row-requires
-put_row-requires c = omega (arith, c.loop-i.invariant.few, c.requires.n_bound)
 
 pub returns-then-ends_run : goal.returns-then-ends_run
 returns-then-ends_run c =

@@ -53,7 +53,7 @@ module _ (w : Tape) (whole : WholeTape w) where
     name_whole out = rw there
 
 pub whole_answered : (w : Tape) → WholeTape w → (i : ℕ) → i < w.count → EachAnswered w i
-unfolding  length_or_no_room
+unfolding length_or_no_room
 whole_answered w whole i h =
     record {
       len = ap answer_no (len_whole w whole);

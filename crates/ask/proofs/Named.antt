@@ -60,6 +60,9 @@ pub no_bytes : (w : Tape) (i : ℕ) (k : Refusal) (out : List ℕ) → Err k ≡
 unfolding name_bytes
 no_bytes w i k out e = rw (← e, some_number k)
 
+pub name_refused : (w : Tape) (i : ℕ) (k : Refusal) (out : List ℕ) → Err k ≡ asked w i → NameAnswered w i out (Err k) out
+name_refused w i k out e = (sym (no_answer w i k out e), sym (no_bytes w i k out e))
+
 module _ (w : Tape) (i : ℕ) (r : Block) (e : Ok r ≡ asked w i) where
   same : name_of w.bytes r ≡ name_in w i
   same = ap (name_of w.bytes) (sym (answerable w i r e).row)

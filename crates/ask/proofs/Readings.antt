@@ -212,7 +212,7 @@ readings =
     []
 
 pub readings_said : map (λ e. answered e.0 e.1 e.2) readings ≡ map (λ e. e.3) readings
-unfolding  asked told_of named_or size_of selectable_of time_of length_or_no_room name_answer name_bytes told loading_of
+unfolding asked told_of named_or size_of selectable_of time_of length_or_no_room name_answer name_bytes told loading_of
     well_to_stop row_lasts rows_loading well_row well_block well_ranges well_numbers well_cases well_tones well_tone name_of guessed is_header
     size_name size_shown decimal digits
 readings_said = refl

@@ -21,9 +21,10 @@ pub fn len(blocks: &[u64], count: u64) -> Result<u64, Refusal>
     ensures { (bytes tones : List ℕ) → result ≡ len_of (tape_of bytes tones blocks.now count) }
 {
     if (capacity::<Block>(blocks) as u64) < count {
-        return Err(Refusal::BadRow);
+        Err(Refusal::BadRow)
+    } else {
+        Ok(count)
     }
-    Ok(count)
 }
 
 // The row of block i; or the refusal of a query about it, in the order of rule 36.
@@ -37,10 +38,11 @@ pub fn asked(m: &Mounted<'_>, i: u64) -> Result<Block, Refusal>
     if m.count <= i {
         return Err(Refusal::NoBlock);
     }
-    if !m.row_well(i) {
-        return Err(Refusal::BadRow);
+    if m.row_well(i) {
+        Ok(m.row(i))
+    } else {
+        Err(Refusal::BadRow)
     }
-    Ok(m.row(i))
 }
 
 // A block's data size.

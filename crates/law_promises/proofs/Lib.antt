@@ -26,3 +26,4 @@ pub mod Larger
 pub mod Overflow
 pub mod Words
 pub mod Unread
+pub mod Restated

@@ -7,8 +7,6 @@ use Rattle.text_out.specs.Out.{fits, told}
 use Rattle.play_entries.specs.declared.Duration.{Duration}
 use Rattle.play_walk.specs.declared.Position.{Position}
 use Rattle.play_walk.specs.declared.Stand.{Stand}
-use Rattle.play_walk.specs.declared.How.{How}
-use Rattle.play_walk.specs.declared.How.TheVariants.{At, Stopped, Ended}
 use Rattle.play_walk.specs.declared.Reached.{Reached}
 use Rattle.play_walk.specs.declared.Fault.{Fault}
 use Rattle.play_walk.specs.Heads.{fault_no}
@@ -20,7 +18,7 @@ use Rattle.load_tape.specs.declared.Loaded.{Loaded}
 use Rattle.load_tape.specs.declared.NotLoaded.{NotLoaded}
 use Rattle.load_tape.specs.declared.NotLoaded.TheVariants.{Unread, Refused}
 use Rattle.host_answers.specs.declared.Met.{Met}
-use Rattle.host_words.specs.Words.{flag_of, span_of, words_of}
+use Rattle.host_words.specs.Words.{flag_of, how_number, span_of, words_of}
 
 -- an answer as a host gets it: the number for no (rule 20), 0 for none; its values as words; and the number where the row doesn't hold them
 pub record Reply : Type 0 where
@@ -87,12 +85,6 @@ of_position q = given (words_of q)
 -- a block for a menu
 abbrev pub of_selected : Result ℕ Fault → Reply
 of_selected a = reply_of number_words by_fault a
-
--- how a call leaves the head: 0 it stands, 1 it has stopped at an endless pause, 2 it has ended
-abbrev pub how_number : How → ℕ
-how_number At = 0
-how_number Stopped = 1
-how_number Ended = 2
 
 -- where a call leaves the head: how it stands, the entries passed, the level, the position
 unfoldable pub stand_words : ℕ → Stand → List ℕ

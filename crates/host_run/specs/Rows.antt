@@ -5,12 +5,10 @@ use Rattle.rows.specs.Table.{Codec}
 use Rattle.play_walk.specs.declared.Position.{Position}
 use Rattle.play_walk.specs.declared.Stand.{Stand}
 use Rattle.play_walk.specs.declared.Reached.{Reached}
-use Rattle.play_walk.specs.declared.How.{How}
-use Rattle.play_walk.specs.declared.How.TheVariants.{At, Stopped, Ended}
 use Rattle.play_walk.specs.declared.Fault.{Fault}
 use Rattle.play_walk.specs.Heads.{fault_no}
 use Rattle.play_deck.specs.Calls.{position_in, passed_in, answer_level}
-use Rattle.host_words.specs.Words.{flag_of, spot_of, span_of}
+use Rattle.host_words.specs.Words.{flag_of, how_number, spot_of, span_of}
 use Rattle.host_run.specs.declared.AnswerRow.{AnswerRow}
 
 abbrev pub encode_answer : AnswerRow → List ℕ
@@ -42,12 +40,7 @@ answer_row =
       back = λ r. refl;
     }
 
--- 0 it stands, 1 it has stopped at an endless pause, 2 it has ended; a refusal's number
-abbrev pub how_number : How → ℕ
-how_number At = 0
-how_number Stopped = 1
-how_number Ended = 2
-
+-- how a call leaves the head; a refusal's number
 unfoldable pub how_of : Result Reached Fault → ℕ
 how_of (Ok a) = how_number a.how
 how_of (Err f) = fault_no f

@@ -6,6 +6,8 @@ use Rattle.play_entries.specs.declared.Phase.TheVariants.{Start, Tones, Data, Ed
 use Rattle.play_entries.specs.declared.Duration.{Duration}
 use Rattle.play_entries.specs.declared.Duration.TheVariants.{T, Endless}
 use Rattle.play_walk.specs.declared.Position.{Position}
+use Rattle.play_walk.specs.declared.How.{How}
+use Rattle.play_walk.specs.declared.How.TheVariants.{At, Stopped, Ended}
 use Rattle.play_walk.specs.Heads.{placed}
 use Rattle.host_words.specs.declared.Spot.{Spot}
 use Rattle.host_words.specs.declared.Span.{Span}
@@ -14,6 +16,12 @@ use Rattle.host_words.specs.declared.Span.{Span}
 unfoldable pub flag_of : Bool → ℕ
 flag_of false = 0
 flag_of true = 1
+
+-- HOW A CALL LEAVES THE HEAD: 0 it stands, 1 it has stopped at an endless pause, 2 it has ended
+abbrev pub how_number : How → ℕ
+how_number At = 0
+how_number Stopped = 1
+how_number Ended = 2
 
 abbrev pub spot : ℕ → ℕ → ℕ → ℕ → Spot
 spot f a b h = record { phase = f; item = a; part = b; half = h }

@@ -14,9 +14,9 @@ use Rattle.play_walk.specs.declared.Fault.{Fault}
 use Rattle.play_walk.specs.declared.Fault.TheVariants.{NotValid, NotFormed}
 use Rattle.play_walk.specs.Heads.{stand, came}
 use Rattle.play_deck.specs.Calls.{position_in, passed_in, answer_level}
-use Rattle.host_words.specs.Words.{flag_of, words_of}
+use Rattle.host_words.specs.Words.{how_number, flag_of, words_of}
 use Rattle.host_words.proofs.Positions.{position-words}
-use Rattle.host_run.specs.Rows.{how_number, how_of, stand_row, call_row}
+use Rattle.host_run.specs.Rows.{how_of, stand_row, call_row}
 use Rattle.prog_calls.specs.Answers.{or_start, place_in, stand_in, reached_in}
 
 level_back : (b : Bool) → eqb (flag_of b) 1 ≡ b

@@ -21,7 +21,7 @@ pub fn loading_time(m: &Mounted<'_>) -> Result<u64, Refusal>
         }
         s = one_more(s, m.row(b));
         if s.over {
-            break;
+            return Ok(s.end);
         }
     }
     Ok(s.end)

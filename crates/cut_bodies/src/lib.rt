@@ -3,7 +3,7 @@
 // would have to be told, in a longer contract.
 #![tactic(auto, using(cut_grammar::proofs::Turns::stuck), unfolding(cut_fields::specs::Field::place_of, cut_grammar::specs::Grammar::read_at, cut_grammar::specs::Grammar::pass_at, cut_grammar::specs::Grammar::whole_at, cut_grammar::specs::Kinds::kind10, cut_grammar::specs::Kinds::kind11, cut_grammar::specs::Kinds::kind12, cut_grammar::specs::Kinds::kind13, cut_grammar::specs::Kinds::kind14, cut_grammar::specs::Kinds::kind20, cut_grammar::specs::Kinds::kind21, cut_grammar::specs::Kinds::kind24, cut_grammar::specs::Kinds::kind_2a, cut_grammar::specs::Kinds::kind30, cut_grammar::specs::Kinds::kind31, cut_grammar::specs::Kinds::info32, cut_grammar::specs::Kinds::kind32, cut_grammar::specs::Kinds::kind33, cut_grammar::specs::Kinds::kind35))]
 
-ghost use Rattle.std.specs.Prelude.{◌≡◌, IfErr};
+ghost use Rattle.std.specs.Prelude.{◌≡◌, IfErr, IfOk, IsOk};
 ghost use Rattle.cut_grammar.specs.Grammar.{texts_at, read_at};
 ghost use Rattle.cut_grammar.specs.Kinds.{kind10, kind11, kind12, kind13, kind14, kind20, kind21, kind24, kind_2a, kind30, kind31, info32};
 ghost use Rattle.cut_grammar.specs.Kinds.{kind32, kind33, kind35};
@@ -172,12 +172,14 @@ pub fn message(mut r: Reader) -> Body
 fn texts(r: &mut Reader, n: u32) -> Result<(), Short>
     ensures tape { r.new.tape ≡ r.old.tape }
     ensures past { r.new.at ≡ texts_at r.old.tape.now r.old.at n }
+    ensures whole { IfOk result (λ x. IsOk r.new.at) }
     ensures short { IfErr result (λ e. r.new.at ≡ Err e) }
 {
     for _ in 0..n {
         r.skip(1)?;
         counted(r, 1)?;
     }
+    r.at?;
     Ok(())
 }
 

@@ -1,10 +1,10 @@
 // What stands after the kind byte of 19: its numbers, its four tables, and the test of its data bits.
 #![tactic(auto)]
 
-ghost use Rattle.std.specs.Prelude.{◌≡◌, ◌-◌, IfOk, IfErr};
+ghost use Rattle.std.specs.Prelude.{◌≡◌, ◌-◌, IfOk, IfErr, IsOk};
 ghost use Rattle.cut_grammar.specs.Grammar.{read_at, bits_of, or_full, held_if};
 ghost use Rattle.cut_grammar.specs.Kinds.{stream19, kind19};
-ghost use Rattle.cut_grammar.specs.Steps.{head19, headed};
+ghost use Rattle.cut_grammar.specs.Steps.{head19, head_read};
 
 use cut_fields::{Reader, Short};
 use cut_grammar::{Body, GeneralHead, GeneralizedData, NotCut, Piece, Whole};
@@ -13,7 +13,8 @@ use cut_grammar::{Body, GeneralHead, GeneralizedData, NotCut, Piece, Whole};
 #[tactic(auto, using(cut_grammar::proofs::Turns::stuck), unfolding(cut_grammar::specs::Steps::head19))]
 fn head(r: &mut Reader) -> Result<GeneralHead, Short>
     ensures tape { r.new.tape ≡ r.old.tape }
-    ensures there { IfOk result (λ h. head19 r.old.tape.now r.old.at ≡ headed h r.new.at) }
+    ensures there { IfOk result (λ h. head19 r.old.tape.now r.old.at ≡ head_read h r.new.at) }
+    ensures whole { IfOk result (λ h. IsOk r.new.at) }
     ensures short { IfErr result (λ e. (r.new.at ≡ Err e) × ((head19 r.old.tape.now r.old.at).cursor ≡ Err e)) }
 {
     let length = r.number(4)?;

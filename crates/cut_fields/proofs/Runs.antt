@@ -10,7 +10,7 @@ use borrow.Author.Tests.{le-leb, lt-leb}
 use Rattle.law_base.proofs.Numbers.{lt_or_ge}
 use Rattle.std.specs.Prelude.{Ok, Err}
 use Rattle.cut_fields.specs.declared.Short.{Short}
-use Rattle.cut_fields.specs.Field.{Cursor, short_at, number_at, field_at, place_of}
+use Rattle.cut_fields.specs.Field.{Cursor, came_short, number_at, field_at, place_of}
 use Rattle.cut_fields.specs.Run.{times, each_at, groups_at, Wholes}
 
 -- a cursor that came up short
@@ -102,14 +102,14 @@ module _ (s : List ℕ) where
   unfolding field_at
   field_there w p h = rw (le-leb (p + w) (length s) h)
 
-  pub field_short : (w p : ℕ) → length s < p + w → field_at s (Ok p) w ≡ record { value = 0; cursor = short_at p w }
+  pub field_short : (w p : ℕ) → length s < p + w → field_at s (Ok p) w ≡ record { value = 0; cursor = came_short p w }
   unfolding field_at
   field_short w p h = rw (lt-leb (p + w) (length s) h)
 
   pub field_moves : (w p : ℕ) → p + w ≤ length s → (field_at s (Ok p) w).cursor ≡ Ok (p + w)
   field_moves w p h = rw (field_there w p h)
 
-  pub field_stops : (w p : ℕ) → length s < p + w → (field_at s (Ok p) w).cursor ≡ short_at p w
+  pub field_stops : (w p : ℕ) → length s < p + w → (field_at s (Ok p) w).cursor ≡ came_short p w
   field_stops w p h = rw (field_short w p h)
 
   -- the place past a field is inside the tape
@@ -117,7 +117,7 @@ module _ (s : List ℕ) where
   unfolding field_at
   field_inside (Ok p) w {e} h =
       ⊎_elim
-      (λ (a : length s < p + w). let z : ◌≡◌ {A = Cursor} (short_at p w) (Ok e) = sym (field_stops w p a) ∙ h in absurd (told z))
+      (λ (a : length s < p + w). let z : ◌≡◌ {A = Cursor} (came_short p w) (Ok e) = sym (field_stops w p a) ∙ h in absurd (told z))
       (λ (a : p + w ≤ length s). let z : ◌≡◌ {A = Cursor} (Ok (p + w)) (Ok e) = sym (field_moves w p a) ∙ h in
       let i : p + w ≡ e = cc in omega arith)
       (lt_or_ge (length s) (p + w))
@@ -164,7 +164,7 @@ module _ (s : List ℕ) where
       (lt_or_ge (length s) (p + h))
 
   -- the answers of `each`
-  pub each_short : {n w p q : ℕ} → Wholes (length s) p n w q → q < n → each_at s (Ok p) n w ≡ short_at (p + q * w) w
+  pub each_short : {n w p q : ℕ} → Wholes (length s) p n w q → q < n → each_at s (Ok p) n w ≡ came_short (p + q * w) w
   unfolding each_at
   each_short {n} {w} {p} {q} h k =
       let e = field_stops w (p + q * w) (h.most k) in

@@ -7,8 +7,8 @@ use Rattle.cut_fields.specs.declared.Short.{Short}
 abbrev pub Cursor : Type 0
 Cursor = Result ℕ Short
 
-abbrev pub short_at : ℕ → ℕ → Cursor
-short_at p w = Err (record { place = p; width = w })
+abbrev pub came_short : ℕ → ℕ → Cursor
+came_short p w = Err (record { place = p; width = w })
 
 -- a field's number, and the cursor past it
 pub record Read : Type 0 where
@@ -28,7 +28,7 @@ number_at s p w = leb w 4 ⇒ le_at s p w ∣ 0
 unfoldable pub field_at : List ℕ → Cursor → ℕ → Read
 field_at s (Ok p) w =
     leb (p + w) (length s) ⇒ record { value = number_at s p w; cursor = Ok (p + w) }
-    ∣ record { value = 0; cursor = short_at p w }
+    ∣ record { value = 0; cursor = came_short p w }
 field_at s (Err e) w = record { value = 0; cursor = Err e }
 
 -- where a cursor stands

@@ -1,7 +1,7 @@
 // Little-endian fields of a tape, read one after the other up to the first that came up short.
 #![tactic(auto)]
 
-ghost use Rattle.std.specs.Prelude.{◌≡◌, ◌+◌, ◌≤◌, ◌<◌, IfOk, IfErr, length};
+ghost use Rattle.std.specs.Prelude.{◌≡◌, ◌+◌, ◌≤◌, ◌<◌, IfOk, IfErr, IsOk, length};
 ghost use Rattle.cut_fields.specs.Field.{le_at, number_at, field_at, read_of};
 ghost use Rattle.cut_fields.specs.Run.{Wholes, each_at, groups_at};
 
@@ -78,6 +78,7 @@ impl<'a> Reader<'a> {
     pub fn number(&mut self, width: u64) -> Result<u32, Short>
         ensures tape { self.new.tape ≡ self.old.tape }
         ensures read { field_at self.old.tape.now self.old.at width ≡ read_of result self.new.at }
+        ensures whole { IfOk result (λ value. IsOk self.new.at) }
         ensures short { IfErr result (λ e. self.new.at ≡ Err e) }
     {
         let at = self.at?;

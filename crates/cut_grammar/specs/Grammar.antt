@@ -50,8 +50,8 @@ pub data Layout : Type 0 where
   -- no row of ours, though the format may describe the kind
   unknown : Bool → Layout
 
-abbrev pub span : ℕ → ℕ → Cursor → Span
-span from size c = record { from = from; size = size; cursor = c }
+abbrev pub span_read : ℕ → ℕ → Cursor → Span
+span_read from size c = record { from = from; size = size; cursor = c }
 
 unfoldable pub counted_at : List ℕ → Cursor → ℕ → Span
 counted_at s c w =

@@ -11,8 +11,8 @@ pub record Head19 : Type 0 where
   pub head : GeneralHead
   pub cursor : Cursor
 
-abbrev pub headed : GeneralHead → Cursor → Head19
-headed h c = record { head = h; cursor = c }
+abbrev pub head_read : GeneralHead → Cursor → Head19
+head_read h c = record { head = h; cursor = c }
 
 unfoldable pub head19 : List ℕ → Cursor → Head19
 head19 s c =

@@ -3,8 +3,8 @@
 // What a reading makes of them is not here.
 #![tactic(auto)]
 
-ghost use Rattle.std.specs.Prelude.{◌≡◌, ◌≤◌, IfOk, IfErr, length};
-ghost use Rattle.cut_grammar.specs.Grammar.{counted_at, span, sealed};
+ghost use Rattle.std.specs.Prelude.{◌≡◌, ◌≤◌, IfOk, IfErr, IsOk, length};
+ghost use Rattle.cut_grammar.specs.Grammar.{counted_at, span_read, sealed};
 ghost use Rattle.cut_grammar.specs.Cut.{signature, starts_at, head_at, tap_block, tap_at};
 ghost use Rattle.cut_grammar.specs.declared.NotCut.TheVariants as not_cut;
 
@@ -173,7 +173,8 @@ pub enum Heading {
 #[tactic(auto, using(cut_fields::proofs::Runs::field_stuck), unfolding(crate::specs::Grammar::counted_at, cut_fields::specs::Field::place_of))]
 pub fn counted(r: &mut Reader, width: u64) -> Result<(u64, u32), Short>
     ensures tape { r.new.tape ≡ r.old.tape }
-    ensures there { IfOk result (λ x. counted_at r.old.tape.now r.old.at width ≡ span x.0 x.1 r.new.at) }
+    ensures there { IfOk result (λ x. counted_at r.old.tape.now r.old.at width ≡ span_read x.0 x.1 r.new.at) }
+    ensures whole { IfOk result (λ x. IsOk r.new.at) }
     ensures short { IfErr result (λ e. (r.new.at ≡ Err e) × ((counted_at r.old.tape.now r.old.at width).cursor ≡ Err e)) }
 {
     let size = r.number(width)?;

@@ -20,7 +20,7 @@ use host_run::{call_by, play_run};
 use host_words::position_from;
 use play_deck::{Head, assay, ends_inside};
 use play_entries::Mounted;
-use play_head::play_head;
+use play_head::play_once;
 use play_walk::Position;
 use refusals::{NO_ROOM, Refusal};
 
@@ -334,10 +334,10 @@ fn move_head(m: &Mounted<'_>, pos: Position, head: &mut [u64], n: u32, answer: &
     ensures head_after { head.new ≡ moved_to (mounted_tape m.now) pos n answer.old head.old }
     ensures answer_after { answer.new ≡ values_of (of_reached (play_measured (mounted_tape m.now) pos n)) answer.old }
 {
-    let mut there = Head { position: pos };
-    let k = tell_answer(play_head(m, &mut there, n), answer);
+    let p = play_once(m, Head { position: pos }, n);
+    let k = tell_answer(p.answer, answer);
     if k == 0 {
-        there.position.tell(head);
+        p.head.position.tell(head);
     }
     k
 }

@@ -12,7 +12,7 @@ use lib.Dec.{leb, eqb}
 use Rattle.law_base.proofs.Numbers.{lt_or_ge}
 use Rattle.law_base.specs.Rules.{◌⇒◌, ◌∣◌}
 use Rattle.std.specs.Prelude.{Ok, Err}
-use Rattle.cut_fields.specs.Field.{Cursor, short_at, le_at, number_at, field_at, place_of}
+use Rattle.cut_fields.specs.Field.{Cursor, came_short, le_at, number_at, field_at, place_of}
 use Rattle.cut_fields.proofs.Le.{le_small}
 use Rattle.cut_fields.proofs.Runs.{field_there, field_short}
 use Rattle.cut_grammar.specs.declared.Piece.{Piece}
@@ -59,7 +59,7 @@ field-ends : (s : List ℕ) (c : Cursor) (w : ℕ) {e : ℕ} → (field_at s c w
 unfolding field_at place_of
 field-ends s (Ok p) w {e} q =
     ⊎_elim
-    (λ (t : length s < p + w). let z : ◌≡◌ {A = Cursor} (short_at p w) (Ok e) = sym (rw (field_short s w p t)) ∙ q in
+    (λ (t : length s < p + w). let z : ◌≡◌ {A = Cursor} (came_short p w) (Ok e) = sym (rw (field_short s w p t)) ∙ q in
     absurd (cc))
     (λ (t : p + w ≤ length s). t)
     (lt_or_ge (length s) (p + w))

@@ -15,7 +15,7 @@ use Rattle.refusals.specs.Refusals.{no_position, no_room, bad_row, answer_no}
 use Rattle.law_pulses.specs.Play.{calls, sum, Positive, Demanded}
 use Rattle.load_blocks.specs.Does.{lent_of}
 use Rattle.load_tape.specs.declared.Format.{Format}
-use Rattle.load_tape.specs.Load.{load_named, Leaves, loaded_of}
+use Rattle.load_tape.specs.Load.{load_named, Leaves, loaded_as}
 use Rattle.play_entries.specs.Places.{Tape}
 use Rattle.play_entries.specs.Mounted.{tape_of}
 use Rattle.play_walk.specs.declared.Position.{Position}
@@ -89,7 +89,7 @@ module _ (w : Tape) (q : Position) (ns table : List ℕ) where
 
 -- tables of B and N words, the tape s, the model; the load's answer is a tape of `count` blocks, and the tables at exit are bt and tt
 module _ (B N : ℕ) (s : List ℕ) (model : ℕ) {f : Format} {count k : ℕ} {bt tt : List ℕ} (b : Bytes s)
-    (l : Leaves B N (load_named (lent_of B N) s model) (Ok (loaded_of f count k)) bt tt) where
+    (l : Leaves B N (load_named (lent_of B N) s model) (Ok (loaded_as f count k)) bt tt) where
   abbrev w : Tape
   w = tape_of s tt bt count
 

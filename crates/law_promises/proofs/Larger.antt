@@ -22,7 +22,7 @@ use Rattle.load_tape.specs.declared.Loaded.{Loaded}
 use Rattle.load_tape.specs.declared.NotLoaded.{NotLoaded}
 use Rattle.load_tape.proofs.load.Kinds as kinds
 use Rattle.load_tape.proofs.load.Reads as load
-use Rattle.load_tape.specs.Load.{named_tape, load_named, answer_of, block_table, tone_table, Leaves, loaded_of}
+use Rattle.load_tape.specs.Load.{named_tape, load_named, answer_of, block_table, tone_table, Leaves, loaded_as}
 use Rattle.text_name.specs.Names.{name_all}
 use Rattle.text_name.proofs.Selecting.{name_all-length}
 use Rattle.law_every_load.specs.Sizes.{Bytes}
@@ -62,10 +62,10 @@ tones_grown {t = t} N M as_tap h l = grown tone t.tones N M (omega (arith, h)) l
 
 module _ (B N C M : ℕ) (s : List ℕ) (model : ℕ) (b : Bytes s) (h : B ≤ C) (j : N ≤ M)
     {f : Format} {n k : ℕ} {bt tt bt' tt' : List ℕ} {a : Result Loaded NotLoaded}
-    (l : Leaves B N (load_named (lent_of B N) s model) (Ok (loaded_of f n k)) bt tt)
+    (l : Leaves B N (load_named (lent_of B N) s model) (Ok (loaded_as f n k)) bt tt)
     (l' : Leaves C M (load_named (lent_of C M) s model) a bt' tt') where
   -- THE SAME ANSWER, THE SAME ROWS, ZEROS BEHIND
-  pub larger_same : (a ≡ Ok (loaded_of f n k)) × ((bt' ≡ bt ++ zeros (C - B)) × (tt' ≡ tt ++ zeros (M - N)))
+  pub larger_same : (a ≡ Ok (loaded_as f n k)) × ((bt' ≡ bt ++ zeros (C - B)) × (tt' ≡ tt ++ zeros (M - N)))
   unfolding load_named named_tape
   larger_same =
       let q = left B N s model b l in
@@ -89,8 +89,8 @@ module _ (κs κs' : Lfts 3) (c : Dens κs kinds.ps) (c' : Dens κs' kinds.ps)
     (b : Bytes c.0.now) (tape : c'.0.now ≡ c.0.now) (model : c'.1.0 ≡ c.1.0)
     (more : length c.1.1.0.now ≤ length c'.1.1.0.now)
     (longer : length c.1.1.1.0.now ≤ length c'.1.1.1.0.now) where
-  pub larger_once : {f : Format} {n k : ℕ} {a : Result Loaded NotLoaded} → load.Post κs c (Ok (loaded_of f n k)) e → load.Post κs' c' a e'
-      → (a ≡ Ok (loaded_of f n k))
+  pub larger_once : {f : Format} {n k : ℕ} {a : Result Loaded NotLoaded} → load.Post κs c (Ok (loaded_as f n k)) e → load.Post κs' c' a e'
+      → (a ≡ Ok (loaded_as f n k))
       × ((e'.1.1.0.now ≡ e.1.1.0.now ++ zeros (length c'.1.1.0.now - length c.1.1.0.now))
       × (e'.1.1.1.0.now ≡ e.1.1.1.0.now ++ zeros (length c'.1.1.1.0.now - length c.1.1.1.0.now)))
   larger_once {a = a} l l' = larger_same _ _ _ _ c.0.now c.1.0 b more longer l (rw (tape, model) at l')

@@ -11,7 +11,7 @@ use Rattle.load_blocks.specs.Does.{lent_of}
 use Rattle.load_source.specs.Source.{Load, tzx, tapped, both_err, no}
 use Rattle.load_tape.specs.declared.Format.{Format}
 use Rattle.load_tape.specs.declared.Format.TheVariants.{Tap, Tzx}
-use Rattle.load_tape.specs.Load.{load_named, answer_of, block_table, tone_table, Leaves, loaded_of as tape_of_load}
+use Rattle.load_tape.specs.Load.{load_named, answer_of, block_table, tone_table, Leaves, loaded_as}
 use Rattle.law_every_load.specs.Sizes.{Bytes}
 use Rattle.law_every_load.proofs.Timed.{left_timed}
 use Rattle.text_listing.specs.Page.{listing_text, listed_text}
@@ -21,12 +21,12 @@ use Rattle.listing.specs.Listing.{pulse_listing}
 
 module _ (s : List ℕ) (model : ℕ) (b : Bytes s) where
   -- the tables that the listing's load leaves
-  leaves : {f : Format} {n k : ℕ} (x : Load) → loaded_of s model ≡ x → Ok (tape_of_load f n k) ≡ answer_of x
-      → Leaves block_words tone_words (load_named (lent_of block_words tone_words) s model) (Ok (tape_of_load f n k)) (block_table block_words x)
+  leaves : {f : Format} {n k : ℕ} (x : Load) → loaded_of s model ≡ x → Ok (loaded_as f n k) ≡ answer_of x
+      → Leaves block_words tone_words (load_named (lent_of block_words tone_words) s model) (Ok (loaded_as f n k)) (block_table block_words x)
       (tone_table tone_words x)
   unfolding loaded_of
   leaves {f} {n} {k} x e a =
-      subst (λ (l : Load). Leaves block_words tone_words l (Ok (tape_of_load f n k)) (block_table block_words x) (tone_table tone_words x)) (sym e)
+      subst (λ (l : Load). Leaves block_words tone_words l (Ok (loaded_as f n k)) (block_table block_words x) (tone_table tone_words x)) (sym e)
       (record { answer = a; blocks = refl; tones = refl })
 
   by_load : (x : Load) → loaded_of s model ≡ x → listed_by listing_text s model x ≡ listed_by listed_text s model x

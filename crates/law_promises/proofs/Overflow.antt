@@ -13,7 +13,7 @@ use lib.Dec.{leb, eqb}
 use Rattle.law_base.proofs.Numbers.{lt_or_ge}
 use Rattle.law_base.specs.Rules.{◌⇒◌, ◌∣◌}
 use Rattle.std.specs.Prelude.{Ok, Err}
-use Rattle.cut_fields.specs.Field.{Cursor, short_at, Read, le_at, number_at, field_at, place_of}
+use Rattle.cut_fields.specs.Field.{Cursor, came_short, Read, le_at, number_at, field_at, place_of}
 use Rattle.cut_fields.specs.Run.{groups_at, Wholes}
 use Rattle.cut_fields.proofs.Runs.{field_there, field_short, groups_all, groups_stood}
 use Rattle.cut_grammar.specs.declared.GeneralizedData.{GeneralizedData}
@@ -190,7 +190,7 @@ module _ (s : List ℕ) where
       let i : p + w ≡ e = cc in record { stood = refl; moved = sym i; inside = omega (arith, a, i) })
       (lt_or_ge (length s) (p + w))
     where
-      stuck : ◌≡◌ {A = Cursor} (short_at p w) (Ok e) → ⊥
+      stuck : ◌≡◌ {A = Cursor} (came_short p w) (Ok e) → ⊥
       stuck i = let z : ◌≡◌ {A = ℕ} 0 1 = cc in omega arith
   field_began (Err q) w h = absurd (let z : ◌≡◌ {A = ℕ} 0 1 = cc in omega arith)
 

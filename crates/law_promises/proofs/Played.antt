@@ -28,7 +28,7 @@ use Rattle.load_source.specs.Source.{act, read_on, seeing, fold_from, too_many_b
 use Rattle.load_source.specs.Source.{or_else, load_of}
 use Rattle.text_name.specs.Names.{is_header, unselected, name_one, name_all}
 use Rattle.load_tape.specs.declared.Format.TheVariants.{Tzx}
-use Rattle.load_tape.specs.Load.{named_tape, named_load, load_named, answer_of, block_table, tone_table, Leaves, loaded_of}
+use Rattle.load_tape.specs.Load.{named_tape, named_load, load_named, answer_of, block_table, tone_table, Leaves, loaded_as}
 use Rattle.play_entries.specs.declared.Phase.TheVariants.{Start, Tones, Pause}
 use Rattle.play_entries.specs.declared.Duration.TheVariants.{T}
 use Rattle.play_entries.specs.Entries.{label_at, entry_of, cycles_of, is_single, start_level, cycle_level, bit_level, edged, pause_level, tone_of}
@@ -52,7 +52,7 @@ use Rattle.law_promises.proofs.Readings.{block_words, tone_words, mounted, piece
 
 -- the sole 12 of 100 and 4 is what a load answers and leaves
 pub sole_loaded :
-    Leaves block_words tone_words (load_named (lent_of block_words tone_words) sole_bytes 0) (Ok (loaded_of Tzx 1 1)) sole.blocks sole.tones
+    Leaves block_words tone_words (load_named (lent_of block_words tone_words) sole_bytes 0) (Ok (loaded_as Tzx 1 1)) sole.blocks sole.tones
 unfolding
     load_named named_load named_tape load_of or_else read_tzx headed head_at starts_at bits_judged too_many_bits fold_from seeing read_on tzx_see tzx_of
     cut_at

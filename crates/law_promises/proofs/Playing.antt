@@ -12,7 +12,7 @@ use Rattle.law_pulses.proofs.Sounding.{silent_left}
 use Rattle.law_pulses.specs.Source.{Agrees}
 use Rattle.load_blocks.specs.Does.{lent_of}
 use Rattle.load_tape.specs.declared.Format.{Format}
-use Rattle.load_tape.specs.Load.{load_named, Leaves, loaded_of}
+use Rattle.load_tape.specs.Load.{load_named, Leaves, loaded_as}
 use Rattle.play_entries.specs.Entries.{Label}
 use Rattle.play_entries.specs.Places.{Tape, left_at, valid, sounds, load_time}
 use Rattle.play_entries.specs.Mounted.{tape_of}
@@ -30,7 +30,7 @@ use Rattle.law_promises.proofs.Wholes as wholes
 
 -- tables of B and N words, the tape s, the model; the load's answer is a tape of `count` blocks, and the tables at exit are bt and tt
 module _ (B N : ℕ) (s : List ℕ) (model : ℕ) {f : Format} {count k : ℕ} {bt tt : List ℕ} (b : Bytes s)
-    (l : Leaves B N (load_named (lent_of B N) s model) (Ok (loaded_of f count k)) bt tt) where
+    (l : Leaves B N (load_named (lent_of B N) s model) (Ok (loaded_as f count k)) bt tt) where
   abbrev w : Tape
   w = tape_of s tt bt count
 

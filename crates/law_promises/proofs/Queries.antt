@@ -8,7 +8,7 @@ use Rattle.law_pulses.specs.Sounding.{SoundsUpTo}
 use Rattle.law_pulses.proofs.Sounding.{sounding_is}
 use Rattle.load_blocks.specs.Does.{lent_of}
 use Rattle.load_tape.specs.declared.Format.{Format}
-use Rattle.load_tape.specs.Load.{load_named, Leaves, loaded_of}
+use Rattle.load_tape.specs.Load.{load_named, Leaves, loaded_as}
 use Rattle.play_entries.specs.Places.{list_from, sounds, load_time}
 use Rattle.play_entries.specs.Mounted.{tape_of}
 use Rattle.law_every_load.specs.Sizes.{Bytes}
@@ -20,7 +20,7 @@ use Rattle.ask.specs.Queries.{time_of, loading_of, EachAnswered}
 use Rattle.ask.specs.Listed.{time_listed, loading_listed}
 
 module _ (B N : ℕ) (s : List ℕ) (model : ℕ) {f : Format} {n k : ℕ} {bt tt : List ℕ} (b : Bytes s)
-    (l : Leaves B N (load_named (lent_of B N) s model) (Ok (loaded_of f n k)) bt tt) where
+    (l : Leaves B N (load_named (lent_of B N) s model) (Ok (loaded_as f n k)) bt tt) where
   pub loaded_answers : (i : ℕ) → i < n → EachAnswered (tape_of s tt bt n) i
   loaded_answers i h = whole_answered (tape_of s tt bt n) (left_whole B N s model b l) i h
 

@@ -14,7 +14,7 @@ use Rattle.load_blocks.specs.Does.{lent_of}
 use Rattle.load_source.specs.Source.{load_of}
 use Rattle.load_tape.specs.declared.Format.TheVariants.{Tzx}
 use Rattle.load_tape.specs.declared.NotLoaded.TheVariants.{Refused}
-use Rattle.load_tape.specs.Load.{load_named, answer_of, Leaves, loaded_of}
+use Rattle.load_tape.specs.Load.{load_named, answer_of, Leaves, loaded_as}
 use Rattle.play_entries.specs.declared.Phase.TheVariants.{Start}
 use Rattle.play_entries.specs.declared.Duration.TheVariants.{T}
 use Rattle.play_entries.specs.Places.{list_from, left_at}
@@ -27,7 +27,7 @@ use Rattle.law_tzx.proofs.Room.{tape_not_4}
 use Rattle.law_promises.proofs.Loads.{answers-no}
 
 module _ (B N : ℕ) (s : List ℕ) (model : ℕ) {n k : ℕ} {bt tt : List ℕ}
-    (l : Leaves B N (load_named (lent_of B N) s model) (Ok (loaded_of Tzx n k)) bt tt) (e : kept_tape s ≡ true) where
+    (l : Leaves B N (load_named (lent_of B N) s model) (Ok (loaded_as Tzx n k)) bt tt) (e : kept_tape s ≡ true) where
   -- the tape's list
   pub demand_2_tzx : lasting (lengths (list_from (tape_of s tt bt n) 0)) ≡ lasting (format_tape (eqb model 0) s)
   demand_2_tzx = load_keeps B N s model l e

@@ -14,7 +14,7 @@ use Rattle.rows.proofs.Tables.{rows-over}
 use Rattle.load_blocks.specs.Does.{lent_of}
 use Rattle.load_source.specs.Source.{Load}
 use Rattle.load_tape.specs.declared.Format.{Format}
-use Rattle.load_tape.specs.Load.{named_tape, named_load, load_named, answer_of, Leaves, loaded_of}
+use Rattle.load_tape.specs.Load.{named_tape, named_load, load_named, answer_of, Leaves, loaded_as}
 use Rattle.text_name.specs.Names.{name_all}
 use Rattle.text_name.proofs.Selecting.{name_all-length}
 use Rattle.play_entries.specs.Mounted.{tape_of}
@@ -48,7 +48,7 @@ list_named s as_tzx = refl
 list_named s as_tap = refl
 
 module _ (B N : ℕ) (s : List ℕ) (model : ℕ) {f : Format} {n k : ℕ} {bt tt : List ℕ} (b : Bytes s)
-    (l : Leaves B N (load_named (lent_of B N) s model) (Ok (loaded_of f n k)) bt tt) where
+    (l : Leaves B N (load_named (lent_of B N) s model) (Ok (loaded_as f n k)) bt tt) where
   -- as the load with these tables has them
   as_loaded : views_in (tape_of s tt bt n) ≡ list_of s (load_named (lent_of B N) s model)
   unfolding load_named
@@ -72,5 +72,5 @@ module _ (B N : ℕ) (s : List ℕ) (model : ℕ) {f : Format} {n k : ℕ} {bt t
   demand_2 = as_loaded ∙ ap (list_of s) any_tables
 
   -- .. and the answer: the format, how many blocks and tone rows there are
-  pub answer_2 : Ok (loaded_of f n k) ≡ answer_of (boundless_load s model)
+  pub answer_2 : Ok (loaded_as f n k) ≡ answer_of (boundless_load s model)
   answer_2 = l.answer ∙ ap answer_of any_tables

@@ -11,7 +11,7 @@ use Rattle.std.specs.Prelude.{Ok, Err}
 use Rattle.law_base.specs.Rules.{◌⇒◌, ◌∣◌}
 use Rattle.law_base.proofs.Numbers.{lt_or_ge}
 use Rattle.cut_fields.specs.declared.Short.{Short}
-use Rattle.cut_fields.specs.Field.{Cursor, short_at, number_at, field_at, place_of}
+use Rattle.cut_fields.specs.Field.{Cursor, came_short, number_at, field_at, place_of}
 use Rattle.cut_fields.proofs.Runs.{field_there, field_short}
 use Rattle.cut_grammar.specs.declared.Piece.{Piece}
 use Rattle.cut_grammar.specs.declared.NotCut.TheVariants as not_cut
@@ -39,7 +39,7 @@ field_stood s (Ok p) w {q} e =
     record { began = refl; moved = cc; told = ap (λ r. r.value) (field_there s w p t) })
     (lt_or_ge (length s) (p + w))
   where
-    stuck : {a b : ℕ} → ◌≡◌ {A = Cursor} (short_at a b) (Ok q) → ⊥
+    stuck : {a b : ℕ} → ◌≡◌ {A = Cursor} (came_short a b) (Ok q) → ⊥
     stuck i = let z : ◌≡◌ {A = ℕ} 0 1 = cc in omega arith
 field_stood s (Err x) w e = absurd (short-stays s x w e)
 

@@ -26,7 +26,7 @@ use Rattle.load_tape.specs.declared.Format.{Format}
 use Rattle.load_tape.specs.declared.Format.TheVariants.{Tap, Tzx}
 use Rattle.load_tape.specs.declared.Loaded.{Loaded}
 use Rattle.load_tape.specs.declared.NotLoaded.{NotLoaded}
-use Rattle.load_tape.specs.Load.{named_tape, named_load, load_named, answer_of, block_table, tone_table, Leaves, loaded_of}
+use Rattle.load_tape.specs.Load.{named_tape, named_load, load_named, answer_of, block_table, tone_table, Leaves, loaded_as}
 use Rattle.law_tzx.specs.Format.{PulseLength, lasting}
 use Rattle.law_tzx.specs.Kept.{lengths, entries_from, Plays}
 use Rattle.law_tzx.specs.Tapes.{kept_tape, format_tape}
@@ -68,12 +68,12 @@ record Left (B N : ℕ) (s : List ℕ) (a : Load) (n : ℕ) (bt tt : List ℕ) :
 
 -- answers that are one tell one format and one count
 answered : (f g : Format) (n m k j : ℕ)
-    → ◌≡◌ {A = Result Loaded NotLoaded} (Ok (loaded_of f n k)) (Ok (loaded_of g m j)) → (f ≡ g) × (n ≡ m)
+    → ◌≡◌ {A = Result Loaded NotLoaded} (Ok (loaded_as f n k)) (Ok (loaded_as g m j)) → (f ≡ g) × (n ≡ m)
 answered f g n m k j e =
-    let r : loaded_of f n k ≡ loaded_of g m j = cc in
+    let r : loaded_as f n k ≡ loaded_as g m j = cc in
     (ap (λ (d : Loaded). d.format) r, ap (λ (d : Loaded). d.blocks) r)
 
-left_tzx : {B N : ℕ} (s : List ℕ) (a : Load) {n k : ℕ} {bt tt : List ℕ} → Leaves B N (named_load s a) (Ok (loaded_of Tzx n k)) bt tt
+left_tzx : {B N : ℕ} (s : List ℕ) (a : Load) {n k : ℕ} {bt tt : List ℕ} → Leaves B N (named_load s a) (Ok (loaded_as Tzx n k)) bt tt
     → Left B N s a n bt tt
 unfolding named_load named_tape answer_of block_table tone_table
 left_tzx s (tzx t) {n} {k} l =
@@ -107,7 +107,7 @@ whole-plays {s} {ls} {t} p N =
 
 -- WHAT A LOAD LEAVES: the list of the mounted tape, in lengths, is what the format plays
 pub load_keeps : (B N : ℕ) (s : List ℕ) (model : ℕ) {n k : ℕ} {bt tt : List ℕ}
-    → Leaves B N (load_named (lent_of B N) s model) (Ok (loaded_of Tzx n k)) bt tt → kept_tape s ≡ true
+    → Leaves B N (load_named (lent_of B N) s model) (Ok (loaded_as Tzx n k)) bt tt → kept_tape s ≡ true
     → lasting (lengths (list_from (tape_of s tt bt n) 0)) ≡ lasting (format_tape (eqb model 0) s)
 unfolding load_named
 load_keeps B N s model {n} {k} {bt} {tt} l e =

@@ -71,15 +71,23 @@ pub fn symbol(tape: &[u8], place: u64, n: u32, i: u32) -> [u16; 2]
     }
 }
 
-// An alphabet of n symbols, which its callers know to lie in the tape.
+// An alphabet of n symbols, which its callers know to lie in the tape, into the front of a lent array: by value, below, it may be copied.
+pub fn read_alphabet(a: &mut [[u16; 2]; SYMBOLS], tape: &[u8], place: u64, n: u32, pulses: u32)
+    requires { (n ≤ 255) × (0 < pulses) × (place + n * (1 + pulses * 2) ≤ length tape.now) }
+    ensures { Kept tape.now place pulses n a.new }
+{
+    for i in 0..n {
+        a[i as usize] = symbol(tape, place, pulses, i);
+    }
+}
+
+// The same by value.
 pub fn alphabet(tape: &[u8], place: u64, n: u32, pulses: u32) -> [[u16; 2]; SYMBOLS]
     requires { (n ≤ 255) × (0 < pulses) × (place + n * (1 + pulses * 2) ≤ length tape.now) }
     ensures { Kept tape.now place pulses n result }
 {
     let mut a = [[0u16; 2]; SYMBOLS];
-    for i in 0..n {
-        a[i as usize] = symbol(tape, place, pulses, i);
-    }
+    read_alphabet(&mut a, tape, place, n, pulses);
     a
 }
 

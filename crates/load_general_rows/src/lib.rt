@@ -12,7 +12,7 @@ ghost use Rattle.load_general.specs.Made.{judged_of, is_tones, part_tones, MadeD
 ghost use Rattle.load_general.specs.Held.{Held, Kept, symbol_of};
 
 use cut_grammar::GeneralizedData;
-use load_general::{Made, NoRows, Piece19, SYMBOLS, alphabet, pairs_of, plain_tone, symbol};
+use load_general::{Made, NoRows, Piece19, SYMBOLS, pairs_of, plain_tone, read_alphabet, symbol};
 use load_general_data::data_part;
 use load_general_pilot::{entry_row, pilot_part};
 use rows::{Tone, capacity, put_row};
@@ -97,7 +97,8 @@ fn put_pilot(p: &Piece19, tones: &mut [u64], used: usize)
     ensures { tones.new ≡ put_all tone tones.old used (part_tones (pilot_of p.now.tape.now p.now.g)) }
 {
     if 0 < p.g.totp {
-        let a = alphabet(p.tape, p.g.pilot, p.g.asp, p.g.npp);
+        let mut a = [[0; 2]; SYMBOLS];
+        read_alphabet(&mut a, p.tape, p.g.pilot, p.g.asp, p.g.npp);
         put_rows(tones, used, p.g.totp, |i| entry_tone(p, &a, i));
     }
 }
@@ -108,7 +109,8 @@ fn put_data(p: &Piece19, tones: &mut [u64], used: usize)
         × (length (part_tones (data_part p.now.tape.now p.now.g)) ≤ capacity_of tone tone_most tones.old - used) }
     ensures { tones.new ≡ put_all tone tones.old used (part_tones (data_part p.now.tape.now p.now.g)) }
 {
-    let a = alphabet(p.tape, p.g.symbols, p.g.asd, p.g.npd);
+    let mut a = [[0; 2]; SYMBOLS];
+    read_alphabet(&mut a, p.tape, p.g.symbols, p.g.asd, p.g.npd);
     if p.g.npd == 2 {
         put_rows(tones, used, p.g.totd, |i| single_tone(p, &a, i));
     } else {

@@ -22,7 +22,7 @@ use Rattle.load_state.specs.declared.Body.{Body}
 use Rattle.load_state.specs.declared.Halt.{Halt}
 use Rattle.load_state.specs.declared.Halt.TheVariants.{Refusal}
 use Rattle.load_state.specs.Parser.{Parsed, with_tones, with_pending, with_body, empty, Out, on, no, ◌⟫◌, add_tones}
-use Rattle.load_state.specs.Holds.{Holds, now_pending, with_loop, GivesOut, goes, refuses}
+use Rattle.load_state.specs.Holds.{Holds, GivesOut, goes, refuses}
 
 pub chain_assoc : (o : Out) (f g : Parsed → Out) → o ⟫ f ⟫ g ≡ o ⟫ (λ t. f t ⟫ g)
 unfolding ◌⟫◌
@@ -44,6 +44,13 @@ tones_append m xs ys t = by_cases (leb (length t.tones + length xs) m) refl
         let n : m < length t.tones + length (xs ++ ys) =
         rw length-append (omega (arith, leb-false (length t.tones + length xs) m e)) in
         rw (lt-leb _ _ n)
+
+-- a state with another pending name, and with another loop
+abbrev pub now_pending : Pending → State → State
+now_pending p s = record { blocks = s.blocks; tones = s.tones; pending = p; body = s.body }
+
+abbrev pub with_loop : Option Body → State → State
+with_loop l s = record { blocks = s.blocks; tones = s.tones; pending = s.pending; body = l }
 
 -- a held tape with another pending name, and with another loop
 module _ {B N : ℕ} {s : State} {bt tt : List ℕ} {t : Parsed} (h : Holds B N s bt tt t) where

@@ -1,20 +1,11 @@
 -- The code's state and tables hold a tape read so far: the rows, then zeros. Contracts inside a load speak of every tape so held.
 -- Assumes nothing.
-use Rattle.std.specs.Prelude.{ℕ, ◌/◌, ◌≤◌, min, ◌≡◌, List, length, Option, Result, Ok, Err}
+use Rattle.std.specs.Prelude.{ℕ, ◌/◌, ◌≤◌, min, ◌≡◌, List, length, Result, Ok, Err}
 use Rattle.rows.specs.Table.{table_of}
 use Rattle.rows.specs.Rows.{block, tone, block_most, tone_most}
 use Rattle.load_state.specs.declared.State.{State}
-use Rattle.load_state.specs.declared.Body.{Body}
 use Rattle.load_state.specs.declared.Halt.{Halt}
-use Rattle.load_state.specs.declared.Pending.{Pending}
 use Rattle.load_state.specs.Parser.{Parsed, Out, on, no}
-
--- a state with another pending name, and with another loop
-abbrev pub now_pending : Pending → State → State
-now_pending p s = record { blocks = s.blocks; tones = s.tones; pending = p; body = s.body }
-
-abbrev pub with_loop : Option Body → State → State
-with_loop l s = record { blocks = s.blocks; tones = s.tones; pending = s.pending; body = l }
 
 -- the rows that so many lent words have room for
 abbrev pub block_room : ℕ → ℕ

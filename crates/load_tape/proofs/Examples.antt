@@ -46,7 +46,7 @@ use Rattle.load_tape.specs.declared.Format.TheVariants.{Tap}
 use Rattle.std.specs.Prelude.{Result, Ok}
 use Rattle.load_tape.specs.declared.Loaded.{Loaded}
 use Rattle.load_tape.specs.declared.NotLoaded.{NotLoaded}
-use Rattle.load_tape.specs.Load.{loaded_of, named_tape, named_load, load_named, answer_of, block_table, Leaves}
+use Rattle.load_tape.specs.Load.{loaded_as, named_tape, named_load, load_named, answer_of, block_table, Leaves}
 
 -- room for three blocks and four tone rows
 abbrev room : Lent
@@ -244,7 +244,7 @@ too_long lent s model h k = rw (lt-leb 3 model h, lt-ltb 1048576 (length s) k)
 pub two_lists : {a a' : Result Loaded NotLoaded} {bt bt' tt tt' : List ℕ}
     → Leaves three_blocks four_tones (load_named (lent_of three_blocks four_tones) (0 ∷ 0 ∷ []) 0) a bt tt
     → Leaves three_blocks four_tones (load_named (lent_of three_blocks four_tones) (1 ∷ 0 ∷ 0xFF ∷ []) 0) a' bt' tt'
-    → (a ≡ Ok (loaded_of Tap 1 2)) × (a' ≡ Ok (loaded_of Tap 1 2)) × (bt ≡ bt' → ⊥)
+    → (a ≡ Ok (loaded_as Tap 1 2)) × (a' ≡ Ok (loaded_as Tap 1 2)) × (bt ≡ bt' → ⊥)
 unfolding le_at number_at field_at place_of times each_at groups_at counted_at pass_at texts_at whole_at sealed enclosed fitting_at read_at binary_digits
     or_full held_if kind10 kind11 kind12 kind13 kind14 stream19 kind19 kind20 kind21 kind22 kind24 kind25 kind_2a kind30 kind31 info32 kind32
     kind33 kind35 kind_5a kinds kind_of starts_at head_at taken_as cut_at tap_block tap_at pilot_of data_part with_pilot with_data general_of empty ◌⟫◌

@@ -15,7 +15,7 @@ use Rattle.cut_fields.proofs.Runs.{field_there}
 use Rattle.cut_grammar.specs.declared.Heading.TheVariants as heading
 use Rattle.cut_grammar.specs.declared.Taken.TheVariants as taken
 use Rattle.cut_grammar.specs.declared.TakenTap.TheVariants as tap
-use Rattle.cut_grammar.specs.Grammar.{Span, span, counted_at, whole_at, read_at}
+use Rattle.cut_grammar.specs.Grammar.{Span, span_read, counted_at, whole_at, read_at}
 use Rattle.cut_grammar.specs.Kinds.{kind10, kinds, kind_of}
 use Rattle.cut_grammar.specs.Cut.{signature, starts_at, head_at, taken_as, cut_at, tap_block, tap_at}
 use Rattle.cut_grammar.proofs.Cutting.{cut_there}
@@ -30,7 +30,7 @@ use Rattle.load_source.specs.Source.{tap_of, read_tap, or_tap, or_else}
 use Rattle.load_source.proofs.Rest.{tzx_sees, tap_sees, tap_stops}
 use Rattle.text_name.specs.Names.{name_all}
 use Rattle.load_tape.specs.declared.Format.TheVariants.{Tap}
-use Rattle.load_tape.specs.Load.{loaded_of, named_tape, named_load, load_named, answer_of}
+use Rattle.load_tape.specs.Load.{loaded_as, named_tape, named_load, load_named, answer_of}
 use Rattle.load_tape.proofs.Leaving.{load_reads}
 
 -- n things of one byte that leave the tape read so far as it is
@@ -73,7 +73,7 @@ room = record { blocks = 3; tones = 4 }
 
 -- a TAP whose first length is of all that follows
 module _ (s : List ℕ) (size : ℕ) (l : length s ≡ size + 2) (n : le_at s 0 2 ≡ size) where
-  whole-span : counted_at s (Ok 0) 2 ≡ span 2 size (Ok (2 + size))
+  whole-span : counted_at s (Ok 0) 2 ≡ span_read 2 size (Ok (2 + size))
   unfolding counted_at number_at place_of
   whole-span = rw (field_there s 2 0 (omega arith), n, field_there s size 2 (omega arith))
 
@@ -84,7 +84,7 @@ module _ (s : List ℕ) (size : ℕ) (l : length s ≡ size + 2) (n : le_at s 0 
       (ap (λ (d : Span). tap_block d d.cursor) whole-span)
 
   -- one block of two tone rows
-  whole-answer : (f : Failure) → answer_of (named_load s (or_else (failed f) (read_tap room s))) ≡ Ok (loaded_of Tap 1 2)
+  whole-answer : (f : Failure) → answer_of (named_load s (or_else (failed f) (read_tap room s))) ≡ Ok (loaded_as Tap 1 2)
   unfolding read_tap fold_from seeing read_on tap_of empty ◌⟫◌ add_tones add_block add_rows add_sound standard_tones standard_sound
       or_else or_tap name_all named_tape named_load answer_of
   whole-answer f =
@@ -143,7 +143,7 @@ long_number : (n : ℕ) → le_at (zeroed n) 0 2 ≡ 22618
 unfolding zeroed le_at
 long_number n = refl
 
-pub long_tap_lem : answer_of (load_named room long_tap 0) ≡ Ok (loaded_of Tap 1 2)
+pub long_tap_lem : answer_of (load_named room long_tap 0) ≡ Ok (loaded_as Tap 1 2)
 unfolding load_named
 long_tap_lem =
     let l = zeroed_length 22609 in

@@ -22,7 +22,7 @@ use Rattle.load_tape.specs.declared.Format.TheVariants.{Tap, Tzx}
 use Rattle.load_tape.specs.declared.Loaded.{Loaded}
 use Rattle.load_tape.specs.declared.NotLoaded.{NotLoaded}
 use Rattle.load_tape.specs.declared.NotLoaded.TheVariants.{Unread, Refused as No}
-use Rattle.load_tape.specs.Load.{loaded_of, not_loaded, answer_of, block_table, tone_table, Leaves}
+use Rattle.load_tape.specs.Load.{loaded_as, not_loaded, answer_of, block_table, tone_table, Leaves}
 
 -- any two outcomes that the contract permits are equal
 pub one_outcome : {B N : ℕ} {l : Load} {a a' : Result Loaded NotLoaded} {bt bt' tt tt' : List ℕ} → Leaves B N l a bt tt
@@ -39,7 +39,7 @@ refusal_leaves (Unread f g) b t = record { answer = refl; blocks = b; tones = t 
 refusal_leaves (No k) b t = record { answer = refl; blocks = b; tones = t }
 
 module _ {B N : ℕ} {r : Result State NotRead} {bt tt : List ℕ} {o : Verdict} (f : Finds B N r bt tt o) where
-  pub tap_leaves : (x : Failure) {s : State} → r ≡ Ok s → Leaves B N (or_tap x o) (Ok (loaded_of Tap s.blocks s.tones)) bt tt
+  pub tap_leaves : (x : Failure) {s : State} → r ≡ Ok s → Leaves B N (or_tap x o) (Ok (loaded_as Tap s.blocks s.tones)) bt tt
   unfolding or_tap answer_of block_table tone_table
   tap_leaves x {s} e =
       let d = found_done f e in
@@ -53,7 +53,7 @@ module _ {B N : ℕ} {r : Result State NotRead} {bt tt : List ℕ} {o : Verdict}
   unfolding or_tap
   tap_refuses x e = rw (found_refused f e)
 
-  pub tzx-leaves : (other : Verdict) {s : State} → r ≡ Ok s → Leaves B N (or_else o other) (Ok (loaded_of Tzx s.blocks s.tones)) bt tt
+  pub tzx-leaves : (other : Verdict) {s : State} → r ≡ Ok s → Leaves B N (or_else o other) (Ok (loaded_as Tzx s.blocks s.tones)) bt tt
   unfolding or_else answer_of block_table tone_table
   tzx-leaves other {s} e =
       let d = found_done f e in

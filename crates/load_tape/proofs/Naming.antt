@@ -16,7 +16,7 @@ use Rattle.load_tape.specs.declared.Format.TheVariants.{Tap, Tzx}
 use Rattle.std.specs.Prelude.{Result, Ok, Err}
 use Rattle.load_tape.specs.declared.Loaded.{Loaded}
 use Rattle.load_tape.specs.declared.NotLoaded.{NotLoaded}
-use Rattle.load_tape.specs.Load.{loaded_of, answer_of, block_table, tone_table, named_tape, named_load, Leaves}
+use Rattle.load_tape.specs.Load.{loaded_as, answer_of, block_table, tone_table, named_tape, named_load, Leaves}
 
 -- a table of rows has the words of its rows at the least
 over_room : (rs : List Block) (N : ℕ) → length rs * block.width ≤ length (table_of block rs N)
@@ -53,14 +53,14 @@ module _ {B N : ℕ} where
   named-leaves s (tzx t) {d = d} x e p =
       let k : length t.blocks ≡ length (name_all s false t.blocks) = sym (name_all-length s false t.blocks) in
       record {
-        answer = sym e ∙ x.answer ∙ ap (λ (i : ℕ). Ok (loaded_of Tzx i (length t.tones))) k;
+        answer = sym e ∙ x.answer ∙ ap (λ (i : ℕ). Ok (loaded_as Tzx i (length t.tones))) k;
         blocks = named_table s t.blocks B d.blocks x.blocks (ap count_of (sym e ∙ x.answer)) p;
         tones = x.tones;
       }
   named-leaves s (tapped t) {d = d} x e p =
       let k : length t.blocks ≡ length (name_all s false t.blocks) = sym (name_all-length s false t.blocks) in
       record {
-        answer = sym e ∙ x.answer ∙ ap (λ (i : ℕ). Ok (loaded_of Tap i (length t.tones))) k;
+        answer = sym e ∙ x.answer ∙ ap (λ (i : ℕ). Ok (loaded_as Tap i (length t.tones))) k;
         blocks = named_table s t.blocks B d.blocks x.blocks (ap count_of (sym e ∙ x.answer)) p;
         tones = x.tones;
       }

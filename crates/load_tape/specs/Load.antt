@@ -30,12 +30,12 @@ unfoldable pub load_named : Lent → List ℕ → ℕ → Load
 load_named lent s model = named_load s (load_of lent s model)
 
 -- the values of a loaded tape (rule 134); what both attempts met, or a refusal's number alone (rule 33)
-abbrev pub loaded_of : Format → ℕ → ℕ → Loaded
-loaded_of format blocks tones = record { format = format; blocks = blocks; tones = tones }
+abbrev pub loaded_as : Format → ℕ → ℕ → Loaded
+loaded_as format blocks tones = record { format = format; blocks = blocks; tones = tones }
 
 unfoldable pub answer_of : Load → Result Loaded NotLoaded
-answer_of (tzx t) = Ok (loaded_of Tzx (length t.blocks) (length t.tones))
-answer_of (tapped t) = Ok (loaded_of Tap (length t.blocks) (length t.tones))
+answer_of (tzx t) = Ok (loaded_as Tzx (length t.blocks) (length t.tones))
+answer_of (tapped t) = Ok (loaded_as Tap (length t.blocks) (length t.tones))
 answer_of (both_err f g) = Err (Unread f g)
 answer_of (no k) = Err (Refused k)
 

@@ -39,7 +39,7 @@ use Rattle.play_walk.specs.Heads.{stand}
 use Rattle.play_walk.specs.declared.Fault.TheVariants.{NotValid, NotFormed}
 use Rattle.play_deck.specs.declared.Finding.{Finding}
 use Rattle.play_deck.specs.Deck.{all_fine, at_start, judged, stays}
-use Rattle.play_deck.specs.Assay.{past_found, source_found, heard_in, ready_row, level_there, Assayed, Found, Lending, Sounded}
+use Rattle.play_deck.specs.Assay.{past_found, source_found, heard_on_way, ready_row, level_there, Assayed, Found, Lending, Sounded}
 use Rattle.play_deck.proofs.Checks.{judged_start, judged-past, judged-bad, judged-not, judged_fine, fine_none}
 use Rattle.play_deck.proofs.Checks.{stays_at, stays-past, stays-endless}
 
@@ -208,7 +208,7 @@ refused_of w q x e = subst (Assayed w q) e x
 pub level_below : {w : Tape} {q : Position} {a : Finding} → Found w q a → q.block < w.count → a.level ≡ level_in w q.block q.phase
 level_below {w} {q} x h = x.level ∙ rw (lt-ltb q.block w.count h)
 
-pub heard_told : (w : Tape) (q : Position) (r : Result Finding Fault) → Assayed w q r → ToldSeen w.tones w.blocks (heard_in r)
+pub heard_told : (w : Tape) (q : Position) (r : Result Finding Fault) → Assayed w q r → ToldSeen w.tones w.blocks (heard_on_way r)
 heard_told w q (Ok a) x = x.told
 heard_told w q (Err f) x = told-silence w.tones w.blocks
 

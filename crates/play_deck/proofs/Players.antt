@@ -7,7 +7,7 @@ use Rattle.play_entries.specs.Places.{Tape}
 use Rattle.play_walk.specs.declared.Position.{Position}
 use Rattle.play_walk.specs.declared.Reached.{Reached}
 use Rattle.play_walk.specs.declared.Fault.{Fault}
-use Rattle.play_deck.specs.Deck.{all_fine, judged, unless, stays, played_by}
+use Rattle.play_deck.specs.Deck.{all_fine, judged, unless, stays, answered_by}
 
 -- what `?` hands on
 pub handed : {A : Type 0} (r : Result A Fault) {f : Fault} → IsErrAnd r (λ e. e ≡ f) → r ≡ Err f
@@ -15,7 +15,7 @@ handed (Ok a) h = absurd h
 handed (Err e) h = ap Err h
 
 module _ (plays walks : Tape → Position → ℕ → Result Reached Fault) {w : Tape} {q : Position} {n : ℕ}
-    (by : plays w q n ≡ played_by walks w q n) where
+    (by : plays w q n ≡ answered_by walks w q n) where
   pub at_refusal : {f : Fault} → judged w q ≡ Err f → plays w q n ≡ Err f
   unfolding unless
   at_refusal e = by ∙ rw e

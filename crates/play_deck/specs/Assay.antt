@@ -33,9 +33,9 @@ source_found f true = Ok (finding (level_of f) silence)
 source_found f false = Err NotValid
 
 -- what was heard on the way; nothing where it is refused
-abbrev pub heard_in : Result Finding Fault → Heard
-heard_in (Ok a) = a.heard
-heard_in (Err f) = silence
+abbrev pub heard_on_way : Result Finding Fault → Heard
+heard_on_way (Ok a) = a.heard
+heard_on_way (Err f) = silence
 
 -- a row that may be gone on with: a document row's tone rows are judged with the level
 unfoldable pub ready_row : ℕ → List ℕ → Block → Bool

@@ -52,12 +52,12 @@ unfoldable pub stays : Tape → Position → Result Reached Fault
 stays w q = told_as (status_here (ahead w q)) (stand q 0 (level_here low (ahead w q)))
 
 -- what a player answers to a call of n, by what it comes to from a fine position
-abbrev pub played_by : (Tape → Position → ℕ → Result Reached Fault) → Tape → Position → ℕ → Result Reached Fault
-played_by walks w q n = unless (judged w q) (eqb n 0 ⇒ stays w q ∣ walks w q n)
+abbrev pub answered_by : (Tape → Position → ℕ → Result Reached Fault) → Tape → Position → ℕ → Result Reached Fault
+answered_by walks w q n = unless (judged w q) (eqb n 0 ⇒ stays w q ∣ walks w q n)
 
 -- THE MEASURED PLAYER'S ANSWER to a call of n
 unfoldable pub play_measured : Tape → Position → ℕ → Result Reached Fault
-play_measured = played_by walk_from
+play_measured = answered_by walk_from
 
 -- what the source's play comes to, as an answer: past the last block with T-states left is the end
 unfoldable pub source_answer : List (Entry Label) → ℕ → Answer Label
@@ -71,7 +71,7 @@ source_from w q n = walked w (formed w q.block) (source_answer (ahead (formed w 
 
 -- THE SOURCE'S PLAY's answer to a call of n
 unfoldable pub play_source : Tape → Position → ℕ → Result Reached Fault
-play_source = played_by source_from
+play_source = answered_by source_from
 
 -- from block b back to a selectable one, or 0; each row on the way is needed
 unfoldable pub back_to : Tape → ℕ → Result ℕ Fault

@@ -7,9 +7,9 @@ ghost use Rattle.play_entries.specs.Places.{Tape, has_entry, length_at, level_in
 ghost use Rattle.play_entries.specs.Mounted.{mounted_tape, tape_size};
 ghost use Rattle.play_voice.specs.Voice.{row_at, ToldSeen};
 ghost use Rattle.play_walk.specs.Heads.{walk_from, GoesOn, Landed, Lands};
-ghost use Rattle.play_deck.specs.Assay.{past_found, source_found, heard_in, ready_row, Assayed, Found, Lending, Sounded};
+ghost use Rattle.play_deck.specs.Assay.{past_found, source_found, heard_on_way, ready_row, Assayed, Found, Lending, Sounded};
 ghost use Rattle.play_deck.specs.Inside.{ends_inside, less_by, in_place};
-ghost use Rattle.play_deck.specs.Deck.{at_start, all_fine, judged, source_from, played_by, play_measured, play_source};
+ghost use Rattle.play_deck.specs.Deck.{at_start, all_fine, judged, source_from, answered_by, play_measured, play_source};
 ghost use Rattle.play_deck.specs.Players.{measured_by, source_by};
 ghost use Rattle.play_deck.specs.Calls.{position_in};
 ghost use Rattle.play_walk.specs.declared.Position.{Position};
@@ -192,7 +192,7 @@ pub trait Player {
         ensures walks_value { walks (mounted_tape m.now) pos n ≡ walk_from (mounted_tape m.now) pos result }
         ensures nonzero { 0 < result };
 
-    ghost by_walks: { (w : Tape) (q : Position) (n : ℕ) → plays w q n ≡ played_by walks w q n };
+    ghost by_walks: { (w : Tape) (q : Position) (n : ℕ) → plays w q n ≡ answered_by walks w q n };
 }
 
 // The measured player charges every pulse.
@@ -302,8 +302,8 @@ fn assay_stand(m: &Mounted<'_>, s: Stand, h: Heard) -> Result<Finding, Fault>
 }
 
 // What was heard on the way to a position.
-fn heard_in(a: Result<Finding, Fault>) -> Heard
-    ensures { result ≡ heard_in a }
+fn heard_on_way(a: Result<Finding, Fault>) -> Heard
+    ensures { result ≡ heard_on_way a }
 {
     match a {
         Ok(here) => here.heard,
@@ -323,7 +323,7 @@ pub fn assay_after(
     ensures { Assayed (mounted_tape m.now) (position_in pos r) result }
 {
     match r {
-        Ok(to) => assay_stand(m, to.stand, heard_in(a)),
+        Ok(to) => assay_stand(m, to.stand, heard_on_way(a)),
         Err(_) => a,
     }
 }

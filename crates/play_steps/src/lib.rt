@@ -277,6 +277,14 @@ fn take_bit(
     }
 }
 
+// A turn at another entry: a function of its own, so that phase and answer stand in memory for the call in these arms of `take` alone.
+fn take_entry(x: &TonedRow<'_>, f: Phase, t: u64) -> Step
+    requires { has_entry x.now.tones.now x.now.row f ≡ true }
+    ensures { result ≡ one_step x.now.tones.now x.now.row f t }
+{
+    one_step(x, f, t)
+}
+
 // One turn of the measured walk. Our crates alone call it: from an entry that is there, in a well-formed row.
 #[tactic(auto, using(play_entries::proofs::Valid::tone_index, play_entries::proofs::Valid::cycle_index, play_entries::proofs::Valid::byte_index, play_entries::proofs::Valid::bit_index, play_entries::proofs::Lent::row_lent), unfolding(crate::specs::Steps::take_of))]
 pub fn take(tape: &[u8], x: &TonedRow<'_>, f: Phase, full: bool, t: u64, d: u64) -> Step
@@ -296,6 +304,6 @@ pub fn take(tape: &[u8], x: &TonedRow<'_>, f: Phase, full: bool, t: u64, d: u64)
             bit,
             last_half,
         } => take_bit(tape, x, pos, bit, last_half, full, t, d),
-        Phase::Start | Phase::Edge | Phase::Pause => one_step(x, f, t),
+        Phase::Start | Phase::Edge | Phase::Pause => take_entry(x, f, t),
     }
 }

@@ -45,12 +45,12 @@ start_at b = placed b Start (T 0)
 abbrev pub stand : Position → ℕ → Level → Stand
 stand q k v = record { position = q; passed = k; level = v }
 
-abbrev pub reached : How → Stand → Reached
-reached h s = record { how = h; stand = s }
+abbrev pub arrived : How → Stand → Reached
+arrived h s = record { how = h; stand = s }
 
 -- an answer that is no refusal
 abbrev pub came : How → Stand → Result Reached Fault
-came h s = Ok (reached h s)
+came h s = Ok (arrived h s)
 
 -- how a call comes out that leaves the head in an entry of which so much is left
 abbrev pub how_left : Duration → How
@@ -75,13 +75,13 @@ level_here c (endless a v ∷ es) = v
 unfoldable pub rest_level : Tape → ℕ → Level
 rest_level w b = ltb b w.count ⇒ start_level (block_in w b) ∣ low
 
-abbrev pub how_of : Status → How
-how_of standing = At
-how_of stopped = Stopped
-how_of ended = Ended
+abbrev pub how_told : Status → How
+how_told standing = At
+how_told stopped = Stopped
+how_told ended = Ended
 
 unfoldable pub told_as : Status → Stand → Result Reached Fault
-told_as st s = came (how_of st) s
+told_as st s = came (how_told st) s
 
 abbrev pub is_end : How → Bool
 is_end At = false

@@ -8,7 +8,7 @@ ghost use Rattle.play_entries.specs.Places.{level_in};
 ghost use Rattle.play_voice.specs.Voice.{ToldSeen, Standing};
 ghost use Rattle.play_entries.specs.Source.{level_of};
 ghost use Rattle.play_entries.specs.Mounted.{mounted_tape};
-ghost use Rattle.play_walk.specs.Heads.{placed, start_at, stand, reached, how_left, fault_no, rest_level, next_of, Walkable, walk_from, Lands};
+ghost use Rattle.play_walk.specs.Heads.{placed, start_at, stand, arrived, how_left, fault_no, rest_level, next_of, Walkable, walk_from, Lands};
 ghost use Rattle.play_walk.specs.declared.How.TheVariants.{Ended};
 
 use play_entries::{Duration, Mounted, Phase};
@@ -88,7 +88,7 @@ pub struct Reached {
 impl Reached {
     // The head at a position, of this level: stopped where its entry never ends.
     pub fn here(position: Position, passed: u64, level: bool) -> Reached
-        ensures { result ≡ reached (how_left position.left) (stand position passed level) }
+        ensures { result ≡ arrived (how_left position.left) (stand position passed level) }
     {
         let how = match position.left {
             Duration::T(_) => How::At,
@@ -106,7 +106,7 @@ impl Reached {
 
     // The tape has ended: the head rests at the count's start.
     pub fn end(count: u64, passed: u64) -> Reached
-        ensures { result ≡ reached Ended (stand (start_at count) passed false) }
+        ensures { result ≡ arrived Ended (stand (start_at count) passed false) }
     {
         Reached {
             how: How::Ended,
@@ -150,7 +150,7 @@ fn stands(
     requires standing { Standing m.now.tones.now m.now.blocks.now block phase }
     requires told_seen { ToldSeen m.now.tones.now m.now.blocks.now h }
     ensures { result
-        ≡ reached (how_left left)
+        ≡ arrived (how_left left)
         (stand (placed block phase left) passed (level_in (mounted_tape m.now) block phase)) }
 {
     let position = Position { block, phase, left };

@@ -14,7 +14,7 @@ use Rattle.law_base.specs.Rules.{◌⇒◌, ◌∣◌}
 use Rattle.law_base.proofs.Numbers.{lt_or_ge}
 use Rattle.refusals.specs.Refusals.{bad_model, tape_long, no_position}
 use Rattle.std.specs.Prelude.{Ok}
-use Rattle.cut_fields.specs.Field.{Read, le_at, number_at, field_at, short_at}
+use Rattle.cut_fields.specs.Field.{Read, le_at, number_at, field_at, came_short}
 use Rattle.prog_model.specs.Models.{model_of}
 use Rattle.prog_calls.specs.Playback.{is_player, calls_in, tape_from, tape_in, is_description}
 use Rattle.prog_calls.specs.Trace.{described_text, trace_text}
@@ -29,7 +29,7 @@ calls_there : (s : List ℕ) → 8 ≤ length s → calls_in s ≡ le_at s 6 2
 unfolding field_at number_at
 calls_there s h =
     let there : Read = record { value = le_at s 6 2; cursor = Ok 8 } in
-    let short : Read = record { value = 0; cursor = short_at 6 2 } in
+    let short : Read = record { value = 0; cursor = came_short 6 2 } in
     let read : (leb 8 (length s) ⇒ there ∣ short) ≡ there = rw (le-leb 8 (length s) h) in
     ap (λ (r : Read). r.value) read
 

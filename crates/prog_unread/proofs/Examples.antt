@@ -7,7 +7,7 @@ use Rattle.text_out.specs.Out.{ascii, digits, decimal, refused_text, refused_lin
 use Rattle.load_source.specs.declared.Failure.TheVariants.{BadSignature, Short, ShortPiece, Length}
 use Rattle.load_tape.specs.declared.Format.TheVariants.{Tap, Tzx}
 use Rattle.load_tape.specs.declared.NotLoaded.TheVariants.{Unread, Refused}
-use Rattle.load_tape.specs.Load.{loaded_of}
+use Rattle.load_tape.specs.Load.{loaded_as}
 use Rattle.prog_unread.specs.Report.{piece_text, field_text, failure_text, tzx_text, read_text, report_text}
 
 -- a TAP's two bytes of a length, and one more where two are to come
@@ -42,11 +42,11 @@ unfolding report_text refused_line refused_text tzx_text failure_text piece_text
 length_one = refl
 
 -- the other answers
-read_tap_lem : report_text (Ok (loaded_of Tap 2 4)) ≡ ascii "read TAP\n"
+read_tap_lem : report_text (Ok (loaded_as Tap 2 4)) ≡ ascii "read TAP\n"
 unfolding report_text read_text
 read_tap_lem = refl
 
-read_tzx_lem : report_text (Ok (loaded_of Tzx 0 0)) ≡ ascii "read TZX\n"
+read_tzx_lem : report_text (Ok (loaded_as Tzx 0 0)) ≡ ascii "read TZX\n"
 unfolding report_text read_text
 read_tzx_lem = refl
 

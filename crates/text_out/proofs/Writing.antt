@@ -21,7 +21,7 @@ sets_append d (a ∷ s) t at = rw (add-suc, ← suc-add at (length s)) (sets_app
 pub wrote_nothing : (d : List ℕ) (at : ℕ) → Wrote d at [] d at
 wrote_nothing d at = record { count = sym (add-zero at); bytes = refl }
 
-wrote_then : {d d1 d2 s t : List ℕ} {at r1 r2 : ℕ} → Wrote d at s d1 r1 → Wrote d1 r1 t d2 r2 → Wrote d at (s ++ t) d2 r2
+pub wrote_then : {d d1 d2 s t : List ℕ} {at r1 r2 : ℕ} → Wrote d at s d1 r1 → Wrote d1 r1 t d2 r2 → Wrote d at (s ++ t) d2 r2
 wrote_then {d} {d1} {d2} {s} {t} {at} {r1} {r2} p q = record {
   count = q.count ∙ ap (λ (n : ℕ). n + length t) p.count ∙ add_assoc at (length s) (length t)
       ∙ sym (ap (λ (n : ℕ). at + n) (length-append s t));

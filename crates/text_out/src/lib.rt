@@ -2,7 +2,7 @@
 #![tactic(auto)]
 
 ghost use Rattle.std.specs.Prelude.{◌≡◌, ℕ, List, ◌+◌, ◌*◌, ◌^◌, ◌<◌, ◌≤◌, [], ◌∷◌, ◌++◌, length};
-ghost use Rattle.text_out.specs.Out.{ascii, decimal, latin1, latin, each_byte, refused_text, refused_line};
+ghost use Rattle.text_out.specs.Out.{Wrote, ascii, decimal, latin1, latin, each_byte, refused_text, refused_line};
 ghost use Rattle.text_out.specs.Writes.{Writes};
 
 // Bytes lent for a text, and how far it has come: the place of its next byte, past their end too.
@@ -56,6 +56,29 @@ impl Spelling for Latin1 {
     }
 }
 
+// The byte b at `at`, where the bytes lent reach so far, and the place behind it.
+fn put(out: &mut [u8], at: usize, b: u8) -> usize
+    requires { at < 2 ^ 63 }
+    ensures { Wrote out.old at (b ∷ []) out.new result }
+{
+    if at < out.len() {
+        out[at] = b;
+    }
+    at + 1
+}
+
+// n in decimal from `at` on, and the place behind it: by values, since a writer that is lent to a recursion lies in memory from then on.
+fn put_decimal(out: &mut [u8], at: usize, n: u64) -> usize
+    requires { at + 20 < 2 ^ 63 }
+    ensures { Wrote out.old at (decimal n) out.new result }
+{
+    if n < 10 {
+        return put(out, at, b'0' + n as u8);
+    }
+    let next = put_decimal(out, at, n / 10);
+    put(out, next, b'0' + (n % 10) as u8)
+}
+
 impl<'a> Writer<'a> {
     // A text that begins at the first byte lent.
     pub fn over(out: &'a mut [u8]) -> Writer<'a>
@@ -71,10 +94,7 @@ impl<'a> Writer<'a> {
         requires { self.old.at < 2 ^ 63 }
         ensures { Writes self.old (b ∷ []) self.new }
     {
-        if self.at < self.out.len() {
-            self.out[self.at] = b;
-        }
-        self.at += 1;
+        self.at = put(self.out, self.at, b);
     }
 
     // The text of each byte of s.
@@ -105,17 +125,11 @@ impl<'a> Writer<'a> {
     }
 
     // n in decimal; not by std's Display, which promises its bytes on an Ok alone, and no Ok: no text here may fail.
-    #[tactic(auto, using(crate::proofs::Writing::composed, crate::proofs::Writing::decimal_one, crate::proofs::Writing::decimal_more))]
     pub fn decimal(&mut self, n: u64)
         requires { self.old.at + 20 < 2 ^ 63 }
         ensures { Writes self.old (decimal n) self.new }
     {
-        if n < 10 {
-            self.byte(b'0' + n as u8);
-        } else {
-            self.decimal(n / 10);
-            self.byte(b'0' + (n % 10) as u8);
-        }
+        self.at = put_decimal(self.out, self.at, n);
     }
 
     // A word and a number.

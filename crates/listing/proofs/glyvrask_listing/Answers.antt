@@ -37,4 +37,4 @@ returns-in-Err c =
     let a = c.args in
     let h = load_refused a.tape.now a.model (omega arith) (omega arith) a.out.now
     (leaves-told (lent_words a.tape.now a.model c.load.ensures) c.in-Err.is) in
-    record { value = c.number.ensures ∙ h.0; out_after = h.1 }
+    record { value = omega (arith, c.number.ensures ∙ h.0); out_after = h.1 }

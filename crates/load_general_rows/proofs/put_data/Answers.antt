@@ -5,8 +5,8 @@ use Rattle.load_general.proofs.Symbols.{data_inside}
 use Rattle.load_general.specs.General.{single_row, pair_row}
 use Rattle.load_general_rows.proofs.put_data.Goals as goal
 
-pub alphabet-a-requires : goal.alphabet-a-requires
-alphabet-a-requires c =
+pub read_alphabet-requires : goal.read_alphabet-requires
+read_alphabet-requires c =
     let p = c.args.p.now in
     let r = data_ready p.tape.now p.g c.requires.0 in
     (omega arith, r.1, data_inside p.tape.now p.g (search rules) r.0)

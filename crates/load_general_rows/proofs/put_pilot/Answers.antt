@@ -8,8 +8,8 @@ use Rattle.rows.specs.Table.{put_all}
 use borrow.Author.Tests.{eq-eqb}
 use Rattle.load_general_rows.proofs.put_pilot.Goals as goal
 
-pub alphabet-a-requires : goal.alphabet-a-requires
-alphabet-a-requires c =
+pub read_alphabet-requires : goal.read_alphabet-requires
+read_alphabet-requires c =
     let p = c.args.p.now in
     let o = pilot_sorted p.tape.now p.g c.if-p-gt0.true c.requires.0 in
     (omega arith, o.ready, pilot_inside p.tape.now p.g (search rules) c.if-p-gt0.true)

@@ -12,7 +12,7 @@ assay_stand-requires c =
     let w = mounted_tape c.args.m.now in
     record {
       landed = subst (Lands w) c.in-Ok.is c.requires.lands;
-      told_seen = rw c.heard_in.ensures (heard_told w c.args.pos c.args.a c.requires.assayed);
+      told_seen = rw c.heard_on_way.ensures (heard_told w c.args.pos c.args.a c.requires.assayed);
     }
 
 pub returns-in-Ok : goal.returns-in-Ok

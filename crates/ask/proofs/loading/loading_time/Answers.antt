@@ -30,8 +30,8 @@ loop-b-preserved c =
     let g = sym c.row_well.ensures ∙ c.if-not-row_well.false in
     (c.loop-b.invariant.0, loads_on c.loop-b.invariant.1 c.row.ensures g c.loop-b-test.true c.one_more-s.ensures c.if-s.false)
 
-pub returns-after-loop-b : goal.returns-after-loop-b
-returns-after-loop-b c =
+pub returns : goal.returns
+returns c =
     loads_over (le-ltb _ _ c.loop-b.invariant.0) c.loop-b.invariant.1 (omega arith)
 
 pub returns-then-s : goal.returns-then-s

@@ -20,6 +20,7 @@ pub struct Reader<'a> {
 }
 
 // The number of `width` bytes at `at`, the lowest first; its callers know the bytes to be there.
+#[inline(always)]
 pub fn low_first(tape: &[u8], at: u64, width: u64) -> u32
     requires { (at + width ≤ length tape.now) × (width ≤ 4) }
     ensures { result ≡ le_at tape.now at width }
@@ -33,6 +34,7 @@ pub fn low_first(tape: &[u8], at: u64, width: u64) -> u32
 }
 
 // The number of a field that is there: up to four bytes spell one, a wider field none.
+#[inline(always)]
 #[tactic(auto, unfolding(crate::specs::Field::number_at))]
 fn number(tape: &[u8], at: u64, width: u64) -> u32
     requires { at + width ≤ length tape.now }
@@ -46,6 +48,7 @@ fn number(tape: &[u8], at: u64, width: u64) -> u32
 }
 
 // The place past one field, where it is there.
+#[inline(always)]
 fn past(tape: &[u8], at: u64, width: u64) -> Result<u64, Short>
     ensures there { IfOk result (λ next. (next ≡ at + width) × (next ≤ length tape.now)) }
     ensures short { IfErr result (λ e. (e.place ≡ at) × (e.width ≡ width) × (length tape.now < at + width)) }
@@ -73,7 +76,8 @@ fn wholes(tape: &[u8], at: u64, n: u64, size: u64) -> u64
 }
 
 impl<'a> Reader<'a> {
-    // One field's number.
+    // One field's number; taken into its callers, whose widths are constants.
+    #[inline(always)]
     #[tactic(auto, using(crate::proofs::Runs::field_there, crate::proofs::Runs::field_short, crate::proofs::Runs::field_stuck))]
     pub fn number(&mut self, width: u64) -> Result<u32, Short>
         ensures tape { self.new.tape ≡ self.old.tape }
@@ -87,6 +91,7 @@ impl<'a> Reader<'a> {
     }
 
     // One field whose number nobody asks: a body, a text or data, of its length. The place past it.
+    #[inline(always)]
     #[tactic(auto, using(crate::proofs::Runs::field_moves, crate::proofs::Runs::field_stops, crate::proofs::Runs::field_stuck))]
     pub fn skip(&mut self, width: u64) -> Result<u64, Short>
         ensures tape { self.new.tape ≡ self.old.tape }
